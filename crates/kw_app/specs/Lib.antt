@@ -1,0 +1,5 @@
+pub mod Words
+pub mod Status
+pub mod Shown
+pub mod Replay
+pub mod Ends

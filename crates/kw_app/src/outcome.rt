@@ -1,0 +1,59 @@
+//! How a run of the program ends.
+ghost use Rattle.std.specs.Prelude.{◌≡◌};
+ghost use Rattle.kw_app.specs.Status.{status_code};
+
+/// How a run ended. The causes are tested in this order: bad words, a read fault, bad input, a write fault; want of memory may
+/// come at any place before the first byte is written.
+#[derive(Clone, Copy, Debug, PartialEq, Eq)]
+pub enum Status {
+    /// The whole text was written.
+    Done = 0,
+    /// The words are no command. Nothing was read.
+    BadWords = 2,
+    /// The input is too long, or has a line that is not in the grammar. Nothing was written.
+    BadInput = 3,
+    /// The source failed. Nothing was written.
+    ReadFault = 4,
+    /// The sink failed. A prefix of the text was written.
+    WriteFault = 5,
+    /// Memory was wanted and not found. Nothing was written.
+    OutOfMemory = 6,
+}
+
+impl Status {
+    /// The status with which the process ends.
+    pub fn code(self) -> u8
+        ensures { result ≡ status_code self }
+    {
+        self as u8
+    }
+}
+
+/// The end of a run: its status, and for bad input the first bad line, counted from 1, or 0 for an input that is too long. The
+/// line is 0 at every other status.
+#[derive(Clone, Copy, Debug, PartialEq, Eq)]
+pub struct Outcome {
+    pub status: Status,
+    pub line: u32,
+}
+
+impl Outcome {
+    /// The end with this status and no line.
+    pub fn of(status: Status) -> Outcome
+        ensures status { result.status ≡ status }
+        ensures line { result.line ≡ 0 }
+    {
+        Outcome { status, line: 0 }
+    }
+
+    /// The end with bad input, whose first bad line is this one, or 0 where it is too long.
+    pub fn bad_input(line: u32) -> Outcome
+        ensures status { result.status ≡ Status.BadInput }
+        ensures line { result.line ≡ line }
+    {
+        Outcome {
+            status: Status::BadInput,
+            line,
+        }
+    }
+}

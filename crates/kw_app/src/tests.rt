@@ -1,0 +1,245 @@
+//! Runs over streams in memory. The expected bytes were worked out by hand.
+use crate::fault::write_fault;
+use crate::outcome::{Outcome, Status};
+use crate::run::run;
+use crate::word::Word;
+use kw_io::{MemSink, MemSource};
+use std::alloc::{AllocError, Global};
+use std::process::Abort;
+use std::test::Fail;
+
+const ROOM: u32 = 65_536;
+
+/// The end of a run: its status, its line, and what it wrote.
+#[derive(Drop)]
+struct Ended {
+    outcome: Outcome,
+    written: Vec<u8>,
+}
+
+fn words(alloc: Global, texts: &[&str]) -> Result<Vec<Word>, AllocError> {
+    let mut words = Vec::new(alloc);
+    for text in texts {
+        words.push(Word::new(String::from_str(alloc, text)?))?;
+    }
+    Ok(words)
+}
+
+/// Runs these words on an input of which the reads with these numbers fail, and a sink with this room.
+fn ran(
+    alloc: Global,
+    texts: &[&str],
+    input: Vec<u8>,
+    fails: &[u32],
+    room: u32,
+) -> Result<Ended, Fail> {
+    let words = words(alloc, texts)?;
+    let mut source = MemSource::new(input, Vec::from_slice(alloc, fails)?);
+    let mut sink = MemSink::new(alloc, room, Vec::new(alloc))?;
+    let outcome = run(alloc, &words, &mut source, &mut sink);
+    let written = Vec::from_slice(alloc, sink.written())?;
+    Ok(Ended { outcome, written })
+}
+
+/// Replays the lines and expects this end and this text.
+fn expect_replay(
+    rt: &impl Abort,
+    alloc: Global,
+    input: &str,
+    ended: Outcome,
+    text: &str,
+) -> Result<(), Fail> {
+    let bytes = Vec::from_slice(alloc, input.as_bytes())?;
+    let run = ran(alloc, &["replay"], bytes, &[], ROOM)?;
+    assert_eq!(rt; run.outcome, ended, "of {input:?}");
+    assert_eq!(rt; run.written.as_slice(), text.as_bytes(), "of {input:?}");
+    Ok(())
+}
+
+#[test]
+fn replies_come_in_line_order(rt: HostRuntime) -> Result<(), Fail> {
+    let good = [
+        ("", ""),
+        ("put 5 50\nget 5\nsum 0 9\n", "ok\n50\n50\n"),
+        ("get 7\nsum 3 2\nleast 0 9\n", "none\n0\nnone\n"),
+        (
+            "put 4294967295 9223372036854775807\nput 0 9223372036854775807\nsum 0 4294967295\n",
+            "ok\nok\n18446744073709551614\n",
+        ),
+        (
+            "put 5 1\ndel 5\ndel 5\nget 5\nlist 0 9\n",
+            "ok\nok\nok\nnone\nempty\n",
+        ),
+        (
+            "put 1 5\nput 2 3\nput 3 9\nleast 1 3\ngreatest 1 3\ncount 2 9",
+            "ok\nok\nok\n3\n9\n2\n",
+        ),
+        (
+            "put 2 20\nput 1 10\nwait\nlist 0 9\n",
+            "ok\nok\n1=10 2=20\n",
+        ),
+    ];
+    for (input, text) in good {
+        expect_replay(&rt, rt.alloc(), input, Outcome::of(Status::Done), text)?;
+    }
+    Ok(())
+}
+
+#[test]
+fn the_first_bad_line_is_named_and_nothing_is_written(rt: HostRuntime) -> Result<(), Fail> {
+    let bad = [
+        ("put 1 9223372036854775808\n", 1),
+        ("put 1 1\nput 3", 2),
+        ("get 1\n\nget 2\n", 2),
+        ("get 1 \n", 1),
+        ("put 1 1\nget  1\nget\n", 2),
+        ("get\t1\n", 1),
+        ("put 01 1\n", 1),
+        ("put 1 +1\n", 1),
+        ("get 4294967296\n", 1),
+        ("put 1\n", 1),
+        ("put 1 2 3\n", 1),
+        ("GET 1\n", 1),
+        ("get 1\r\n", 1),
+        ("get \u{e9}\n", 1),
+        ("get 1\nwait 2\n", 2),
+    ];
+    for (input, line) in bad {
+        expect_replay(&rt, rt.alloc(), input, Outcome::bad_input(line), "")?;
+    }
+    Ok(())
+}
+
+#[test]
+fn a_sink_that_fills_up_holds_a_prefix(rt: HostRuntime) -> Result<(), Fail> {
+    let input = Vec::from_slice(rt.alloc(), b"put 5 50\nget 5\nsum 0 9\n")?;
+    let ended = ran(rt.alloc(), &["replay"], input, &[], 4)?;
+    assert_eq!(rt; ended.outcome, Outcome::of(Status::WriteFault));
+    assert_eq!(rt; ended.written.as_slice(), b"ok\n5".as_slice());
+    Ok(())
+}
+
+#[test]
+fn a_read_that_fails_ends_the_run_with_nothing_written(rt: HostRuntime) -> Result<(), Fail> {
+    for read in [0, 1] {
+        let input = Vec::from_slice(rt.alloc(), b"put 5 50\nget 5\nsum 0 9\n")?;
+        let ended = ran(rt.alloc(), &["replay"], input, &[read], ROOM)?;
+        assert_eq!(rt; ended.outcome, Outcome::of(Status::ReadFault));
+        assert!(rt; ended.written.is_empty());
+    }
+    Ok(())
+}
+
+#[test]
+fn other_words_than_one_command_are_bad(rt: HostRuntime) -> Result<(), Fail> {
+    let lists: [&[&str]; 4] = [
+        &[],
+        &["Replay"],
+        &["replay", "replay"],
+        &["replay", "--workers", "1"],
+    ];
+    for list in lists {
+        let input = Vec::from_slice(rt.alloc(), b"get 1\n")?;
+        let ended = ran(rt.alloc(), list, input, &[0], ROOM)?;
+        assert_eq!(rt; ended.outcome, Outcome::of(Status::BadWords));
+        assert!(rt; ended.written.is_empty());
+    }
+    Ok(())
+}
+
+#[test]
+fn an_input_of_a_byte_too_many_is_too_long(rt: HostRuntime) -> Result<(), Fail> {
+    let input = vec![in rt.alloc(); b'9'; 16_777_217]?;
+    let ended = ran(rt.alloc(), &["replay"], input, &[], ROOM)?;
+    assert_eq!(rt; ended.outcome, Outcome::bad_input(0));
+    assert!(rt; ended.written.is_empty());
+    let input = vec![in rt.alloc(); b'9'; 16_777_216]?;
+    let ended = ran(rt.alloc(), &["replay"], input, &[], ROOM)?;
+    assert_eq!(rt; ended.outcome, Outcome::bad_input(1));
+    Ok(())
+}
+
+#[test]
+fn a_key_shows_its_last_put_of_many(rt: HostRuntime) -> Result<(), Fail> {
+    let mut input = String::new(rt.alloc());
+    let mut text = String::new(rt.alloc());
+    for value in 1..=200 {
+        write!(input, "put 7 {value}\n")?;
+        text.push_str("ok\n")?;
+    }
+    input.push_str("get 7\n")?;
+    text.push_str("200\n")?;
+    expect_replay(
+        &rt,
+        rt.alloc(),
+        input.as_str(),
+        Outcome::of(Status::Done),
+        text.as_str(),
+    )
+}
+
+#[test]
+fn a_range_of_many_keys_is_summed_and_listed_in_key_order(rt: HostRuntime) -> Result<(), Fail> {
+    let mut input = String::new(rt.alloc());
+    let mut text = String::new(rt.alloc());
+    for key in 1..=65 {
+        write!(input, "put {key} {key}\n")?;
+        text.push_str("ok\n")?;
+    }
+    input.push_str("sum 1 65\nlist 1 65\n")?;
+    text.push_str("2145\n1=1")?;
+    for key in 2..=65 {
+        write!(text, " {key}={key}")?;
+    }
+    text.push_str("\n")?;
+    expect_replay(
+        &rt,
+        rt.alloc(),
+        input.as_str(),
+        Outcome::of(Status::Done),
+        text.as_str(),
+    )
+}
+
+#[test]
+fn each_status_but_the_first_has_its_fault_line(rt: HostRuntime) -> Result<(), Fail> {
+    let lines = [
+        (Status::Done, 0, ""),
+        (Status::BadWords, 0, "bad words\n"),
+        (Status::BadInput, 0, "input too long\n"),
+        (Status::BadInput, 4_294_967_295, "bad line 4294967295\n"),
+        (Status::ReadFault, 0, "read fault\n"),
+        (Status::WriteFault, 0, "write fault\n"),
+        (Status::OutOfMemory, 0, "out of memory\n"),
+    ];
+    for (status, line, text) in lines {
+        let mut sink = MemSink::new(rt.alloc(), ROOM, Vec::new(rt.alloc()))?;
+        let written = write_fault(&Outcome { status, line }, &mut sink);
+        assert!(rt; written.is_ok());
+        assert_eq!(rt; sink.written(), text.as_bytes());
+    }
+    Ok(())
+}
+
+#[test]
+fn a_script_is_run_and_its_first_bad_line_is_named(rt: HostRuntime) -> Result<(), Fail> {
+    let script =
+        b"call 0 put 5 10\ncall 1 scan 0 9\nuntil 0 load_clock\nuntil 1 draw\nuntil 0 stamp\ngo 1 100\ngo 0 100\n";
+    let ended = ran(
+        rt.alloc(),
+        &["simulate"],
+        Vec::from_slice(rt.alloc(), script)?,
+        &[],
+        ROOM,
+    )?;
+    assert_eq!(rt; ended.outcome, Outcome::of(Status::Done));
+    assert_eq!(rt;
+        ended.written.as_slice(),
+        b"1.1 scan 0 9: 5=10\n0.1 put 5 10: ok\n".as_slice()
+    );
+    let script = Vec::from_slice(rt.alloc(), b"call 0 put 5 10\ngo 0 0\n")?;
+    let ended = ran(rt.alloc(), &["simulate"], script, &[], ROOM)?;
+    assert_eq!(rt; ended.outcome, Outcome::bad_input(2));
+    assert!(rt; ended.written.is_empty());
+    Ok(())
+}

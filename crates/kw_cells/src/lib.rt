@@ -1,0 +1,12 @@
+//! Cells of a row with their versions, and a plain list of versions.
+//!
+//! `cell` has the cell, the choice of the best cell of a key at a version, and the pairs that a row's cells show at a
+//! version; the concurrent map reads its rows by these. `plain` is a map of one thread that keeps every entry it was
+//! given, `plain_pairs` what its scans answer, and `memory` the one error. What is chosen stands in `specs/Cells.antt`
+//! and `specs/Plain.antt`, over the lists of pairs of `specs/Pairs.antt`.
+#![tactic(auto)]
+
+pub mod cell;
+pub mod memory;
+pub mod plain;
+pub mod plain_pairs;

@@ -1,0 +1,350 @@
+-- The arrows of the table: from an activity, with the words that are there, to what the seat knows next.
+--
+-- There is one constructor for each arrow. It carries what the event found, so that a law by cases on the arrow splits no test of
+-- the table again; where a law does not matter for most arrows, one catch-all serves them. The words are a function of names.
+-- What follows where a look, or a cell, has no event of its own is an arrow of its own type, `NextLook` and `NextCell`.
+use Rattle.std.proofs.Common.{ℕ, ◌≡◌, ◌≢◌, ◌⊎◌, inl, inr, ◌+◌, ◌<◌, ◌≤◌, ◌==◌, Option, Some, None, Bool, true, false, nat_lt, nat_le, [], arith, refl, sym, ◌∙◌, ap, subst, if◌then◌else◌}
+use Rattle.std.proofs.lemmas.Bool.Decides.{nat_tests}
+use Rattle.kw_words.specs.declared.layout.Name.TheVariants as name
+use Rattle.kw_words.specs.declared.pend.Pend.{Pend}
+use Rattle.kw_words.specs.declared.pend.Pend.TheVariants as pend
+use Rattle.kw_words.specs.declared.state.State.{State}
+use Rattle.kw_words.specs.declared.state.State.TheVariants.{Free, Infant, Normal, Leader, Follower, Retired}
+use Rattle.kw_words.specs.declared.sizes.TheConstants.{SPENT}
+use Rattle.kw_words.specs.Count.{count_of}
+use Rattle.kw_words.specs.Pend.{pend_of, pend_word}
+use Rattle.kw_words.specs.Scan.{scan_of}
+use Rattle.kw_words.specs.State.{state_of}
+use Rattle.kw_words.specs.Link.{link_of}
+use Rattle.kw_words.specs.Plain.{key_of_word, value_of_word, version_of_word}
+use Rattle.kw_cells.specs.Cells.{shown_at}
+use Rattle.kw_model.specs.Map.{found}
+use Rattle.kw_model.specs.declared.call.Call.{Call}
+use Rattle.kw_model.specs.declared.call.Call.TheVariants.{Put, Del, Get, Scan}
+use Rattle.kw_model.specs.declared.call.Reply.{Reply}
+use Rattle.kw_model.specs.declared.call.Reply.TheVariants.{Done, Pairs, Spent, Stopped}
+use Rattle.kw_world.specs.declared.activity.Activity.{Activity}
+use Rattle.kw_world.specs.declared.activity.Activity.TheVariants.{Idle, Enter, ScanClock, ScanWait, ScanDraw, ScanSettle, Start, Head, GuessMin, Walk, WalkMin, Look, LookKey, LookClock, LookHelp, LookCount, Cell, CellKey, CellValue, ClearScan, PutCount, PutAdd, PutKey, PutValue, Announce, PutClock, Stamp, PutVersion, PutClear, Leave}
+use Rattle.kw_world.specs.declared.local.Local.{Local}
+use Rattle.kw_world.specs.declared.limits.TheConstants.{NEWEST}
+use Rattle.kw_world.specs.declared.event.Choice.{Choice}
+use Rattle.kw_world.specs.declared.event.Choice.TheVariants.{Begin, Go, Guess, Stop}
+use Rattle.kw_world.specs.Sizes.{Sizes}
+use Rattle.kw_world.specs.Local.{resting}
+use Rattle.kw_world.specs.Calls.{first_key, last_key, is_in_range, is_scan, is_range_empty}
+use Rattle.kw_world.specs.Row.{Outcome, to, leave, row_linked, row_or_first}
+use Rattle.kw_world.specs.RowScan.{begun, entered, version_settled, reply_or_stopped}
+use Rattle.kw_world.specs.RowWalk.{start_row, guess_met, arrive, link_met, walk_row, is_stopped}
+use Rattle.kw_world.specs.RowRead.{to_look, look_met, help_met, remembering, count_read, to_cell, row_read, get_answered, scan_ended, scan_on, with_pairs, row_scanned, version_in_hand, version_met, gathering}
+use Rattle.kw_world.specs.RowPut.{full, has_room, given_of, stamp_met}
+use Rattle.kw_world.specs.Table.{row}
+use Rattle.kw_world.specs.Step.{followed, is_skipped}
+use Rattle.kw_core.specs.Shape.{Words, next_in, least_in}
+use Rattle.kw_core.specs.Stages.{is_put}
+use Rattle.kw_core.proofs.Events.{IsBegun}
+
+-- what a reader does after the entries below j: the next look, or the count
+pub data NextLook (z : Sizes) (j : ℕ) : Activity → Type 0 where
+  looks : j < z.seats → NextLook z j (Look j)
+  counts : z.seats ≤ j → NextLook z j LookCount
+
+-- what a seat that reads knows after the cells below j: it reads the next one, or the row is read
+pub data NextCell (l : Local) (j : ℕ) : Local → Type 0 where
+  reads_cell : j < l.count → NextCell l j (record l { activity = Cell j })
+  answers : l.count ≤ j → is_scan l.call ≡ false → NextCell l j (leave (found (shown_at l.gathered NEWEST (first_key l.call))) l).local
+  ends_scan : l.count ≤ j → is_scan l.call ≡ true → (l.next ≡ None) ⊎ (last_key l.call < l.upper) → NextCell l j (scan_ended (with_pairs (last_key l.call) l)).local
+  scans_on : (r : ℕ) → l.count ≤ j → is_scan l.call ≡ true → l.next ≡ Some r → l.upper ≤ last_key l.call →
+      NextCell l j (record (with_pairs (last_key l.call) l) { row = r; lower = l.upper; want = l.upper; next = None; upper = 0; activity = Walk })
+
+-- the word is neither a pending nor a stamped entry
+pub record IsNeither (w : ℕ) : Type 0 where
+  pub pending : (c : ℕ) → pend_of w ≢ Some (pend.Pending c)
+  pub stamped : (c version : ℕ) → pend_of w ≢ Some (pend.Stamped c version)
+
+-- the word is neither this pending entry nor a stamped one
+pub record IsNot (cell w : ℕ) : Type 0 where
+  pub pending : pend_of w ≢ Some (pend.Pending cell)
+  pub stamped : (c version : ℕ) → pend_of w ≢ Some (pend.Stamped c version)
+
+-- the word is neither this pending entry nor one stamped with this cell
+pub record IsNotOwn (cell w : ℕ) : Type 0 where
+  pub pending : pend_of w ≢ Some (pend.Pending cell)
+  pub stamped : (version : ℕ) → pend_of w ≢ Some (pend.Stamped cell version)
+
+-- from an activity to what the seat knows next
+pub data Arrow (z : Sizes) (v : Words) (s : ℕ) (choice : Choice) (l : Local) : Activity → Local → Type 0 where
+  -- a call begins
+  begins : (call : Call) → choice ≡ Begin call → IsBegun (Begin call) → Arrow z v s choice l Idle (record l { call = Some call; number = l.number + 1; epoch = v name.Epoch; activity = Enter })
+  enters : is_scan l.call ≡ false → Arrow z v s choice l Enter (record l { want = first_key l.call; activity = Start })
+  enters_scan : is_scan l.call ≡ true → Arrow z v s choice l Enter (record l { activity = ScanClock })
+  -- a scan gets its version
+  is_spent : SPENT ≤ v name.Clock → Arrow z v s choice l ScanClock (leave Spent l).local
+  waits : v name.Clock < SPENT → Arrow z v s choice l ScanClock (record l { waiting = v name.Clock; activity = ScanWait })
+  stores_waiting : Arrow z v s choice l ScanWait (record l { activity = ScanDraw })
+  draws : Arrow z v s choice l ScanDraw (record l { drawn = v name.Clock; activity = ScanSettle })
+  settles_empty : is_range_empty l.call ≡ true → Arrow z v s choice l ScanSettle (record l { version = version_settled (scan_of (v (name.Scan s))) l.drawn; activity = ClearScan (Pairs []) })
+  settles : is_range_empty l.call ≡ false → Arrow z v s choice l ScanSettle (record l { version = version_settled (scan_of (v (name.Scan s))) l.drawn; want = first_key l.call; activity = Start })
+  -- the walk
+  starts_at_head : Arrow z v s choice l Start (record l { row = row_or_first (row_linked (link_of (v name.Head))); lower = 0; activity = Walk })
+  guesses : (r : ℕ) → choice ≡ Guess r → state_of (v (name.State r)) ≡ Some Normal → Arrow z v s choice l Start (record l { row = r; activity = GuessMin })
+  guess_fails : Arrow z v s choice l Start (record l { activity = Head })
+  takes_head : Arrow z v s choice l Head (record l { row = row_or_first (row_linked (link_of (v name.Head))); lower = 0; activity = Walk })
+  guess_serves : least_in v l.row ≤ l.want → Arrow z v s choice l GuessMin (record l { lower = least_in v l.row; activity = Walk })
+  guess_is_above : l.want < least_in v l.row → Arrow z v s choice l GuessMin (record l { activity = Head })
+  stops : is_stopped choice l ≡ true → Arrow z v s choice l Walk (leave Stopped l).local
+  puts_in_last : is_put l.call ≡ true → next_in v l.row ≡ None → Arrow z v s choice l Walk (record l { next = None; upper = 0; activity = PutCount })
+  reads_last : is_put l.call ≡ false → next_in v l.row ≡ None → Arrow z v s choice l Walk (record l { next = None; upper = 0; remembered = []; gathered = []; activity = Look 0 })
+  meets_next : (q : ℕ) → next_in v l.row ≡ Some q → Arrow z v s choice l Walk (record l { candidate = q; activity = WalkMin })
+  walks_on : least_in v l.candidate ≤ l.want → Arrow z v s choice l WalkMin (record l { row = l.candidate; lower = least_in v l.candidate; activity = Walk })
+  puts_before : is_put l.call ≡ true → l.want < least_in v l.candidate → Arrow z v s choice l WalkMin (record l { next = Some l.candidate; upper = least_in v l.candidate; activity = PutCount })
+  reads_before : is_put l.call ≡ false → l.want < least_in v l.candidate → Arrow z v s choice l WalkMin (record l { next = Some l.candidate; upper = least_in v l.candidate; remembered = []; gathered = []; activity = Look 0 })
+  -- a reader looks at the entries
+  meets_pending : (i c : ℕ) → pend_of (v (name.Pend l.row i)) ≡ Some (pend.Pending c) → Arrow z v s choice l (Look i) (record l { looked = i; met = c; activity = LookKey })
+  meets_stamped : (i c version : ℕ) (next : Activity) → pend_of (v (name.Pend l.row i)) ≡ Some (pend.Stamped c version) → NextLook z (i + 1) next → Arrow z v s choice l (Look i) (record (remembering c version l) { activity = next })
+  meets_neither : (i : ℕ) (next : Activity) → IsNeither (v (name.Pend l.row i)) → NextLook z (i + 1) next → Arrow z v s choice l (Look i) (record l { activity = next })
+  is_wanted : is_in_range l.call (key_of_word (v (name.Key l.row l.met))) ≡ true → Arrow z v s choice l LookKey (record l { activity = LookClock })
+  is_passed : (next : Activity) → is_in_range l.call (key_of_word (v (name.Key l.row l.met))) ≡ false → NextLook z (l.looked + 1) next → Arrow z v s choice l LookKey (record l { activity = next })
+  loads_to_help : Arrow z v s choice l LookClock (record l { helping = v name.Clock; activity = LookHelp })
+  helps : (next : Activity) → pend_of (v (name.Pend l.row l.looked)) ≡ Some (pend.Pending l.met) → NextLook z (l.looked + 1) next → Arrow z v s choice l LookHelp (record (remembering l.met l.helping l) { activity = next })
+  finds_stamped : (c version : ℕ) (next : Activity) → pend_of (v (name.Pend l.row l.looked)) ≡ Some (pend.Stamped c version) → NextLook z (l.looked + 1) next → Arrow z v s choice l LookHelp (record (remembering c version l) { activity = next })
+  finds_other : (next : Activity) → IsNot l.met (v (name.Pend l.row l.looked)) → NextLook z (l.looked + 1) next → Arrow z v s choice l LookHelp (record l { activity = next })
+  -- a reader reads the cells
+  counts_cells : (next : Local) → NextCell (record l { count = count_read z (count_of (v (name.Count l.row))) }) 0 next → Arrow z v s choice l LookCount next
+  has_version : (j version : ℕ) → version_in_hand j (version_of_word (v (name.Version l.row j))) l ≡ Some version → Arrow z v s choice l (Cell j) (record l { place = j; place_version = version; activity = CellKey })
+  has_no_version : (j : ℕ) (next : Local) → version_in_hand j (version_of_word (v (name.Version l.row j))) l ≡ None → NextCell l (j + 1) next → Arrow z v s choice l (Cell j) next
+  has_key : is_in_range l.call (key_of_word (v (name.Key l.row l.place))) ≡ true → Arrow z v s choice l CellKey (record l { place_key = key_of_word (v (name.Key l.row l.place)); activity = CellValue })
+  has_other_key : (next : Local) → is_in_range l.call (key_of_word (v (name.Key l.row l.place))) ≡ false → NextCell l (l.place + 1) next → Arrow z v s choice l CellKey next
+  gathers : (next : Local) → NextCell (gathering (value_of_word (v (name.Value l.row l.place))) l) (l.place + 1) next → Arrow z v s choice l CellValue next
+  -- a scan is over
+  clears_scan : (reply : Reply) → Arrow z v s choice l (ClearScan reply) (leave (reply_or_stopped reply choice) l).local
+  -- a put or a delete
+  finds_room : has_room z (count_of (v (name.Count l.row))) ≡ true → Arrow z v s choice l PutCount (record l { activity = PutAdd })
+  finds_none : has_room z (count_of (v (name.Count l.row))) ≡ false → Arrow z v s choice l PutCount (full l).local
+  takes_cell : has_room z (count_of (v (name.Count l.row))) ≡ true → Arrow z v s choice l PutAdd (record l { cell = given_of (count_of (v (name.Count l.row))); activity = PutKey })
+  takes_none : has_room z (count_of (v (name.Count l.row))) ≡ false → Arrow z v s choice l PutAdd (full l).local
+  stores_key : Arrow z v s choice l PutKey (record l { activity = PutValue })
+  stores_value : Arrow z v s choice l PutValue (record l { activity = Announce })
+  announces : v (name.Pend l.row s) ≡ pend_word pend.Idle → Arrow z v s choice l Announce (record l { activity = PutClock })
+  is_refused : v (name.Pend l.row s) ≢ pend_word pend.Idle → Arrow z v s choice l Announce (full l).local
+  loads_clock : Arrow z v s choice l PutClock (record l { version = v name.Clock; activity = Stamp })
+  stamps : pend_of (v (name.Pend l.row s)) ≡ Some (pend.Pending l.cell) → Arrow z v s choice l Stamp (record l { activity = PutVersion })
+  is_stamped : (version : ℕ) → pend_of (v (name.Pend l.row s)) ≡ Some (pend.Stamped l.cell version) → Arrow z v s choice l Stamp (record l { version = version; activity = PutVersion })
+  is_not_own : IsNotOwn l.cell (v (name.Pend l.row s)) → Arrow z v s choice l Stamp (full l).local
+  stores_version : Arrow z v s choice l PutVersion (record l { activity = PutClear })
+  clears : Arrow z v s choice l PutClear (leave Done l).local
+  -- the call ends
+  leaves : (reply : Reply) → Arrow z v s choice l (Leave reply) (resting l.number)
+
+-- Tests of the table.
+
+pub eq_from : (x y : ℕ) → (x == y) ≡ true → x ≡ y
+eq_from x y e = grind (arith, nat_tests)
+
+pub eq_not : (x y : ℕ) → (x == y) ≡ false → x ≢ y
+eq_not x y f e = grind (arith, nat_tests)
+
+pub below : (x y : ℕ) → nat_lt x y ≡ true → x < y
+below x y e = grind (arith, nat_tests)
+
+pub not_below : (x y : ℕ) → nat_lt x y ≡ false → y ≤ x
+not_below x y e = grind (arith, nat_tests)
+
+pub at_most : (x y : ℕ) → nat_le x y ≡ true → x ≤ y
+at_most x y e = grind (arith, nat_tests)
+
+pub above : (x y : ℕ) → nat_le x y ≡ false → y < x
+above x y e = grind (arith, nat_tests)
+
+-- The arrow of each line.
+
+-- the next look, over the test
+next_look : (z : Sizes) (j : ℕ) (l : Local) (P : Local → Type 0) → ((next : Activity) → NextLook z j next → P (record l { activity = next })) → P (to_look z j l).local
+next_look z j l P f = met (nat_lt j z.seats) refl
+  where
+    met : (b : Bool) → nat_lt j z.seats ≡ b → P (let x : Outcome = if b then to (Look j) l else to LookCount l in x).local
+    met true e = f (Look j) (looks (below j z.seats e))
+    met false e = f LookCount (counts (not_below j z.seats e))
+
+-- what follows the end of a row's cells, for a scan
+scan_goes_on : (l : Local) (j : ℕ) (n : Option ℕ) → l.count ≤ j → is_scan l.call ≡ true → l.next ≡ n → NextCell l j (scan_on n (last_key l.call) (with_pairs (last_key l.call) l)).local
+scan_goes_on l j None c s e = ends_scan c s (inl e)
+scan_goes_on l j (Some r) c s e = met (nat_lt (last_key l.call) l.upper) refl
+  where
+    met : (b : Bool) → nat_lt (last_key l.call) l.upper ≡ b → NextCell l j (let x : Outcome = if b then scan_ended (with_pairs (last_key l.call) l) else to Walk (record (with_pairs (last_key l.call) l) { row = r; lower = l.upper; want = l.upper; next = None; upper = 0 }) in x).local
+    met true h = ends_scan c s (inr (below _ _ h))
+    met false h = scans_on r c s e (not_below _ _ h)
+
+-- what follows the end of a row's cells
+read_arrow : (l : Local) (j : ℕ) (call : Option Call) → l.count ≤ j → l.call ≡ call → NextCell l j (row_read call l).local
+read_arrow l j (Some (Put key value)) c e = subst (λ x. NextCell l j (get_answered (first_key x) l).local) e (answers c (ap is_scan e))
+read_arrow l j (Some (Del key)) c e = subst (λ x. NextCell l j (get_answered (first_key x) l).local) e (answers c (ap is_scan e))
+read_arrow l j (Some (Get key)) c e = subst (λ x. NextCell l j (get_answered (first_key x) l).local) e (answers c (ap is_scan e))
+read_arrow l j (Some (Scan from upto)) c e = subst (λ x. NextCell l j (row_scanned (last_key x) l).local) e (scan_goes_on l j l.next c (ap is_scan e) refl)
+read_arrow l j None c e = subst (λ x. NextCell l j (get_answered (first_key x) l).local) e (answers c (ap is_scan e))
+
+-- the next cell, over the test
+pub next_cell : (l : Local) (j : ℕ) → NextCell l j (to_cell j l).local
+next_cell l j = met (nat_lt j l.count) refl
+  where
+    met : (b : Bool) → nat_lt j l.count ≡ b → NextCell l j (let x : Outcome = if b then to (Cell j) l else row_read l.call l in x).local
+    met true e = reads_cell (below j l.count e)
+    met false e = read_arrow l j l.call (not_below j l.count e) refl
+
+module _ (z : Sizes) (v : Words) (s : ℕ) (choice : Choice) (l : Local) where
+  enter_arrow : (c : Option Call) → l.call ≡ c → Arrow z v s choice l Enter (entered c l).local
+  enter_arrow (Some (Put key value)) e = enters (ap is_scan e)
+  enter_arrow (Some (Del key)) e = enters (ap is_scan e)
+  enter_arrow (Some (Get key)) e = enters (ap is_scan e)
+  enter_arrow (Some (Scan from upto)) e = enters_scan (ap is_scan e)
+  enter_arrow None e = enters (ap is_scan e)
+
+  begin_arrow : (c : Choice) → choice ≡ c → IsBegun c → is_skipped Idle c ≡ false → Arrow z v s choice l Idle (begun c (v name.Epoch) l).local
+  begin_arrow (Begin call) e b m = begins call e b
+  begin_arrow Go e b m = let x : true ≡ false = m in absurd (cc)
+  begin_arrow (Guess r) e b m = let x : true ≡ false = m in absurd (cc)
+  begin_arrow Stop e b m = let x : true ≡ false = m in absurd (cc)
+
+  guess_arrow : (r : ℕ) (x : Option State) → choice ≡ Guess r → state_of (v (name.State r)) ≡ x → Arrow z v s choice l Start (guess_met r x l).local
+  guess_arrow r (Some Free) c e = guess_fails
+  guess_arrow r (Some (Infant seat)) c e = guess_fails
+  guess_arrow r (Some Normal) c e = guesses r c e
+  guess_arrow r (Some (Leader count)) c e = guess_fails
+  guess_arrow r (Some (Follower leader)) c e = guess_fails
+  guess_arrow r (Some (Retired number)) c e = guess_fails
+  guess_arrow r None c e = guess_fails
+
+  start_arrow : (c : Choice) → choice ≡ c → Arrow z v s choice l Start (followed (start_row c l) (v (start_row c l).operation.name)).local
+  start_arrow (Begin call) e = starts_at_head
+  start_arrow Go e = starts_at_head
+  start_arrow (Guess r) e = guess_arrow r (state_of (v (name.State r))) e refl
+  start_arrow Stop e = starts_at_head
+
+  -- arriving after the last row, and before a next one
+  arrive_last : (c : Option Call) → l.call ≡ c → next_in v l.row ≡ None → Arrow z v s choice l Walk (arrive c (record l { next = None; upper = 0 })).local
+  arrive_last (Some (Put key value)) e n = puts_in_last (ap is_put e) n
+  arrive_last (Some (Del key)) e n = puts_in_last (ap is_put e) n
+  arrive_last (Some (Get key)) e n = reads_last (ap is_put e) n
+  arrive_last (Some (Scan from upto)) e n = reads_last (ap is_put e) n
+  arrive_last None e n = reads_last (ap is_put e) n
+
+  arrive_before : (c : Option Call) → l.call ≡ c → l.want < least_in v l.candidate → Arrow z v s choice l WalkMin (arrive c (record l { next = Some l.candidate; upper = least_in v l.candidate })).local
+  arrive_before (Some (Put key value)) e n = puts_before (ap is_put e) n
+  arrive_before (Some (Del key)) e n = puts_before (ap is_put e) n
+  arrive_before (Some (Get key)) e n = reads_before (ap is_put e) n
+  arrive_before (Some (Scan from upto)) e n = reads_before (ap is_put e) n
+  arrive_before None e n = reads_before (ap is_put e) n
+
+  link_arrow : (n : Option ℕ) → next_in v l.row ≡ n → Arrow z v s choice l Walk (link_met n l).local
+  link_arrow None e = arrive_last l.call refl e
+  link_arrow (Some q) e = meets_next q e
+
+  walk_arrow : (b : Bool) → is_stopped choice l ≡ b → Arrow z v s choice l Walk (followed (walk_row b s l) (v (walk_row b s l).operation.name)).local
+  walk_arrow true e = stops e
+  walk_arrow false e = link_arrow (next_in v l.row) refl
+
+  min_arrow : (b : Bool) → nat_le (least_in v l.candidate) l.want ≡ b → Arrow z v s choice l WalkMin (let x : Outcome = if b then to Walk (record l { row = l.candidate; lower = least_in v l.candidate }) else arrive l.call (record l { next = Some l.candidate; upper = least_in v l.candidate }) in x).local
+  min_arrow true e = walks_on (at_most _ _ e)
+  min_arrow false e = arrive_before l.call refl (above _ _ e)
+
+  look_arrow : (i : ℕ) (x : Option Pend) → pend_of (v (name.Pend l.row i)) ≡ x → Arrow z v s choice l (Look i) (look_met z i x l).local
+  look_arrow i (Some pend.Idle) e = next_look z (i + 1) l (Arrow z v s choice l (Look i)) (λ a n. meets_neither i a (record { pending = λ c q. let y : Some pend.Idle ≡ Some (pend.Pending c) = sym e ∙ q in cc; stamped = λ c u q. let y : Some pend.Idle ≡ Some (pend.Stamped c u) = sym e ∙ q in cc }) n)
+  look_arrow i (Some (pend.Pending cell)) e = meets_pending i cell e
+  look_arrow i (Some (pend.Stamped cell version)) e = next_look z (i + 1) (remembering cell version l) (Arrow z v s choice l (Look i)) (λ a n. meets_stamped i cell version a e n)
+  look_arrow i (Some pend.Frozen) e = next_look z (i + 1) l (Arrow z v s choice l (Look i)) (λ a n. meets_neither i a (record { pending = λ c q. let y : Some pend.Frozen ≡ Some (pend.Pending c) = sym e ∙ q in cc; stamped = λ c u q. let y : Some pend.Frozen ≡ Some (pend.Stamped c u) = sym e ∙ q in cc }) n)
+  look_arrow i None e = next_look z (i + 1) l (Arrow z v s choice l (Look i)) (λ a n. meets_neither i a (record { pending = λ c q. let y : None ≡ Some (pend.Pending c) = sym e ∙ q in cc; stamped = λ c u q. let y : None ≡ Some (pend.Stamped c u) = sym e ∙ q in cc }) n)
+
+  help_arrow : (x : Option Pend) → pend_of (v (name.Pend l.row l.looked)) ≡ x → Arrow z v s choice l LookHelp (help_met z x l).local
+  help_arrow (Some pend.Idle) e = next_look z (l.looked + 1) l (Arrow z v s choice l LookHelp) (λ a n. finds_other a (record { pending = λ q. let y : Some pend.Idle ≡ Some (pend.Pending l.met) = sym e ∙ q in cc; stamped = λ c u q. let y : Some pend.Idle ≡ Some (pend.Stamped c u) = sym e ∙ q in cc }) n)
+  help_arrow (Some (pend.Pending cell)) e = met (cell == l.met) refl
+    where
+      met : (b : Bool) → (cell == l.met) ≡ b → Arrow z v s choice l LookHelp (to_look z (l.looked + 1) (let x : Local = if b then remembering cell l.helping l else l in x)).local
+      met true h = next_look z (l.looked + 1) (remembering cell l.helping l) (Arrow z v s choice l LookHelp)
+          (λ a n. subst (λ c. Arrow z v s choice l LookHelp (record (remembering c l.helping l) { activity = a })) (sym (eq_from cell l.met h)) (helps a (e ∙ ap (λ c. Some (pend.Pending c)) (eq_from cell l.met h)) n))
+      met false h = next_look z (l.looked + 1) l (Arrow z v s choice l LookHelp) (λ a n. finds_other a (record { pending = λ q. let y : Some (pend.Pending cell) ≡ Some (pend.Pending l.met) = sym e ∙ q in eq_not cell l.met h (cc); stamped = λ c u q. let y : Some (pend.Pending cell) ≡ Some (pend.Stamped c u) = sym e ∙ q in cc }) n)
+  help_arrow (Some (pend.Stamped cell version)) e = next_look z (l.looked + 1) (remembering cell version l) (Arrow z v s choice l LookHelp) (λ a n. finds_stamped cell version a e n)
+  help_arrow (Some pend.Frozen) e = next_look z (l.looked + 1) l (Arrow z v s choice l LookHelp) (λ a n. finds_other a (record { pending = λ q. let y : Some pend.Frozen ≡ Some (pend.Pending l.met) = sym e ∙ q in cc; stamped = λ c u q. let y : Some pend.Frozen ≡ Some (pend.Stamped c u) = sym e ∙ q in cc }) n)
+  help_arrow None e = next_look z (l.looked + 1) l (Arrow z v s choice l LookHelp) (λ a n. finds_other a (record { pending = λ q. let y : None ≡ Some (pend.Pending l.met) = sym e ∙ q in cc; stamped = λ c u q. let y : None ≡ Some (pend.Stamped c u) = sym e ∙ q in cc }) n)
+
+  cell_arrow : (j : ℕ) (x : Option ℕ) → version_in_hand j (version_of_word (v (name.Version l.row j))) l ≡ x → Arrow z v s choice l (Cell j) (version_met j x l).local
+  cell_arrow j (Some version) e = has_version j version e
+  cell_arrow j None e = has_no_version j _ e (next_cell l (j + 1))
+
+  stamp_arrow : (x : Option Pend) → pend_of (v (name.Pend l.row s)) ≡ x → Arrow z v s choice l Stamp (stamp_met x l).local
+  stamp_arrow (Some pend.Idle) e = is_not_own (record { pending = λ q. let y : Some pend.Idle ≡ Some (pend.Pending l.cell) = sym e ∙ q in cc; stamped = λ u q. let y : Some pend.Idle ≡ Some (pend.Stamped l.cell u) = sym e ∙ q in cc })
+  stamp_arrow (Some (pend.Pending cell)) e = met (cell == l.cell) refl
+    where
+      met : (b : Bool) → (cell == l.cell) ≡ b → Arrow z v s choice l Stamp (let x : Outcome = if b then to PutVersion l else full l in x).local
+      met true h = stamps (e ∙ ap (λ c. Some (pend.Pending c)) (eq_from cell l.cell h))
+      met false h = is_not_own (record { pending = λ q. let y : Some (pend.Pending cell) ≡ Some (pend.Pending l.cell) = sym e ∙ q in eq_not cell l.cell h (cc); stamped = λ u q. let y : Some (pend.Pending cell) ≡ Some (pend.Stamped l.cell u) = sym e ∙ q in cc })
+  stamp_arrow (Some (pend.Stamped cell version)) e = met (cell == l.cell) refl
+    where
+      met : (b : Bool) → (cell == l.cell) ≡ b → Arrow z v s choice l Stamp (let x : Outcome = if b then to PutVersion (record l { version = version }) else full l in x).local
+      met true h = is_stamped version (e ∙ ap (λ c. Some (pend.Stamped c version)) (eq_from cell l.cell h))
+      met false h = is_not_own (record { pending = λ q. let y : Some (pend.Stamped cell version) ≡ Some (pend.Pending l.cell) = sym e ∙ q in cc; stamped = λ u q. let y : Some (pend.Stamped cell version) ≡ Some (pend.Stamped l.cell u) = sym e ∙ q in eq_not cell l.cell h (cc) })
+  stamp_arrow (Some pend.Frozen) e = is_not_own (record { pending = λ q. let y : Some pend.Frozen ≡ Some (pend.Pending l.cell) = sym e ∙ q in cc; stamped = λ u q. let y : Some pend.Frozen ≡ Some (pend.Stamped l.cell u) = sym e ∙ q in cc })
+  stamp_arrow None e = is_not_own (record { pending = λ q. let y : None ≡ Some (pend.Pending l.cell) = sym e ∙ q in cc; stamped = λ u q. let y : None ≡ Some (pend.Stamped l.cell u) = sym e ∙ q in cc })
+
+  -- every event that is not skipped takes an arrow
+  pub arrow : (a : Activity) → IsBegun choice → is_skipped a choice ≡ false → Arrow z v s choice l a (followed (row z a s choice l) (v (row z a s choice l).operation.name)).local
+  arrow Idle b m = begin_arrow choice refl b m
+  arrow Enter b m = enter_arrow l.call refl
+  arrow ScanClock b m = met (nat_le SPENT (v name.Clock)) refl
+    where
+      met : (b : Bool) → nat_le SPENT (v name.Clock) ≡ b → Arrow z v s choice l ScanClock (let x : Outcome = if b then leave Spent l else to ScanWait (record l { waiting = v name.Clock }) in x).local
+      met true e = is_spent (at_most _ _ e)
+      met false e = waits (above _ _ e)
+  arrow ScanWait b m = stores_waiting
+  arrow ScanDraw b m = draws
+  arrow ScanSettle b m = met (is_range_empty l.call) refl
+    where
+      met : (b : Bool) → is_range_empty l.call ≡ b → Arrow z v s choice l ScanSettle (let x : Outcome = if b then to (ClearScan (Pairs [])) (record l { version = version_settled (scan_of (v (name.Scan s))) l.drawn }) else to Start (record l { version = version_settled (scan_of (v (name.Scan s))) l.drawn; want = first_key l.call }) in x).local
+      met true e = settles_empty e
+      met false e = settles e
+  arrow Start b m = start_arrow choice refl
+  arrow Head b m = takes_head
+  arrow GuessMin b m = met (nat_le (least_in v l.row) l.want) refl
+    where
+      met : (b : Bool) → nat_le (least_in v l.row) l.want ≡ b → Arrow z v s choice l GuessMin (let x : Outcome = if b then to Walk (record l { lower = least_in v l.row }) else to Head l in x).local
+      met true e = guess_serves (at_most _ _ e)
+      met false e = guess_is_above (above _ _ e)
+  arrow Walk b m = walk_arrow (is_stopped choice l) refl
+  arrow WalkMin b m = min_arrow (nat_le (least_in v l.candidate) l.want) refl
+  arrow (Look i) b m = look_arrow i (pend_of (v (name.Pend l.row i))) refl
+  arrow LookKey b m = met (is_in_range l.call (key_of_word (v (name.Key l.row l.met)))) refl
+    where
+      met : (b : Bool) → is_in_range l.call (key_of_word (v (name.Key l.row l.met))) ≡ b → Arrow z v s choice l LookKey (let x : Outcome = if b then to LookClock l else to_look z (l.looked + 1) l in x).local
+      met true e = is_wanted e
+      met false e = next_look z (l.looked + 1) l (Arrow z v s choice l LookKey) (λ a n. is_passed a e n)
+  arrow LookClock b m = loads_to_help
+  arrow LookHelp b m = help_arrow (pend_of (v (name.Pend l.row l.looked))) refl
+  arrow LookCount b m = counts_cells _ (next_cell (record l { count = count_read z (count_of (v (name.Count l.row))) }) 0)
+  arrow (Cell j) b m = cell_arrow j (version_in_hand j (version_of_word (v (name.Version l.row j))) l) refl
+  arrow CellKey b m = met (is_in_range l.call (key_of_word (v (name.Key l.row l.place)))) refl
+    where
+      met : (b : Bool) → is_in_range l.call (key_of_word (v (name.Key l.row l.place))) ≡ b → Arrow z v s choice l CellKey (let x : Outcome = if b then to CellValue (record l { place_key = key_of_word (v (name.Key l.row l.place)) }) else to_cell (l.place + 1) l in x).local
+      met true e = has_key e
+      met false e = has_other_key _ e (next_cell l (l.place + 1))
+  arrow CellValue b m = gathers _ (next_cell (gathering (value_of_word (v (name.Value l.row l.place))) l) (l.place + 1))
+  arrow (ClearScan reply) b m = clears_scan reply
+  arrow PutCount b m = met (has_room z (count_of (v (name.Count l.row)))) refl
+    where
+      met : (b : Bool) → has_room z (count_of (v (name.Count l.row))) ≡ b → Arrow z v s choice l PutCount (let x : Outcome = if b then to PutAdd l else full l in x).local
+      met true e = finds_room e
+      met false e = finds_none e
+  arrow PutAdd b m = met (has_room z (count_of (v (name.Count l.row)))) refl
+    where
+      met : (b : Bool) → has_room z (count_of (v (name.Count l.row))) ≡ b → Arrow z v s choice l PutAdd (let x : Outcome = if b then to PutKey (record l { cell = given_of (count_of (v (name.Count l.row))) }) else full l in x).local
+      met true e = takes_cell e
+      met false e = takes_none e
+  arrow PutKey b m = stores_key
+  arrow PutValue b m = stores_value
+  arrow Announce b m = met (v (name.Pend l.row s) == pend_word pend.Idle) refl
+    where
+      met : (b : Bool) → (v (name.Pend l.row s) == pend_word pend.Idle) ≡ b → Arrow z v s choice l Announce (let x : Outcome = if b then to PutClock l else full l in x).local
+      met true e = announces (eq_from _ _ e)
+      met false e = is_refused (eq_not _ _ e)
+  arrow PutClock b m = loads_clock
+  arrow Stamp b m = stamp_arrow (pend_of (v (name.Pend l.row s))) refl
+  arrow PutVersion b m = stores_version
+  arrow PutClear b m = clears
+  arrow (Leave reply) b m = leaves reply

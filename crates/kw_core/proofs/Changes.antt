@@ -1,0 +1,67 @@
+-- What each event adds to the record, one constructor for each change.
+use Rattle.std.proofs.Common.{ℕ, ◌≡◌, ◌+◌, ◌==◌, Bool, true, false, Option, Some, None, refl, if◌then◌else◌}
+use Rattle.kw_words.specs.declared.layout.Name.TheVariants as name
+use Rattle.kw_words.specs.declared.pend.Pend.TheVariants as pend
+use Rattle.kw_words.specs.Pend.{pend_word}
+use Rattle.kw_words.specs.Count.{count_of}
+use Rattle.kw_model.specs.declared.call.Call.{Call}
+use Rattle.kw_model.specs.declared.call.Reply.{Reply}
+use Rattle.kw_world.specs.declared.activity.Activity.{Activity}
+use Rattle.kw_world.specs.declared.activity.Activity.TheVariants.{Idle, LookHelp, PutAdd, Announce, Stamp, Leave}
+use Rattle.kw_world.specs.declared.local.Local.{Local}
+use Rattle.kw_world.specs.declared.event.Choice.{Choice}
+use Rattle.kw_world.specs.declared.event.Choice.TheVariants.{Begin, Go, Guess, Stop}
+use Rattle.kw_world.specs.Sizes.{Sizes}
+use Rattle.kw_world.specs.Calls.{first_key, put_value}
+use Rattle.kw_world.specs.RowPut.{has_room, given_of}
+use Rattle.kw_core.specs.Noted.{Change, Nothing, Begins, Adds, Announces, Stamps, Ends}
+use Rattle.kw_core.specs.Run.{SeatLog, Origins, change_of, beginning, helping, answering, drawing}
+use Rattle.kw_core.specs.Shape.{Words}
+use Rattle.kw_core.proofs.Arrows.{eq_from}
+use Rattle.kw_core.proofs.Happens.{found_at}
+
+-- the change that the event of an activity makes, with what it found
+pub data Makes (z : Sizes) (v : Words) (s : ℕ) (choice : Choice) (l : Local) (g : SeatLog) (o : Origins) : Activity → Change → Type 0 where
+  makes_nothing : (a : Activity) → Makes z v s choice l g o a Nothing
+  makes_begin : (call : Call) → choice ≡ Begin call → Makes z v s choice l g o Idle (Begins s (l.number + 1) call)
+  makes_add : has_room z (count_of (v (name.Count l.row))) ≡ true → Makes z v s choice l g o PutAdd (Adds g.call s (first_key l.call) (put_value l.call) l.row (given_of (count_of (v (name.Count l.row)))))
+  makes_announce : v (name.Pend l.row s) ≡ pend_word pend.Idle → Makes z v s choice l g o Announce (Announces g.own)
+  makes_stamp : v (name.Pend l.row s) ≡ pend_word (pend.Pending l.cell) → Makes z v s choice l g o Stamp (Stamps g.own l.version g.loaded)
+  makes_help : (p : ℕ) → v (name.Pend l.row l.looked) ≡ pend_word (pend.Pending l.met) → o l.row l.met ≡ Some p → Makes z v s choice l g o LookHelp (Stamps p l.helping g.loaded)
+  makes_end : (reply : Reply) → Makes z v s choice l g o (Leave reply) (Ends g.call reply (answering l.call l g) (drawing reply l g))
+
+-- every event makes one of these changes
+pub made : (z : Sizes) (v : Words) (s : ℕ) (choice : Choice) (l : Local) (g : SeatLog) (o : Origins) (a : Activity) → Makes z v s choice l g o a (change_of z a s choice l (found_at z v a s choice l) g o)
+made z v s choice l g o Idle = begins choice refl
+  where
+    begins : (c : Choice) → choice ≡ c → Makes z v s choice l g o Idle (beginning c s l)
+    begins (Begin call) e = makes_begin call e
+    begins Go e = makes_nothing Idle
+    begins (Guess q) e = makes_nothing Idle
+    begins Stop e = makes_nothing Idle
+made z v s choice l g o PutAdd = met (has_room z (count_of (v (name.Count l.row)))) refl
+  where
+    met : (b : Bool) → has_room z (count_of (v (name.Count l.row))) ≡ b → Makes z v s choice l g o PutAdd (if b then Adds g.call s (first_key l.call) (put_value l.call) l.row (given_of (count_of (v (name.Count l.row)))) else Nothing)
+    met true e = makes_add e
+    met false e = makes_nothing PutAdd
+made z v s choice l g o Announce = met (v (name.Pend l.row s) == pend_word pend.Idle) refl
+  where
+    met : (b : Bool) → (v (name.Pend l.row s) == pend_word pend.Idle) ≡ b → Makes z v s choice l g o Announce (if b then Announces g.own else Nothing)
+    met true e = makes_announce (eq_from _ _ e)
+    met false e = makes_nothing Announce
+made z v s choice l g o Stamp = met (v (name.Pend l.row s) == pend_word (pend.Pending l.cell)) refl
+  where
+    met : (b : Bool) → (v (name.Pend l.row s) == pend_word (pend.Pending l.cell)) ≡ b → Makes z v s choice l g o Stamp (if b then Stamps g.own l.version g.loaded else Nothing)
+    met true e = makes_stamp (eq_from _ _ e)
+    met false e = makes_nothing Stamp
+made z v s choice l g o LookHelp = met (v (name.Pend l.row l.looked) == pend_word (pend.Pending l.met)) refl
+  where
+    helps : (x : Option ℕ) → o l.row l.met ≡ x → v (name.Pend l.row l.looked) ≡ pend_word (pend.Pending l.met) → Makes z v s choice l g o LookHelp (helping x l.helping g.loaded)
+    helps (Some p) e w = makes_help p w e
+    helps None e w = makes_nothing LookHelp
+
+    met : (b : Bool) → (v (name.Pend l.row l.looked) == pend_word (pend.Pending l.met)) ≡ b → Makes z v s choice l g o LookHelp (if b then helping (o l.row l.met) l.helping g.loaded else Nothing)
+    met true e = helps (o l.row l.met) refl (eq_from _ _ e)
+    met false e = makes_nothing LookHelp
+made z v s choice l g o (Leave reply) = makes_end reply
+made z v s choice l g o a = makes_nothing a

@@ -1,0 +1,281 @@
+-- What an event leaves of the words: each event writes at most one, and `writes` names it.
+--
+-- For each family of words one lemma says when a word of it is kept. Its premises compute to nothing at every activity that writes
+-- no word of the family.
+use Rattle.std.proofs.Common.{ℕ, ◌≡◌, ◌≢◌, ◌⊎◌, inl, inr, ◌+◌, ◌<◌, ◌≤◌, Bool, true, false, Option, Some, None, arith, refl, sym, ◌∙◌, ap, subst}
+use Rattle.std.proofs.lemmas.Bool.{cases_eq}
+use Rattle.kw_words.specs.declared.layout.Name.{Name}
+use Rattle.kw_words.specs.declared.layout.Name.TheVariants as name
+use Rattle.kw_words.specs.declared.count.Count.{Count as Counted}
+use Rattle.kw_words.specs.Layout.{IsWithin}
+use Rattle.kw_words.specs.Count.{count_of}
+use Rattle.kw_words.proofs.CountWords.{count_of_next}
+use Rattle.kw_world.specs.declared.activity.Activity.{Activity}
+use Rattle.kw_world.specs.declared.activity.Activity.TheVariants.{Idle, Enter, ScanClock, ScanWait, ScanDraw, ScanSettle, Start, Head, GuessMin, Walk, WalkMin, Look, LookKey, LookClock, LookHelp, LookCount, Cell, CellKey, CellValue, ClearScan, PutCount, PutAdd, PutKey, PutValue, Announce, PutClock, Stamp, PutVersion, PutClear, Leave}
+use Rattle.kw_world.specs.declared.local.Local.{Local}
+use Rattle.kw_world.specs.declared.event.Choice.{Choice}
+use Rattle.kw_world.specs.declared.event.Choice.TheVariants.{Begin, Go, Guess, Stop}
+use Rattle.kw_world.specs.Sizes.{Sizes}
+use Rattle.kw_world.specs.RowPut.{given_of}
+use Rattle.kw_world.specs.RowWalk.{start_row, walk_row, is_stopped}
+use Rattle.kw_world.specs.Sane.{IsGiven}
+use Rattle.kw_world.specs.Step.{word}
+use Rattle.kw_core.specs.Run.{Run}
+use Rattle.kw_core.specs.Stages.{IsHelp, IsPutVersion}
+use Rattle.kw_core.specs.Shape.{Words, given_in}
+use Rattle.kw_core.proofs.Happens.{Changed, Happens}
+
+-- What an event writes.
+
+-- a walk that is stopped writes the scan's word
+abbrev pub walk_writes : Bool → ℕ → Option Name
+walk_writes true s = Some (name.Scan s)
+walk_writes false s = None
+
+-- the word that the event of an activity writes; none where it loads. The third is whether a walk is stopped
+abbrev pub writes : Activity → ℕ → Bool → Local → Option Name
+writes Enter s b l = Some (name.Pass s)
+writes ScanWait s b l = Some (name.Scan s)
+writes ScanDraw s b l = Some name.Clock
+writes ScanSettle s b l = Some (name.Scan s)
+writes Walk s b l = walk_writes b s
+writes LookHelp s b l = Some (name.Pend l.row l.looked)
+writes (ClearScan reply) s b l = Some (name.Scan s)
+writes PutAdd s b l = Some (name.Count l.row)
+writes PutKey s b l = Some (name.Key l.row l.cell)
+writes PutValue s b l = Some (name.Value l.row l.cell)
+writes Announce s b l = Some (name.Pend l.row s)
+writes Stamp s b l = Some (name.Pend l.row s)
+writes PutVersion s b l = Some (name.Version l.row l.cell)
+writes PutClear s b l = Some (name.Pend l.row s)
+writes (Leave reply) s b l = Some (name.Pass s)
+writes _ s b l = None
+
+starts : (z : Sizes) (rows : ℕ) (v v' : Words) (l : Local) (c : Choice) → Changed z rows v v' (start_row c l) → (n : Name) → v' n ≡ v n
+starts z rows v v' l (Begin call) c n = c.loaded refl n
+starts z rows v v' l Go c n = c.loaded refl n
+starts z rows v v' l (Guess q) c n = c.loaded refl n
+starts z rows v v' l Stop c n = c.loaded refl n
+
+walks : (z : Sizes) (rows : ℕ) (v v' : Words) (s : ℕ) (l : Local) (b : Bool) → Changed z rows v v' (walk_row b s l) → (n : Name) → IsWithin z.seats z.cells rows n → walk_writes b s ≢ Some n → v' n ≡ v n
+walks z rows v v' s l true c n i d = c.other n i (λ e. d (ap Some (sym e)))
+walks z rows v v' s l false c n i d = c.loaded refl n
+
+-- the word that is not written is kept
+module _ {z : Sizes} {r r' : Run} {s : ℕ} {choice : Choice} {l l' : Local} where
+  pub unwritten : (a : Activity) → Happens z r r' s choice l l' a → (n : Name) → IsWithin z.seats z.cells r.world.rows n → writes a s (is_stopped choice l) l ≢ Some n → word z r'.world n ≡ word z r.world n
+  unwritten Idle h n i d = h.changed.loaded refl n
+  unwritten Enter h n i d = h.changed.other n i (λ e. d (ap Some (sym e)))
+  unwritten ScanClock h n i d = h.changed.loaded refl n
+  unwritten ScanWait h n i d = h.changed.other n i (λ e. d (ap Some (sym e)))
+  unwritten ScanDraw h n i d = h.changed.other n i (λ e. d (ap Some (sym e)))
+  unwritten ScanSettle h n i d = h.changed.other n i (λ e. d (ap Some (sym e)))
+  unwritten Start h n i d = starts z r.world.rows (word z r.world) (word z r'.world) l choice h.changed n
+  unwritten Head h n i d = h.changed.loaded refl n
+  unwritten GuessMin h n i d = h.changed.loaded refl n
+  unwritten Walk h n i d = walks z r.world.rows (word z r.world) (word z r'.world) s l (is_stopped choice l) h.changed n i d
+  unwritten WalkMin h n i d = h.changed.loaded refl n
+  unwritten (Look k) h n i d = h.changed.loaded refl n
+  unwritten LookKey h n i d = h.changed.loaded refl n
+  unwritten LookClock h n i d = h.changed.loaded refl n
+  unwritten LookHelp h n i d = h.changed.other n i (λ e. d (ap Some (sym e)))
+  unwritten LookCount h n i d = h.changed.loaded refl n
+  unwritten (Cell j) h n i d = h.changed.loaded refl n
+  unwritten CellKey h n i d = h.changed.loaded refl n
+  unwritten CellValue h n i d = h.changed.loaded refl n
+  unwritten (ClearScan reply) h n i d = h.changed.other n i (λ e. d (ap Some (sym e)))
+  unwritten PutCount h n i d = h.changed.loaded refl n
+  unwritten PutAdd h n i d = h.changed.other n i (λ e. d (ap Some (sym e)))
+  unwritten PutKey h n i d = h.changed.other n i (λ e. d (ap Some (sym e)))
+  unwritten PutValue h n i d = h.changed.other n i (λ e. d (ap Some (sym e)))
+  unwritten Announce h n i d = h.changed.other n i (λ e. d (ap Some (sym e)))
+  unwritten PutClock h n i d = h.changed.loaded refl n
+  unwritten Stamp h n i d = h.changed.other n i (λ e. d (ap Some (sym e)))
+  unwritten PutVersion h n i d = h.changed.other n i (λ e. d (ap Some (sym e)))
+  unwritten PutClear h n i d = h.changed.other n i (λ e. d (ap Some (sym e)))
+  unwritten (Leave reply) h n i d = h.changed.other n i (λ e. d (ap Some (sym e)))
+
+-- The rows: no event writes a state, a minimum, a link or the head.
+
+-- some event writes a word of this family
+abbrev pub is_written : Name → Bool
+is_written name.Clock = true
+is_written (name.Pass seat) = true
+is_written (name.Scan seat) = true
+is_written (name.Count q) = true
+is_written (name.Pend q seat) = true
+is_written (name.Key q cell) = true
+is_written (name.Value q cell) = true
+is_written (name.Version q cell) = true
+is_written _ = false
+
+may_write : Option Name → Bool
+may_write (Some n) = is_written n
+may_write None = true
+
+written : (a : Activity) (s : ℕ) (b : Bool) (l : Local) → may_write (writes a s b l) ≡ true
+unfolding may_write
+written Walk s true l = refl
+written Walk s false l = refl
+written _ s b l = refl
+
+never_writes : (a : Activity) (s : ℕ) (b : Bool) (l : Local) (n : Name) → is_written n ≡ false → writes a s b l ≢ Some n
+unfolding may_write
+never_writes a s b l n f e = let x : true ≡ false = sym (written a s b l) ∙ ap may_write e ∙ f in cc
+
+pub fixed : {z : Sizes} {r r' : Run} {s : ℕ} {choice : Choice} {l l' : Local} (a : Activity) → Happens z r r' s choice l l' a → (n : Name) → IsWithin z.seats z.cells r.world.rows n → is_written n ≡ false → word z r'.world n ≡ word z r.world n
+fixed {z} {r} {r'} {s} {choice} {l} {l'} a h n i f = unwritten a h n i (never_writes a s (is_stopped choice l) l n f)
+
+-- the rows after an event are those before it
+pub record SameRows (rows : ℕ) (v v' : Words) : Type 0 where
+  pub head : v' name.Head ≡ v name.Head
+  pub state : (q : ℕ) → q < rows → v' (name.State q) ≡ v (name.State q)
+  pub least : (q : ℕ) → q < rows → v' (name.Min q) ≡ v (name.Min q)
+  pub next : (q : ℕ) → q < rows → v' (name.Next q) ≡ v (name.Next q)
+
+pub same_rows : {z : Sizes} {r r' : Run} {s : ℕ} {choice : Choice} {l l' : Local} (a : Activity) → Happens z r r' s choice l l' a → SameRows r.world.rows (word z r.world) (word z r'.world)
+same_rows a h = record {
+  head = fixed a h name.Head tt refl;
+  state = λ q i. fixed a h (name.State q) i refl;
+  least = λ q i. fixed a h (name.Min q) i refl;
+  next = λ q i. fixed a h (name.Next q) i refl;
+}
+
+-- The families of words that events write.
+
+-- which activities write an entry of their seat, a count, the clock, a key, a value
+abbrev pub WritesOwnEntry : Activity → Type 0
+WritesOwnEntry Announce = Unit {0}
+WritesOwnEntry Stamp = Unit {0}
+WritesOwnEntry PutClear = Unit {0}
+WritesOwnEntry _ = ⊥
+
+abbrev pub WritesCount : Activity → Type 0
+WritesCount PutAdd = Unit {0}
+WritesCount _ = ⊥
+
+abbrev pub WritesClock : Activity → Type 0
+WritesClock ScanDraw = Unit {0}
+WritesClock _ = ⊥
+
+abbrev pub WritesKey : Activity → Type 0
+WritesKey PutKey = Unit {0}
+WritesKey _ = ⊥
+
+abbrev pub WritesValue : Activity → Type 0
+WritesValue PutValue = Unit {0}
+WritesValue _ = ⊥
+
+-- names of one family that are the same
+same_pend : (q t x y : ℕ) → Some (name.Pend q t) ≡ Some (name.Pend x y) → (q ≡ x) × (t ≡ y)
+same_pend q t x y e = (cc, cc)
+
+same_count : (q x : ℕ) → Some (name.Count q) ≡ Some (name.Count x) → q ≡ x
+same_count q x e = cc
+
+same_scan : (q x : ℕ) → Some (name.Scan q) ≡ Some (name.Scan x) → q ≡ x
+same_scan q x e = cc
+
+same_key : (q t x y : ℕ) → Some (name.Key q t) ≡ Some (name.Key x y) → (q ≡ x) × (t ≡ y)
+same_key q t x y e = (cc, cc)
+
+same_value : (q t x y : ℕ) → Some (name.Value q t) ≡ Some (name.Value x y) → (q ≡ x) × (t ≡ y)
+same_value q t x y e = (cc, cc)
+
+same_version : (q t x y : ℕ) → Some (name.Version q t) ≡ Some (name.Version x y) → (q ≡ x) × (t ≡ y)
+same_version q t x y e = (cc, cc)
+
+not_pend : (a : Activity) (s : ℕ) (b : Bool) (l : Local) (q t : ℕ) → (WritesOwnEntry a → q ≡ l.row → t ≡ s → ⊥) → (IsHelp a → q ≡ l.row → t ≡ l.looked → ⊥) → writes a s b l ≢ Some (name.Pend q t)
+not_pend Announce s b l q t f g e = let x = same_pend l.row s q t e in f tt (sym x.0) (sym x.1)
+not_pend Stamp s b l q t f g e = let x = same_pend l.row s q t e in f tt (sym x.0) (sym x.1)
+not_pend PutClear s b l q t f g e = let x = same_pend l.row s q t e in f tt (sym x.0) (sym x.1)
+not_pend LookHelp s b l q t f g e = let x = same_pend l.row l.looked q t e in g tt (sym x.0) (sym x.1)
+not_pend Walk s true l q t f g e = let x : Some (name.Scan s) ≡ Some (name.Pend q t) = e in cc
+not_pend Walk s false l q t f g e = let x : None ≡ Some (name.Pend q t) = e in cc
+not_pend _ s b l q t f g e = cc
+
+not_count : (a : Activity) (s : ℕ) (b : Bool) (l : Local) (q : ℕ) → (WritesCount a → q ≡ l.row → ⊥) → writes a s b l ≢ Some (name.Count q)
+not_count PutAdd s b l q f e = f tt (sym (same_count l.row q e))
+not_count Walk s true l q f e = let x : Some (name.Scan s) ≡ Some (name.Count q) = e in cc
+not_count Walk s false l q f e = let x : None ≡ Some (name.Count q) = e in cc
+not_count _ s b l q f e = cc
+
+not_clock : (a : Activity) (s : ℕ) (b : Bool) (l : Local) → (WritesClock a → ⊥) → writes a s b l ≢ Some name.Clock
+not_clock ScanDraw s b l f e = f tt
+not_clock Walk s true l f e = let x : Some (name.Scan s) ≡ Some name.Clock = e in cc
+not_clock Walk s false l f e = let x : None ≡ Some name.Clock = e in cc
+not_clock _ s b l f e = cc
+
+not_scan : (a : Activity) (s : ℕ) (b : Bool) (l : Local) (t : ℕ) → t ≢ s → writes a s b l ≢ Some (name.Scan t)
+not_scan ScanWait s b l t d e = d (sym (same_scan s t e))
+not_scan ScanSettle s b l t d e = d (sym (same_scan s t e))
+not_scan (ClearScan reply) s b l t d e = d (sym (same_scan s t e))
+not_scan Walk s true l t d e = d (sym (same_scan s t e))
+not_scan Walk s false l t d e = let x : None ≡ Some (name.Scan t) = e in cc
+not_scan _ s b l t d e = cc
+
+not_key : (a : Activity) (s : ℕ) (b : Bool) (l : Local) (q c : ℕ) → (WritesKey a → q ≡ l.row → c ≡ l.cell → ⊥) → writes a s b l ≢ Some (name.Key q c)
+not_key PutKey s b l q c f e = let x = same_key l.row l.cell q c e in f tt (sym x.0) (sym x.1)
+not_key Walk s true l q c f e = let x : Some (name.Scan s) ≡ Some (name.Key q c) = e in cc
+not_key Walk s false l q c f e = let x : None ≡ Some (name.Key q c) = e in cc
+not_key _ s b l q c f e = cc
+
+not_value : (a : Activity) (s : ℕ) (b : Bool) (l : Local) (q c : ℕ) → (WritesValue a → q ≡ l.row → c ≡ l.cell → ⊥) → writes a s b l ≢ Some (name.Value q c)
+not_value PutValue s b l q c f e = let x = same_value l.row l.cell q c e in f tt (sym x.0) (sym x.1)
+not_value Walk s true l q c f e = let x : Some (name.Scan s) ≡ Some (name.Value q c) = e in cc
+not_value Walk s false l q c f e = let x : None ≡ Some (name.Value q c) = e in cc
+not_value _ s b l q c f e = cc
+
+not_version : (a : Activity) (s : ℕ) (b : Bool) (l : Local) (q c : ℕ) → (IsPutVersion a → q ≡ l.row → c ≡ l.cell → ⊥) → writes a s b l ≢ Some (name.Version q c)
+not_version PutVersion s b l q c f e = let x = same_version l.row l.cell q c e in f tt (sym x.0) (sym x.1)
+not_version Walk s true l q c f e = let x : Some (name.Scan s) ≡ Some (name.Version q c) = e in cc
+not_version Walk s false l q c f e = let x : None ≡ Some (name.Version q c) = e in cc
+not_version _ s b l q c f e = cc
+
+-- one more cell is asked for
+pub given-next : (w : ℕ) (c : Option Counted) → count_of w ≡ c → IsGiven c → given_of (count_of (w + 1)) ≡ given_of (count_of w) + 1
+given-next w (Some c) e g = rw (count_of_next w c e (omega (arith, g)), e) refl
+given-next w None e g = absurd g
+
+module _ {z : Sizes} {r r' : Run} {s : ℕ} {choice : Choice} {l l' : Local} where
+  -- an entry is kept, unless the seat writes its own there or helps
+  pub pend_kept : (a : Activity) → Happens z r r' s choice l l' a → (q t : ℕ) → q < r.world.rows → t < z.seats → (WritesOwnEntry a → q ≡ l.row → t ≡ s → ⊥) → (IsHelp a → q ≡ l.row → t ≡ l.looked → ⊥) → word z r'.world (name.Pend q t) ≡ word z r.world (name.Pend q t)
+  pend_kept a h q t i o f g = unwritten a h (name.Pend q t) (i, o) (not_pend a s (is_stopped choice l) l q t f g)
+
+  -- a count is kept, unless the seat adds to it
+  pub count_kept : (a : Activity) → Happens z r r' s choice l l' a → (q : ℕ) → q < r.world.rows → (WritesCount a → q ≡ l.row → ⊥) → word z r'.world (name.Count q) ≡ word z r.world (name.Count q)
+  count_kept a h q i f = unwritten a h (name.Count q) i (not_count a s (is_stopped choice l) l q f)
+
+  -- the clock is kept, unless the seat draws
+  pub clock_kept : (a : Activity) → Happens z r r' s choice l l' a → (WritesClock a → ⊥) → word z r'.world name.Clock ≡ word z r.world name.Clock
+  clock_kept a h f = unwritten a h name.Clock tt (not_clock a s (is_stopped choice l) l f)
+
+  -- the scan of another seat is kept
+  pub scan_kept : (a : Activity) → Happens z r r' s choice l l' a → (t : ℕ) → t < z.seats → t ≢ s → word z r'.world (name.Scan t) ≡ word z r.world (name.Scan t)
+  scan_kept a h t o d = unwritten a h (name.Scan t) o (not_scan a s (is_stopped choice l) l t d)
+
+  -- a key, a value, a version is kept, unless the seat stores it there
+  pub key_kept : (a : Activity) → Happens z r r' s choice l l' a → (q c : ℕ) → q < r.world.rows → c < z.cells → (WritesKey a → q ≡ l.row → c ≡ l.cell → ⊥) → word z r'.world (name.Key q c) ≡ word z r.world (name.Key q c)
+  key_kept a h q c i o f = unwritten a h (name.Key q c) (i, o) (not_key a s (is_stopped choice l) l q c f)
+
+  pub value_kept : (a : Activity) → Happens z r r' s choice l l' a → (q c : ℕ) → q < r.world.rows → c < z.cells → (WritesValue a → q ≡ l.row → c ≡ l.cell → ⊥) → word z r'.world (name.Value q c) ≡ word z r.world (name.Value q c)
+  value_kept a h q c i o f = unwritten a h (name.Value q c) (i, o) (not_value a s (is_stopped choice l) l q c f)
+
+  pub version_kept : (a : Activity) → Happens z r r' s choice l l' a → (q c : ℕ) → q < r.world.rows → c < z.cells → (IsPutVersion a → q ≡ l.row → c ≡ l.cell → ⊥) → word z r'.world (name.Version q c) ≡ word z r.world (name.Version q c)
+  version_kept a h q c i o f = unwritten a h (name.Version q c) (i, o) (not_version a s (is_stopped choice l) l q c f)
+
+  -- the clock does not fall
+  pub clock_grows : (a : Activity) → Happens z r r' s choice l l' a → word z r.world name.Clock ≤ word z r'.world name.Clock
+  clock_grows ScanDraw h = omega (arith, h.changed.same)
+  clock_grows a h = omega (arith, clock_kept a h (λ x. x))
+
+  -- no count falls
+  pub given_grows : (a : Activity) → Happens z r r' s choice l l' a → ((q : ℕ) → q < r.world.rows → IsGiven (count_of (word z r.world (name.Count q)))) → (q : ℕ) → q < r.world.rows → given_in (word z r.world) q ≤ given_in (word z r'.world) q
+  given_grows PutAdd h g q i = which (cases_eq q l.row)
+    where
+      which : (q ≡ l.row) ⊎ (q ≡ l.row → ⊥) → given_in (word z r.world) q ≤ given_in (word z r'.world) q
+      which (inl e) =
+          let x : given_in (word z r'.world) l.row ≡ given_in (word z r.world) l.row + 1 = ap (λ w. given_of (count_of w)) h.changed.same ∙ given-next (word z r.world (name.Count l.row)) _ refl (subst (λ y. IsGiven (count_of (word z r.world (name.Count y)))) e (g q i)) in
+          subst (λ y. given_in (word z r.world) y ≤ given_in (word z r'.world) y) (sym e) (omega (arith, x))
+      which (inr d) = omega (arith, ap (λ w. given_of (count_of w)) (count_kept PutAdd h q i (λ x e. d e)))
+  given_grows a h g q i = omega (arith, ap (λ w. given_of (count_of w)) (count_kept a h q i (λ x e. x)))

@@ -1,0 +1,156 @@
+-- What a seat remembers, gathers and answers is in range where its parts are.
+use Rattle.std.proofs.Common.{ℕ, zero, suc, ◌≡◌, inl, inr, ◌+◌, ◌-◌, ◌<◌, ◌≤◌, ◌==◌, Bool, true, false, Option, Some, None, List, [], ◌∷◌, ◌++◌, arith, refl, sym, subst, All}
+use Rattle.std.proofs.lemmas.List.Elements.{All-nil, All-cons, All-head, All-tail, All-contains}
+use Rattle.std.proofs.lemmas.Option.{same_Some}
+use Rattle.kw_words.specs.declared.sizes.TheConstants.{KEY_END, VALUE_END, VERSION_END}
+use Rattle.kw_words.specs.Plain.{IsValue, value_of_word, version_of_word}
+use Rattle.kw_words.proofs.PlainWords.{number_word-number_of_word, IsCounted-number_of_word, value_word-value_of_word}
+use Rattle.kw_words.specs.declared.scan.ScanWord.{ScanWord}
+use Rattle.kw_words.specs.declared.scan.ScanWord.TheVariants.{Quiet, Waiting, Drawn}
+use Rattle.kw_words.specs.declared.link.Link.{Link}
+use Rattle.kw_words.specs.Scan.{scan_of}
+use Rattle.kw_words.proofs.ScanWords.{IsScan-scan_of}
+use Rattle.kw_cells.specs.declared.cell.Cell as kw_cell
+use Rattle.kw_cells.specs.Cells.{best_of, value_in, shown_at, pairs_of}
+use Rattle.kw_cells.specs.Pairs.{with_shown, pairs_along, pairs_between}
+use Rattle.kw_cells.proofs.Best.{best_is}
+use Rattle.kw_model.specs.declared.call.Call.{Call}
+use Rattle.kw_model.specs.declared.call.Call.TheVariants.{Put, Del, Get, Scan}
+use Rattle.kw_model.specs.declared.call.Reply.{Reply}
+use Rattle.kw_model.specs.Map.{found}
+use Rattle.kw_world.specs.declared.marks.Mark.{Mark}
+use Rattle.kw_world.specs.declared.local.Local.{Local}
+use Rattle.kw_world.specs.declared.event.Choice.{Choice}
+use Rattle.kw_world.specs.declared.event.Choice.TheVariants.{Begin, Go, Guess, Stop}
+use Rattle.kw_world.specs.Sizes.{Sizes}
+use Rattle.kw_world.specs.Calls.{first_key, last_key, put_value}
+use Rattle.kw_world.specs.Marks.{version_marked}
+use Rattle.kw_world.specs.Row.{row_linked}
+use Rattle.kw_world.specs.RowScan.{version_settled, reply_or_stopped}
+use Rattle.kw_world.specs.RowRead.{version_in_hand}
+use Rattle.kw_world.specs.Sane.{IsVersion, IsValueWord, IsLinkBelow, IsRowBelow, IsCall, IsPair, IsReply, IsMark, IsCopy, RisesBetween}
+
+-- The places of cells.
+
+-- cells that lie below a place lie below every greater one
+pub rises-wider : (low high more : ℕ) (cs : List kw_cell.Cell) → high ≤ more → RisesBetween low high cs → RisesBetween low more cs
+rises-wider low high more [] o h = omega (arith, h, o)
+rises-wider low high more (c ∷ cs) o h = (h.0, rises-wider (suc c.place) high more cs o h.1)
+
+-- one more cell, above those that are there
+pub rises-snoc : (low place high : ℕ) (cs : List kw_cell.Cell) (c : kw_cell.Cell) → RisesBetween low place cs → place ≤ c.place → c.place < high → RisesBetween low high (cs ++ c ∷ [])
+rises-snoc low place high [] c h o u = (omega (arith, h, o), omega (arith, u))
+rises-snoc low place high (d ∷ cs) c h o u = (h.0, rises-snoc (suc d.place) place high cs c h.1 o u)
+
+-- Versions.
+
+-- the version that a mark has
+pub mark_version : (z : Sizes) (j : ℕ) (marks : List Mark) (version : ℕ) → version_marked j marks ≡ Some version → All (IsMark z) marks → IsVersion version
+mark_version z j [] version e h = let x : None ≡ Some version = e in absurd (cc)
+mark_version z j (m ∷ marks) version e h = met (m.cell == j) refl (λ f. mark_version z j marks version f (All-tail (IsMark z) m marks h))
+  where
+    met : (b : Bool) → (m.cell == j) ≡ b → (version_marked j marks ≡ Some version → IsVersion version) → IsVersion version
+    met true y rest = let x : Some m.version ≡ Some version = rw y at e in subst IsVersion (same_Some m.version version x) (All-head (IsMark z) m marks h).1
+    met false y rest = rest (rw y at e)
+
+-- the version of a cell's word, or the one that is remembered
+pub version_at_hand : (z : Sizes) (j w version : ℕ) (l : Local) → version_in_hand j (version_of_word w) l ≡ Some version → w < VERSION_END → All (IsMark z) l.remembered → IsVersion version
+version_at_hand z j w version l e o h = met (version_of_word w) refl e
+  where
+    met : (x : Option ℕ) → version_of_word w ≡ x → version_in_hand j x l ≡ Some version → IsVersion version
+    met (Some n) y f =
+        let same : n ≡ w = rw y at (number_word-number_of_word w) in
+        let counted : 1 ≤ n = rw y at (IsCounted-number_of_word w) in
+        subst IsVersion (same_Some n version f) (counted, omega (arith, same, o))
+    met None y f = mark_version z j l.remembered version f h
+
+-- the version that a scan is settled at
+pub version_of_scan : (w drawn : ℕ) → IsVersion drawn → IsVersion (version_settled (scan_of w) drawn)
+version_of_scan w drawn h = met (scan_of w) refl
+  where
+    met : (x : Option ScanWord) → scan_of w ≡ x → IsVersion (version_settled x drawn)
+    met (Some Quiet) e = h
+    met (Some (Waiting clock)) e = h
+    met (Some (Drawn version)) e = IsScan-scan_of w (Drawn version) e
+    met None e = h
+
+-- Cells and pairs.
+
+-- what a version shows is a value in range
+pub shown_in_range : (cells : List kw_cell.Cell) (version key value : ℕ) → All IsCopy cells → shown_at cells version key ≡ Some value → value < VALUE_END
+shown_in_range cells version key value h e = met (best_of cells key version) refl e
+  where
+    met : (o : Option kw_cell.Cell) → best_of cells key version ≡ o → value_in o ≡ Some value → value < VALUE_END
+    met (Some c) y x = subst IsValue x (All-contains IsCopy cells c h (best_is cells key version c y).among).2
+    met None y x = let f : None ≡ Some value = x in absurd (cc)
+
+-- what a get answers is in range
+pub answer_in_range : (cells : List kw_cell.Cell) (version key : ℕ) → All IsCopy cells → IsReply (found (shown_at cells version key))
+answer_in_range cells version key h = met (shown_at cells version key) refl
+  where
+    met : (o : Option ℕ) → shown_at cells version key ≡ o → IsReply (found o)
+    met (Some value) e = shown_in_range cells version key value h e
+    met None e = tt
+
+-- the pairs of some keys
+pairs_range : (shown : ℕ → Option ℕ) (low n : ℕ) → ((k v : ℕ) → shown k ≡ Some v → v < VALUE_END) → low + n ≤ KEY_END → All IsPair (pairs_along shown low n)
+unfolding pairs_along
+pairs_range shown low zero h o = All-nil IsPair
+pairs_range shown low (suc n) h o = met (shown low) refl (pairs_range shown (suc low) n h (omega (arith, o)))
+  where
+    met : (x : Option ℕ) → shown low ≡ x → All IsPair (pairs_along shown (suc low) n) → All IsPair (with_shown low x (pairs_along shown (suc low) n))
+    met (Some v) e rest = All-cons IsPair (low, v) (pairs_along shown (suc low) n) (omega (arith, o), h low v e) rest
+    met None e rest = rest
+
+-- the pairs of a row's cells are in range
+pub pairs_in_range : (cells : List kw_cell.Cell) (a b version : ℕ) → All IsCopy cells → a < KEY_END → b < KEY_END → All IsPair (pairs_of cells a b version)
+unfolding pairs_between
+pairs_in_range cells a b version h i o = pairs_range (shown_at cells version) a (suc b - a) (λ k v e. shown_in_range cells version k v h e) (omega (arith, i, o))
+
+-- the value of a word
+no_value : value_of_word 0 ≡ None
+unfolding value_of_word
+no_value = refl
+
+pub value_in_range : (w : ℕ) → IsValueWord w → IsValue (value_of_word w)
+value_in_range w (inl e) = subst (λ x. IsValue (value_of_word x)) (sym e) (subst IsValue (sym no_value) tt)
+value_in_range w (inr h) = met (value_of_word w) refl
+  where
+    met : (x : Option ℕ) → value_of_word w ≡ x → IsValue x
+    met (Some v) e = let f : VALUE_END + v ≡ w = rw e at (value_word-value_of_word w h.0) in omega (arith, f, h.1)
+    met None e = tt
+
+-- Calls and links.
+
+pub first_in_range : (call : Option Call) → IsCall call → first_key call < KEY_END
+first_in_range (Some (Put key value)) h = h.0
+first_in_range (Some (Del key)) h = h
+first_in_range (Some (Get key)) h = h
+first_in_range (Some (Scan from upto)) h = h.0
+first_in_range None h = omega arith
+
+pub last_in_range : (call : Option Call) → IsCall call → last_key call < KEY_END
+last_in_range (Some (Put key value)) h = h.0
+last_in_range (Some (Del key)) h = h
+last_in_range (Some (Get key)) h = h
+last_in_range (Some (Scan from upto)) h = h.1
+last_in_range None h = omega arith
+
+pub put_in_range : (call : Option Call) → IsCall call → IsValue (put_value call)
+put_in_range (Some (Put key value)) h = h.1
+put_in_range (Some (Del key)) h = tt
+put_in_range (Some (Get key)) h = tt
+put_in_range (Some (Scan from upto)) h = tt
+put_in_range None h = tt
+
+-- the row that a link leads to
+pub linked_in_range : (rows r : ℕ) (x : Option Link) → IsLinkBelow rows x → row_linked x ≡ Some r → r < rows
+linked_in_range rows r (Some link) h e = subst (IsRowBelow rows) e h
+linked_in_range rows r None h e = let x : None ≡ Some r = e in absurd (cc)
+
+-- the reply of a scan that may be stopped
+pub reply_in_range : (reply : Reply) (choice : Choice) → IsReply reply → IsReply (reply_or_stopped reply choice)
+reply_in_range reply (Begin call) h = h
+reply_in_range reply Go h = h
+reply_in_range reply (Guess r) h = h
+reply_in_range reply Stop h = tt

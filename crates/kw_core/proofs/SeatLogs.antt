@@ -1,0 +1,90 @@
+-- What an event leaves of the log of its seat: which activities set which part.
+use Rattle.std.proofs.Common.{ℕ, ◌≡◌, [], length, ◌==◌, Bool, true, false, if◌then◌else◌, Some, None, arith, refl, ap}
+use Rattle.kw_words.specs.Count.{count_of}
+use Rattle.kw_world.specs.declared.activity.Activity.{Activity}
+use Rattle.kw_world.specs.declared.activity.Activity.TheVariants.{Idle, ScanDraw, Look, LookKey, LookClock, LookHelp, LookCount, Cell, CellKey, CellValue, PutAdd, PutClock, Stamp, PutVersion, PutClear, Leave}
+use Rattle.kw_world.specs.declared.local.Local.{Local}
+use Rattle.kw_world.specs.declared.event.Choice.{Choice}
+use Rattle.kw_world.specs.Sizes.{Sizes}
+use Rattle.kw_world.specs.RowPut.{has_room}
+use Rattle.kw_core.specs.History.{History}
+use Rattle.kw_core.specs.Run.{SeatLog, Origins, seat_after, log_gathered, is_at_cell}
+use Rattle.kw_core.specs.Stages.{IsPublished, IsReading}
+use Rattle.kw_core.proofs.Happens.{not_chosen}
+
+-- the seat is in a call, and its event does not end it
+abbrev pub IsUnderway : Activity → Type 0
+IsUnderway Idle = ⊥
+IsUnderway (Leave reply) = ⊥
+IsUnderway _ = Unit {0}
+
+-- a part that both branches of a test leave alone
+pub either : {A B : Type 0} (f : A → B) (b : Bool) (x y : A) (c : B) → f x ≡ c → f y ≡ c → f (if b then x else y) ≡ c
+either f true x y c e h = e
+either f false x y c e h = h
+
+-- the activity does not draw
+abbrev pub IsNoDraw : Activity → Type 0
+IsNoDraw Idle = ⊥
+IsNoDraw ScanDraw = ⊥
+IsNoDraw _ = Unit {0}
+
+-- the event may be the last one in a row
+abbrev pub IsEnding : Activity → Type 0
+IsEnding LookCount = Unit {0}
+IsEnding (Cell j) = Unit {0}
+IsEnding CellKey = Unit {0}
+IsEnding CellValue = Unit {0}
+IsEnding _ = ⊥
+
+module _ (z : Sizes) (choice : Choice) (l : Local) (found : ℕ) (next : Activity) (g : SeatLog) (o : Origins) (h : History) where
+  -- a seat's call stays its call until it ends
+  pub call_kept : (a : Activity) → IsUnderway a → (seat_after z a choice l found next g o h).call ≡ g.call
+  call_kept Idle u = absurd u
+  call_kept (Look i) u = either (λ (q : SeatLog). q.call) (i == 0) (record g { looked = length h.log; ids = []; read = None }) g g.call refl refl
+  call_kept LookCount u = either (λ (q : SeatLog). q.call) (is_at_cell next) g (record g { read = Some l.row }) g.call refl refl
+  call_kept (Cell j) u = either (λ (q : SeatLog). q.call) (is_at_cell next) g (record g { read = Some l.row }) g.call refl refl
+  call_kept CellKey u = either (λ (q : SeatLog). q.call) (is_at_cell next) g (record g { read = Some l.row }) g.call refl refl
+  call_kept CellValue u = let k = log_gathered (o l.row l.place) g in either (λ (q : SeatLog). q.call) (is_at_cell next) k (record k { read = Some l.row }) g.call refl refl
+  call_kept PutAdd u = either (λ (q : SeatLog). q.call) (has_room z (count_of found)) (record g { own = length h.attempts }) g g.call refl refl
+  call_kept _ u = refl
+
+  -- the draw of a scan stays its draw
+  pub draw_kept : (a : Activity) → IsNoDraw a → (seat_after z a choice l found next g o h).drawn ≡ g.drawn
+  draw_kept Idle u = absurd u
+  draw_kept ScanDraw u = absurd u
+  draw_kept (Look i) u = either (λ (q : SeatLog). q.drawn) (i == 0) (record g { looked = length h.log; ids = []; read = None }) g g.drawn refl refl
+  draw_kept LookCount u = either (λ (q : SeatLog). q.drawn) (is_at_cell next) g (record g { read = Some l.row }) g.drawn refl refl
+  draw_kept (Cell j) u = either (λ (q : SeatLog). q.drawn) (is_at_cell next) g (record g { read = Some l.row }) g.drawn refl refl
+  draw_kept CellKey u = either (λ (q : SeatLog). q.drawn) (is_at_cell next) g (record g { read = Some l.row }) g.drawn refl refl
+  draw_kept CellValue u = let k = log_gathered (o l.row l.place) g in either (λ (q : SeatLog). q.drawn) (is_at_cell next) k (record k { read = Some l.row }) g.drawn refl refl
+  draw_kept PutAdd u = either (λ (q : SeatLog). q.drawn) (has_room z (count_of found)) (record g { own = length h.attempts }) g g.drawn refl refl
+  draw_kept _ u = refl
+
+  -- a reader that has looked at the first entry looked where it looked
+  pub look_kept : (a : Activity) → IsReading a → (seat_after z a choice l found next g o h).looked ≡ g.looked
+  look_kept (Look i) u = ap (λ (q : SeatLog). q.looked) (not_chosen i 0 (record g { looked = length h.log; ids = []; read = None }) g (λ e. omega (arith, u, e)))
+  look_kept LookKey u = refl
+  look_kept LookClock u = refl
+  look_kept LookHelp u = refl
+  look_kept LookCount u = either (λ (q : SeatLog). q.looked) (is_at_cell next) g (record g { read = Some l.row }) g.looked refl refl
+  look_kept (Cell j) u = either (λ (q : SeatLog). q.looked) (is_at_cell next) g (record g { read = Some l.row }) g.looked refl refl
+  look_kept CellKey u = either (λ (q : SeatLog). q.looked) (is_at_cell next) g (record g { read = Some l.row }) g.looked refl refl
+  look_kept CellValue u = let k = log_gathered (o l.row l.place) g in either (λ (q : SeatLog). q.looked) (is_at_cell next) k (record k { read = Some l.row }) g.looked refl refl
+  look_kept _ u = absurd u
+
+  -- the attempt of a seat that has announced it stays its own
+  pub own_kept : (a : Activity) → IsPublished a → (seat_after z a choice l found next g o h).own ≡ g.own
+  own_kept PutClock u = refl
+  own_kept Stamp u = refl
+  own_kept PutVersion u = refl
+  own_kept PutClear u = refl
+  own_kept _ u = absurd u
+
+  -- a reader that does not go on to a cell has read the row
+  pub read_to_end : (a : Activity) → IsEnding a → is_at_cell next ≡ false → (seat_after z a choice l found next g o h).read ≡ Some l.row
+  read_to_end LookCount u e = rw e refl
+  read_to_end (Cell j) u e = rw e refl
+  read_to_end CellKey u e = rw e refl
+  read_to_end CellValue u e = rw e refl
+  read_to_end _ u e = absurd u

@@ -1,0 +1,208 @@
+-- What led to a world: the world, the record of its history, and what the laws alone need beside them, by one fold over the
+-- events.
+--
+-- Beside the record stands, for each seat, what it did last, and for each cell, to which attempt it was given. The fold goes by
+-- the activity of the acting seat: `change_of` says what its event adds to the record, `seat_after` what it adds to the seat's
+-- own log, and `origins_after` to which attempt a cell is given.
+use Rattle.std.specs.Prelude.{ℕ, ◌+◌, ◌==◌, Bool, true, false, ◌&&◌, if◌then◌else◌, Option, Some, None, unwrap_or, List, [], ◌∷◌, ◌++◌, length, slice_get}
+use Rattle.kw_words.specs.declared.layout.Name.TheVariants.{Clock}
+use Rattle.kw_words.specs.declared.kind.Kind.{Kind}
+use Rattle.kw_words.specs.declared.pend.Pend.TheVariants as pend
+use Rattle.kw_words.specs.Pend.{pend_word}
+use Rattle.kw_words.specs.Count.{count_of}
+use Rattle.kw_cells.specs.declared.cell.Cell as kw_cell
+use Rattle.kw_cells.specs.Cells.{best_of}
+use Rattle.kw_model.specs.declared.call.Call.{Call}
+use Rattle.kw_model.specs.declared.call.Call.TheVariants.{Put, Del, Get, Scan}
+use Rattle.kw_model.specs.declared.call.Reply.{Reply}
+use Rattle.kw_model.specs.declared.call.Reply.TheVariants.{Done, Value, Absent, Pairs, NoRows, Spent, Stopped}
+use Rattle.kw_world.specs.declared.activity.Activity.{Activity}
+use Rattle.kw_world.specs.declared.activity.Activity.TheVariants.{Idle, ScanClock, ScanDraw, Look, LookClock, LookHelp, LookCount, Cell, CellKey, CellValue, PutAdd, Announce, PutClock, Stamp, Leave}
+use Rattle.kw_world.specs.declared.local.Local.{Local}
+use Rattle.kw_world.specs.declared.limits.TheConstants.{NEWEST}
+use Rattle.kw_world.specs.declared.event.Choice.{Choice}
+use Rattle.kw_world.specs.declared.event.Choice.TheVariants.{Begin, Go, Guess, Stop}
+use Rattle.kw_world.specs.declared.event.Event.{Event}
+use Rattle.kw_world.specs.declared.opening.Opening.{Opening}
+use Rattle.kw_world.specs.Sizes.{Sizes}
+use Rattle.kw_world.specs.WorldView.{WorldView}
+use Rattle.kw_world.specs.Calls.{first_key, put_value}
+use Rattle.kw_world.specs.Opening.{opened}
+use Rattle.kw_world.specs.RowPut.{has_room, given_of}
+use Rattle.kw_world.specs.RowWalk.{offered}
+use Rattle.kw_world.specs.Step.{word, row_at, moved_of, followed, is_skipped}
+-- what a seat did last
+pub use Rattle.kw_core.specs.declared.seat_log.SeatLog.{SeatLog}
+use Rattle.kw_core.specs.History.{History, Logged, Drawn}
+use Rattle.kw_core.specs.Noted.{Change, Nothing, Begins, Adds, Announces, Stamps, Ends, noted, nothing_yet}
+
+-- to which attempt each cell of each row was given
+abbrev pub Origins : Type 0
+Origins = ℕ → ℕ → Option ℕ
+
+-- all that led to a world
+pub record Run : Type 0 where
+  pub world : WorldView
+  pub history : History
+  pub seats : ℕ → SeatLog
+  pub origin : Origins
+
+-- the logs with that of one seat set
+abbrev pub with_seat : (ℕ → SeatLog) → ℕ → SeatLog → (ℕ → SeatLog)
+with_seat seats s g t = if t == s then g else seats t
+
+-- the origins with that of one cell set
+abbrev pub with_origin : Origins → ℕ → ℕ → ℕ → Origins
+with_origin o r c p x y = if (x == r) && (y == c) then Some p else o x y
+
+-- The attempt beside a cell.
+
+-- the attempt beside the first cell of this place
+abbrev pub id_at : ℕ → List kw_cell.Cell → List ℕ → Option ℕ
+id_at place [] ids = None
+id_at place (c ∷ cells) [] = None
+id_at place (c ∷ cells) (p ∷ ids) = if c.place == place then Some p else id_at place cells ids
+
+-- the attempt beside a cell, or none
+abbrev pub id_of : Option kw_cell.Cell → List kw_cell.Cell → List ℕ → Option ℕ
+id_of (Some c) cells ids = id_at c.place cells ids
+id_of None cells ids = None
+
+-- the attempt beside the best cell of a key at a version, or none
+abbrev pub best_id : List kw_cell.Cell → List ℕ → ℕ → ℕ → Option ℕ
+best_id cells ids key version = id_of (best_of cells key version) cells ids
+
+-- What an event adds to the record.
+
+-- a call begins
+abbrev pub beginning : Choice → ℕ → Local → Change
+beginning (Begin call) s l = Begins s (l.number + 1) call
+beginning Go s l = Nothing
+beginning (Guess r) s l = Nothing
+beginning Stop s l = Nothing
+
+-- the attempt to which the cell was given is stamped
+abbrev pub helping : Option ℕ → ℕ → ℕ → Change
+helping (Some p) version load = Stamps p version load
+helping None version load = Nothing
+
+-- the attempt whose value a get answers
+abbrev pub answering : Option Call → Local → SeatLog → Option ℕ
+answering (Some (Put key value)) l g = None
+answering (Some (Del key)) l g = None
+answering (Some (Get key)) l g = best_id l.gathered g.ids key NEWEST
+answering (Some (Scan from upto)) l g = None
+answering None l g = None
+
+-- where a scan that ends with pairs drew its version
+abbrev pub drawing : Reply → Local → SeatLog → Option Drawn
+drawing (Pairs pairs) l g = Some (record { at = g.drawn; version = l.version })
+drawing Done l g = None
+drawing (Value value) l g = None
+drawing Absent l g = None
+drawing NoRows l g = None
+drawing Spent l g = None
+drawing Stopped l g = None
+
+-- what the event of an activity adds, where the seat s with this choice, local and log found this word
+abbrev pub change_of : Sizes → Activity → ℕ → Choice → Local → ℕ → SeatLog → Origins → Change
+change_of z Idle s choice l found g o = beginning choice s l
+change_of z LookHelp s choice l found g o = if found == pend_word (pend.Pending l.met) then helping (o l.row l.met) l.helping g.loaded else Nothing
+change_of z PutAdd s choice l found g o = if has_room z (count_of found) then Adds g.call s (first_key l.call) (put_value l.call) l.row (given_of (count_of found)) else Nothing
+change_of z Announce s choice l found g o = if found == pend_word pend.Idle then Announces g.own else Nothing
+change_of z Stamp s choice l found g o = if found == pend_word (pend.Pending l.cell) then Stamps g.own l.version g.loaded else Nothing
+change_of z (Leave reply) s choice l found g o = Ends g.call reply (answering l.call l g) (drawing reply l g)
+change_of z _ s choice l found g o = Nothing
+
+-- What an event adds to the log of its seat.
+
+-- a call begins: nothing is gathered and no row is read
+abbrev pub log_begun : Choice → ℕ → SeatLog → SeatLog
+log_begun (Begin call) x g = record g { call = x; own = 0; ids = []; read = None }
+log_begun Go x g = g
+log_begun (Guess r) x g = g
+log_begun Stop x g = g
+
+-- the first entry of a row is looked at: nothing of the row is gathered, and it is not read
+abbrev pub log_look : ℕ → ℕ → SeatLog → SeatLog
+log_look i now g = if i == 0 then record g { looked = now; ids = []; read = None } else g
+
+-- the seat goes on to a cell of the row
+abbrev pub is_at_cell : Activity → Bool
+is_at_cell (Cell j) = true
+is_at_cell CellKey = true
+is_at_cell CellValue = true
+is_at_cell _ = false
+
+-- a seat that does not go on to a cell of the row has read it
+abbrev pub log_read : Activity → ℕ → SeatLog → SeatLog
+log_read next row g = if is_at_cell next then g else record g { read = Some row }
+
+-- one more cell is gathered
+abbrev pub log_gathered : Option ℕ → SeatLog → SeatLog
+log_gathered p g = record g { ids = g.ids ++ unwrap_or p 0 ∷ [] }
+
+-- the log after the event of an activity, where the seat goes on to the activity `next`
+abbrev pub seat_after : Sizes → Activity → Choice → Local → ℕ → Activity → SeatLog → Origins → History → SeatLog
+seat_after z Idle choice l found next g o h = log_begun choice (length h.calls) g
+seat_after z ScanClock choice l found next g o h = record g { loaded = length h.log }
+seat_after z ScanDraw choice l found next g o h = record g { drawn = length h.log }
+seat_after z (Look i) choice l found next g o h = log_look i (length h.log) g
+seat_after z LookClock choice l found next g o h = record g { loaded = length h.log }
+seat_after z LookCount choice l found next g o h = log_read next l.row g
+seat_after z (Cell j) choice l found next g o h = log_read next l.row g
+seat_after z CellKey choice l found next g o h = log_read next l.row g
+seat_after z CellValue choice l found next g o h = log_read next l.row (log_gathered (o l.row l.place) g)
+seat_after z PutAdd choice l found next g o h = if has_room z (count_of found) then record g { own = length h.attempts } else g
+seat_after z PutClock choice l found next g o h = record g { loaded = length h.log }
+seat_after z _ choice l found next g o h = g
+
+-- the origins after the event of an activity
+abbrev pub origins_after : Sizes → Activity → Local → ℕ → Origins → History → Origins
+origins_after z PutAdd l found o h = if has_room z (count_of found) then with_origin o l.row (given_of (count_of found)) (length h.attempts) else o
+origins_after z _ l found o h = o
+
+-- One event, and lists of events.
+
+-- an event for the log: who acted, how, and the clock before it
+abbrev pub logged : ℕ → Kind → ℕ → Logged
+logged s kind clock = record { seat = s; kind = kind; clock = clock }
+
+-- the word that the event of a seat that knows l finds
+abbrev pub found_by : Sizes → WorldView → Event → Local → ℕ
+found_by z w e l = word z w (row_at z w e l).operation.name
+
+-- an event that is not skipped, of a seat that knows l
+abbrev pub noted_by : Sizes → Run → Event → Local → Run
+noted_by z r e l = record {
+  world = (moved_of z r.world e l).world;
+  history = noted r.history (logged e.seat (row_at z r.world e l).operation.kind (word z r.world Clock)) (change_of z l.activity e.seat (offered r.world.rows e.choice) l (found_by z r.world e l) (r.seats e.seat) r.origin);
+  seats = with_seat r.seats e.seat (seat_after z l.activity (offered r.world.rows e.choice) l (found_by z r.world e l) (followed (row_at z r.world e l) (found_by z r.world e l)).local.activity (r.seats e.seat) r.origin r.history);
+  origin = origins_after z l.activity l (found_by z r.world e l) r.origin r.history;
+}
+
+-- an event of a seat that knows this; an event that is skipped leaves all as it was
+abbrev pub goes_on_of : Sizes → Run → Event → Option Local → Run
+goes_on_of z r e (Some l) = if is_skipped l.activity e.choice then r else noted_by z r e l
+goes_on_of z r e None = r
+
+-- one more event
+unfoldable pub goes_on : Sizes → Run → Event → Run
+goes_on z r e = goes_on_of z r e (slice_get r.world.locals e.seat)
+
+-- all events of a list
+unfoldable pub run : Sizes → Run → List Event → Run
+run z r [] = r
+run z r (e ∷ es) = run z (goes_on z r e) es
+
+-- no seat did anything
+abbrev pub no_log : SeatLog
+no_log = record { call = 0; own = 0; looked = 0; loaded = 0; drawn = 0; ids = []; read = None }
+
+-- where nothing happened yet
+abbrev pub start : Sizes → Opening → Run
+start z o = record { world = opened z o; history = nothing_yet; seats = λ s. no_log; origin = λ r c. None }
+
+-- all that led to the world after these events
+unfoldable pub history : Sizes → Opening → List Event → Run
+history z o es = run z (start z o) es

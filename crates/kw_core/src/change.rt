@@ -1,0 +1,261 @@
+//! What an event adds to the history, known before it is made.
+//!
+//! The event is told by what its seat knows, by what the seat did last, and by the word that it finds; the history itself is
+//! not asked. There is one function for each activity that adds something.
+ghost use Rattle.std.specs.Prelude.{◌≡◌, ◌==◌, ◌<◌, ◌≤◌, ◌+◌, ◌*◌, Some, None, IfOk, length, slice_get, if◌then◌else◌};
+ghost use Rattle.kw_words.specs.declared.sizes.TheConstants.{CELLS};
+ghost use Rattle.kw_words.specs.Count.{count_of};
+ghost use Rattle.kw_words.specs.Pend.{pend_word};
+ghost use Rattle.kw_words.specs.declared.pend.Pend.TheVariants as pend;
+ghost use Rattle.kw_world.specs.declared.local.Local.{Local};
+ghost use Rattle.kw_world.specs.Sizes.{product};
+ghost use Rattle.kw_world.specs.Calls.{first_key, put_value};
+ghost use Rattle.kw_world.specs.RowPut.{has_room, given_of};
+ghost use Rattle.kw_world.specs.Sane.{IsLocal, IsCall, CanBegin, IsSane};
+ghost use Rattle.kw_core.specs.Run.{change_of, beginning, helping, answering, drawing, best_id, id_at};
+ghost use Rattle.kw_core.specs.Recording.{origin_in};
+ghost use Rattle.kw_core.specs.Recorder.{happening_at, logged_of};
+
+use crate::history::{Change, Drawn, Logged};
+use crate::seat_log::SeatLog;
+use crate::step::operation;
+use kw_cells::cell::{Cell, best};
+use kw_model::call::{Call, Reply};
+use kw_model::memory::Memory;
+use kw_words::count::Count;
+use kw_words::kind::Kind;
+use kw_words::layout::{Layout, Name};
+use kw_words::pend::Pend;
+use kw_words::sizes::{CELL_COUNT, CELLS, SEATS};
+use kw_world::activity::Activity;
+use kw_world::calls::{first_key, put_value};
+use kw_world::event::{Choice, Event};
+use kw_world::limits::NEWEST;
+use kw_world::local::Local;
+use kw_world::world::World;
+
+/// An event that is about to be made: who acts, how, and what it finds.
+#[derive(Clone, Copy, Debug, PartialEq, Eq)]
+pub struct Happening {
+    /// The seat that acts.
+    pub seat: u32,
+    /// What it chooses, of what is offered.
+    pub choice: Choice,
+    /// The word that it finds.
+    pub found: u64,
+    /// What the event is for.
+    pub kind: Kind,
+    /// The clock just before it.
+    pub clock: u64,
+}
+
+impl Happening {
+    /// The event that a seat of the world is about to make.
+    pub fn of(world: &World, event: Event) -> Happening
+        requires sane { IsSane product world.now }
+        requires seat { event.seat < length world.now.locals }
+        ensures { (l : Local) → slice_get world.now.locals event.seat ≡ Some l → result ≡ happening_at product world.now event l }
+    {
+        let choice = event.choice.offered(world.rows());
+        let operation = operation(event.seat, world.local(event.seat), choice);
+        let place = Layout::<SEATS, CELLS>::place(world.rows(), operation.name);
+        let clock = Layout::<SEATS, CELLS>::place(world.rows(), Name::Clock);
+        Happening {
+            seat: event.seat,
+            choice,
+            found: world.word(place),
+            kind: operation.kind,
+            clock: world.word(clock),
+        }
+    }
+
+    /// The entry for the log.
+    pub fn logged(self) -> Logged
+        ensures { result ≡ logged_of self }
+    {
+        Logged {
+            clock: self.clock,
+            seat: self.seat,
+            kind: self.kind,
+        }
+    }
+}
+
+/// What the event adds that is made by a seat that knows `local` and whose log is `log`. `origins` has the attempt to which each
+/// cell was given, row by row. Only the reply of a call that ends takes memory.
+pub fn change_of(
+    local: &Local,
+    happening: Happening,
+    log: &SeatLog,
+    origins: &[Option<usize>],
+) -> Result<Change, Memory>
+    requires ranges { IsLocal product local.now }
+    requires begin { CanBegin happening.choice local.now }
+    requires origins { local.now.row * CELLS + CELLS ≤ length origins.now }
+    ensures { IfOk result (λ change. change ≡ change_of product local.now.activity happening.seat happening.choice local.now happening.found log.now (origin_in product origins.now)) }
+{
+    Ok(match &local.activity {
+        Activity::Idle => beginning(happening, local),
+        Activity::LookHelp => helping(local, happening.found, log, origins),
+        Activity::PutAdd => adding(local, happening, log),
+        Activity::Announce => announcing(happening.found, log),
+        Activity::Stamp => stamping(local, happening.found, log),
+        Activity::Leave(reply) => ending(local, reply, log)?,
+        _ => Change::Nothing,
+    })
+}
+
+/// The attempt to which a cell was given.
+pub fn origin_at(origins: &[Option<usize>], row: u32, cell: u32) -> Option<usize>
+    requires row { row * CELLS + CELLS ≤ length origins.now }
+    requires cell { cell < CELLS }
+    ensures { result ≡ origin_in product origins.now row cell }
+{
+    origins[row as usize * CELLS + cell as usize]
+}
+
+/// The cell that a row with this count gives, if it gives one more.
+pub fn room(found: u64) -> Option<u32>
+    ensures value { result ≡ (if has_room product (count_of found) then Some (given_of (count_of found)) else None) }
+{
+    match Count::unpack(found) {
+        Some(count) if !count.frozen && count.given < CELL_COUNT => Some(count.given),
+        _ => None,
+    }
+}
+
+/// An idle seat begins a call.
+fn beginning(happening: Happening, local: &Local) -> Change
+    requires { CanBegin happening.choice local.now }
+    ensures { result ≡ beginning happening.choice happening.seat local.now }
+{
+    match happening.choice {
+        Choice::Begin(call) => Change::Begins {
+            seat: happening.seat,
+            number: local.number + 1,
+            call,
+        },
+        _ => Change::Nothing,
+    }
+}
+
+/// A reader helps the put whose cell it met pending.
+fn helping(local: &Local, found: u64, log: &SeatLog, origins: &[Option<usize>]) -> Change
+    requires ranges { IsLocal product local.now }
+    requires origins { local.now.row * CELLS + CELLS ≤ length origins.now }
+    ensures { result ≡ (if found == pend_word (pend.Pending local.now.met) then helping (origin_in product origins.now local.now.row local.now.met) local.now.helping log.now.loaded else Change.Nothing) }
+{
+    if found != Pend::Pending(local.met).pack() {
+        return Change::Nothing;
+    }
+    match origin_at(origins, local.row, local.met) {
+        Some(attempt) => Change::Stamps {
+            attempt,
+            version: local.helping,
+            load: log.loaded,
+        },
+        None => Change::Nothing,
+    }
+}
+
+/// A put or a delete asks its row for a cell.
+fn adding(local: &Local, happening: Happening, log: &SeatLog) -> Change
+    requires { IsLocal product local.now }
+    ensures { result ≡ (if has_room product (count_of happening.found) then Change.Adds log.now.call happening.seat (first_key local.now.call) (put_value local.now.call) local.now.row (given_of (count_of happening.found)) else Change.Nothing) }
+{
+    match room(happening.found) {
+        Some(cell) => Change::Adds {
+            call: log.call,
+            seat: happening.seat,
+            key: first_key(local.call),
+            value: put_value(local.call),
+            row: local.row,
+            cell,
+        },
+        None => Change::Nothing,
+    }
+}
+
+/// A put or a delete announces its cell.
+fn announcing(found: u64, log: &SeatLog) -> Change
+    ensures { result ≡ (if found == pend_word pend.Idle then Change.Announces log.now.own else Change.Nothing) }
+{
+    if found == Pend::Idle.pack() {
+        Change::Announces(log.own)
+    } else {
+        Change::Nothing
+    }
+}
+
+/// A put or a delete stamps its cell.
+fn stamping(local: &Local, found: u64, log: &SeatLog) -> Change
+    requires { IsLocal product local.now }
+    ensures { result ≡ (if found == pend_word (pend.Pending local.now.cell) then Change.Stamps log.now.own local.now.version log.now.loaded else Change.Nothing) }
+{
+    if found == Pend::Pending(local.cell).pack() {
+        Change::Stamps {
+            attempt: log.own,
+            version: local.version,
+            load: log.loaded,
+        }
+    } else {
+        Change::Nothing
+    }
+}
+
+/// A call ends with this reply.
+fn ending(local: &Local, reply: &Reply, log: &SeatLog) -> Result<Change, Memory>
+    ensures { IfOk result (λ change. change ≡ Change.Ends log.now.call reply.now (answering local.now.call local.now log.now) (drawing reply.now local.now log.now)) }
+{
+    Ok(Change::Ends {
+        call: log.call,
+        reply: reply.clone()?,
+        answer: answering(local, log),
+        draw: drawing(local, reply, log),
+    })
+}
+
+/// The attempt whose value a get answers.
+fn answering(local: &Local, log: &SeatLog) -> Option<usize>
+    ensures { result ≡ answering local.now.call local.now log.now }
+{
+    match local.call {
+        Some(Call::Get(key)) => best_id(local.gathered.as_slice(), log.ids.as_slice(), key),
+        _ => None,
+    }
+}
+
+/// Where a scan that ends with pairs drew its version.
+fn drawing(local: &Local, reply: &Reply, log: &SeatLog) -> Option<Drawn>
+    ensures { result ≡ drawing reply.now local.now log.now }
+{
+    match reply {
+        Reply::Pairs(_) => Some(Drawn {
+            at: log.drawn,
+            version: local.version,
+        }),
+        _ => None,
+    }
+}
+
+/// The attempt beside the newest cell of a key, where `ids` are those beside the cells.
+fn best_id(cells: &[Cell], ids: &[usize], key: u32) -> Option<usize>
+    ensures { result ≡ best_id cells.now ids.now key NEWEST }
+{
+    match best(cells, key, NEWEST) {
+        Some(cell) => id_at(cell.place, cells, ids),
+        None => None,
+    }
+}
+
+/// The attempt beside the first cell of this place.
+fn id_at(place: u32, cells: &[Cell], ids: &[usize]) -> Option<usize>
+    ensures { result ≡ id_at place cells.now ids.now }
+{
+    for (i, cell) in cells.iter().enumerate() {
+        if cell.place == place {
+            return ids.get(i).copied();
+        }
+    }
+    None
+}

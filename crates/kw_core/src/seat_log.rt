@@ -1,0 +1,158 @@
+//! What a seat did last, as far as the history asks for it.
+//!
+//! A `SeatLog` is not what a seat knows: no event depends on it. It says which call of the history the seat makes, which attempt
+//! is its put's, and at which positions it did what. `Remark` is what one event adds to it.
+ghost use Rattle.std.specs.Prelude.{◌≡◌, ◌<◌, ◌≤◌, ◌+◌, ◌*◌, length};
+ghost use Rattle.kw_words.specs.declared.sizes.TheConstants.{CELLS};
+ghost use Rattle.kw_world.specs.Sizes.{product};
+ghost use Rattle.kw_world.specs.Sane.{IsLocal};
+ghost use Rattle.kw_core.specs.Run.{is_at_cell, log_read, no_log};
+ghost use Rattle.kw_core.specs.Recording.{origin_in};
+ghost use Rattle.kw_core.specs.Remarks.{remark_of, remarked, HasRoomFor};
+
+use crate::attempt_ids::AttemptIds;
+use crate::change::{Happening, origin_at, room};
+use crate::history::History;
+use kw_words::sizes::CELLS;
+use kw_world::activity::Activity;
+use kw_world::event::Choice;
+use kw_world::local::Local;
+
+/// What a seat did last.
+///
+/// `call` is the place of its call in the history and `own` the attempt of its put; `looked`, `loaded` and `drawn` are the
+/// positions at which it looked at the first entry of a row, loaded the clock, and drew. `ids` are the attempts of the cells that
+/// it has gathered, and `read` is the row that it has read, once it has come to the end of its cells.
+#[derive(Debug, Drop)]
+pub struct SeatLog {
+    pub call: usize,
+    pub own: usize,
+    pub looked: u64,
+    pub loaded: u64,
+    pub drawn: u64,
+    pub ids: AttemptIds,
+    pub read: Option<u32>,
+}
+
+/// What an event adds to the log of its seat.
+#[derive(Clone, Copy, Debug, PartialEq, Eq)]
+pub enum Remark {
+    /// Nothing.
+    Same,
+    /// A call begins, with this place in the history.
+    BeginsCall(usize),
+    /// The first entry of a row is looked at, at this position.
+    LooksFirst(u64),
+    /// The clock is loaded, at this position.
+    LoadsClock(u64),
+    /// A version is drawn, at this position.
+    DrawsVersion(u64),
+    /// The row is read, unless the seat goes on to one of its cells.
+    ReadsRow(u32),
+    /// A cell is gathered, which was given to this attempt; then the row is read, unless the seat goes on to one of its cells.
+    GathersCell(usize, u32),
+    /// The seat is given a cell, as this attempt.
+    GetsCell(usize),
+}
+
+impl SeatLog {
+    /// The log of a seat that did nothing.
+    pub fn new() -> SeatLog
+        ensures { result ≡ no_log }
+    {
+        SeatLog {
+            call: 0,
+            own: 0,
+            looked: 0,
+            loaded: 0,
+            drawn: 0,
+            ids: AttemptIds::new(),
+            read: None,
+        }
+    }
+
+    /// Adds what an event adds after which the seat goes on to the activity `next`.
+    pub fn note(&mut self, remark: Remark, next: &Activity)
+        requires { HasRoomFor CELLS remark self.old }
+        ensures { self.new ≡ remarked remark next.now self.old }
+    {
+        match remark {
+            Remark::Same => {}
+            Remark::BeginsCall(call) => {
+                self.call = call;
+                self.own = 0;
+                self.ids.clear();
+                self.read = None;
+            }
+            Remark::LooksFirst(at) => {
+                self.looked = at;
+                self.ids.clear();
+                self.read = None;
+            }
+            Remark::LoadsClock(at) => self.loaded = at,
+            Remark::DrawsVersion(at) => self.drawn = at,
+            Remark::ReadsRow(row) => self.note_read(row, next),
+            Remark::GathersCell(attempt, row) => {
+                self.ids.push(attempt);
+                self.note_read(row, next);
+            }
+            Remark::GetsCell(attempt) => self.own = attempt,
+        }
+    }
+
+    // The row is read, unless the seat goes on to one of its cells.
+    fn note_read(&mut self, row: u32, next: &Activity)
+        ensures { self.new ≡ log_read next.now row self.old }
+    {
+        if !is_at_cell(next) {
+            self.read = Some(row);
+        }
+    }
+}
+
+impl Remark {
+    /// What the event adds that is made by a seat that knows `local`, with what came before it.
+    pub fn of(
+        local: &Local,
+        happening: Happening,
+        origins: &[Option<usize>],
+        history: &History,
+    ) -> Remark
+        requires ranges { IsLocal product local.now }
+        requires origins { local.now.row * CELLS + CELLS ≤ length origins.now }
+        ensures { result ≡ remark_of product local.now.activity happening.choice local.now happening.found (origin_in product origins.now) history.now }
+    {
+        match &local.activity {
+            Activity::Idle => match happening.choice {
+                Choice::Begin(_) => Remark::BeginsCall(history.calls().len()),
+                _ => Remark::Same,
+            },
+            Activity::Look(0) => Remark::LooksFirst(history.now()),
+            Activity::ScanClock | Activity::LookClock | Activity::PutClock => {
+                Remark::LoadsClock(history.now())
+            }
+            Activity::ScanDraw => Remark::DrawsVersion(history.now()),
+            Activity::LookCount | Activity::Cell(_) | Activity::CellKey => {
+                Remark::ReadsRow(local.row)
+            }
+            Activity::CellValue => {
+                let attempt = origin_at(origins, local.row, local.place).unwrap_or(0);
+                Remark::GathersCell(attempt, local.row)
+            }
+            Activity::PutAdd if room(happening.found).is_some() => {
+                Remark::GetsCell(history.attempts().len())
+            }
+            _ => Remark::Same,
+        }
+    }
+}
+
+/// Whether a seat that goes on to this activity reads the cells of its row.
+fn is_at_cell(next: &Activity) -> bool
+    ensures { result ≡ is_at_cell next.now }
+{
+    match next {
+        Activity::Cell(_) | Activity::CellKey | Activity::CellValue => true,
+        _ => false,
+    }
+}

@@ -1,0 +1,6 @@
+pub mod Decimals
+pub mod Parts
+pub mod Texts
+pub mod Joins
+pub mod Unique
+pub mod Replied

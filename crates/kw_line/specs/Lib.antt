@@ -1,0 +1,4 @@
+pub mod Cut
+pub mod Line
+pub mod Answered
+pub mod Quiet

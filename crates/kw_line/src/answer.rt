@@ -1,0 +1,128 @@
+//! What is printed for a reply, by the form of the line that asked for it.
+ghost use Rattle.std.specs.Prelude.{◌≡◌, ℕ, IsTrue, IfOk, sum, length};
+ghost use Rattle.kw_line.specs.Answered.{IsReplyOf, answer_for, answer_of_pairs, is_range, least, greatest, number_or_nothing, values};
+
+use crate::item::Form;
+use kw_model::call::Reply;
+use kw_model::memory::Memory;
+use kw_model::pair_list::PairList;
+use std::alloc::Global;
+
+/// What a line prints.
+#[derive(Debug, Drop, PartialEq, Eq)]
+pub enum Answer {
+    Done,
+    Number(u128),
+    /// No value.
+    Nothing,
+    Pairs(PairList),
+    /// The call was refused for want of rows.
+    NoRows,
+    /// The call was refused since the clock or the epoch is spent.
+    Spent,
+}
+
+/// The answer to a line of this form whose call had this reply.
+pub fn answer_of(alloc: Global, form: Form, reply: &Reply) -> Result<Answer, Memory>
+    requires { IsReplyOf form reply.now }
+    ensures { IfOk result (λ answer. answer ≡ answer_for form reply.now) }
+{
+    Ok(match reply {
+        Reply::Done => Answer::Done,
+        Reply::Value(value) => Answer::Number(u128::from(*value)),
+        Reply::Absent => Answer::Nothing,
+        Reply::Pairs(pairs) => answer_of_pairs(alloc, form, pairs)?,
+        Reply::NoRows => Answer::NoRows,
+        Reply::Spent => Answer::Spent,
+        Reply::Stopped => unreachable!(),
+    })
+}
+
+/// What a line of this form says of the pairs in its range.
+fn answer_of_pairs(alloc: Global, form: Form, pairs: &PairList) -> Result<Answer, Memory>
+    requires { IsTrue (is_range form) }
+    ensures { IfOk result (λ answer. answer ≡ answer_of_pairs form pairs.now) }
+{
+    let pairs = pairs.pairs();
+    Ok(match form {
+        Form::Sum => Answer::Number(sum_of_values(pairs)),
+        Form::Count => Answer::Number(pairs.len() as u128),
+        Form::Least => number_or_nothing(least_value(pairs)),
+        Form::Greatest => number_or_nothing(greatest_value(pairs)),
+        _ => Answer::Pairs(PairList::from_vec(Vec::from_slice(alloc, pairs)?)),
+    })
+}
+
+/// The sum of the values of pairs.
+fn sum_of_values(pairs: &[(u32, u64)]) -> u128
+    ensures { result ≡ sum (values pairs.now) }
+{
+    pairs.iter().map(|pair| u128::from(pair.1)).sum()
+}
+
+/// The least value of pairs, where there are any.
+fn least_value(pairs: &[(u32, u64)]) -> Option<u64>
+    ensures { result ≡ least (values pairs.now) }
+{
+    pairs.iter().map(|pair| pair.1).reduce(u64::min)
+}
+
+/// The greatest value of pairs, where there are any.
+fn greatest_value(pairs: &[(u32, u64)]) -> Option<u64>
+    ensures { result ≡ greatest (values pairs.now) }
+{
+    pairs.iter().map(|pair| pair.1).reduce(u64::max)
+}
+
+fn number_or_nothing(value: Option<u64>) -> Answer
+    ensures { result ≡ number_or_nothing value }
+{
+    value.map_or(Answer::Nothing, |value| Answer::Number(u128::from(value)))
+}
+
+#[cfg(test)]
+mod tests {
+    use super::*;
+    use std::test::Fail;
+
+    // the answer of a range line over the pairs 1=5, 2=3 and 3=9, and over none
+    fn over_three_and_none(alloc: Global, form: Form) -> Result<(Answer, Answer), Memory>
+        requires { IsTrue (is_range form) }
+    {
+        let pairs = Vec::from_slice(alloc, &[(1, 5), (2, 3), (3, 9)])?;
+        let some = Reply::Pairs(PairList::from_vec(pairs));
+        let none = Reply::Pairs(PairList::new(alloc));
+        Ok((
+            answer_of(alloc, form, &some)?,
+            answer_of(alloc, form, &none)?,
+        ))
+    }
+
+    #[test]
+    fn answers_a_range_by_its_form(rt: HostRuntime) -> Result<(), Fail> {
+        let (some, none) = over_three_and_none(rt.alloc(), Form::Sum)?;
+        assert_eq!(rt; (some, none), (Answer::Number(17), Answer::Number(0)));
+        let (some, none) = over_three_and_none(rt.alloc(), Form::Count)?;
+        assert_eq!(rt; (some, none), (Answer::Number(3), Answer::Number(0)));
+        let (some, none) = over_three_and_none(rt.alloc(), Form::Least)?;
+        assert_eq!(rt; (some, none), (Answer::Number(3), Answer::Nothing));
+        let (some, none) = over_three_and_none(rt.alloc(), Form::Greatest)?;
+        assert_eq!(rt; (some, none), (Answer::Number(9), Answer::Nothing));
+        Ok(())
+    }
+
+    #[test]
+    fn answers_one_key_and_refusals(rt: HostRuntime) -> Result<(), Fail> {
+        let done = answer_of(rt.alloc(), Form::Del, &Reply::Done)?;
+        assert_eq!(rt; done, Answer::Done);
+        let got = answer_of(rt.alloc(), Form::Get, &Reply::Value(u64::MAX))?;
+        assert_eq!(rt; got, Answer::Number(18446744073709551615));
+        let absent = answer_of(rt.alloc(), Form::Get, &Reply::Absent)?;
+        assert_eq!(rt; absent, Answer::Nothing);
+        let full = answer_of(rt.alloc(), Form::Put, &Reply::NoRows)?;
+        assert_eq!(rt; full, Answer::NoRows);
+        let spent = answer_of(rt.alloc(), Form::List, &Reply::Spent)?;
+        assert_eq!(rt; spent, Answer::Spent);
+        Ok(())
+    }
+}

@@ -1,0 +1,156 @@
+//! From lines to items.
+//!
+//! A line is read word by word, and it is the text of an item exactly where all its words are read. Nothing is read
+//! twice, so the whole takes time linear in the bytes.
+ghost use Rattle.std.specs.Prelude.{◌≡◌, ◌≢◌, ◌≤◌, ◌++◌, ◌∷◌, [], ℕ, List, map, length, decimal, MatchOption, IfOk, vec_len};
+ghost use Rattle.kw_model.specs.declared.call.Call.{Call as AnyCall};
+ghost use Rattle.kw_line.specs.declared.item.Form.{Form as AnyForm};
+ghost use Rattle.kw_line.specs.declared.item.Item.{Item as AnyItem};
+ghost use Rattle.kw_line.specs.Line.{IsCallOf, FitsCall, IsItem, IsText, AreLinesOf, IfBad, arguments, form_word, item_text};
+
+use crate::item::{Form, Item, LineError};
+use crate::words::{Lines, Words};
+use kw_model::call::Call;
+use std::alloc::Global;
+
+/// How many bytes an input may have.
+pub const MOST_BYTES: usize = 16_777_216;
+
+/// The items of an input's lines, one for each line.
+pub fn parse(alloc: Global, bytes: &[u8]) -> Result<Vec<Item>, LineError>
+    requires { length bytes.now ≤ MOST_BYTES }
+    ensures items { IfOk result (λ items. AreLinesOf bytes.now items.items) }
+    ensures few { IfOk result (λ items. vec_len items ≤ length bytes.now) }
+    ensures bad { IfBad bytes.now result }
+{
+    let mut items = Vec::new(alloc);
+    for line in Lines::new(bytes) {
+        let Some(item) = item(line) else {
+            let line = items.len() as u32 + 1;
+            return Err(LineError::Bad { line });
+        };
+        items.push(item)?;
+    }
+    Ok(items)
+}
+
+/// The item whose text the line is, or none.
+pub fn item(line: &[u8]) -> Option<Item>
+    ensures { MatchOption result
+        (IsText line.now → ⊥)
+        (λ item. IsItem item × (line.now ≡ item_text item)) }
+{
+    let mut words = Words::new(line);
+    let word = words.next()?;
+    if word == b"wait".as_slice() {
+        return words.is_empty().then_some(Item::Wait);
+    }
+    let form = form(word)?;
+    let call = call(form, &mut words)?;
+    words.is_empty().then_some(Item::Call(call, form))
+}
+
+/// The form of a line that begins with this word, or none.
+pub fn form(word: &[u8]) -> Option<Form>
+    ensures { MatchOption result
+        ((form : AnyForm) → word.now ≢ form_word form)
+        (λ form. word.now ≡ form_word form) }
+{
+    match word {
+        b"put" => Some(Form::Put),
+        b"del" => Some(Form::Del),
+        b"get" => Some(Form::Get),
+        b"sum" => Some(Form::Sum),
+        b"count" => Some(Form::Count),
+        b"least" => Some(Form::Least),
+        b"greatest" => Some(Form::Greatest),
+        b"list" => Some(Form::List),
+        _ => None,
+    }
+}
+
+/// The call of this form whose numbers are the next words, or none.
+fn call(form: Form, words: &mut Words) -> Option<Call>
+    ensures { MatchOption result
+        ((call : AnyCall) (rest : List (List ℕ)) → IsCallOf form call → FitsCall call
+        → words.old ≢ map decimal (arguments call) ++ rest)
+        (λ call. IsCallOf form call × FitsCall call
+        × (words.old ≡ map decimal (arguments call) ++ words.new)) }
+{
+    match form {
+        Form::Put => {
+            let key = words.key()?;
+            Some(Call::Put(key, words.value()?))
+        }
+        Form::Del => Some(Call::Del(words.key()?)),
+        Form::Get => Some(Call::Get(words.key()?)),
+        Form::Sum | Form::Count | Form::Least | Form::Greatest | Form::List => {
+            let from = words.key()?;
+            Some(Call::Scan(from, words.key()?))
+        }
+    }
+}
+
+#[cfg(test)]
+mod tests {
+    use super::*;
+    use std::test::Fail;
+
+    #[test]
+    fn reads_each_form(rt: HostRuntime) -> Result<(), Fail> {
+        let text = b"put 4294967295 9223372036854775807\ndel 0\nget 7\nsum 1 2\nwait\n\
+            count 0 4294967295\nleast 1 2\ngreatest 1 2\nlist 3 2";
+        let items = parse(rt.alloc(), text)?;
+        let want = [
+            Item::Call(Call::Put(4294967295, 9223372036854775807), Form::Put),
+            Item::Call(Call::Del(0), Form::Del),
+            Item::Call(Call::Get(7), Form::Get),
+            Item::Call(Call::Scan(1, 2), Form::Sum),
+            Item::Wait,
+            Item::Call(Call::Scan(0, 4294967295), Form::Count),
+            Item::Call(Call::Scan(1, 2), Form::Least),
+            Item::Call(Call::Scan(1, 2), Form::Greatest),
+            Item::Call(Call::Scan(3, 2), Form::List),
+        ];
+        assert_eq!(rt; items.as_slice(), want.as_slice());
+        assert_eq!(rt; parse(rt.alloc(), b"")?.len(), 0);
+        Ok(())
+    }
+
+    #[test]
+    fn names_the_first_bad_line(rt: HostRuntime) -> Result<(), Fail> {
+        let table = [
+            (b"put 1 1\nput 3".as_slice(), 2),
+            (b"\n".as_slice(), 1),
+            (b"get 1\n\nget 2\n".as_slice(), 2),
+            (b"get 1\nget 2\n\n".as_slice(), 3),
+            (b"wait\nget 1 \nget\n".as_slice(), 2),
+            (b" get 1\n".as_slice(), 1),
+            (b"get  1\n".as_slice(), 1),
+            (b"get\t1\n".as_slice(), 1),
+            (b"put 01 1\n".as_slice(), 1),
+            (b"put 1 +1\n".as_slice(), 1),
+            (b"put -1 1\n".as_slice(), 1),
+            (b"get 4294967296\n".as_slice(), 1),
+            (b"put 1\n".as_slice(), 1),
+            (b"put 1 2 3\n".as_slice(), 1),
+            (b"put 1 9223372036854775808\n".as_slice(), 1),
+            (b"get 18446744073709551616\n".as_slice(), 1),
+            (b"sum 1\n".as_slice(), 1),
+            (b"GET 1\n".as_slice(), 1),
+            (b"gets 1\n".as_slice(), 1),
+            (b"wait 1\n".as_slice(), 1),
+            (b"get 1\r\n".as_slice(), 1),
+            (b"get \xc3\xa9\n".as_slice(), 1),
+        ];
+        for (text, line) in table {
+            assert!(rt; text.len() <= MOST_BYTES);
+            assert_eq!(rt;
+                parse(rt.alloc(), text),
+                Err(LineError::Bad { line }),
+                "in {text:?}"
+            );
+        }
+        Ok(())
+    }
+}

@@ -1,0 +1,36 @@
+-- What the tree of std did is what the definition of the map says.
+use Rattle.std.proofs.Common.{◌≡◌, sym, ◌∙◌, ap}
+use Rattle.std.specs.Option.{option_copied}
+use Rattle.kw_model.specs.Map.{after, answer, put, without, value_of, found}
+use Rattle.kw_model.proofs.Tree.{lookup_is, insert_is, remove_is, rises_from_sorted}
+use Rattle.kw_model.proofs.map_state.MapState.apply.Goals as goal
+use Rattle.kw_model.proofs.map_state.MapState.apply.Goals.{in-Some, in-None}
+
+pub invariant_of-self-in-Put : goal.invariant_of-self-in-Put
+invariant_of-self-in-Put c = rises_from_sorted _ c.insert.ensures.ordered
+
+pub invariant_of-self-in-Del : goal.invariant_of-self-in-Del
+invariant_of-self-in-Del c = rises_from_sorted _ c.remove.ensures.ordered
+
+pub returns-in_ok-insert-in-Put-clause-after : goal.returns-in_ok-insert-in-Put-clause-after
+returns-in_ok-insert-in-Put-clause-after c =
+    c.in_ok-insert-in-Put.ensures.entries ∙ insert_is c.in-Put.key c.in-Put.value c.self.inside.pairs.entries ∙ ap (put c.in-Put.key c.in-Put.value) c.self.view_is ∙ sym (ap (after c.args.self.now) c.in-Put.is)
+
+pub returns-in_ok-insert-in-Put-clause-rising : goal.returns-in_ok-insert-in-Put-clause-rising
+returns-in_ok-insert-in-Put-clause-rising c = rises_from_sorted _ c.insert.ensures.ordered
+
+pub returns-in-Del-clause-after : goal.returns-in-Del-clause-after
+returns-in-Del-clause-after c =
+    c.remove.ensures.entries ∙ remove_is c.in-Del.key 0 c.self.inside.pairs.entries c.self.invariant ∙ ap (without c.in-Del.key) c.self.view_is ∙ sym (ap (after c.args.self.now) c.in-Del.is)
+
+pub returns-in-Del-clause-rising : goal.returns-in-Del-clause-rising
+returns-in-Del-clause-rising c = rises_from_sorted _ c.remove.ensures.ordered
+
+pub returns-after-get-clause-answer : goal.returns-after-get-clause-answer
+returns-after-get-clause-answer c =
+    let value : option_copied c.get.result ≡ value_of c.in-Get.key c.args.self.now = c.get.ensures.value ∙ lookup_is c.in-Get.key c.self.inside.pairs.entries ∙ ap (value_of c.in-Get.key) c.self.view_is in
+    let asked : answer c.args.self.now c.args.call.now ≡ found (option_copied c.get.result) = ap (answer c.args.self.now) c.in-Get.is ∙ ap found (sym value) in
+    elim c.match-get.branch [
+      | in-Some w ↦ w.result-is ∙ ap (λ o. found (option_copied o)) (sym w.in-Some.is) ∙ sym asked
+      | in-None w ↦ w.result-is ∙ ap (λ o. found (option_copied o)) (sym w.in-None.is) ∙ sym asked
+    ]

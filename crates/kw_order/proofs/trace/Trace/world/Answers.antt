@@ -1,0 +1,8 @@
+use Rattle.kw_order.specs.Trace.{TraceView}
+use Rattle.kw_order.proofs.Traces.{trace_sane}
+use Rattle.kw_order.proofs.trace.Trace.world.Goals as goal
+
+pub returns-clause-sane : goal.returns-clause-sane
+returns-clause-sane c =
+    let t : TraceView = record { opening = c.self.inside.opening; events = c.self.inside.events.items } in
+    trace_sane t c.self.inside.world c.self.inside.recorder c.self.invariant

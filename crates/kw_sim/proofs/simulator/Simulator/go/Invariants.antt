@@ -1,0 +1,8 @@
+-- The steps that are left lead to where all steps lead, and so many events at most were made.
+use Rattle.std.proofs.Common.{ℕ, ◌≡◌, ◌+◌, ◌≤◌}
+use Rattle.kw_sim.specs.Meaning.{go}
+use Rattle.kw_sim.proofs.Grows.{Grows}
+use Rattle.kw_sim.proofs.simulator.Simulator.go.Given as goal
+
+abbrev pub invariant-loop-step : goal.invariant-loop-step
+invariant-loop-step l = record { leads : (n : ℕ) → n + l._step ≡ l.count → go n l.seat l.self ≡ go l.count l.seat l.initial.self; grows : Grows l._step l.initial.self l.self }

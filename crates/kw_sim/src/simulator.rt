@@ -1,0 +1,263 @@
+//! A script, run line by line.
+//!
+//! A `Simulator` keeps the events that were made, the calls that each seat is still to make, and what is printed so far.
+//! Each rule of a script has one method here that is proved to be that rule: an event, a step of a seat, steps in number,
+//! steps until a kind of event, and a line. All events are made in `event`, by the `Trace`.
+ghost use Rattle.std.specs.Prelude.{◌≡◌, ◌+◌, ◌<◌, ◌≤◌, true, if◌then◌else◌, [], ◌∷◌, length, replicate, IfOk, OnOk, IfNone, IfSome};
+ghost use Rattle.kw_words.specs.declared.sizes.TheConstants.{SEATS, MOST_ROWS};
+ghost use Rattle.kw_world.specs.declared.limits.TheConstants.{MOST_CALLS};
+ghost use Rattle.kw_core.specs.Events.{may_begin, may_step};
+ghost use Rattle.kw_line.specs.Line.{FitsCall};
+ghost use Rattle.kw_sim.specs.declared.parse.TheConstants.{MOST_STEPS};
+ghost use Rattle.kw_sim.specs.Script.{IsCommand};
+ghost use Rattle.kw_sim.specs.TraceView.{world_of};
+ghost use Rattle.kw_sim.specs.State.{queue_of};
+ghost use Rattle.kw_sim.specs.Meaning.{event, kind_at, made, after_event, is_idle, next_choice, taken, next_event, seat_step, go, until, is_kind, missed, queued, after_command, first_state};
+
+use crate::command::Command;
+use crate::parse::MOST_STEPS;
+use crate::print::{push_done, push_missed};
+use crate::queue::Queue;
+use crate::trace::Trace;
+use kw_model::call::Call;
+use kw_model::memory::Memory;
+use kw_words::kind::Kind;
+use kw_words::sizes::{SEAT_COUNT, SEATS};
+use kw_world::event::{Choice, Event};
+use kw_world::opening::Opening;
+use std::alloc::Global;
+use std::marker::Model;
+
+/// What there is while a script runs.
+#[derive(Drop)]
+pub struct Simulator {
+    trace: Trace,
+    queues: Vec<Queue>,
+    text: Vec<u8>,
+}
+
+impl Model for Simulator {
+    ghost use Rattle.std.specs.Prelude.{◌≡◌, length};
+    ghost use Rattle.kw_words.specs.declared.sizes.TheConstants.{SEATS};
+    ghost use Rattle.kw_sim.specs.State.{State};
+
+    ghost Value = { State };
+
+    ghost view = { λ s. record { trace = s.trace; queues = s.queues.items; text = s.text.items } };
+
+    ghost invariant = { λ s. (s.trace.opening.seats ≡ SEATS) × (length s.queues.items ≡ SEATS) };
+}
+
+impl Simulator {
+    /// No line is run yet. There are 1 to `MOST_ROWS` rows.
+    pub fn open(alloc: Global, rows: u32) -> Result<Simulator, Memory>
+        requires some { 1 ≤ rows }
+        requires few { rows ≤ MOST_ROWS }
+        ensures { IfOk result (λ simulator. simulator ≡ first_state rows) }
+    {
+        let trace = Trace::open(
+            alloc,
+            Opening {
+                rows,
+                seats: SEAT_COUNT,
+                clock: 1,
+                epoch: 1,
+            },
+        )?;
+        let mut queues = Vec::new(alloc);
+        for _seat in 0..SEATS {
+            queues.push(Queue::new(alloc))?;
+        }
+        Ok(Simulator {
+            trace,
+            queues,
+            text: Vec::new(alloc),
+        })
+    }
+
+    /// What was printed.
+    pub fn into_text(self) -> Vec<u8>
+        ensures { result.items ≡ self.text }
+    {
+        self.text
+    }
+
+    /// Runs one line.
+    pub fn run(&mut self, command: Command) -> Result<(), Memory>
+        requires command { IsCommand self.old.trace.opening.rows command }
+        requires room { length self.old.trace.events + MOST_STEPS ≤ MOST_CALLS }
+        ensures { OnOk result (self.new ≡ after_command command self.old) }
+    {
+        match command {
+            Command::Call(seat, call) => self.queue(seat, call, 1),
+            Command::Puts {
+                seat,
+                count,
+                key,
+                value,
+            } => self.queue(seat, Call::Put(key, value), count),
+            Command::Go { seat, count } => self.go(seat, count),
+            Command::Until { seat, kind } => self.until(seat, kind),
+            Command::Guess { seat, row } => self.event_alone(seat, Choice::Guess(row)),
+            Command::Stop { seat } => self.event_alone(seat, Choice::Stop),
+        }
+    }
+
+    /// Puts a call at the end of what a seat is to make, so many times.
+    fn queue(&mut self, seat: u32, call: Call, count: u32) -> Result<(), Memory>
+        requires seat { seat < SEATS }
+        requires some { 1 ≤ count }
+        requires fits { FitsCall call }
+        ensures { OnOk result (self.new ≡ queued seat (replicate count call) self.old) }
+    {
+        let queue = &mut self.queues[seat as usize];
+        queue.push(call, count)
+    }
+
+    /// Makes so many steps of a seat, or fewer where it has nothing to do.
+    fn go(&mut self, seat: u32, count: u32) -> Result<(), Memory>
+        requires seat { seat < SEATS }
+        requires room { length self.old.trace.events + count ≤ MOST_CALLS }
+        ensures { OnOk result (self.new ≡ go count seat self.old) }
+    {
+        for _step in 0..count {
+            let made = self.step(seat)?;
+            if made.is_none() {
+                return Ok(());
+            }
+        }
+        Ok(())
+    }
+
+    /// Makes steps of a seat until one was of the kind, and says so where none was.
+    fn until(&mut self, seat: u32, kind: Kind) -> Result<(), Memory>
+        requires seat { seat < SEATS }
+        requires room { length self.old.trace.events + MOST_STEPS ≤ MOST_CALLS }
+        ensures { OnOk result (self.new ≡ until MOST_STEPS kind seat self.old) }
+    {
+        if self.meets(seat, kind)? {
+            return Ok(());
+        }
+        push_missed(&mut self.text)
+    }
+
+    /// Makes steps of a seat until one was of the kind, and tells whether one was.
+    fn meets(&mut self, seat: u32, kind: Kind) -> Result<bool, Memory>
+        requires seat { seat < SEATS }
+        requires room { length self.old.trace.events + MOST_STEPS ≤ MOST_CALLS }
+        ensures { IfOk result (λ met. until MOST_STEPS kind seat self.old ≡ (if met then self.new else missed self.new)) }
+    {
+        for _step in 0..MOST_STEPS {
+            let made = self.step(seat)?;
+            if is_kind(kind, made) {
+                return Ok(true);
+            }
+            if made.is_none() {
+                return Ok(false);
+            }
+        }
+        Ok(false)
+    }
+
+    /// Makes one step of a seat, and gives the kind of its event; none where it had nothing to do.
+    fn step(&mut self, seat: u32) -> Result<Option<Kind>, Memory>
+        requires seat { seat < SEATS }
+        requires room { length self.old.trace.events < MOST_CALLS }
+        ensures kind { IfOk result (λ kind. kind ≡ kind_at (next_event seat self.old) self.old) }
+        ensures state { OnOk result (self.new ≡ seat_step seat self.old) }
+    {
+        let choice = self.next_choice(seat);
+        self.event(seat, choice)
+    }
+
+    /// What a seat chooses next. A call that it is to begin is taken from those that it is still to make.
+    fn next_choice(&mut self, seat: u32) -> Choice
+        requires { seat < SEATS }
+        ensures choice { result ≡ next_choice (is_idle seat self.old) (queue_of seat self.old) }
+        ensures state { self.new ≡ taken (is_idle seat self.old) (queue_of seat self.old) seat self.old }
+        ensures begins { may_begin result ≡ true }
+    {
+        if !self.is_idle(seat) {
+            return Choice::Go;
+        }
+        match self.take_call(seat) {
+            Some(call) => Choice::Begin(call),
+            None => Choice::Go,
+        }
+    }
+
+    /// Takes the first call away that a seat is still to make, if there is one.
+    fn take_call(&mut self, seat: u32) -> Option<Call>
+        requires { seat < SEATS }
+        ensures none { IfNone result (queue_of seat self.old ≡ []) }
+        ensures first { IfSome result (λ call. queue_of seat self.old ≡ call ∷ queue_of seat self.new) }
+        ensures state { self.new ≡ taken true (queue_of seat self.old) seat self.old }
+        ensures fits { IfSome result (λ call. FitsCall call) }
+    {
+        let queue = &mut self.queues[seat as usize];
+        queue.pop()
+    }
+
+    /// Whether a seat makes no call.
+    fn is_idle(&self, seat: u32) -> bool
+        requires { seat < SEATS }
+        ensures { result ≡ is_idle seat self.now }
+    {
+        let local = self.trace.world().local(seat);
+        local.activity.skips(Choice::Go)
+    }
+
+    /// Makes one event of a seat, whatever its kind.
+    fn event_alone(&mut self, seat: u32, choice: Choice) -> Result<(), Memory>
+        requires seat { seat < SEATS }
+        requires begins { may_begin choice ≡ true }
+        requires room { length self.old.trace.events < MOST_CALLS }
+        ensures { OnOk result (self.new ≡ after_event (event seat choice) self.old) }
+    {
+        self.event(seat, choice)?;
+        Ok(())
+    }
+
+    /// Makes one event of a seat, prints the line of a call that ends with it, and gives its kind; none where it is skipped,
+    /// which leaves all as it was.
+    fn event(&mut self, seat: u32, choice: Choice) -> Result<Option<Kind>, Memory>
+        requires seat { seat < SEATS }
+        requires begins { may_begin choice ≡ true }
+        requires room { length self.old.trace.events < MOST_CALLS }
+        ensures kind { IfOk result (λ kind. kind ≡ kind_at (event seat choice) self.old) }
+        ensures state { OnOk result (self.new ≡ after_event (event seat choice) self.old) }
+    {
+        let event = Event { seat, choice };
+        match self.trace.kind_of(event) {
+            Some(kind) => {
+                self.make(event)?;
+                Ok(Some(kind))
+            }
+            None => Ok(None),
+        }
+    }
+
+    /// Makes an event that may come next, and prints the line of a call that ends with it. All events are made here.
+    fn make(&mut self, event: Event) -> Result<(), Memory>
+        requires seat { event.seat < SEATS }
+        requires may { may_step self.old.trace.opening (world_of self.old.trace) event ≡ true }
+        requires room { length self.old.trace.events < MOST_CALLS }
+        ensures { OnOk result (self.new ≡ made event self.old) }
+    {
+        let local = self.trace.world().local(event.seat);
+        let number = local.number;
+        let call = local.call.unwrap_or(Call::Get(0));
+        let done = self.trace.push(event)?;
+        push_done(&mut self.text, event.seat, number, &call, &done)
+    }
+}
+
+/// Whether an event of this kind was made.
+fn is_kind(kind: Kind, made: Option<Kind>) -> bool
+    ensures { result ≡ is_kind kind made }
+{
+    match made {
+        Some(made) => made as u32 == kind as u32,
+        None => false,
+    }
+}

@@ -1,0 +1,165 @@
+//! Which operation a seat makes.
+//!
+//! The operation depends on what the seat knows and on its choice, and on no word.
+ghost use Rattle.std.specs.Prelude.{◌≡◌, ◌<◌, false};
+ghost use Rattle.kw_words.specs.Pend.{pend_word};
+ghost use Rattle.kw_words.specs.Scan.{scan_word};
+ghost use Rattle.kw_world.specs.Sizes.{product};
+ghost use Rattle.kw_world.specs.Parts.{is_rows_part};
+ghost use Rattle.kw_world.specs.Sane.{IsLocal, IsVersion};
+ghost use Rattle.kw_world.specs.Step.{row_of};
+ghost use Rattle.kw_words.specs.declared.sizes.TheConstants.{CELLS};
+
+use kw_words::kind::Kind;
+use kw_words::layout::Name;
+use kw_words::pend::Pend;
+use kw_words::plain::{pack_key, pack_pass, pack_value, pack_version};
+use kw_words::scan::ScanWord;
+use kw_world::activity::Activity;
+use kw_world::calls::{first_key, put_value};
+use kw_world::event::Choice;
+use kw_world::local::Local;
+use kw_world::operation::{Action, Operation};
+
+/// The operation of the event that a seat makes with this choice.
+#[tactic(auto, unfolding(kw_world::specs::Step::row_of))]
+pub fn put_operation(seat: u32, local: &Local, choice: Choice) -> Operation
+    requires local { IsLocal product local.now }
+    requires part { is_rows_part choice local.now ≡ false }
+    ensures { result ≡ (row_of product seat choice local.now).operation }
+{
+    let row = local.row;
+    let cell = local.cell;
+    match &local.activity {
+        Activity::Idle => load(Kind::LoadEpoch, Name::Epoch),
+        Activity::Enter => {
+            let pass = pack_pass(Some(local.epoch));
+            store(Kind::StorePass, Name::Pass(seat), pass)
+        }
+        Activity::ScanClock => load(Kind::LoadClock, Name::Clock),
+        Activity::ScanWait => {
+            let waiting = ScanWord::Waiting(local.waiting).pack();
+            store(Kind::StoreWaiting, Name::Scan(seat), waiting)
+        }
+        Activity::ScanDraw => add_one(Kind::Draw, Name::Clock),
+        Activity::ScanSettle => settle(seat, local.waiting, local.drawn),
+        Activity::Walk => clear_scan(seat),
+        Activity::Look(entry) => load(Kind::LoadPend, Name::Pend(row, *entry)),
+        Activity::LookKey => load(Kind::LoadKey, Name::Key(row, local.met)),
+        Activity::LookClock => load(Kind::LoadClock, Name::Clock),
+        Activity::LookHelp => {
+            let entry = Name::Pend(row, local.looked);
+            stamp(Kind::HelpStamp, entry, local.met, local.helping)
+        }
+        Activity::LookCount => load(Kind::LoadCount, Name::Count(row)),
+        Activity::Cell(place) => load(Kind::LoadVersion, Name::Version(row, *place)),
+        Activity::CellKey => load(Kind::LoadKey, Name::Key(row, local.place)),
+        Activity::CellValue => load(Kind::LoadValue, Name::Value(row, local.place)),
+        Activity::ClearScan(_) => clear_scan(seat),
+        Activity::PutCount => load(Kind::LoadCount, Name::Count(row)),
+        Activity::PutAdd => add_one(Kind::AddCount, Name::Count(row)),
+        Activity::PutKey => {
+            let key = pack_key(first_key(local.call));
+            store(Kind::StoreKey, Name::Key(row, cell), key)
+        }
+        Activity::PutValue => {
+            let value = pack_value(put_value(local.call));
+            store(Kind::StoreValue, Name::Value(row, cell), value)
+        }
+        Activity::Announce => announce(Name::Pend(row, seat), cell),
+        Activity::PutClock => load(Kind::LoadClock, Name::Clock),
+        Activity::Stamp => {
+            let entry = Name::Pend(row, seat);
+            stamp(Kind::Stamp, entry, cell, local.version)
+        }
+        Activity::PutVersion => {
+            let version = pack_version(Some(local.version));
+            store(Kind::StoreVersion, Name::Version(row, cell), version)
+        }
+        Activity::PutClear => {
+            let idle = Pend::Idle.pack();
+            store(Kind::ClearPend, Name::Pend(row, seat), idle)
+        }
+        Activity::Leave(_) => {
+            let pass = pack_pass(None);
+            store(Kind::ClearPass, Name::Pass(seat), pass)
+        }
+        Activity::Start | Activity::Head | Activity::GuessMin | Activity::WalkMin => unreachable!(),
+    }
+}
+
+// A load of a word.
+fn load(kind: Kind, name: Name) -> Operation
+    ensures { result ≡ record { kind = kind; name = name; action = Action.Load } }
+{
+    let action = Action::Load;
+    Operation { kind, name, action }
+}
+
+// A store into a word.
+fn store(kind: Kind, name: Name, word: u64) -> Operation
+    ensures { result ≡ record { kind = kind; name = name; action = Action.Store word } }
+{
+    let action = Action::Store(word);
+    Operation { kind, name, action }
+}
+
+// An addition of one to a word.
+fn add_one(kind: Kind, name: Name) -> Operation
+    ensures { result ≡ record { kind = kind; name = name; action = Action.Add 1 } }
+{
+    let action = Action::Add(1);
+    Operation { kind, name, action }
+}
+
+// The exchange that gives a waiting scan its version.
+fn settle(seat: u32, waiting: u64, drawn: u64) -> Operation
+    requires waiting { IsVersion waiting }
+    requires drawn { IsVersion drawn }
+    ensures { result ≡ record { kind = Kind.Settle; name = Name.Scan seat; action = Action.Exchange (scan_word (ScanWord.Waiting waiting)) (scan_word (ScanWord.Drawn drawn)) } }
+{
+    let waiting = ScanWord::Waiting(waiting).pack();
+    let drawn = ScanWord::Drawn(drawn).pack();
+    Operation {
+        kind: Kind::Settle,
+        name: Name::Scan(seat),
+        action: Action::Exchange(waiting, drawn),
+    }
+}
+
+// The store that ends a scan.
+fn clear_scan(seat: u32) -> Operation
+    ensures { result ≡ record { kind = Kind.ClearScan; name = Name.Scan seat; action = Action.Store (scan_word ScanWord.Quiet) } }
+{
+    let quiet = ScanWord::Quiet.pack();
+    store(Kind::ClearScan, Name::Scan(seat), quiet)
+}
+
+// The exchange that announces a cell.
+fn announce(name: Name, cell: u32) -> Operation
+    requires { cell < CELLS }
+    ensures { result ≡ record { kind = Kind.Announce; name = name; action = Action.Exchange (pend_word Pend.Idle) (pend_word (Pend.Pending cell)) } }
+{
+    let idle = Pend::Idle.pack();
+    let pending = Pend::Pending(cell).pack();
+    Operation {
+        kind: Kind::Announce,
+        name,
+        action: Action::Exchange(idle, pending),
+    }
+}
+
+// The exchange that gives a pending cell its version.
+fn stamp(kind: Kind, name: Name, cell: u32, version: u64) -> Operation
+    requires cell { cell < CELLS }
+    requires version { IsVersion version }
+    ensures { result ≡ record { kind = kind; name = name; action = Action.Exchange (pend_word (Pend.Pending cell)) (pend_word (Pend.Stamped cell version)) } }
+{
+    let pending = Pend::Pending(cell).pack();
+    let stamped = Pend::Stamped(cell, version).pack();
+    Operation {
+        kind,
+        name,
+        action: Action::Exchange(pending, stamped),
+    }
+}

@@ -1,0 +1,82 @@
+//! What a seat knows after the events of a put or a delete.
+ghost use Rattle.std.specs.Prelude.{◌≡◌, ◌==◌, if◌then◌else◌, Some, None};
+ghost use Rattle.kw_words.specs.Count.{count_of};
+ghost use Rattle.kw_words.specs.Pend.{pend_of, pend_word};
+ghost use Rattle.kw_world.specs.Sizes.{product};
+ghost use Rattle.kw_world.specs.Local.{resting};
+ghost use Rattle.kw_world.specs.Row.{outcome, to};
+ghost use Rattle.kw_world.specs.RowPut.{full, has_room, given_of, stamp_met};
+
+use crate::resume::{leave, to};
+use kw_model::call::Reply;
+use kw_words::count::Count;
+use kw_words::pend::Pend;
+use kw_words::sizes::CELL_COUNT;
+use kw_world::activity::Activity;
+use kw_world::event::StepDone;
+use kw_world::local::Local;
+
+// The row is full: as long as no row is rebalanced, the call is refused.
+fn refuse(local: &mut Local) -> StepDone
+    ensures { outcome local.new result ≡ full local.old }
+{
+    leave(local, Reply::NoRows)
+}
+
+// The cell that the row gives, if it gives one more.
+fn room(found: u64) -> Option<u32>
+    ensures { result ≡ (if has_room product (count_of found) then Some (given_of (count_of found)) else None) }
+{
+    match Count::unpack(found) {
+        Some(count) if !count.frozen && count.given < CELL_COUNT => Some(count.given),
+        _ => None,
+    }
+}
+
+// The seat was told the count of its row.
+pub(crate) fn count(local: &mut Local, found: u64) -> StepDone
+    ensures { outcome local.new result ≡ (if has_room product (count_of found) then to Activity.PutAdd local.old else full local.old) }
+{
+    match room(found) {
+        Some(_) => to(local, Activity::PutAdd),
+        None => refuse(local),
+    }
+}
+
+// The seat has asked for a cell, and was told the count before.
+pub(crate) fn add(local: &mut Local, found: u64) -> StepDone
+    ensures { outcome local.new result ≡ (if has_room product (count_of found) then to Activity.PutKey (record local.old { cell = given_of (count_of found) }) else full local.old) }
+{
+    match room(found) {
+        Some(cell) => {
+            local.cell = cell;
+            to(local, Activity::PutKey)
+        }
+        None => refuse(local),
+    }
+}
+
+// The seat has tried to announce its cell, and was told the entry found.
+pub(crate) fn announce(local: &mut Local, found: u64) -> StepDone
+    ensures { outcome local.new result ≡ (if found == pend_word Pend.Idle then to Activity.PutClock local.old else full local.old) }
+{
+    if found == Pend::Idle.pack() {
+        to(local, Activity::PutClock)
+    } else {
+        refuse(local)
+    }
+}
+
+// The seat has tried to stamp its cell, and was told the entry found.
+pub(crate) fn stamp(local: &mut Local, found: u64) -> StepDone
+    ensures { outcome local.new result ≡ stamp_met (pend_of found) local.old }
+{
+    match Pend::unpack(found) {
+        Some(Pend::Pending(cell)) if cell == local.cell => to(local, Activity::PutVersion),
+        Some(Pend::Stamped(cell, version)) if cell == local.cell => {
+            local.version = version;
+            to(local, Activity::PutVersion)
+        }
+        _ => refuse(local),
+    }
+}

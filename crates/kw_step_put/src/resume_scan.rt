@@ -1,0 +1,75 @@
+//! What a seat knows after the events by which a call begins and a scan gets its version.
+ghost use Rattle.std.specs.Prelude.{◌≡◌};
+ghost use Rattle.kw_words.specs.Scan.{scan_of};
+ghost use Rattle.kw_world.specs.Row.{outcome};
+ghost use Rattle.kw_world.specs.RowScan.{begun, entered, to_start, clock_met, version_settled, settled};
+ghost use Rattle.kw_world.specs.Sane.{CanBegin};
+
+use crate::resume::{leave, to};
+use kw_model::call::{Call, Reply};
+use kw_words::scan::ScanWord;
+use kw_words::sizes::SPENT;
+use kw_world::activity::Activity;
+use kw_world::calls::{first_key, is_range_empty};
+use kw_world::event::{Choice, StepDone};
+use kw_world::local::Local;
+
+// An idle seat begins a call, and was told the epoch.
+pub(crate) fn begin(local: &mut Local, choice: Choice, epoch: u64) -> StepDone
+    requires { CanBegin choice local.old }
+    ensures { outcome local.new result ≡ begun choice epoch local.old }
+{
+    match choice {
+        Choice::Begin(call) => {
+            local.call = Some(call);
+            local.number += 1;
+            local.epoch = epoch;
+            to(local, Activity::Enter)
+        }
+        _ => StepDone::Skipped,
+    }
+}
+
+// The seat has announced its epoch.
+pub(crate) fn enter(local: &mut Local) -> StepDone
+    ensures { outcome local.new result ≡ entered local.old.call local.old }
+{
+    match local.call {
+        Some(Call::Scan(_, _)) => to(local, Activity::ScanClock),
+        _ => start(local),
+    }
+}
+
+// The seat begins its walk to the first key that it wants.
+fn start(local: &mut Local) -> StepDone
+    ensures { outcome local.new result ≡ to_start local.old }
+{
+    local.want = first_key(local.call);
+    to(local, Activity::Start)
+}
+
+// A scan was told the clock.
+pub(crate) fn clock(local: &mut Local, clock: u64) -> StepDone
+    ensures { outcome local.new result ≡ clock_met clock local.old }
+{
+    if clock >= SPENT {
+        return leave(local, Reply::Spent);
+    }
+    local.waiting = clock;
+    to(local, Activity::ScanWait)
+}
+
+// A scan has exchanged its waiting word, and was told the word found.
+pub(crate) fn settle(local: &mut Local, found: u64) -> StepDone
+    ensures { outcome local.new result ≡ settled (version_settled (scan_of found) local.old.drawn) local.old }
+{
+    local.version = match ScanWord::unpack(found) {
+        Some(ScanWord::Drawn(version)) => version,
+        _ => local.drawn,
+    };
+    if is_range_empty(local.call) {
+        let none = local.pairs.fresh();
+        return to(local, Activity::ClearScan(Reply::Pairs(none)));
+    }
+    start(local)
+}

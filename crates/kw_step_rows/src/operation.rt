@@ -1,0 +1,39 @@
+//! Which operation a seat makes on its walk.
+ghost use Rattle.std.specs.Prelude.{◌≡◌, true};
+ghost use Rattle.kw_world.specs.Sizes.{product};
+ghost use Rattle.kw_world.specs.Parts.{is_rows_part};
+ghost use Rattle.kw_world.specs.Step.{row_of};
+
+use kw_words::kind::Kind;
+use kw_words::layout::Name;
+use kw_world::activity::Activity;
+use kw_world::event::Choice;
+use kw_world::local::Local;
+use kw_world::operation::{Action, Operation};
+
+/// The operation of the event that a seat makes with this choice.
+#[tactic(auto, unfolding(kw_world::specs::Step::row_of))]
+pub fn rows_operation(seat: u32, local: &Local, choice: Choice) -> Operation
+    requires { is_rows_part choice local.now ≡ true }
+    ensures { result ≡ (row_of product seat choice local.now).operation }
+{
+    match &local.activity {
+        Activity::Start => match choice {
+            Choice::Guess(row) => load(Kind::LoadState, Name::State(row)),
+            _ => load(Kind::LoadHead, Name::Head),
+        },
+        Activity::Head => load(Kind::LoadHead, Name::Head),
+        Activity::GuessMin => load(Kind::LoadMin, Name::Min(local.row)),
+        Activity::Walk => load(Kind::LoadLink, Name::Next(local.row)),
+        Activity::WalkMin => load(Kind::LoadMin, Name::Min(local.candidate)),
+        _ => unreachable!(),
+    }
+}
+
+// A load of a word.
+fn load(kind: Kind, name: Name) -> Operation
+    ensures { result ≡ record { kind = kind; name = name; action = Action.Load } }
+{
+    let action = Action::Load;
+    Operation { kind, name, action }
+}

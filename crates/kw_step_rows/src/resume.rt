@@ -1,0 +1,134 @@
+//! What a seat knows after an event of its walk.
+ghost use Rattle.std.specs.Prelude.{◌≡◌, true, if◌then◌else◌};
+ghost use Rattle.kw_words.specs.Link.{link_of};
+ghost use Rattle.kw_words.specs.State.{state_of};
+ghost use Rattle.kw_words.specs.Plain.{key_of_word};
+ghost use Rattle.kw_world.specs.Sizes.{product};
+ghost use Rattle.kw_world.specs.Parts.{is_rows_part};
+ghost use Rattle.kw_world.specs.Row.{outcome, to, row_linked, row_or_first};
+ghost use Rattle.kw_world.specs.RowWalk.{guess_met, guess_min, arrive, link_met, walk_min};
+ghost use Rattle.kw_world.specs.Step.{next_of};
+
+use kw_model::call::Call;
+use kw_words::link::Link;
+use kw_words::plain::unpack_key;
+use kw_words::state::State;
+use kw_world::activity::Activity;
+use kw_world::event::{Choice, StepDone};
+use kw_world::local::Local;
+
+/// What a seat knows after its event, where the operation told it this.
+#[tactic(auto, unfolding(kw_world::specs::Step::row_of))]
+pub fn rows_resume(local: &mut Local, choice: Choice, told: u64) -> StepDone
+    requires { is_rows_part choice local.old ≡ true }
+    ensures { outcome local.new result ≡ next_of product choice local.old told }
+{
+    match &local.activity {
+        Activity::Start => match choice {
+            Choice::Guess(row) => guess(local, row, told),
+            _ => first(local, told),
+        },
+        Activity::Head => first(local, told),
+        Activity::GuessMin => guess_min(local, told),
+        Activity::Walk => link(local, told),
+        Activity::WalkMin => walk_min(local, told),
+        _ => unreachable!(),
+    }
+}
+
+// The seat goes on to an activity.
+fn to(local: &mut Local, activity: Activity) -> StepDone
+    ensures { outcome local.new result ≡ to activity local.old }
+{
+    local.activity = activity;
+    StepDone::Moved
+}
+
+// The row that a link leads to.
+fn linked(found: u64) -> Option<u32>
+    ensures { result ≡ row_linked (link_of found) }
+{
+    match Link::unpack(found) {
+        Some(link) => link.row,
+        None => None,
+    }
+}
+
+// The walk begins at the first row.
+fn first(local: &mut Local, found: u64) -> StepDone
+    ensures { outcome local.new result ≡ to Activity.Walk (record local.old { row = row_or_first (row_linked (link_of found)); lower = 0 }) }
+{
+    local.row = linked(found).unwrap_or(0);
+    local.lower = 0;
+    to(local, Activity::Walk)
+}
+
+// The seat was told the state of the guessed row.
+fn guess(local: &mut Local, row: u32, found: u64) -> StepDone
+    ensures { outcome local.new result ≡ guess_met row (state_of found) local.old }
+{
+    match State::unpack(found) {
+        Some(State::Normal) => {
+            local.row = row;
+            to(local, Activity::GuessMin)
+        }
+        _ => to(local, Activity::Head),
+    }
+}
+
+// The seat was told the least key of the guessed row.
+fn guess_min(local: &mut Local, found: u64) -> StepDone
+    ensures { outcome local.new result ≡ guess_min (key_of_word found) local.old }
+{
+    let least = unpack_key(found);
+    if least > local.want {
+        return to(local, Activity::Head);
+    }
+    local.lower = least;
+    to(local, Activity::Walk)
+}
+
+// The seat was told the link after its row.
+fn link(local: &mut Local, found: u64) -> StepDone
+    ensures { outcome local.new result ≡ link_met (row_linked (link_of found)) local.old }
+{
+    match linked(found) {
+        Some(row) => {
+            local.candidate = row;
+            to(local, Activity::WalkMin)
+        }
+        None => {
+            local.next = None;
+            local.upper = 0;
+            arrive(local)
+        }
+    }
+}
+
+// The seat was told the least key of the row after its row.
+fn walk_min(local: &mut Local, found: u64) -> StepDone
+    ensures { outcome local.new result ≡ walk_min (key_of_word found) local.old }
+{
+    let least = unpack_key(found);
+    if least <= local.want {
+        local.row = local.candidate;
+        local.lower = least;
+        return to(local, Activity::Walk);
+    }
+    local.next = Some(local.candidate);
+    local.upper = least;
+    arrive(local)
+}
+
+// The walk has found the row of the wanted key.
+fn arrive(local: &mut Local) -> StepDone
+    ensures { outcome local.new result ≡ arrive local.old.call local.old }
+{
+    match local.call {
+        Some(Call::Put(_, _)) | Some(Call::Del(_)) => to(local, Activity::PutCount),
+        _ => {
+            local.forget_cells();
+            to(local, Activity::Look(0))
+        }
+    }
+}

@@ -1,0 +1,35 @@
+//! One event of a world, of a walk along the rows.
+ghost use Rattle.std.specs.Prelude.{◌≡◌, ◌<◌, length, IsOkAnd};
+ghost use Rattle.kw_world.specs.Sizes.{product};
+ghost use Rattle.kw_world.specs.Sane.{IsSane, IsRowsPart};
+ghost use Rattle.kw_world.specs.Step.{stepped, step};
+
+use crate::operation::rows_operation;
+use crate::resume::rows_resume;
+use kw_model::memory::Memory;
+use kw_words::layout::Layout;
+use kw_words::sizes::{CELLS, SEATS};
+use kw_world::event::{Event, StepDone};
+use kw_world::world::World;
+
+/// Makes one event of the world, which is one of a walk along the rows.
+///
+/// It takes no memory, and always answers Ok; the `Result` is that of the other steps.
+#[tactic(auto, unfolding(kw_world::specs::Step::step))]
+pub fn rows_step(world: &mut World, event: Event) -> Result<StepDone, Memory>
+    requires sane { IsSane product world.old }
+    requires seat { event.seat < length world.old.locals }
+    requires part { IsRowsPart world.old event }
+    ensures { IsOkAnd result (λ done. stepped world.new done ≡ step product world.old event) }
+{
+    let local = world.local(event.seat);
+    let choice = event.choice.offered(world.rows());
+    let operation = rows_operation(event.seat, local, choice);
+    let place = Layout::<SEATS, CELLS>::place(world.rows(), operation.name);
+    let found = world.word(place);
+    let word = operation.action.after(found);
+    let told = operation.action.told(found);
+    let done = rows_resume(world.local_mut(event.seat), choice, told);
+    world.set_word(place, word);
+    Ok(done)
+}

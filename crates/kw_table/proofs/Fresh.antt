@@ -1,0 +1,29 @@
+-- A pass that was just cut off.
+use Rattle.std.proofs.Common.{◌≡◌, ℕ, ◌<◌, [], refl, ap, sym, ◌∙◌, subst}
+use Rattle.std.proofs.lemmas.List.{get_or-replicate}
+use Rattle.kw_world.specs.declared.opening.Opening.{Opening}
+use Rattle.kw_world.specs.Local.{resting}
+use Rattle.kw_world.specs.Opening.{IsOpening}
+use Rattle.kw_world.specs.Sizes.{product}
+use Rattle.kw_world.specs.WorldView.{WorldView}
+use Rattle.kw_core.specs.Events.{local_of, of_seat}
+use Rattle.kw_core.proofs.Events.{valid-nil, world-nil}
+use Rattle.kw_table.specs.Known.{IsKnown}
+use Rattle.kw_table.specs.Views.{Mine, local_in, mine_in, rest_view}
+
+module _ (n : ℕ) (o : Opening) (m rest : Mine) (is : rest ≡ (rest_view o n, [])) (cut : m ≡ (record rest.0 { count = 1 }, [])) where
+  all : m ≡ (record (rest_view o n) { count = 1 }, [])
+  all = cut ∙ ap (λ (r : Mine). (record r.0 { count = 1 }, [])) is
+
+  -- it is a pass
+  pub fresh_known : IsOpening product o → n < o.seats → IsKnown n m
+  fresh_known opens inside = subst (IsKnown n) (sym all) record { number = refl; count = refl; empty = refl; seats = inside; opens = opens; valid = valid-nil product o }
+
+  -- it has done nothing
+  pub fresh_mine : mine_in m.0 ≡ []
+  unfolding of_seat
+  fresh_mine = ap (λ (k : Mine). mine_in k.0) all
+
+  -- its seat is idle
+  pub fresh_local : n < o.seats → local_in m.0 ≡ resting 0
+  fresh_local inside = ap (λ (k : Mine). local_in k.0) all ∙ (ap (λ (w : WorldView). local_of w n) (world-nil product o) ∙ get_or-replicate o.seats n (resting 0) (resting 0) inside)

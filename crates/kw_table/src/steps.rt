@@ -1,0 +1,208 @@
+//! The steps of the table, by what they do to the word.
+//!
+//! There is one function for each action, and each makes one atomic operation; `make` takes any operation. The event's choice is in
+//! the proof alone, and comes to the table's step by a type parameter, `Choosing`.
+ghost use Rattle.std.specs.Prelude.{◌≡◌, ℕ, ◌<◌};
+ghost use Rattle.kw_words.specs.Layout.{IsWithin, place_of, words_of};
+ghost use Rattle.kw_words.specs.declared.sizes.TheConstants.{SEATS, CELLS};
+ghost use Rattle.kw_table.specs.Passes.{Asks, Makes};
+
+use crate::pass::Pass;
+use crate::rule::{Choosing, Stepping};
+use crate::shared::Shared;
+use kw_words::layout::{Layout, Name};
+use kw_words::sizes::{CELLS, SEATS};
+use kw_world::event::Choice;
+use kw_world::operation::{Action, Operation};
+use std::marker::Brand;
+
+impl Shared {
+    // Where the word lies.
+    fn place(&self, word: Name) -> usize
+        requires { IsWithin SEATS CELLS self.now.opening.rows word }
+        ensures place { result ≡ place_of SEATS CELLS word }
+        ensures below { result < words_of SEATS CELLS self.now.opening.rows }
+    {
+        Layout::<SEATS, CELLS>::place(self.opening.rows, word)
+    }
+
+    // `load`, where the proof has the choice from `C`.
+    fn load_as<C: Choosing>(&self, pass: &mut Pass, choice: Choice, operation: Operation) -> u64
+        requires choice { C.choice ≡ choice }
+        requires action { operation.action ≡ Action.Load }
+        requires asked { Asks self.now pass.old choice operation }
+        ensures { Makes self.now pass.old choice result pass.new }
+    {
+        self.table
+            .shared
+            .load::<Stepping<C>>(&mut pass.seat, self.place(operation.name))
+    }
+
+    /// Loads the word.
+    pub(crate) fn load(&self, pass: &mut Pass, choice: Choice, operation: Operation) -> u64
+        requires action { operation.action ≡ Action.Load }
+        requires asked { Asks self.now pass.old choice operation }
+        ensures { Makes self.now pass.old choice result pass.new }
+    {
+        self.load_as::<Brand>(pass, choice, operation)
+    }
+
+    // `store`, where the proof has the choice from `C`.
+    fn store_as<C: Choosing>(
+        &self,
+        pass: &mut Pass,
+        choice: Choice,
+        operation: Operation,
+        stored: u64,
+    ) -> u64
+        requires choice { C.choice ≡ choice }
+        requires action { operation.action ≡ Action.Store stored }
+        requires asked { Asks self.now pass.old choice operation }
+        ensures { Makes self.now pass.old choice result pass.new }
+    {
+        self.table
+            .shared
+            .store::<Stepping<C>>(&mut pass.seat, self.place(operation.name), stored);
+        0
+    }
+
+    /// Stores a word.
+    pub(crate) fn store(
+        &self,
+        pass: &mut Pass,
+        choice: Choice,
+        operation: Operation,
+        stored: u64,
+    ) -> u64
+        requires action { operation.action ≡ Action.Store stored }
+        requires asked { Asks self.now pass.old choice operation }
+        ensures { Makes self.now pass.old choice result pass.new }
+    {
+        self.store_as::<Brand>(pass, choice, operation, stored)
+    }
+
+    // `add`, where the proof has the choice from `C`.
+    fn add_as<C: Choosing>(
+        &self,
+        pass: &mut Pass,
+        choice: Choice,
+        operation: Operation,
+        number: u64,
+    ) -> u64
+        requires choice { C.choice ≡ choice }
+        requires action { operation.action ≡ Action.Add number }
+        requires asked { Asks self.now pass.old choice operation }
+        ensures { Makes self.now pass.old choice result pass.new }
+    {
+        self.table
+            .shared
+            .fetch_add::<Stepping<C>>(&mut pass.seat, self.place(operation.name), number)
+    }
+
+    /// Adds a number to the word.
+    pub(crate) fn add(
+        &self,
+        pass: &mut Pass,
+        choice: Choice,
+        operation: Operation,
+        number: u64,
+    ) -> u64
+        requires action { operation.action ≡ Action.Add number }
+        requires asked { Asks self.now pass.old choice operation }
+        ensures { Makes self.now pass.old choice result pass.new }
+    {
+        self.add_as::<Brand>(pass, choice, operation, number)
+    }
+
+    // `unite`, where the proof has the choice from `C`.
+    fn unite_as<C: Choosing>(
+        &self,
+        pass: &mut Pass,
+        choice: Choice,
+        operation: Operation,
+        bits: u64,
+    ) -> u64
+        requires choice { C.choice ≡ choice }
+        requires action { operation.action ≡ Action.Or bits }
+        requires asked { Asks self.now pass.old choice operation }
+        ensures { Makes self.now pass.old choice result pass.new }
+    {
+        self.table
+            .shared
+            .fetch_or::<Stepping<C>>(&mut pass.seat, self.place(operation.name), bits)
+    }
+
+    /// Sets bits in the word.
+    pub(crate) fn unite(
+        &self,
+        pass: &mut Pass,
+        choice: Choice,
+        operation: Operation,
+        bits: u64,
+    ) -> u64
+        requires action { operation.action ≡ Action.Or bits }
+        requires asked { Asks self.now pass.old choice operation }
+        ensures { Makes self.now pass.old choice result pass.new }
+    {
+        self.unite_as::<Brand>(pass, choice, operation, bits)
+    }
+
+    // `exchange`, where the proof has the choice from `C`.
+    fn exchange_as<C: Choosing>(
+        &self,
+        pass: &mut Pass,
+        choice: Choice,
+        operation: Operation,
+        expected: u64,
+        stored: u64,
+    ) -> u64
+        requires choice { C.choice ≡ choice }
+        requires action { operation.action ≡ Action.Exchange expected stored }
+        requires asked { Asks self.now pass.old choice operation }
+        ensures { Makes self.now pass.old choice result pass.new }
+    {
+        self.table.shared.compare_exchange::<Stepping<C>>(
+            &mut pass.seat,
+            self.place(operation.name),
+            expected,
+            stored,
+        )
+    }
+
+    /// Exchanges the word for another, where it is the expected one.
+    pub(crate) fn exchange(
+        &self,
+        pass: &mut Pass,
+        choice: Choice,
+        operation: Operation,
+        expected: u64,
+        stored: u64,
+    ) -> u64
+        requires action { operation.action ≡ Action.Exchange expected stored }
+        requires asked { Asks self.now pass.old choice operation }
+        ensures { Makes self.now pass.old choice result pass.new }
+    {
+        self.exchange_as::<Brand>(pass, choice, operation, expected, stored)
+    }
+}
+
+/// Makes the next event of a pass, whichever it is: this operation, with this choice.
+///
+/// The operation is the one that the table of events has for what the pass's seat knows and for the choice, as `kw_core`'s `operation`
+/// gives it; a guess at a row that the table does not have counts as `Go` there. A call that begins has a value below `VALUE_END`. The
+/// answer is what the operation tells the seat: the word that it found, and 0 for a store. Afterwards the pass has seen all events up
+/// to and with this one, which is the only new one of its own. Takes no memory, and is never refused.
+pub fn make(shared: &Shared, pass: &mut Pass, choice: Choice, operation: Operation) -> u64
+    requires { Asks shared.now pass.old choice operation }
+    ensures { Makes shared.now pass.old choice result pass.new }
+{
+    match operation.action {
+        Action::Load => shared.load(pass, choice, operation),
+        Action::Store(stored) => shared.store(pass, choice, operation, stored),
+        Action::Add(number) => shared.add(pass, choice, operation, number),
+        Action::Or(bits) => shared.unite(pass, choice, operation, bits),
+        Action::Exchange(expected, stored) => {
+            shared.exchange(pass, choice, operation, expected, stored)
+        }
+    }
+}

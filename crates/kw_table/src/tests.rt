@@ -1,0 +1,122 @@
+//! Passes that make whole calls, one event after the other, and meet.
+//!
+//! A test here follows each seat with a local of its own, so that the events are those that the core names.
+ghost use Rattle.std.specs.Prelude.{◌≡◌, true, IfOk};
+ghost use Rattle.kw_world.specs.Local.{resting};
+ghost use Rattle.kw_core.specs.Events.{is_call_in_range};
+ghost use Rattle.kw_table.specs.Passes.{view, IsPassOf};
+ghost use Rattle.kw_table.specs.Views.{local_in};
+
+use super::*;
+use kw_model::call::{Call, Reply};
+use kw_model::memory::Memory;
+use kw_model::pair_list::PairList;
+use kw_world::event::{Choice, StepDone};
+use kw_world::local::Local;
+use std::alloc::Global;
+use std::test::Fail;
+
+// More events than any call of these tests makes.
+const ALL: u32 = 1000;
+
+// Begins the first call of a pass, which is one event. Gives what its seat knows.
+fn begin(alloc: Global, shared: &Shared, pass: &mut Pass, call: Call) -> Result<Local, Memory>
+    requires table { IsPassOf shared.now pass.old }
+    requires idle { local_in (view pass.old) ≡ resting 0 }
+    requires range { is_call_in_range call ≡ true }
+    ensures table { IfOk result (λ _. IsPassOf shared.now pass.new) }
+    ensures knows { IfOk result (λ local. local ≡ local_in (view pass.new)) }
+{
+    let mut local = Local::idle(alloc);
+    advance(shared, pass, &mut local, Choice::Begin(call))?;
+    Ok(local)
+}
+
+// Makes the next events of a call, at most this many. Gives the reply, if the call has ended.
+fn play(
+    shared: &Shared,
+    pass: &mut Pass,
+    local: &mut Local,
+    most: u32,
+) -> Result<Option<Reply>, Memory>
+    requires table { IsPassOf shared.now pass.old }
+    requires knows { local.old ≡ local_in (view pass.old) }
+    ensures table { IfOk result (λ _. IsPassOf shared.now pass.new) }
+    ensures knows { IfOk result (λ _. local.new ≡ local_in (view pass.new)) }
+{
+    for _ in 0..most {
+        if local.activity.skips(Choice::Go) {
+            return Ok(None);
+        }
+        if let StepDone::Ended(reply) = advance(shared, pass, local, Choice::Go)? {
+            return Ok(Some(reply));
+        }
+    }
+    Ok(None)
+}
+
+// The replies of a put, and of a call of another pass that comes after the put's first event and this many more.
+fn within_a_put(
+    alloc: Global,
+    more: u32,
+    call: Call,
+) -> Result<(Option<Reply>, Option<Reply>), Memory>
+    requires { is_call_in_range call ≡ true }
+{
+    let (shared, mut passes) = Shared::open(alloc, 64, 2, 1, 1)?;
+    let (Some(mut reader), Some(mut putter)) = (passes.pop(), passes.pop()) else {
+        return Ok((None, None));
+    };
+    let mut read = begin(alloc, &shared, &mut reader, call)?;
+    let mut put = begin(alloc, &shared, &mut putter, Call::Put(5, 50))?;
+    play(&shared, &mut putter, &mut put, more)?;
+    let found = play(&shared, &mut reader, &mut read, ALL)?;
+    let done = play(&shared, &mut putter, &mut put, ALL)?;
+    meet(&shared, &mut putter, &mut reader);
+    Ok((done, found))
+}
+
+// A put makes 14 events. The ninth announces its cell.
+#[test]
+fn a_get_finds_the_value_from_the_announcement_on(rt: HostRuntime) -> Result<(), Fail> {
+    for more in 0..13 {
+        let (done, found) = within_a_put(rt.alloc(), more, Call::Get(5))?;
+        let value = if more < 8 {
+            Reply::Absent
+        } else {
+            Reply::Value(50)
+        };
+        assert_eq!(rt; done, Some(Reply::Done));
+        assert_eq!(rt; found, Some(value));
+    }
+    Ok(())
+}
+
+// The eleventh stamps it, with the clock that the tenth loaded.
+#[test]
+fn a_scan_finds_the_pair_that_was_stamped_before_it_drew(rt: HostRuntime) -> Result<(), Fail> {
+    for more in 0..13 {
+        let (done, found) = within_a_put(rt.alloc(), more, Call::Scan(0, 200))?;
+        let mut pairs = PairList::new(rt.alloc());
+        if more >= 10 {
+            pairs.push(5, 50)?;
+        }
+        assert_eq!(rt; done, Some(Reply::Done));
+        assert_eq!(rt; found, Some(Reply::Pairs(pairs)));
+    }
+    Ok(())
+}
+
+#[test]
+fn passes_are_numbered_and_gather(rt: HostRuntime) -> Result<(), Fail> {
+    let (shared, mut passes) = Shared::open(rt.alloc(), 64, 8, 1, 1)?;
+    assert_eq!(rt; shared.rows(), 64);
+    let mut number = 0;
+    for pass in &passes {
+        assert_eq!(rt; pass.number(), number);
+        number += 1;
+    }
+    assert_eq!(rt; number, 8);
+    gather_all(&shared, passes.as_mut_slice());
+    Ok(())
+}

@@ -1,0 +1,11 @@
+pub mod Places
+pub mod Inequalities
+pub mod Bits
+pub mod Refusals
+pub mod PendWords
+pub mod StateWords
+pub mod LinkWords
+pub mod CountWords
+pub mod ScanWords
+pub mod PlainWords
+pub mod KindNames

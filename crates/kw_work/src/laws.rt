@@ -1,0 +1,38 @@
+//! What follows of dealing and collecting.
+//!
+//! Nothing runs here: the functions' clauses are the statements. Whoever runs the workers needs them to speak of an
+//! input's lines where the contracts of `deal`, `part` and `collect` speak of blocks and parts.
+ghost use Rattle.std.specs.Prelude.{ℕ, ◌≡◌, ◌<◌, List, [], length, map, All, IsPermutation, Vec};
+ghost use Rattle.std.specs.List.{flat_map};
+ghost use Rattle.std.specs.declared.alloc.Global.{Global};
+ghost use Rattle.kw_line.specs.declared.item.Item.{Item};
+ghost use Rattle.kw_line.specs.Line.{calls, forms};
+ghost use Rattle.kw_line.specs.Quiet.{blocks, quiet};
+ghost use Rattle.kw_work.specs.declared.line.Line.{Line};
+ghost use Rattle.kw_work.specs.declared.line.Answered.{Answered};
+ghost use Rattle.kw_work.specs.Dealing.{blocks_of, lines_of, part};
+ghost use Rattle.kw_work.specs.Collecting.{answers_of, merge, no_answer, AnswersEach};
+ghost use Rattle.kw_work.specs.Lines.{all_parts, quiet_lines, IsItemOf, AreRising};
+
+/// The lines are the items that make calls, in order. The blocks, one after another, are the lines, cut where the waits
+/// stand, and a line is as quiet as its item. The lines of a worker in a block rise. Each line of a block is dealt to one
+/// worker, and once.
+pub fn dealing_laws()
+    ensures items { (n : ℕ) (items : List Item) → All (IsItemOf n items) (lines_of n items) }
+    ensures calls { (n : ℕ) (items : List Item) → map (λ l. l.call) (lines_of n items) ≡ calls items }
+    ensures forms { (n : ℕ) (items : List Item) → map (λ l. l.form) (lines_of n items) ≡ forms items }
+    ensures blocks { (n : ℕ) (items : List Item) → flat_map (λ block. block) (blocks_of n items) ≡ lines_of n items }
+    ensures cut { (n : ℕ) (items : List Item) → map (λ block. map (λ l. l.form) block) (blocks_of n items) ≡ map forms (blocks items) }
+    ensures quiet { (n : ℕ) (items : List Item) → flat_map quiet_lines (blocks_of n items) ≡ quiet items }
+    ensures rising { (n workers worker : ℕ) (items : List Item) → All (λ block. AreRising (part workers worker block)) (blocks_of n items) }
+    ensures once { (workers : ℕ) (lines : List Line) → 0 < workers → IsPermutation lines (all_parts workers lines) }
+{}
+
+/// Answers that are collected stand in the order of their lines, and what is dealt and then collected is as it was before.
+/// One worker has all lines of a block, and what it answers is what is collected.
+pub fn collecting_laws()
+    ensures order { (workers : ℕ) (lines : List Line) (parts : List (Vec Answered Global)) → 0 < workers → AnswersEach workers lines parts → map (λ a. a.line) (merge workers (answers_of parts) no_answer [] lines) ≡ map (λ l. l.number) lines }
+    ensures back { (workers : ℕ) (lines : List Line) (none : Line) → 0 < workers → merge workers (λ worker. part workers worker lines) none [] lines ≡ lines }
+    ensures one_part { (lines : List Line) → part 1 0 lines ≡ lines }
+    ensures one { (lines : List Line) (given : ℕ → List Answered) → length (given 0) ≡ length lines → merge 1 given no_answer [] lines ≡ given 0 }
+{}

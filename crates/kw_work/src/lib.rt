@@ -1,0 +1,16 @@
+//! Lines dealt to workers, and their answers collected.
+//!
+//! An input's items are cut into blocks at the waits, the lines of a block are dealt to workers, and what the workers
+//! answer is put back into line order. `line` has a line and its answer, and the rule which worker takes it; `deal` cuts,
+//! `block` has a block and each worker's part of it, and `collect` puts answers together. What each of them gives stands
+//! in `specs/Dealing.antt` and `specs/Collecting.antt`, and `laws` says what follows: that each line is dealt once, and
+//! that the answers stand in line order. Nothing here runs a worker; whoever does relies on these clauses alone.
+#![tactic(auto)]
+
+pub mod block;
+pub mod collect;
+pub mod deal;
+pub mod laws;
+pub mod line;
+#[cfg(test)]
+mod tests;

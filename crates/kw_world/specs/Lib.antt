@@ -1,0 +1,17 @@
+pub mod Sizes
+pub mod Operation
+pub mod Marks
+pub mod Calls
+pub mod Local
+pub mod WorldView
+pub mod Lending
+pub mod Row
+pub mod RowPut
+pub mod RowRead
+pub mod RowScan
+pub mod RowWalk
+pub mod Table
+pub mod Parts
+pub mod Step
+pub mod Opening
+pub mod Sane

@@ -1,0 +1,42 @@
+-- What a seat knows when it begins, and what it forgets on its way.
+use Rattle.std.specs.Prelude.{ℕ, false, None, []}
+use Rattle.kw_world.specs.declared.local.Local.{Local}
+use Rattle.kw_world.specs.declared.activity.Activity.TheVariants.{Idle}
+
+-- an idle seat that has begun this many calls
+abbrev pub resting : ℕ → Local
+resting number = record {
+  activity = Idle;
+  call = None;
+  number = number;
+  epoch = 1;
+  want = 0;
+  row = 0;
+  lower = 0;
+  candidate = 0;
+  next = None;
+  upper = 0;
+  waiting = 1;
+  drawn = 1;
+  version = 1;
+  has_read = false;
+  pairs = [];
+  looked = 0;
+  met = 0;
+  helping = 1;
+  remembered = [];
+  count = 0;
+  place = 0;
+  place_version = 1;
+  place_key = 0;
+  gathered = [];
+  cell = 0;
+}
+
+-- no row is known any more
+abbrev pub without_rows : Local → Local
+without_rows l = record l { row = 0; lower = 0; candidate = 0; next = None; upper = 0 }
+
+-- nothing of a row is remembered or gathered
+abbrev pub before_row : Local → Local
+before_row l = record l { remembered = []; gathered = [] }

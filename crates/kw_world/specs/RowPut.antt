@@ -1,0 +1,32 @@
+-- What follows from the events of a put or a delete at its row.
+use Rattle.std.specs.Prelude.{ℕ, Bool, false, nat_lt, ◌==◌, if◌then◌else◌, Option, Some, None}
+use Rattle.kw_words.specs.declared.pend.Pend.{Pend}
+use Rattle.kw_words.specs.declared.pend.Pend.TheVariants.{Idle, Pending, Stamped, Frozen}
+use Rattle.kw_words.specs.declared.count.Count.{Count}
+use Rattle.kw_model.specs.declared.call.Reply.TheVariants.{NoRows}
+use Rattle.kw_world.specs.declared.activity.Activity.TheVariants.{PutVersion}
+use Rattle.kw_world.specs.declared.local.Local.{Local}
+use Rattle.kw_world.specs.Sizes.{Sizes}
+use Rattle.kw_world.specs.Row.{Outcome, to, leave}
+
+-- Full has no event: as long as no row is rebalanced, the put is refused
+abbrev pub full : Local → Outcome
+full l = leave NoRows l
+
+-- how many cells were given; a word that is no count has given none
+abbrev pub given_of : Option Count → ℕ
+given_of (Some count) = count.given
+given_of None = 0
+
+-- the row gives one more cell: it is not frozen, and has given fewer than it has
+abbrev pub has_room : Sizes → Option Count → Bool
+has_room z (Some count) = if count.frozen then false else nat_lt count.given z.cells
+has_room z None = false
+
+-- Stamp: the exchange was made, or the put's own cell was found stamped; else the row is full
+abbrev pub stamp_met : Option Pend → Local → Outcome
+stamp_met (Some Idle) l = full l
+stamp_met (Some (Pending cell)) l = if cell == l.cell then to PutVersion l else full l
+stamp_met (Some (Stamped cell version)) l = if cell == l.cell then to PutVersion (record l { version = version }) else full l
+stamp_met (Some Frozen) l = full l
+stamp_met None l = full l

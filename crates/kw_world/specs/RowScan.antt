@@ -1,0 +1,59 @@
+-- What follows from the events by which a call begins, and a scan gets its version.
+use Rattle.std.specs.Prelude.{ℕ, ◌+◌, nat_le, if◌then◌else◌, Option, Some, None, []}
+use Rattle.kw_words.specs.declared.scan.ScanWord.{ScanWord}
+use Rattle.kw_words.specs.declared.scan.ScanWord.TheVariants.{Quiet, Waiting, Drawn}
+use Rattle.kw_words.specs.declared.sizes.TheConstants.{SPENT}
+use Rattle.kw_model.specs.declared.call.Call.{Call}
+use Rattle.kw_model.specs.declared.call.Call.TheVariants.{Put, Del, Get, Scan}
+use Rattle.kw_model.specs.declared.call.Reply.{Reply}
+use Rattle.kw_model.specs.declared.call.Reply.TheVariants.{Pairs, Spent, Stopped}
+use Rattle.kw_world.specs.declared.activity.Activity.TheVariants.{Enter, ScanClock, ScanWait, Start, ClearScan}
+use Rattle.kw_world.specs.declared.local.Local.{Local}
+use Rattle.kw_world.specs.declared.event.Choice.{Choice}
+use Rattle.kw_world.specs.declared.event.Choice.TheVariants.{Begin, Go, Guess, Stop}
+use Rattle.kw_world.specs.declared.event.StepDone.TheVariants.{Skipped}
+use Rattle.kw_world.specs.Calls.{first_key, is_range_empty}
+use Rattle.kw_world.specs.Row.{Outcome, outcome, to, leave}
+
+-- Idle: the call is begun, and counted. An event with another choice is skipped, and never comes to this line
+abbrev pub begun : Choice → ℕ → Local → Outcome
+begun (Begin call) epoch l = to Enter (record l { call = Some call; number = l.number + 1; epoch = epoch })
+begun Go epoch l = outcome l Skipped
+begun (Guess r) epoch l = outcome l Skipped
+begun Stop epoch l = outcome l Skipped
+
+-- Start, with the key that is wanted first
+abbrev pub to_start : Local → Outcome
+to_start l = to Start (record l { want = first_key l.call })
+
+-- Enter: a scan gets its version first
+abbrev pub entered : Option Call → Local → Outcome
+entered (Some (Put key value)) l = to_start l
+entered (Some (Del key)) l = to_start l
+entered (Some (Get key)) l = to_start l
+entered (Some (Scan from upto)) l = to ScanClock l
+entered None l = to_start l
+
+-- ScanClock: from a certain clock on no scan begins
+abbrev pub clock_met : ℕ → Local → Outcome
+clock_met clock l = if nat_le SPENT clock then leave Spent l else to ScanWait (record l { waiting = clock })
+
+-- ScanSettle: the version that was set for the scan, else its own
+abbrev pub version_settled : Option ScanWord → ℕ → ℕ
+version_settled (Some Quiet) drawn = drawn
+version_settled (Some (Waiting clock)) drawn = drawn
+version_settled (Some (Drawn version)) drawn = version
+version_settled None drawn = drawn
+
+-- ScanSettle: a scan of no keys is over, and every other one begins its walk
+abbrev pub settled : ℕ → Local → Outcome
+settled version l =
+    if is_range_empty l.call then to (ClearScan (Pairs [])) (record l { version = version })
+    else to_start (record l { version = version })
+
+-- ClearScan(x): the reply, unless the scan is stopped here
+abbrev pub reply_or_stopped : Reply → Choice → Reply
+reply_or_stopped reply (Begin call) = reply
+reply_or_stopped reply Go = reply
+reply_or_stopped reply (Guess r) = reply
+reply_or_stopped reply Stop = Stopped

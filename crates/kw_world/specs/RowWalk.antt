@@ -1,0 +1,88 @@
+-- What follows from the events of a walk, and the lines that a choice decides.
+use Rattle.std.specs.Prelude.{ℕ, Bool, true, false, ◌&&◌, nat_le, nat_lt, if◌then◌else◌, Option, Some, None}
+use Rattle.kw_words.specs.declared.layout.Name.TheVariants as name
+use Rattle.kw_words.specs.declared.kind.Kind.TheVariants as kind
+use Rattle.kw_words.specs.declared.state.State.{State}
+use Rattle.kw_words.specs.declared.state.State.TheVariants.{Free, Infant, Normal, Leader, Follower, Retired}
+use Rattle.kw_words.specs.declared.scan.ScanWord.TheVariants.{Quiet}
+use Rattle.kw_words.specs.Link.{link_of}
+use Rattle.kw_words.specs.State.{state_of}
+use Rattle.kw_words.specs.Scan.{scan_word}
+use Rattle.kw_model.specs.declared.call.Call.{Call}
+use Rattle.kw_model.specs.declared.call.Call.TheVariants.{Put, Del, Get, Scan}
+use Rattle.kw_model.specs.declared.call.Reply.TheVariants.{Stopped}
+use Rattle.kw_world.specs.declared.activity.Activity.TheVariants.{Head, GuessMin, Walk, WalkMin, Look, PutCount}
+use Rattle.kw_world.specs.declared.local.Local.{Local}
+use Rattle.kw_world.specs.declared.event.Choice.{Choice}
+use Rattle.kw_world.specs.declared.event.Choice.TheVariants.{Begin, Go, Guess, Stop}
+use Rattle.kw_world.specs.declared.operation.Action.TheVariants.{Load, Store}
+use Rattle.kw_world.specs.Calls.{is_scan}
+use Rattle.kw_world.specs.Local.{before_row}
+use Rattle.kw_world.specs.Row.{Row, Outcome, at, to, leave, row_linked, row_or_first}
+
+-- a guess at a row that the table does not have is not offered
+abbrev pub offered : ℕ → Choice → Choice
+offered rows (Begin call) = Begin call
+offered rows Go = Go
+offered rows (Guess r) = if nat_lt r rows then Guess r else Go
+offered rows Stop = Stop
+
+-- Head, and Start without a guess: the walk begins at the first row, whose minimum is 0
+abbrev pub head_row : Local → Row
+head_row l = at kind.LoadHead name.Head Load (λ w. to Walk (record l { row = row_or_first (row_linked (link_of w)); lower = 0 }))
+
+-- Start with a guess: a row in the normal state is taken, and every other one sends the walk to the first row
+abbrev pub guess_met : ℕ → Option State → Local → Outcome
+guess_met r (Some Free) l = to Head l
+guess_met r (Some (Infant seat)) l = to Head l
+guess_met r (Some Normal) l = to GuessMin (record l { row = r })
+guess_met r (Some (Leader count)) l = to Head l
+guess_met r (Some (Follower leader)) l = to Head l
+guess_met r (Some (Retired number)) l = to Head l
+guess_met r None l = to Head l
+
+-- Start
+abbrev pub start_row : Choice → Local → Row
+start_row (Begin call) l = head_row l
+start_row Go l = head_row l
+start_row (Guess r) l = at kind.LoadState (name.State r) Load (λ w. guess_met r (state_of w) l)
+start_row Stop l = head_row l
+
+-- GuessMin: the guessed row serves if the wanted key is not below its minimum
+abbrev pub guess_min : ℕ → Local → Outcome
+guess_min least l = if nat_le least l.want then to Walk (record l { lower = least }) else to Head l
+
+-- Arrive has no event: the walk has found the row of the wanted key
+abbrev pub arrive : Option Call → Local → Outcome
+arrive (Some (Put key value)) l = to PutCount l
+arrive (Some (Del key)) l = to PutCount l
+arrive (Some (Get key)) l = to (Look 0) (before_row l)
+arrive (Some (Scan from upto)) l = to (Look 0) (before_row l)
+arrive None l = to (Look 0) (before_row l)
+
+-- Walk: the last row has no next one; else the minimum of the next one decides
+abbrev pub link_met : Option ℕ → Local → Outcome
+link_met None l = arrive l.call (record l { next = None; upper = 0 })
+link_met (Some r) l = to WalkMin (record l { candidate = r })
+
+-- WalkMin: the walk goes on to a row whose minimum is at most the wanted key, and else ends before it
+abbrev pub walk_min : ℕ → Local → Outcome
+walk_min least l =
+    if nat_le least l.want then to Walk (record l { row = l.candidate; lower = least })
+    else arrive l.call (record l { next = Some l.candidate; upper = least })
+
+-- the choice is to stop
+abbrev pub is_stop : Choice → Bool
+is_stop (Begin call) = false
+is_stop Go = false
+is_stop (Guess r) = false
+is_stop Stop = true
+
+-- a walk is stopped where the choice is to stop and the call is a scan that has read a row
+abbrev pub is_stopped : Choice → Local → Bool
+is_stopped choice l = is_stop choice && (is_scan l.call && l.has_read)
+
+-- Walk; the first test is whether it is stopped
+abbrev pub walk_row : Bool → ℕ → Local → Row
+walk_row true s l = at kind.ClearScan (name.Scan s) (Store (scan_word Quiet)) (λ _. leave Stopped l)
+walk_row false s l = at kind.LoadLink (name.Next l.row) Load (λ w. link_met (row_linked (link_of w)) l)

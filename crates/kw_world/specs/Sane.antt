@@ -1,0 +1,277 @@
+-- Sane worlds: all that a world holds is in range, so that every event of it is safe.
+use Rattle.std.specs.Prelude.{ℕ, suc, ◌≡◌, ◌⊎◌, ◌+◌, ◌<◌, ◌≤◌, true, false, Option, Some, None, List, [], ◌∷◌, length, All, slice_get}
+use Rattle.kw_words.specs.declared.layout.Name.{Name}
+use Rattle.kw_words.specs.declared.layout.Name.TheVariants as name
+use Rattle.kw_words.specs.declared.pend.Pend.{Pend}
+use Rattle.kw_words.specs.declared.pend.Pend.TheVariants as pend
+use Rattle.kw_words.specs.declared.state.State.{State}
+use Rattle.kw_words.specs.declared.state.State.TheVariants.{Free, Infant, Normal, Leader, Follower, Retired}
+use Rattle.kw_words.specs.declared.count.Count as count
+use Rattle.kw_words.specs.declared.link.Link.{Link}
+use Rattle.kw_words.specs.declared.sizes.TheConstants.{KEY_END, VALUE_END, VERSION_END, NUMBER_END}
+use Rattle.kw_words.specs.Layout.{IsSized, IsWithin, words_of}
+use Rattle.kw_words.specs.Pend.{pend_of}
+use Rattle.kw_words.specs.State.{state_of}
+use Rattle.kw_words.specs.Count.{count_of}
+use Rattle.kw_words.specs.Link.{link_of}
+use Rattle.kw_words.specs.Scan.{scan_of}
+use Rattle.kw_words.specs.Plain.{IsValue}
+use Rattle.kw_cells.specs.declared.cell.Cell as kw_cell
+use Rattle.kw_model.specs.declared.call.Call.{Call}
+use Rattle.kw_model.specs.declared.call.Call.TheVariants.{Put, Del, Get, Scan}
+use Rattle.kw_model.specs.declared.call.Reply.{Reply}
+use Rattle.kw_model.specs.declared.call.Reply.TheVariants.{Value, Pairs}
+use Rattle.kw_world.specs.declared.activity.Activity.{Activity}
+use Rattle.kw_world.specs.declared.activity.Activity.TheVariants.{Look, LookKey, LookClock, LookHelp, LookCount, Cell, CellKey, CellValue, ClearScan, Leave}
+use Rattle.kw_world.specs.declared.local.Local.{Local}
+use Rattle.kw_world.specs.declared.marks.Mark.{Mark}
+use Rattle.kw_world.specs.declared.event.Event.{Event}
+use Rattle.kw_world.specs.declared.event.Choice.{Choice}
+use Rattle.kw_world.specs.declared.event.Choice.TheVariants.{Begin, Go, Guess, Stop}
+use Rattle.kw_world.specs.declared.operation.Action.{Action}
+use Rattle.kw_world.specs.declared.operation.Action.TheVariants.{Load, Store, Add, Or, Exchange}
+use Rattle.kw_world.specs.declared.limits.TheConstants.{GIVEN_END, MOST_CALLS}
+use Rattle.kw_world.specs.Sizes.{Sizes}
+use Rattle.kw_world.specs.WorldView.{WorldView}
+use Rattle.kw_world.specs.Parts.{is_rows_part}
+use Rattle.kw_world.specs.Step.{word}
+
+-- The words.
+
+-- a version or a clock
+abbrev pub IsVersion : ℕ → Type 0
+IsVersion n = (1 ≤ n) × (n < VERSION_END)
+
+-- an epoch or the number of a retired row
+abbrev pub IsNumber : ℕ → Type 0
+IsNumber n = (1 ≤ n) × (n < NUMBER_END)
+
+-- the entry is one that a word may stand for, and its cell is one of the row's
+abbrev pub IsEntry : Sizes → Option Pend → Type 0
+IsEntry z (Some pend.Idle) = Unit {0}
+IsEntry z (Some (pend.Pending cell)) = cell < z.cells
+IsEntry z (Some (pend.Stamped cell version)) = (cell < z.cells) × IsVersion version
+IsEntry z (Some pend.Frozen) = Unit {0}
+IsEntry z None = ⊥
+
+-- the state is one that a word may stand for, and its seat is one of the seats
+abbrev pub IsRowState : Sizes → Option State → Type 0
+IsRowState z (Some Free) = Unit {0}
+IsRowState z (Some (Infant seat)) = seat < z.seats
+IsRowState z (Some Normal) = Unit {0}
+IsRowState z (Some (Leader count)) = Unit {0}
+IsRowState z (Some (Follower leader)) = Unit {0}
+IsRowState z (Some (Retired number)) = IsNumber number
+IsRowState z None = ⊥
+
+-- the count is one that a word may stand for, and stays far from its end
+abbrev pub IsGiven : Option count.Count → Type 0
+IsGiven (Some count) = count.given < GIVEN_END
+IsGiven None = ⊥
+
+-- the word stands for something
+abbrev pub IsKnownWord : {A : Type 0} → Option A → Type 0
+IsKnownWord (Some x) = Unit {0}
+IsKnownWord None = ⊥
+
+-- 0, or a number beside the mark of a value
+abbrev pub IsValueWord : ℕ → Type 0
+IsValueWord w = (w ≡ 0) ⊎ (VALUE_END ≤ w) × (w < VALUE_END + VALUE_END)
+
+-- the word is one that may stand under this name; rows aside
+abbrev pub IsWord : Sizes → Name → ℕ → Type 0
+IsWord z name.Clock w = IsVersion w
+IsWord z name.Epoch w = IsNumber w
+IsWord z name.Head w = IsKnownWord (link_of w)
+IsWord z name.Turn w = w ≤ z.seats
+IsWord z (name.Pass seat) w = w < NUMBER_END
+IsWord z (name.Scan seat) w = IsKnownWord (scan_of w)
+IsWord z (name.Pin seat) w = w < VERSION_END
+IsWord z (name.State r) w = IsRowState z (state_of w)
+IsWord z (name.Count r) w = IsGiven (count_of w)
+IsWord z (name.Min r) w = w < KEY_END
+IsWord z (name.Next r) w = IsKnownWord (link_of w)
+IsWord z (name.First r) w = w ≤ z.cells
+IsWord z (name.Pend r seat) w = IsEntry z (pend_of w)
+IsWord z (name.Key r cell) w = w < KEY_END
+IsWord z (name.Value r cell) w = IsValueWord w
+IsWord z (name.Version r cell) w = w < VERSION_END
+IsWord z (name.After r cell) w = w ≤ z.cells
+
+-- the row, if there is one, is one of the table's
+abbrev pub IsRowBelow : ℕ → Option ℕ → Type 0
+IsRowBelow rows (Some r) = r < rows
+IsRowBelow rows None = Unit {0}
+
+-- the link, if it is one, leads to a row of the table or ends the list
+abbrev pub IsLinkBelow : ℕ → Option Link → Type 0
+IsLinkBelow rows (Some link) = IsRowBelow rows link.row
+IsLinkBelow rows None = Unit {0}
+
+-- the link leads to a row of the table, and is not marked
+abbrev pub IsHead : ℕ → Option Link → Type 0
+IsHead rows (Some link) = ((r : ℕ) × (link.row ≡ Some r) × (r < rows)) × (link.marked ≡ false)
+IsHead rows None = ⊥
+
+-- the state, if it is that of a follower, names a row of the table
+abbrev pub IsStateBelow : ℕ → Option State → Type 0
+IsStateBelow rows (Some Free) = Unit {0}
+IsStateBelow rows (Some (Infant seat)) = Unit {0}
+IsStateBelow rows (Some Normal) = Unit {0}
+IsStateBelow rows (Some (Leader count)) = Unit {0}
+IsStateBelow rows (Some (Follower leader)) = leader < rows
+IsStateBelow rows (Some (Retired number)) = Unit {0}
+IsStateBelow rows None = Unit {0}
+
+-- the rows that the word under this name names are those of the table
+abbrev pub IsLed : ℕ → Name → ℕ → Type 0
+IsLed rows name.Head w = IsHead rows (link_of w)
+IsLed rows (name.State r) w = IsStateBelow rows (state_of w)
+IsLed rows (name.Next r) w = IsLinkBelow rows (link_of w)
+IsLed rows _ w = Unit {0}
+
+-- What a seat knows.
+
+-- the numbers of a call are in range
+abbrev pub IsCall : Option Call → Type 0
+IsCall (Some (Put key value)) = (key < KEY_END) × (value < VALUE_END)
+IsCall (Some (Del key)) = key < KEY_END
+IsCall (Some (Get key)) = key < KEY_END
+IsCall (Some (Scan from upto)) = (from < KEY_END) × (upto < KEY_END)
+IsCall None = Unit {0}
+
+-- a pair of a key and a value in range
+abbrev pub IsPair : ℕ × ℕ → Type 0
+IsPair p = (p.0 < KEY_END) × (p.1 < VALUE_END)
+
+-- the values of a reply are in range
+abbrev pub IsReply : Reply → Type 0
+IsReply (Value value) = value < VALUE_END
+IsReply (Pairs pairs) = All IsPair pairs
+IsReply _ = Unit {0}
+
+-- the seat, the cell or the values that an activity names are in range
+abbrev pub IsActivity : Sizes → Activity → Type 0
+IsActivity z (Look i) = i < z.seats
+IsActivity z (Cell j) = j < z.cells
+IsActivity z (ClearScan reply) = IsReply reply
+IsActivity z (Leave reply) = IsReply reply
+IsActivity z _ = Unit {0}
+
+-- a remembered cell and its version are in range
+abbrev pub IsMark : Sizes → Mark → Type 0
+IsMark z m = (m.cell < z.cells) × IsVersion m.version
+
+-- a gathered cell's key, version and value are in range
+abbrev pub IsCopy : kw_cell.Cell → Type 0
+IsCopy c = (c.key < KEY_END) × IsVersion c.version × IsValue c.value
+
+-- all that a seat knows is in range; rows aside
+pub record IsLocal (z : Sizes) (l : Local) : Type 0 where
+  pub activity : IsActivity z l.activity
+  pub call : IsCall l.call
+  pub epoch : IsNumber l.epoch
+  pub want : l.want < KEY_END
+  pub lower : l.lower < KEY_END
+  pub upper : l.upper < KEY_END
+  pub waiting : IsVersion l.waiting
+  pub drawn : IsVersion l.drawn
+  pub version : IsVersion l.version
+  pub pairs : All IsPair l.pairs
+  pub looked : l.looked < z.seats
+  pub met : l.met < z.cells
+  pub helping : IsVersion l.helping
+  pub marks : All (IsMark z) l.remembered
+  pub count : l.count ≤ z.cells
+  pub place : l.place < z.cells
+  pub place_version : IsVersion l.place_version
+  pub place_key : l.place_key < KEY_END
+  pub copies : All IsCopy l.gathered
+  pub cell : l.cell < z.cells
+
+-- the rows that a seat knows are those of the table
+pub record IsLocalBelow (rows : ℕ) (l : Local) : Type 0 where
+  pub row : l.row < rows
+  pub candidate : l.candidate < rows
+  pub next : IsRowBelow rows l.next
+
+-- the places of the cells rise strictly, from the first number on and below the second
+abbrev pub RisesBetween : ℕ → ℕ → List kw_cell.Cell → Type 0
+RisesBetween low high [] = low ≤ high
+RisesBetween low high (c ∷ cs) = (low ≤ c.place) × RisesBetween (suc c.place) high cs
+
+-- as many cells may be remembered where a seat does this: one for each entry that it has looked at
+abbrev pub marks_by : Sizes → Activity → Local → ℕ
+marks_by z (Look i) l = i
+marks_by z LookKey l = l.looked
+marks_by z LookClock l = l.looked
+marks_by z LookHelp l = l.looked
+marks_by z _ l = z.seats
+
+-- below this place lie the cells that are gathered where a seat does this: those that it has read
+abbrev pub copies_by : Sizes → Activity → Local → ℕ
+copies_by z (Look i) l = 0
+copies_by z LookKey l = 0
+copies_by z LookClock l = 0
+copies_by z LookHelp l = 0
+copies_by z LookCount l = 0
+copies_by z (Cell j) l = j
+copies_by z CellKey l = l.place
+copies_by z CellValue l = l.place
+copies_by z _ l = z.cells
+
+-- a seat's lists have room for what its next event adds, and no two of its cells are one
+pub record HasRoom (z : Sizes) (l : Local) : Type 0 where
+  pub remembered : length l.remembered ≤ marks_by z l.activity l
+  pub gathered : RisesBetween 0 (copies_by z l.activity l) l.gathered
+
+-- all that a seat knows is in range
+pub record IsKnown (z : Sizes) (rows : ℕ) (l : Local) : Type 0 where
+  pub ranges : IsLocal z l
+  pub below : IsLocalBelow rows l
+  pub room : HasRoom z l
+
+-- Worlds and events.
+
+-- all that a world holds is in range
+pub record IsSane (z : Sizes) (w : WorldView) : Type 0 where
+  pub sized : IsSized z.seats z.cells w.rows
+  pub words : length w.words ≡ words_of z.seats z.cells w.rows
+  pub seats : length w.locals ≤ z.seats
+  pub each : (n : Name) → IsWithin z.seats z.cells w.rows n → IsWord z n (word z w n)
+  pub led : (n : Name) → IsWithin z.seats z.cells w.rows n → IsLed w.rows n (word z w n)
+  pub locals : (s : ℕ) (l : Local) → slice_get w.locals s ≡ Some l → IsKnown z w.rows l
+
+-- a call that begins has numbers in range, and the seat can count it
+abbrev pub CanBegin : Choice → Local → Type 0
+CanBegin (Begin call) l = IsCall (Some call) × (l.number < MOST_CALLS)
+CanBegin Go l = Unit {0}
+CanBegin (Guess r) l = Unit {0}
+CanBegin Stop l = Unit {0}
+
+-- the event may come, as far as it begins a call
+abbrev pub CanStep : WorldView → Event → Type 0
+CanStep w e = (l : Local) → slice_get w.locals e.seat ≡ Some l → CanBegin e.choice l
+
+-- the event is one of walking along the rows
+abbrev pub IsRowsPart : WorldView → Event → Type 0
+IsRowsPart w e = (l : Local) → slice_get w.locals e.seat ≡ Some l → is_rows_part e.choice l ≡ true
+
+-- the event is any other one
+abbrev pub IsPutPart : WorldView → Event → Type 0
+IsPutPart w e = (l : Local) → slice_get w.locals e.seat ≡ Some l → is_rows_part e.choice l ≡ false
+
+-- a guess is at a row of the table
+abbrev pub IsOffered : ℕ → Choice → Type 0
+IsOffered rows (Begin call) = Unit {0}
+IsOffered rows Go = Unit {0}
+IsOffered rows (Guess r) = r < rows
+IsOffered rows Stop = Unit {0}
+
+-- the action is a store
+abbrev pub IsStore : Action → Type 0
+IsStore Load = ⊥
+IsStore (Store x) = Unit {0}
+IsStore (Add x) = ⊥
+IsStore (Or x) = ⊥
+IsStore (Exchange x y) = ⊥

@@ -1,0 +1,146 @@
+//! What a seat does next.
+//!
+//! There is one variant for each line of the table of events, and none for what is passed through without an event. A
+//! variant's field is what the line's own text names in brackets; all else that a seat keeps stands in `local`. The table
+//! goes by these variants, so a new one is a new line there.
+ghost use Rattle.std.specs.Prelude.{◌≡◌};
+ghost use Rattle.kw_world.specs.Step.{is_skipped};
+ghost use Rattle.kw_world.specs.Parts.{is_walking};
+
+use crate::event::Choice;
+use kw_model::call::Reply;
+use std::alloc::AllocError;
+
+/// What a seat does next: one event for each of these.
+#[derive(Debug, Drop)]
+pub enum Activity {
+    /// Begins a call, if the seat chooses one: loads the epoch.
+    Idle,
+    /// Announces the epoch.
+    Enter,
+    /// Loads the clock for a scan.
+    ScanClock,
+    /// Stores that the scan waits with that clock.
+    ScanWait,
+    /// Draws a version for the scan.
+    ScanDraw,
+    /// Exchanges the waiting scan for one with a version.
+    ScanSettle,
+    /// Begins the walk to the row of the wanted key: loads the link to the first row, or the state of a guessed row.
+    Start,
+    /// Loads the link to the first row, after a guess that did not serve.
+    Head,
+    /// Loads the least key of the guessed row.
+    GuessMin,
+    /// Loads the link after the row.
+    Walk,
+    /// Loads the least key of the row after it.
+    WalkMin,
+    /// Loads the entry of this seat in the row, below the number of seats.
+    Look(u32),
+    /// Loads the key of the cell that was met pending.
+    LookKey,
+    /// Loads the clock, to help that cell's put.
+    LookClock,
+    /// Exchanges the pending entry for one with that version.
+    LookHelp,
+    /// Loads the count of the row, once all entries are looked at.
+    LookCount,
+    /// Loads the version of this cell of the row, below the number of cells.
+    Cell(u32),
+    /// Loads the key of the cell.
+    CellKey,
+    /// Loads the value of the cell.
+    CellValue,
+    /// Ends the scan with this reply: stores that the seat makes no scan.
+    ClearScan(Reply),
+    /// Loads the count of the row, for a put or a delete.
+    PutCount,
+    /// Adds one to the count, to get a cell.
+    PutAdd,
+    /// Stores the key in the cell.
+    PutKey,
+    /// Stores the value in the cell.
+    PutValue,
+    /// Exchanges the seat's idle entry for one with the cell.
+    Announce,
+    /// Loads the clock for the put.
+    PutClock,
+    /// Exchanges the pending entry for one with that version.
+    Stamp,
+    /// Stores the version in the cell.
+    PutVersion,
+    /// Stores that the seat's entry is idle.
+    PutClear,
+    /// Ends the call with this reply: stores that the seat announces no epoch.
+    Leave(Reply),
+}
+
+impl Clone for Activity {
+    ghost use Rattle.std.specs.Prelude.{◌≡◌};
+
+    ghost is_clone = { λ activity copy. copy ≡ activity };
+
+    // The pairs of a reply are copied into new memory; nothing else takes any.
+    fn clone(&self) -> Result<Activity, AllocError> {
+        Ok(match self {
+            Activity::Idle => Activity::Idle,
+            Activity::Enter => Activity::Enter,
+            Activity::ScanClock => Activity::ScanClock,
+            Activity::ScanWait => Activity::ScanWait,
+            Activity::ScanDraw => Activity::ScanDraw,
+            Activity::ScanSettle => Activity::ScanSettle,
+            Activity::Start => Activity::Start,
+            Activity::Head => Activity::Head,
+            Activity::GuessMin => Activity::GuessMin,
+            Activity::Walk => Activity::Walk,
+            Activity::WalkMin => Activity::WalkMin,
+            Activity::Look(seat) => Activity::Look(*seat),
+            Activity::LookKey => Activity::LookKey,
+            Activity::LookClock => Activity::LookClock,
+            Activity::LookHelp => Activity::LookHelp,
+            Activity::LookCount => Activity::LookCount,
+            Activity::Cell(cell) => Activity::Cell(*cell),
+            Activity::CellKey => Activity::CellKey,
+            Activity::CellValue => Activity::CellValue,
+            Activity::ClearScan(reply) => Activity::ClearScan(reply.clone()?),
+            Activity::PutCount => Activity::PutCount,
+            Activity::PutAdd => Activity::PutAdd,
+            Activity::PutKey => Activity::PutKey,
+            Activity::PutValue => Activity::PutValue,
+            Activity::Announce => Activity::Announce,
+            Activity::PutClock => Activity::PutClock,
+            Activity::Stamp => Activity::Stamp,
+            Activity::PutVersion => Activity::PutVersion,
+            Activity::PutClear => Activity::PutClear,
+            Activity::Leave(reply) => Activity::Leave(reply.clone()?),
+        })
+    }
+}
+
+impl Activity {
+    /// Whether an event with this choice is skipped here: the seat is idle, and begins nothing.
+    pub fn skips(&self, choice: Choice) -> bool
+        ensures { result ≡ is_skipped self.now choice }
+    {
+        match (self, choice) {
+            (Activity::Idle, Choice::Begin(_)) => false,
+            (Activity::Idle, _) => true,
+            _ => false,
+        }
+    }
+
+    /// Whether this is one of the activities of a walk along the rows.
+    pub fn is_walking(&self) -> bool
+        ensures { result ≡ is_walking self.now }
+    {
+        match self {
+            Activity::Start
+            | Activity::Head
+            | Activity::GuessMin
+            | Activity::Walk
+            | Activity::WalkMin => true,
+            _ => false,
+        }
+    }
+}

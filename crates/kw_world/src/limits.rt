@@ -1,0 +1,13 @@
+//! Numbers that bound what a world holds and that no encoding names.
+//!
+//! The sizes of the map and the limits of its words stand with the words; here are the limits that come from how events
+//! use them.
+
+/// A row's count stays below this. Each seat asks a full row for at most one more cell, so it never comes near.
+pub const GIVEN_END: u64 = 1 << 31;
+
+/// No seat begins more calls than this.
+pub const MOST_CALLS: u32 = u32::MAX;
+
+/// A version above every version that a cell can have: the best cell for it is the newest.
+pub const NEWEST: u64 = u64::MAX;

@@ -1,0 +1,94 @@
+#!/usr/bin/env python3
+"""Compares `./kiwi simulate` with another program on scripts.
+
+  tools/compare_simulate.py --with 'COMMAND' --scripts 'COMMAND {seed}'             500 scripts, of the seeds from 1 on
+  tools/compare_simulate.py --with 'COMMAND' --scripts 'COMMAND {seed}' 200 --seed 7
+  tools/compare_simulate.py --with 'COMMAND' --folder FOLDER                        each file of a folder is a script
+  tools/compare_simulate.py .. --without 'until [0-7] (KIND|KIND)'                  lines of scripts that are left out
+  tools/compare_simulate.py .. --drop-order                                         the other's last line is left out
+  tools/compare_simulate.py .. --program 'COMMAND'                                  in place of `./kiwi simulate`
+
+Both programs get a script on standard input. Their outputs must be the same byte for byte, and their statuses too. With
+--drop-order the last line of the other's output is left out where it begins with the word `order`. A command of --scripts
+writes a script to standard output, and {seed} in it is the seed. The last line says how many agreed; the status is 1 where
+one did not, or where a script could not be had."""
+
+import argparse
+import re
+import shlex
+import subprocess
+import sys
+from pathlib import Path
+
+KIWI = Path(__file__).resolve().parent.parent / "kiwi"
+ORDER_LINE = re.compile(rb"(\A|(?<=\n))order( [^\n]*)?\n\Z")
+
+
+def ended(command, text):
+    run = subprocess.run(command, input=text, capture_output=True, check=False)
+    return run.stdout, run.returncode
+
+
+def generated(command, first, count):
+    """The scripts of a command: a name and the bytes of each."""
+    for seed in range(first, first + count):
+        words = [word.replace("{seed}", str(seed)) for word in shlex.split(command)]
+        yield f"seed {seed}", subprocess.run(words, capture_output=True, check=True).stdout
+
+
+def stored(folder):
+    """The scripts of a folder: a name and the bytes of each."""
+    for path in sorted(Path(folder).iterdir()):
+        if path.is_file():
+            yield path.name, path.read_bytes()
+
+
+def without_lines(text, pattern):
+    """The script without the lines that the pattern matches whole."""
+    lines = text.splitlines(keepends=True)
+    return b"".join(line for line in lines if not pattern.fullmatch(line.rstrip(b"\n")))
+
+
+def first_difference(got, wanted):
+    """The first line, from 1 on, in which two outputs differ, and both lines."""
+    ours, theirs = got.split(b"\n"), wanted.split(b"\n")
+    for number, (one, other) in enumerate(zip(ours, theirs), 1):
+        if one != other:
+            return f"line {number}: got {one!r}, wanted {other!r}"
+    return f"one ends after line {min(len(ours), len(theirs))}"
+
+
+def main():
+    options = argparse.ArgumentParser(description=__doc__, formatter_class=argparse.RawDescriptionHelpFormatter)
+    options.add_argument("count", nargs="?", type=int, default=500)
+    options.add_argument("--seed", type=int, default=1)
+    options.add_argument("--with", dest="other", required=True, help="the command to compare with")
+    scripts = options.add_mutually_exclusive_group(required=True)
+    scripts.add_argument("--scripts", help="a command that writes the script of a {seed}")
+    scripts.add_argument("--folder", help="a folder of scripts")
+    options.add_argument("--without", help="a pattern of lines of scripts that are left out")
+    options.add_argument("--drop-order", action="store_true", help="leave out the order line of the other's output")
+    options.add_argument("--program", help="the command that is compared, if not ./kiwi simulate")
+    options = options.parse_args()
+    program = shlex.split(options.program) if options.program else [KIWI, "simulate"]
+    left_out = re.compile(options.without.encode()) if options.without else None
+    found = generated(options.scripts, options.seed, options.count) if options.scripts else stored(options.folder)
+    passed = differ = 0
+    for name, text in found:
+        if left_out:
+            text = without_lines(text, left_out)
+        wanted, status = ended(shlex.split(options.other), text)
+        if options.drop_order:
+            wanted = ORDER_LINE.sub(b"", wanted)
+        got = ended(program, text)
+        if got == (wanted, status):
+            passed += 1
+        else:
+            differ += 1
+            print(f"{name} differs: statuses {got[1]} and {status}; {first_difference(got[0], wanted)}")
+    print(f"{passed} passed, {differ} failed")
+    return 1 if differ or not passed else 0
+
+
+if __name__ == "__main__":
+    sys.exit(main())
