@@ -3,14 +3,14 @@
 //! The end of a row's cells has no event of its own: it follows from the event on the last cell. A get has its answer
 //! then. A scan adds the pairs of the row to its own, the one place of a step that takes memory, and goes on to the next
 //! row or ends.
-ghost use Rattle.std.specs.Prelude.{◌≡◌, ◌+◌, ◌<◌, ◌≤◌, ◌++◌, length, if◌then◌else◌, IfOk, OnOk, OnErr};
+ghost use Rattle.std.specs.Prelude.{◌≡◌, ◌+◌, ◌<◌, ◌≤◌, ◌++◌, true, length, if◌then◌else◌, IfOk, OnOk, OnErr};
 ghost use Rattle.kw_words.specs.Count.{count_of};
 ghost use Rattle.kw_words.specs.Plain.{key_of_word, value_of_word, version_of_word};
 ghost use Rattle.kw_words.specs.declared.sizes.TheConstants.{CELLS};
 ghost use Rattle.kw_cells.specs.Cells.{shown_at, pairs_of};
 ghost use Rattle.kw_model.specs.Map.{found as reply_to};
 ghost use Rattle.kw_world.specs.Sizes.{product};
-ghost use Rattle.kw_world.specs.Calls.{is_in_range};
+ghost use Rattle.kw_world.specs.Calls.{is_in_range, is_scan};
 ghost use Rattle.kw_world.specs.Row.{outcome, to, leave};
 ghost use Rattle.kw_world.specs.RowRead.{to_cell, row_read, row_scanned, scan_on, scan_ended, get_answered, version_in_hand, version_met, gathering, count_read};
 
@@ -42,6 +42,7 @@ fn count_read(found: u64) -> u32
 pub(crate) fn start_cells(local: &mut Local, found: u64) -> Result<StepDone, Memory>
     ensures ok { IfOk result (λ done. outcome local.new done ≡ to_cell 0 (record local.old { count = count_read product (count_of found) })) }
     ensures err { OnErr result (local.new ≡ local.old) }
+    ensures scan { OnErr result (is_scan local.old.call ≡ true) }
 {
     let before = local.count;
     local.count = count_read(found);
@@ -59,6 +60,7 @@ pub(crate) fn cell_version(local: &mut Local, place: u32, found: u64) -> Result<
     requires { place < CELLS }
     ensures ok { IfOk result (λ done. outcome local.new done ≡ version_met place (version_in_hand place (version_of_word found) local.old) local.old) }
     ensures err { OnErr result (local.new ≡ local.old) }
+    ensures scan { OnErr result (is_scan local.old.call ≡ true) }
 {
     let version = match unpack_version(found) {
         Some(version) => Some(version),
@@ -79,6 +81,7 @@ pub(crate) fn cell_key(local: &mut Local, found: u64) -> Result<StepDone, Memory
     requires { local.old.place < CELLS }
     ensures ok { IfOk result (λ done. outcome local.new done ≡ (if is_in_range local.old.call (key_of_word found) then to Activity.CellValue (record local.old { place_key = key_of_word found }) else to_cell (local.old.place + 1) local.old)) }
     ensures err { OnErr result (local.new ≡ local.old) }
+    ensures scan { OnErr result (is_scan local.old.call ≡ true) }
 {
     let key = unpack_key(found);
     if is_in_range(local.call, key) {
@@ -96,6 +99,7 @@ pub(crate) fn cell_value(local: &mut Local, found: u64) -> Result<StepDone, Memo
     requires room { length local.old.gathered < CELLS }
     ensures ok { IfOk result (λ done. outcome local.new done ≡ to_cell (local.old.place + 1) (gathering (value_of_word found) local.old)) }
     ensures err { OnErr result (local.new ≡ local.old) }
+    ensures scan { OnErr result (is_scan local.old.call ≡ true) }
 {
     let next = local.place + 1;
     let gathered = local.gathered.as_slice().len();
@@ -118,6 +122,7 @@ pub(crate) fn cell_value(local: &mut Local, found: u64) -> Result<StepDone, Memo
 fn to_cell(local: &mut Local, place: u32) -> Result<StepDone, Memory>
     ensures ok { IfOk result (λ done. outcome local.new done ≡ to_cell place local.old) }
     ensures err { OnErr result (local.new ≡ local.old) }
+    ensures scan { OnErr result (is_scan local.old.call ≡ true) }
 {
     if place < local.count {
         return Ok(to(local, Activity::Cell(place)));
