@@ -20,3 +20,4 @@ pub mod Inv
 pub mod Laws
 pub mod Example
 pub mod Mirror
+pub mod SeatCalls
