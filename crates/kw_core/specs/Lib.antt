@@ -21,3 +21,4 @@ pub mod Unfrozen
 pub mod Laws
 pub mod Example
 pub mod Mirror
+pub mod SeatCalls

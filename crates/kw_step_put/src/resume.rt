@@ -11,6 +11,7 @@ ghost use Rattle.kw_world.specs.RowScan.{reply_or_stopped};
 ghost use Rattle.kw_world.specs.Sane.{IsLocal, HasRoom, CanBegin};
 ghost use Rattle.kw_world.specs.Step.{next_of};
 ghost use Rattle.kw_step_put.specs.Ends.{IsScanEnd, IsCallEnd};
+ghost use Rattle.kw_world.specs.RowEnd.{MayEndRow};
 
 use crate::resume_cells::{cell_key, cell_value, cell_version, start_cells};
 use crate::resume_entries::{help, look, look_key};
@@ -25,7 +26,8 @@ use std::mem;
 
 /// What a seat knows after its event, where the operation told it this.
 ///
-/// Takes memory only where a scan has read a row to its end, for the row's pairs.
+/// Takes memory only where a scan has read a row to its end, for the row's pairs: no other call wants any, and a scan does
+/// at none but the last events of a row. Without it the local is as it was.
 #[tactic(auto, unfolding(kw_world::specs::Step::row_of))]
 pub fn put_resume(local: &mut Local, choice: Choice, told: u64) -> Result<StepDone, Memory>
     requires ranges { IsLocal product local.old }
@@ -34,6 +36,7 @@ pub fn put_resume(local: &mut Local, choice: Choice, told: u64) -> Result<StepDo
     requires begin { CanBegin choice local.old }
     ensures ok { IfOk result (λ done. outcome local.new done ≡ next_of product choice local.old told) }
     ensures err { OnErr result (local.new ≡ local.old) }
+    ensures memory { OnErr result (MayEndRow local.old) }
 {
     match &local.activity {
         Activity::Idle => Ok(begin(local, choice, told)),

@@ -1,47 +1,36 @@
 //! What a reader knows after its looks at the cells of a row, and after the last of them.
 //!
-//! The end of a row's cells has no event of its own: it follows from the event on the last cell. A get has its answer
-//! then. A scan adds the pairs of the row to its own, the one place of a step that takes memory, and goes on to the next
+//! `reading` has what the looks themselves tell. The end of a row's cells has no event of its own: it follows from the
+//! event on the last cell. A get has its answer then. A scan adds the pairs of the row to its own, the one place of a step that takes memory, and goes on to the next
 //! row or ends.
-ghost use Rattle.std.specs.Prelude.{◌≡◌, ◌+◌, ◌<◌, ◌≤◌, ◌++◌, length, if◌then◌else◌, IfOk, OnOk, OnErr};
+ghost use Rattle.std.specs.Prelude.{◌≡◌, ◌+◌, ◌<◌, ◌≤◌, ◌++◌, true, length, if◌then◌else◌, IfOk, OnOk, OnErr};
 ghost use Rattle.kw_words.specs.Count.{count_of};
 ghost use Rattle.kw_words.specs.Plain.{key_of_word, value_of_word, version_of_word};
 ghost use Rattle.kw_words.specs.declared.sizes.TheConstants.{CELLS};
 ghost use Rattle.kw_cells.specs.Cells.{shown_at, pairs_of};
 ghost use Rattle.kw_model.specs.Map.{found as reply_to};
 ghost use Rattle.kw_world.specs.Sizes.{product};
-ghost use Rattle.kw_world.specs.Calls.{is_in_range};
+ghost use Rattle.kw_world.specs.Calls.{is_in_range, is_scan};
 ghost use Rattle.kw_world.specs.Row.{outcome, to, leave};
 ghost use Rattle.kw_world.specs.RowRead.{to_cell, row_read, row_scanned, scan_on, scan_ended, get_answered, version_in_hand, version_met, gathering, count_read};
 
+use crate::reading::{count_read, gather, hold_key, hold_version, key_in_range, version_in_hand};
 use crate::resume::{leave, to};
 use kw_cells::cell::{Cell, best, next_pair};
 use kw_model::call::{Call, Reply};
 use kw_model::memory::Memory;
 use kw_model::pair_list::PairList;
-use kw_words::count::Count;
-use kw_words::plain::{unpack_key, unpack_value, unpack_version};
-use kw_words::sizes::CELL_COUNT;
 use kw_world::activity::Activity;
-use kw_world::calls::{first_key, is_in_range};
+use kw_world::calls::first_key;
 use kw_world::event::StepDone;
 use kw_world::limits::NEWEST;
 use kw_world::local::Local;
-
-// How many cells of a row are read, where this count was found.
-fn count_read(found: u64) -> u32
-    ensures { result ≡ count_read product (count_of found) }
-{
-    match Count::unpack(found) {
-        Some(count) => count.given.min(CELL_COUNT),
-        None => 0,
-    }
-}
 
 // The seat was told the count of the row, and begins with the first cell.
 pub(crate) fn start_cells(local: &mut Local, found: u64) -> Result<StepDone, Memory>
     ensures ok { IfOk result (λ done. outcome local.new done ≡ to_cell 0 (record local.old { count = count_read product (count_of found) })) }
     ensures err { OnErr result (local.new ≡ local.old) }
+    ensures scan { OnErr result (is_scan local.old.call ≡ true) }
 {
     let before = local.count;
     local.count = count_read(found);
@@ -59,16 +48,12 @@ pub(crate) fn cell_version(local: &mut Local, place: u32, found: u64) -> Result<
     requires { place < CELLS }
     ensures ok { IfOk result (λ done. outcome local.new done ≡ version_met place (version_in_hand place (version_of_word found) local.old) local.old) }
     ensures err { OnErr result (local.new ≡ local.old) }
+    ensures scan { OnErr result (is_scan local.old.call ≡ true) }
 {
-    let version = match unpack_version(found) {
-        Some(version) => Some(version),
-        None => local.remembered.version(place),
-    };
-    match version {
+    match version_in_hand(local, place, found) {
         Some(version) => {
-            local.place = place;
-            local.place_version = version;
-            Ok(to(local, Activity::CellKey))
+            hold_version(local, place, version);
+            Ok(StepDone::Moved)
         }
         None => to_cell(local, place + 1),
     }
@@ -79,14 +64,17 @@ pub(crate) fn cell_key(local: &mut Local, found: u64) -> Result<StepDone, Memory
     requires { local.old.place < CELLS }
     ensures ok { IfOk result (λ done. outcome local.new done ≡ (if is_in_range local.old.call (key_of_word found) then to Activity.CellValue (record local.old { place_key = key_of_word found }) else to_cell (local.old.place + 1) local.old)) }
     ensures err { OnErr result (local.new ≡ local.old) }
+    ensures scan { OnErr result (is_scan local.old.call ≡ true) }
 {
-    let key = unpack_key(found);
-    if is_in_range(local.call, key) {
-        local.place_key = key;
-        Ok(to(local, Activity::CellValue))
-    } else {
-        let next = local.place + 1;
-        to_cell(local, next)
+    match key_in_range(local, found) {
+        Some(key) => {
+            hold_key(local, key);
+            Ok(StepDone::Moved)
+        }
+        None => {
+            let next = local.place + 1;
+            to_cell(local, next)
+        }
     }
 }
 
@@ -96,15 +84,11 @@ pub(crate) fn cell_value(local: &mut Local, found: u64) -> Result<StepDone, Memo
     requires room { length local.old.gathered < CELLS }
     ensures ok { IfOk result (λ done. outcome local.new done ≡ to_cell (local.old.place + 1) (gathering (value_of_word found) local.old)) }
     ensures err { OnErr result (local.new ≡ local.old) }
+    ensures scan { OnErr result (is_scan local.old.call ≡ true) }
 {
     let next = local.place + 1;
     let gathered = local.gathered.as_slice().len();
-    local.gathered.push(Cell {
-        key: local.place_key,
-        version: local.place_version,
-        place: local.place,
-        value: unpack_value(found),
-    });
+    gather(local, found);
     match to_cell(local, next) {
         Ok(done) => Ok(done),
         Err(memory) => {
@@ -118,6 +102,7 @@ pub(crate) fn cell_value(local: &mut Local, found: u64) -> Result<StepDone, Memo
 fn to_cell(local: &mut Local, place: u32) -> Result<StepDone, Memory>
     ensures ok { IfOk result (λ done. outcome local.new done ≡ to_cell place local.old) }
     ensures err { OnErr result (local.new ≡ local.old) }
+    ensures scan { OnErr result (is_scan local.old.call ≡ true) }
 {
     if place < local.count {
         return Ok(to(local, Activity::Cell(place)));

@@ -3,6 +3,7 @@ ghost use Rattle.std.specs.Prelude.{◌≡◌, ◌<◌, length, IfOk, OnErr};
 ghost use Rattle.kw_world.specs.Sizes.{product};
 ghost use Rattle.kw_world.specs.Sane.{IsSane, CanStep, IsPutPart};
 ghost use Rattle.kw_world.specs.Step.{stepped, step};
+ghost use Rattle.kw_world.specs.RowEnd.{MayEndRowAt};
 
 use crate::operation::put_operation;
 use crate::resume::put_resume;
@@ -15,7 +16,7 @@ use kw_world::world::World;
 /// Makes one event of the world, which is any but one of a walk along the rows.
 ///
 /// The world is as it was after `Skipped`, which comes where an idle seat begins nothing, and without memory, which only
-/// the pairs of a scan take.
+/// the pairs of a scan take, at the end of a row.
 #[tactic(auto, unfolding(kw_world::specs::Step::step))]
 pub fn put_step(world: &mut World, event: Event) -> Result<StepDone, Memory>
     requires sane { IsSane product world.old }
@@ -24,6 +25,7 @@ pub fn put_step(world: &mut World, event: Event) -> Result<StepDone, Memory>
     requires part { IsPutPart world.old event }
     ensures ok { IfOk result (λ done. stepped world.new done ≡ step product world.old event) }
     ensures err { OnErr result (world.new ≡ world.old) }
+    ensures memory { OnErr result (MayEndRowAt world.old event.seat) }
 {
     let local = world.local(event.seat);
     if local.activity.skips(event.choice) {
