@@ -9,3 +9,5 @@
 pub mod gather;
 pub mod gather_list;
 pub mod gather_numbers;
+#[cfg(test)]
+mod tests;
