@@ -1,11 +1,11 @@
 -- For which lists a gatherer of a number stands after it took a pair.
-use Rattle.std.proofs.Common.{ℕ, zero, suc, ◌≡◌, ◌≤◌, ◌<◌, ◌+◌, ◌++◌, List, [], ◌∷◌, Option, Some, None, refl, sym, ap, ◌∙◌, subst, arith, length, min, max, map, length-append}
-use Rattle.std.specs.Prelude.{All, sum, fold}
+use Rattle.std.proofs.Common.{ℕ, zero, suc, ◌≡◌, ◌≤◌, ◌<◌, ◌+◌, ◌++◌, List, [], ◌∷◌, Option, Some, None, refl, sym, ap, ◌∙◌, subst, arith, length, min, max, length-append}
+use Rattle.std.specs.Prelude.{All, sum}
 use Rattle.std.proofs.lemmas.List.{map-append}
 use Rattle.std.proofs.lemmas.List.Elements.{All-append}
 use Rattle.std.proofs.lemmas.List.Sums.{fold-append, sum-map, sum_by_push}
 use Rattle.kw_words.specs.declared.sizes.TheConstants.{VALUE_END}
-use Rattle.kw_model.specs.Map.{Pairs, RisesFrom, IsRising}
+use Rattle.kw_model.specs.Map.{Pairs, RisesFrom}
 use Rattle.kw_line.specs.Answered.{values, least, greatest}
 use Rattle.kw_map.specs.Gather.{last_key, IsBelow, Takes}
 use Rattle.kw_map.specs.GatherNumbers.{Tally, IsTallyOf, Sums, Counts, HaveLeast, HaveGreatest}

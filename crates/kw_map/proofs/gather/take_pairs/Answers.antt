@@ -1,6 +1,5 @@
 -- A pair that was taken is the first of those that were left.
-use Rattle.std.proofs.Common.{arith, ◌+◌, Result, Ok, Err, OnErr}
-use Rattle.kw_cells.specs.Cells.{pairs_of}
+use Rattle.std.proofs.Common.{arith, Result, Ok, Err, OnErr}
 use Rattle.kw_map.proofs.TakeLemmas.{handing_more, handing_end, handing_stop, taken_below}
 use Rattle.kw_map.proofs.CellLemmas.{shown_is_value, pairs_of-behind}
 use Rattle.kw_map.proofs.gather.take_pairs.Goals as goal

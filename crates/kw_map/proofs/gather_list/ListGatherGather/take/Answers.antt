@@ -1,5 +1,5 @@
 -- The list that is kept has the pair at its end.
-use Rattle.std.proofs.Common.{ℕ, ap, refl, sym, ◌∙◌, ◌≡◌, ◌++◌, [], ◌∷◌, Option, None, Result, Ok, Err, OnOk, is_err, true, false, arith}
+use Rattle.std.proofs.Common.{ap, ◌∙◌, ◌≡◌, ◌++◌, [], ◌∷◌, None, arith}
 use Rattle.std.proofs.lemmas.Grind.{common_steps}
 use Rattle.kw_model.specs.Map.{Pairs}
 use Rattle.kw_map.specs.Gather.{last_key}

@@ -1,5 +1,5 @@
 -- The least value follows each list that has one more pair.
-use Rattle.std.proofs.Common.{rules, ap, refl, Some, ◌≡◌}
+use Rattle.std.proofs.Common.{rules, refl, Some, ◌≡◌}
 use Rattle.kw_map.proofs.TallyLemmas.{takes_least, lesser}
 use Rattle.kw_map.proofs.gather_numbers.LeastGatherGather.take.Goals as goal
 
