@@ -1,4 +1,4 @@
--- What each line of a script does, and so what a script prints.
+-- What each line of a script does, and what the calls that end with it print.
 use Rattle.std.specs.Prelude.{ℕ, zero, suc, ◌==◌, Bool, true, false, if◌then◌else◌, Option, Some, None, unwrap_or, List, [], ◌∷◌, ◌++◌, replicate, slice_get}
 use Rattle.kw_model.specs.declared.call.Call.{Call}
 use Rattle.kw_model.specs.declared.call.Call.TheVariants.{Put, Get}
@@ -13,12 +13,12 @@ use Rattle.kw_world.specs.declared.local.Local.{Local}
 use Rattle.kw_world.specs.declared.opening.Opening.{Opening}
 use Rattle.kw_world.specs.Sizes.{product}
 use Rattle.kw_world.specs.Step.{step, kind_of, is_skipped}
+use Rattle.kw_line.specs.Line.{FitsCall}
+use Rattle.kw_order.specs.Trace.{world_of, pushed}
 use Rattle.kw_sim.specs.declared.command.Command.{Command}
 use Rattle.kw_sim.specs.declared.command.Command.TheVariants as command
 use Rattle.kw_sim.specs.declared.parse.TheConstants.{MOST_STEPS}
 use Rattle.kw_sim.specs.Printed.{done_text, missed_line}
-use Rattle.kw_line.specs.Line.{FitsCall}
-use Rattle.kw_order.specs.Trace.{world_of, pushed}
 use Rattle.kw_sim.specs.State.{State, queue_of, with_queue}
 
 -- One event.
@@ -45,7 +45,7 @@ printed s None done = []
 abbrev pub done_by : Event → State → StepDone
 done_by e st = (step product (world_of st.trace) e).done
 
--- an event; one that is skipped leaves all as it was
+-- an event, and the line of a call that ends with it; one that is skipped leaves all as it was
 unfoldable pub after_event : Event → State → State
 after_event e st = record {
   trace = pushed st.trace e (done_by e st);
