@@ -3,7 +3,7 @@
 //! A `Trace` begins with an opening world and grows by one event at a time; whoever may make events at all may push them here.
 //! Its world and its record follow the events and are never set, and so every law of lists of events holds of it: `push` and the
 //! two functions on traces have these laws as their clauses.
-ghost use Rattle.std.specs.Prelude.{◌≡◌, ◌<◌, ◌++◌, ◌↔◌, true, Some, [], List, ℕ, IfOk, OnErr, slice_get};
+ghost use Rattle.std.specs.Prelude.{◌≡◌, ◌<◌, ◌++◌, ◌↔◌, true, Some, [], List, ℕ, IfOk, OnErr, length, slice_get};
 ghost use Rattle.kw_world.specs.declared.event.Event.{Event};
 ghost use Rattle.kw_world.specs.declared.local.Local.{Local};
 ghost use Rattle.kw_world.specs.Sizes.{product};
@@ -117,10 +117,12 @@ impl Trace {
         &self.events
     }
 
-    /// The world after these events.
+    /// The world after these events. It has the rows and the seats of the opening.
     pub fn world(&self) -> &World
         ensures value { result.now ≡ world_of self.now }
         ensures sane { IsSane product result.now }
+        ensures rows { result.now.rows ≡ self.now.opening.rows }
+        ensures seats { length result.now.locals ≡ self.now.opening.seats }
     {
         &self.world
     }
@@ -158,5 +160,7 @@ pub fn order(alloc: Global, trace: &Trace) -> Result<Vec<CallName>, Memory>
     points::order(alloc, trace.recorder.history())
 }
 
+#[cfg(test)]
+mod events_tests;
 #[cfg(test)]
 mod tests;
