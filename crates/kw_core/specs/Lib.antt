@@ -6,6 +6,7 @@ pub mod Noted
 pub mod Appended
 pub mod Events
 pub mod Run
+pub mod SeatCalls
 pub mod Recording
 pub mod Remarks
 pub mod Recorder

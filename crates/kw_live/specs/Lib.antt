@@ -1,0 +1,6 @@
+pub mod Following
+pub mod Calling
+pub mod Meeting
+pub mod Stages
+pub mod Putting
+pub mod Reading

@@ -1,0 +1,67 @@
+-- Single events of a pass, as the causes of what it answers.
+use Rattle.std.specs.Prelude.{◌≡◌, ◌⊎◌, ℕ, ◌<◌, ◌≤◌, List, [], ◌∷◌, ◌++◌}
+use mathlib.Core.List.{IsPrefix}
+use Rattle.kw_words.specs.Count.{count_of}
+use Rattle.kw_words.specs.declared.sizes.TheConstants.{SPENT}
+use Rattle.kw_world.specs.declared.activity.Activity.{Activity}
+use Rattle.kw_world.specs.declared.activity.Activity.TheVariants.{ScanClock, PutCount, PutAdd}
+use Rattle.kw_world.specs.declared.event.Choice.{Choice}
+use Rattle.kw_world.specs.declared.event.Choice.TheVariants.{Go}
+use Rattle.kw_world.specs.declared.event.Event.{Event}
+use Rattle.kw_world.specs.declared.opening.Opening.{Opening}
+use Rattle.kw_world.specs.Operation.{told_by}
+use Rattle.kw_world.specs.Row.{Row}
+use Rattle.kw_world.specs.RowPut.{given_of}
+use Rattle.kw_world.specs.RowWalk.{offered}
+use Rattle.kw_world.specs.Sizes.{product}
+use Rattle.kw_world.specs.Step.{word, row_of}
+use Rattle.kw_core.specs.Events.{local_of, world, of_seat, event}
+use Rattle.kw_table.specs.declared.pass.Pass.{Pass}
+use Rattle.kw_table.specs.Passes.{view}
+
+-- the line of the table of events by which this seat makes its event with this choice, after these events
+abbrev pub row_after : Opening → List Event → ℕ → Choice → Row
+row_after o es n c = row_of product n (offered o.rows c) (local_of (world product o es) n)
+
+-- among the events that the pass has seen since is one of its own, made at this activity with this choice, which was told this
+pub record Met (p q : Pass) (a : Activity) (c : Choice) (told : ℕ) : Type 0 where
+  -- the events before it
+  pub front : List Event
+  pub later : IsPrefix (view p).seen front
+  pub here : IsPrefix (front ++ event (view p).number c ∷ []) (view q).seen
+  pub activity : (local_of (world product (view p).opening front) (view p).number).activity ≡ a
+  pub told : told ≡ told_by (row_after (view p).opening front (view p).number c).operation.action (word product (world product (view p).opening front) (row_after (view p).opening front (view p).number c).operation.name)
+
+-- a count of cells that the pass was told at this activity
+pub record MetCount (p q : Pass) (a : Activity) (given : ℕ) : Type 0 where
+  pub told : ℕ
+  pub met : Met p q a Go told
+  pub given : given ≡ given_of (count_of told)
+
+-- the pass found that its row had given all its cells, or more were asked for
+pub record MetFull (cells : ℕ) (p q : Pass) : Type 0 where
+  pub activity : Activity
+  pub at : (activity ≡ PutCount) ⊎ (activity ≡ PutAdd)
+  pub given : ℕ
+  pub met : MetCount p q activity given
+  pub full : cells ≤ given
+
+-- the pass found room in its row both times that it asked
+pub record MetRoom (cells : ℕ) (p q : Pass) : Type 0 where
+  pub given : ℕ
+  pub asked : MetCount p q PutCount given
+  pub less : given < cells
+  pub added : ℕ
+  pub adds : MetCount p q PutAdd added
+  pub fewer : added < cells
+
+-- the clock that a scan loads first
+pub record MetClock (p q : Pass) (clock : ℕ) : Type 0 where
+  pub met : Met p q ScanClock Go clock
+
+-- the next event of the pass's own, after what it had seen, has this choice
+pub record BeginsWith (p q : Pass) (c : Choice) : Type 0 where
+  pub front : List Event
+  pub later : IsPrefix (view p).seen front
+  pub first : of_seat (view p).number front ≡ of_seat (view p).number (view p).seen
+  pub here : IsPrefix (front ++ event (view p).number c ∷ []) (view q).seen
