@@ -1,5 +1,5 @@
 -- Where a call stands between the functions that make its events.
-use Rattle.std.specs.Prelude.{◌≡◌, ⊥, ℕ, ◌<◌, ◌≤◌, Option, Some, None, []}
+use Rattle.std.specs.Prelude.{◌≡◌, ℕ, ◌<◌, ◌≤◌, Option, Some, None, []}
 use Rattle.kw_model.specs.declared.call.Call.{Call}
 use Rattle.kw_model.specs.declared.call.Call.TheVariants.{Put, Del, Get, Scan}
 use Rattle.kw_model.specs.declared.call.Reply.TheVariants.{Pairs, Spent}
@@ -8,13 +8,14 @@ use Rattle.kw_world.specs.declared.activity.Activity.TheVariants.{Idle, Start, L
 use Rattle.kw_world.specs.declared.event.Choice.{Choice}
 use Rattle.kw_world.specs.declared.event.Choice.TheVariants.{Go, Guess}
 
--- the seat is in the middle of a call, and its next event neither ends the call nor reads a cell
+-- the seat is in the middle of a call, and its next event neither ends the call or a scan nor reads a cell
 abbrev pub IsWithinCall : Activity → Type 0
 IsWithinCall Idle = ⊥
 IsWithinCall LookCount = ⊥
 IsWithinCall (Cell j) = ⊥
 IsWithinCall CellKey = ⊥
 IsWithinCall CellValue = ⊥
+IsWithinCall (ClearScan reply) = ⊥
 IsWithinCall (Leave reply) = ⊥
 IsWithinCall _ = Unit {0}
 

@@ -1,0 +1,4 @@
+pub mod Carrying
+pub mod Ends
+pub mod OneEvent
+pub mod Resting
