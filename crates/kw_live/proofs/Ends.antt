@@ -90,8 +90,8 @@ module _ {s : Shared} {p q : Pass} {l after : Local} {done : StepDone} {told : �
   end_replies w reply is = ap (λ (x : Outcome). x.done) w.goes ∙ ap (λ (x : Outcome). x.done) (left l told (bare_reply reply) (same_reply s p l reply w.follows is))
 
 -- what resume gives at the end of a call
-pub ends : (l after : Local) (done : StepDone) (told : ℕ) (reply : Reply) → l.activity ≡ Leave reply → outcome after done ≡ next_of product Go l told → done ≡ Ended reply
-ends l after done told reply is goes = ap (λ (x : Outcome). x.done) (goes ∙ left l told reply is)
+pub ends : {l after : Local} {done : StepDone} {told : ℕ} (reply : Reply) → l.activity ≡ Leave reply → outcome after done ≡ next_of product Go l told → done ≡ Ended reply
+ends {l} {after} {done} {told} reply is goes = ap (λ (x : Outcome). x.done) (goes ∙ left l told reply is)
 
 -- The begin of a call.
 
@@ -116,11 +116,11 @@ begin_asks s p call l n does of idle begins rests is = record {
   next = idle_operation (view p).number n (Begin call) (local_in (view p)) l idle (ap (λ (k : Local). k.activity) rests) ∙ sym is;
 }
 
-module _ {s : Shared} {p q : Pass} {call : Call} {l after : Local} {done : StepDone} {told : ℕ} where
-  -- the local after the begin
-  pub begin_is : l ≡ resting 0 → outcome after done ≡ next_of product (Begin call) l told → after ≡ begun_local 0 call told
-  begin_is rests goes = ap (λ (x : Outcome). x.local) (goes ∙ ap (λ k. next_of product (Begin call) k told) rests) ∙ begun_next 0 call told
+-- the local after the begin
+pub begin_is : {call : Call} {l after : Local} {done : StepDone} {told : ℕ} → l ≡ resting 0 → outcome after done ≡ next_of product (Begin call) l told → after ≡ begun_local 0 call told
+begin_is {call} {l} {after} {done} {told} rests goes = ap (λ (x : Outcome). x.local) (goes ∙ ap (λ k. next_of product (Begin call) k told) rests) ∙ begun_next 0 call told
 
+module _ {s : Shared} {p q : Pass} {call : Call} {told : ℕ} where
   -- and what its seat knows
   seat_begins : activity_in p ≡ Idle → Makes s p (Begin call) told q → local_in (view q) ≡ begun_local (local_in (view p)).number call told
   seat_begins idle makes =
@@ -129,8 +129,8 @@ module _ {s : Shared} {p q : Pass} {call : Call} {l after : Local} {done : StepD
       ∙ begun_next (local_in (view p)).number call told)
 
   -- the local follows the pass
-  pub begin_follows : activity_in p ≡ Idle → Makes s p (Begin call) told q → l ≡ resting 0 → outcome after done ≡ next_of product (Begin call) l told → Follows s q after
-  begin_follows idle makes rests goes = follows_from s q after makes.of_table (begin_is rests goes ∙ sym (ap carried (seat_begins idle makes)))
+  pub begin_follows : {l after : Local} {done : StepDone} → activity_in p ≡ Idle → Makes s p (Begin call) told q → l ≡ resting 0 → outcome after done ≡ next_of product (Begin call) l told → Follows s q after
+  begin_follows {l} {after} {done} idle makes rests goes = follows_from s q after makes.of_table (begin_is rests goes ∙ sym (ap carried (seat_begins idle makes)))
 
   -- which has no pairs yet
   pub begin_holds : activity_in p ≡ Idle → Makes s p (Begin call) told q → held q ≡ []

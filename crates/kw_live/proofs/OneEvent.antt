@@ -33,6 +33,7 @@ use Rattle.kw_live.specs.Following.{Follows, activity_in, bare_activity, bare_re
 use Rattle.kw_live.specs.Meeting.{Met, MetAs, row_after}
 use Rattle.kw_live.specs.Stages.{IsWithinCall}
 use Rattle.kw_live.proofs.Carrying.{Carries, IsGoingOn, carries, operates}
+use Rattle.kw_live.proofs.Growing.{IsStaying}
 use Rattle.kw_live.proofs.Resting.{early_pairs}
 
 -- What code carries.
@@ -184,8 +185,13 @@ bare_goes (ClearScan reply) u = u
 bare_goes (Leave reply) u = u
 bare_goes _ u = u
 
-goes_in : (s : Shared) (p : Pass) (l : Local) → Follows s p l → IsGoingOn l.activity → IsGoingOn (activity_in p)
+pub goes_in : (s : Shared) (p : Pass) (l : Local) → Follows s p l → IsGoingOn l.activity → IsGoingOn (activity_in p)
 goes_in s p l f u = bare_goes (activity_in p) (subst (λ (k : Local). IsGoingOn k.activity) f.carries u)
+
+pub goes_stay : (a : Activity) → IsGoingOn a → IsStaying a
+goes_stay Idle u = u
+goes_stay (Leave reply) u = u
+goes_stay _ u = tt
 
 -- within a call, but at the end of a scan, both do the same
 within_same : (a : Activity) → IsWithinCall (bare_activity a) → bare_activity a ≡ a

@@ -1,6 +1,7 @@
 use Rattle.std.proofs.Common.{ap}
 use Rattle.kw_world.specs.declared.local.Local.{Local}
 use Rattle.kw_live.proofs.Ends.{begin_asks, begin_is, begin_follows, begin_holds}
+use Rattle.kw_live.proofs.Growing.{opens}
 use Rattle.kw_live.proofs.going.begin.Goals as goal
 
 pub make-told-requires : goal.make-told-requires
@@ -20,3 +21,6 @@ returns-clause-unread c = ap (λ (k : Local). k.has_read) (begin_is c.idle-local
 
 pub returns-clause-held : goal.returns-clause-held
 returns-clause-held c = begin_holds c.requires.idle c.make-told.ensures
+
+pub returns-clause-opens : goal.returns-clause-opens
+returns-clause-opens c = opens c.make-told.ensures c.requires.idle

@@ -2,7 +2,8 @@ use Rattle.std.proofs.Common.{subst, sym}
 use Rattle.kw_core.specs.Stages.{IsBusy}
 use Rattle.kw_live.proofs.Carrying.{IsGoingOn}
 use Rattle.kw_live.proofs.Ends.{clear_leaves, clear_activity}
-use Rattle.kw_live.proofs.OneEvent.{went, follows_ranges, follows_room, asks, moves_in, went_follows, went_held}
+use Rattle.kw_live.proofs.OneEvent.{went, follows_ranges, follows_room, asks, moves_in, goes_in, goes_stay, went_follows, went_held}
+use Rattle.kw_live.proofs.Growing.{keeps}
 use Rattle.kw_live.proofs.going.clear.Goals as goal
 
 pub operation-requires : goal.operation-requires
@@ -28,3 +29,6 @@ returns-clause-activity c = clear_activity (went _ _ _ _ _ _ _ _ _ _ c.requires.
 
 pub returns-clause-held : goal.returns-clause-held
 returns-clause-held c = went_held (went _ _ _ _ _ _ _ _ _ _ c.requires.follows c.make-told.ensures c.rows.ensures c.offered-offered.ensures.value c.in-Ok.ensures.ok) (subst IsGoingOn (sym c.requires.over.1) tt)
+
+pub returns-clause-calls : goal.returns-clause-calls
+returns-clause-calls c = keeps c.make-told.ensures (goes_stay _ (goes_in _ _ _ c.requires.follows (subst IsGoingOn (sym c.requires.over.1) tt)))

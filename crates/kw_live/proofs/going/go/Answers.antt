@@ -1,4 +1,5 @@
-use Rattle.kw_live.proofs.OneEvent.{went, follows_ranges, follows_room, asks, moves_in, within_busy, within_goes, went_follows, went_line, went_held, went_met}
+use Rattle.kw_live.proofs.OneEvent.{went, follows_ranges, follows_room, asks, moves_in, within_busy, within_goes, goes_in, goes_stay, went_follows, went_line, went_held, went_met}
+use Rattle.kw_live.proofs.Growing.{keeps}
 use Rattle.kw_live.proofs.going.go.Goals as goal
 
 pub operation-requires : goal.operation-requires
@@ -24,3 +25,6 @@ returns-clause-met c = went_met (went _ _ _ _ _ _ _ _ _ _ c.requires.follows c.m
 
 pub returns-clause-held : goal.returns-clause-held
 returns-clause-held c = went_held (went _ _ _ _ _ _ _ _ _ _ c.requires.follows c.make-told.ensures c.rows.ensures c.offered-offered.ensures.value c.in-Ok.ensures.ok) (within_goes _ c.requires.within)
+
+pub returns-clause-calls : goal.returns-clause-calls
+returns-clause-calls c = keeps c.make-told.ensures (goes_stay _ (goes_in _ _ _ c.requires.follows (within_goes _ c.requires.within)))
