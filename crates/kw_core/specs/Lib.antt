@@ -6,7 +6,6 @@ pub mod Noted
 pub mod Appended
 pub mod Events
 pub mod Run
-pub mod SeatCalls
 pub mod Recording
 pub mod Remarks
 pub mod Recorder
@@ -21,3 +20,4 @@ pub mod Inv
 pub mod Laws
 pub mod Example
 pub mod Mirror
+pub mod SeatCalls
