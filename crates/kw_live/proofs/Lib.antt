@@ -1,4 +1,5 @@
 pub mod Carrying
+pub mod Drawing
 pub mod Ends
 pub mod Growing
 pub mod OneEvent
