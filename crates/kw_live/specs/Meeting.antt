@@ -38,10 +38,11 @@ pub record MetIn (o : Opening) (n : ℕ) (old new : List Event) (a : Activity) (
 abbrev pub Met : Pass → Pass → Activity → Choice → ℕ → Type 0
 Met p q a c told = MetIn (view p).opening (view p).number (view p).seen (view q).seen a c told
 
--- there is such an event, made where the seat knew this
+-- there is such an event, made where the seat knew this, and it is the first one of the pass's own since
 pub record MetAs (p q : Pass) (l : Local) (c : Choice) (told : ℕ) : Type 0 where
   pub met : Met p q l.activity c told
   pub knew : known (local_of (world product (view p).opening met.front) (view p).number) ≡ known l
+  pub first : of_seat (view p).number met.front ≡ of_seat (view p).number (view p).seen
 
 -- a count of cells that the pass was told at this activity
 pub record MetCount (p q : Pass) (a : Activity) (given : ℕ) : Type 0 where

@@ -40,7 +40,12 @@ pub(crate) fn begin(shared: &Shared, pass: &mut Pass, alloc: Global, call: Call)
 {
     let mut local = Local::idle(alloc);
     let choice = Choice::Begin(call);
-    let told = make(shared, pass, choice, operation(pass.number(), &local, choice));
+    let told = make(
+        shared,
+        pass,
+        choice,
+        operation(pass.number(), &local, choice),
+    );
     match resume(&mut local, choice, told) {
         Ok(_) => local,
         Err(_) => unreachable!(),
@@ -60,7 +65,12 @@ pub(crate) fn go(shared: &Shared, pass: &mut Pass, local: &mut Local, choice: Ch
     ensures held { is_stop choice ≡ false → held pass.new ≡ held pass.old }
 {
     let offered = choice.offered(shared.rows());
-    let told = make(shared, pass, choice, operation(pass.number(), local, offered));
+    let told = make(
+        shared,
+        pass,
+        choice,
+        operation(pass.number(), local, offered),
+    );
     match resume(local, offered, told) {
         Ok(_) => told,
         Err(_) => unreachable!(),
@@ -76,7 +86,12 @@ pub(crate) fn read(shared: &Shared, pass: &mut Pass, local: &mut Local)
     ensures reads { Reads local.old local.new (held pass.old) (held pass.new) }
     ensures calls { Keeps pass.old pass.new }
 {
-    let told = make(shared, pass, Choice::Go, operation(pass.number(), local, Choice::Go));
+    let told = make(
+        shared,
+        pass,
+        Choice::Go,
+        operation(pass.number(), local, Choice::Go),
+    );
 }
 
 /// Ends a scan: it is then about to leave, with its pairs, or with `Stopped` where the choice is to stop.
@@ -92,7 +107,12 @@ pub(crate) fn clear(shared: &Shared, pass: &mut Pass, local: &mut Local, choice:
     ensures held { is_stop choice ≡ false → held pass.new ≡ held pass.old }
 {
     let offered = choice.offered(shared.rows());
-    let told = make(shared, pass, choice, operation(pass.number(), local, offered));
+    let told = make(
+        shared,
+        pass,
+        choice,
+        operation(pass.number(), local, offered),
+    );
     match resume(local, offered, told) {
         Ok(_) => (),
         Err(_) => unreachable!(),
@@ -108,7 +128,12 @@ pub(crate) fn end(shared: &Shared, pass: &mut Pass, local: Local) -> Reply
     ensures closes { (reply : Reply) → activity_in pass.old ≡ Activity.Leave reply → Closes pass.old pass.new reply × (result ≡ bare_reply reply) }
 {
     let mut local = local;
-    let told = make(shared, pass, Choice::Go, operation(pass.number(), &local, Choice::Go));
+    let told = make(
+        shared,
+        pass,
+        Choice::Go,
+        operation(pass.number(), &local, Choice::Go),
+    );
     match resume(&mut local, Choice::Go, told) {
         Ok(StepDone::Ended(reply)) => reply,
         Ok(StepDone::Moved) => unreachable!(),
