@@ -1,5 +1,5 @@
 -- Where a call stands between the functions that make its events.
-use Rattle.std.specs.Prelude.{◌≡◌, ⊥, ℕ, ◌<◌, ◌≤◌, Option, Some, None, []}
+use Rattle.std.specs.Prelude.{◌≡◌, ℕ, ◌<◌, ◌≤◌, Option, Some, None, []}
 use Rattle.kw_model.specs.declared.call.Call.{Call}
 use Rattle.kw_model.specs.declared.call.Call.TheVariants.{Put, Del, Get, Scan}
 use Rattle.kw_model.specs.declared.call.Reply.TheVariants.{Pairs, Spent}

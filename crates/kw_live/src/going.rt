@@ -12,7 +12,7 @@ ghost use Rattle.kw_core.specs.Events.{may_begin};
 ghost use Rattle.kw_table.specs.Passes.{view, IsPassOf};
 ghost use Rattle.kw_live.specs.Calling.{Keeps, Opens, Closes};
 ghost use Rattle.kw_live.specs.Following.{Follows, GoesTo, activity_in, held, bare_reply};
-ghost use Rattle.kw_live.specs.Meeting.{Met};
+ghost use Rattle.kw_live.specs.Meeting.{MetAs};
 ghost use Rattle.kw_live.specs.Reading.{Reads, is_reading_cells};
 ghost use Rattle.kw_live.specs.Stages.{IsWithinCall};
 
@@ -54,7 +54,7 @@ pub(crate) fn go(shared: &Shared, pass: &mut Pass, local: &mut Local, choice: Ch
     ensures goes { GoesTo shared.now pass.old pass.new }
     ensures follows { Follows shared.now pass.new local.new }
     ensures line { outcome local.new StepDone.Moved ≡ next_of product (offered (view pass.old).opening.rows choice) local.old result }
-    ensures met { Met pass.old pass.new local.old.activity choice result }
+    ensures met { MetAs pass.old pass.new local.old choice result }
     ensures calls { Keeps pass.old pass.new }
     ensures held { is_stop choice ≡ false → held pass.new ≡ held pass.old }
 {
