@@ -169,11 +169,13 @@ pub of_seat-else : (s t : ℕ) (choice : Choice) → t ≢ s → of_seat s (even
 unfolding of_seat
 of_seat-else s t choice ne = rw (ne_eqb t s ne) refl
 
-of_seat_own : (s : ℕ) (e : Event) (es : List Event) → e.seat ≡ s → of_seat s (e ∷ es) ≡ e ∷ of_seat s es
+-- the first event is the seat's
+pub of_seat_own : (s : ℕ) (e : Event) (es : List Event) → e.seat ≡ s → of_seat s (e ∷ es) ≡ e ∷ of_seat s es
 unfolding of_seat
 of_seat_own s e es is = rw (eq-eqb e.seat s is) refl
 
-of_seat_other : (s : ℕ) (e : Event) (es : List Event) → e.seat ≢ s → of_seat s (e ∷ es) ≡ of_seat s es
+-- the first event is another seat's
+pub of_seat_other : (s : ℕ) (e : Event) (es : List Event) → e.seat ≢ s → of_seat s (e ∷ es) ≡ of_seat s es
 unfolding of_seat
 of_seat_other s e es ne = rw (ne_eqb e.seat s ne) refl
 

@@ -68,3 +68,7 @@ pub mod MirrorAttempts
 pub mod MirrorCalls
 pub mod MirrorStamps
 pub mod MirrorKeeps
+pub mod SeatLists
+pub mod SeatTurns
+pub mod SeatApart
+pub mod SeatCalls

@@ -94,7 +94,7 @@ next_look_busy z j next (looks w) = tt
 next_look_busy z j next (counts w) = tt
 
 -- a seat that does not leave is in a call afterwards
-arrow_busy : (z : Sizes) (v : Words) (s : ℕ) (choice : Choice) (l : Local) (a : Activity) (k : Local) → Arrow z v s choice l a k → IsStaying a → IsBusy k.activity
+pub arrow_busy : (z : Sizes) (v : Words) (s : ℕ) (choice : Choice) (l : Local) (a : Activity) (k : Local) → Arrow z v s choice l a k → IsStaying a → IsBusy k.activity
 arrow_busy z v s choice l a k (leaves reply) u = absurd u
 arrow_busy z v s choice l a k (meets_stamped i c version next e n) u = next_look_busy z _ next n
 arrow_busy z v s choice l a k (meets_neither i next e n) u = next_look_busy z _ next n

@@ -3,16 +3,18 @@
 //! The events of a walk along the rows are one crate's and all others another's; `is_rows_part` of the acting seat's local
 //! says which, and here the two are one. `step` is the definition of one event, and `kind_of` names what it is for before
 //! it is made: the laws over lists of events and the simulator stand on these two. `operation` and `resume` are the halves
-//! of an event, before and after its word; the running map puts them around a word of its own table.
+//! of an event, before and after its word; the running map puts them around a word of its own table. `read_on` is the
+//! second half at the cells of a row without the end of the row, for whoever passes that itself.
 ghost use Rattle.std.specs.Prelude.{◌≡◌, ◌<◌, None, length, IfOk, IfSome, OnErr};
 ghost use Rattle.kw_world.specs.Row.{outcome};
 ghost use Rattle.kw_world.specs.Sane.{IsSane, IsLocal, HasRoom, CanStep, CanBegin};
 ghost use Rattle.kw_world.specs.Sizes.{product};
 ghost use Rattle.kw_world.specs.Step.{step, stepped, kind_of, row_of, next_of, IsMade};
-ghost use Rattle.kw_step_put.specs.RowEnd.{MayEndRow, MayEndRowAt};
+ghost use Rattle.kw_world.specs.RowEnd.{MayEndRow, MayEndRowAt};
 
 use kw_model::memory::Memory;
 use kw_step_put::operation::put_operation;
+pub use kw_step_put::reading::read_on;
 use kw_step_put::resume::put_resume;
 use kw_step_put::step::put_step;
 use kw_step_rows::operation::rows_operation;

@@ -1,9 +1,9 @@
 -- How the calls of a pass go on in what it has seen.
-use Rattle.std.specs.Prelude.{◌≡◌, ℕ, ◌<◌, ◌≤◌, Some, None, List, [], ◌∷◌, ◌++◌, length}
+use Rattle.std.specs.Prelude.{◌≡◌, ℕ, ◌<◌, ◌≤◌, List, [], ◌∷◌, ◌++◌, length}
 use Rattle.kw_model.specs.declared.call.Call.{Call}
 use Rattle.kw_model.specs.declared.call.Reply.{Reply}
 use Rattle.kw_world.specs.Sizes.{product}
-use Rattle.kw_core.specs.SeatCalls.{CallSeen, calls_seen}
+use Rattle.kw_core.specs.SeatCalls.{CallSeen, calls_seen, begun_at, ended_at}
 use Rattle.kw_table.specs.declared.pass.Pass.{Pass}
 use Rattle.kw_table.specs.Passes.{view}
 
@@ -15,14 +15,6 @@ calls_in p = calls_seen product (view p).opening (view p).number (view p).seen
 abbrev pub now_in : Pass → ℕ
 now_in p = length (view p).seen
 
--- a call that has begun
-abbrev pub begun : ℕ → Call → ℕ → CallSeen
-begun number call first = record { number = number; call = call; first = first; end = None }
-
--- the call, ended at this position with this reply
-abbrev pub ended : ℕ → Reply → CallSeen → CallSeen
-ended last reply c = record { number = c.number; call = c.call; first = c.first; end = Some (record { at = last; reply = reply }) }
-
 -- the pass's calls are as they were
 abbrev pub Keeps : Pass → Pass → Type 0
 Keeps p q = calls_in q ≡ calls_in p
@@ -32,13 +24,13 @@ pub record Opens (p q : Pass) (call : Call) : Type 0 where
   pub first : ℕ
   pub number : ℕ
   pub begins : now_in p ≤ first
-  pub calls : calls_in q ≡ calls_in p ++ begun number call first ∷ []
+  pub calls : calls_in q ≡ calls_in p ++ begun_at first number call ∷ []
 
 -- the last call ends with this reply, within what the pass has now seen
 pub record Closes (p q : Pass) (reply : Reply) : Type 0 where
   pub last : ℕ
   pub ends : last < now_in q
-  pub calls : (earlier : List CallSeen) (c : CallSeen) → calls_in p ≡ earlier ++ c ∷ [] → calls_in q ≡ earlier ++ ended last reply c ∷ []
+  pub calls : (earlier : List CallSeen) (c : CallSeen) → calls_in p ≡ earlier ++ c ∷ [] → calls_in q ≡ earlier ++ ended_at last reply c ∷ []
 
 -- the pass made one whole call, which was its next one, within what it has seen since
 pub record Calls (p q : Pass) (call : Call) (reply : Reply) : Type 0 where
@@ -47,4 +39,4 @@ pub record Calls (p q : Pass) (call : Call) (reply : Reply) : Type 0 where
   pub number : ℕ
   pub begins : now_in p ≤ first
   pub ends : last < now_in q
-  pub calls : calls_in q ≡ calls_in p ++ ended last reply (begun number call first) ∷ []
+  pub calls : calls_in q ≡ calls_in p ++ ended_at last reply (begun_at first number call) ∷ []

@@ -1,7 +1,8 @@
 -- How code follows a pass: it holds what the pass's seat knows, but for the number of its calls and the pairs of a scan.
 --
 -- A pass holds no count of its calls, and a map has no memory for the pairs of a scan: they go to whoever asked for them. So the code
--- has a local that is like that of the seat in all else, and `Follows` says so. The pairs that the seat has are `held`.
+-- has a local that is like that of the seat in all else, and `Follows` says so: `knows` that the two are alike, and `carries` what stands
+-- in place of the rest. The pairs that the seat has are `held`.
 use Rattle.std.specs.Prelude.{◌≡◌, ℕ, List, []}
 use mathlib.Core.List.{IsPrefix}
 use Rattle.kw_model.specs.declared.call.Reply.{Reply}
@@ -34,6 +35,10 @@ bare_activity a = a
 abbrev pub known : Local → Local
 known l = record l { activity = bare_activity l.activity; number = 0; pairs = [] }
 
+-- what code that follows a seat has, where the seat knows this: it has no pairs, and counts the call that it makes as its first one
+abbrev pub carried : Local → Local
+carried l = record l { activity = bare_activity l.activity; number = 1; pairs = [] }
+
 -- the pairs of a reply, and others where it has none
 abbrev pub pairs_or : List (ℕ × ℕ) → Reply → List (ℕ × ℕ)
 pairs_or others (Pairs pairs) = pairs
@@ -56,6 +61,7 @@ activity_in p = (local_in (view p)).activity
 pub record Follows (s : Shared) (p : Pass) (l : Local) : Type 0 where
   pub of_table : IsPassOf s p
   pub knows : known (local_in (view p)) ≡ known l
+  pub carries : l ≡ carried (local_in (view p))
 
 -- the pass went on: its number and the opening are as before, and it has seen what it had seen and more
 pub record GoesTo (s : Shared) (p q : Pass) : Type 0 where

@@ -9,7 +9,7 @@ ghost use Rattle.kw_live.specs.Following.{Follows, GoesTo, activity_in, held, ba
 ghost use Rattle.kw_live.specs.Meeting.{MetClock};
 ghost use Rattle.kw_live.specs.Stages.{HasEntered};
 
-use crate::going::{begin, end, go};
+use crate::going::{begin, clear, end, go};
 use kw_model::call::{Call, Reply};
 use kw_table::{Pass, Shared};
 use kw_world::activity::Activity;
@@ -76,7 +76,7 @@ pub fn end_scan(shared: &Shared, pass: &mut Pass, local: &mut Local)
     ensures calls { Keeps pass.old pass.new }
     ensures held { held pass.new ≡ held pass.old }
 {
-    go(shared, pass, local, Choice::Go);
+    clear(shared, pass, local, Choice::Go);
 }
 
 /// Stops a scan that has read a row: it is then about to leave with `Stopped`.
@@ -90,7 +90,11 @@ pub fn stop_scan(shared: &Shared, pass: &mut Pass, local: &mut Local)
     ensures activity { local.new.activity ≡ Activity.Leave Reply.Stopped }
     ensures calls { Keeps pass.old pass.new }
 {
-    go(shared, pass, local, Choice::Stop);
+    if let Activity::ClearScan(_) = local.activity {
+        clear(shared, pass, local, Choice::Stop);
+    } else {
+        go(shared, pass, local, Choice::Stop);
+    }
 }
 
 /// Ends a call that is about to leave: the seat announces no epoch any more, and the pass is idle.

@@ -1,10 +1,11 @@
 //! Single events of a pass, and the local that follows its seat.
 //!
-//! The four functions are the core's `operation` and `resume` round a step of the table. All that the other modules know of events
+//! The functions are the core's `operation` and `resume` round a step of the table. All that the other modules know of events
 //! they know by these contracts.
 ghost use Rattle.std.specs.Prelude.{◌≡◌, true, false, [], Some};
 ghost use Rattle.kw_core.specs.Events.{is_call_in_range};
 ghost use Rattle.kw_world.specs.Row.{outcome};
+ghost use Rattle.kw_world.specs.RowScan.{reply_or_stopped};
 ghost use Rattle.kw_world.specs.RowWalk.{offered, is_stop};
 ghost use Rattle.kw_world.specs.Sizes.{product};
 ghost use Rattle.kw_world.specs.Step.{next_of};
@@ -46,7 +47,7 @@ pub(crate) fn begin(shared: &Shared, pass: &mut Pass, alloc: Global, call: Call)
     }
 }
 
-/// Makes the next event in the middle of a call, other than one that reads cells. The answer is what the event was told.
+/// Makes the next event in the middle of a call, other than one that reads cells or ends a scan. The answer is what the event was told.
 pub(crate) fn go(shared: &Shared, pass: &mut Pass, local: &mut Local, choice: Choice) -> u64
     requires follows { Follows shared.now pass.old local.old }
     requires within { IsWithinCall local.old.activity }
@@ -76,6 +77,26 @@ pub(crate) fn read(shared: &Shared, pass: &mut Pass, local: &mut Local)
     ensures calls { Keeps pass.old pass.new }
 {
     let told = make(shared, pass, Choice::Go, operation(pass.number(), local, Choice::Go));
+}
+
+/// Ends a scan: it is then about to leave, with its pairs, or with `Stopped` where the choice is to stop.
+pub(crate) fn clear(shared: &Shared, pass: &mut Pass, local: &mut Local, choice: Choice)
+    requires follows { Follows shared.now pass.old local.old }
+    requires over { (reply : Reply) × (local.old.activity ≡ Activity.ClearScan reply) }
+    requires choice { may_begin choice ≡ true }
+    ensures goes { GoesTo shared.now pass.old pass.new }
+    ensures follows { Follows shared.now pass.new local.new }
+    ensures leaves { (reply : Reply) → activity_in pass.old ≡ Activity.ClearScan reply → activity_in pass.new ≡ Activity.Leave (reply_or_stopped reply choice) }
+    ensures activity { (reply : Reply) → local.old.activity ≡ Activity.ClearScan reply → local.new.activity ≡ Activity.Leave (reply_or_stopped reply choice) }
+    ensures calls { Keeps pass.old pass.new }
+    ensures held { is_stop choice ≡ false → held pass.new ≡ held pass.old }
+{
+    let offered = choice.offered(shared.rows());
+    let told = make(shared, pass, choice, operation(pass.number(), local, offered));
+    match resume(local, offered, told) {
+        Ok(_) => (),
+        Err(_) => unreachable!(),
+    }
 }
 
 /// Ends the call: its last event. The answer is the reply, without the pairs of a scan.

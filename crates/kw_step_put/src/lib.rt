@@ -8,6 +8,7 @@
 #![tactic(auto)]
 
 pub mod operation;
+pub mod reading;
 pub mod resume;
 mod resume_cells;
 mod resume_entries;

@@ -11,7 +11,7 @@ ghost use Rattle.kw_world.specs.RowScan.{reply_or_stopped};
 ghost use Rattle.kw_world.specs.Sane.{IsLocal, HasRoom, CanBegin};
 ghost use Rattle.kw_world.specs.Step.{next_of};
 ghost use Rattle.kw_step_put.specs.Ends.{IsScanEnd, IsCallEnd};
-ghost use Rattle.kw_step_put.specs.RowEnd.{MayEndRow};
+ghost use Rattle.kw_world.specs.RowEnd.{MayEndRow};
 
 use crate::resume_cells::{cell_key, cell_value, cell_version, start_cells};
 use crate::resume_entries::{help, look, look_key};

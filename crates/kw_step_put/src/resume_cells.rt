@@ -1,7 +1,7 @@
 //! What a reader knows after its looks at the cells of a row, and after the last of them.
 //!
-//! The end of a row's cells has no event of its own: it follows from the event on the last cell. A get has its answer
-//! then. A scan adds the pairs of the row to its own, the one place of a step that takes memory, and goes on to the next
+//! `reading` has what the looks themselves tell. The end of a row's cells has no event of its own: it follows from the
+//! event on the last cell. A get has its answer then. A scan adds the pairs of the row to its own, the one place of a step that takes memory, and goes on to the next
 //! row or ends.
 ghost use Rattle.std.specs.Prelude.{◌≡◌, ◌+◌, ◌<◌, ◌≤◌, ◌++◌, true, length, if◌then◌else◌, IfOk, OnOk, OnErr};
 ghost use Rattle.kw_words.specs.Count.{count_of};
@@ -14,29 +14,17 @@ ghost use Rattle.kw_world.specs.Calls.{is_in_range, is_scan};
 ghost use Rattle.kw_world.specs.Row.{outcome, to, leave};
 ghost use Rattle.kw_world.specs.RowRead.{to_cell, row_read, row_scanned, scan_on, scan_ended, get_answered, version_in_hand, version_met, gathering, count_read};
 
+use crate::reading::{count_read, gather, hold_key, hold_version, key_in_range, version_in_hand};
 use crate::resume::{leave, to};
 use kw_cells::cell::{Cell, best, next_pair};
 use kw_model::call::{Call, Reply};
 use kw_model::memory::Memory;
 use kw_model::pair_list::PairList;
-use kw_words::count::Count;
-use kw_words::plain::{unpack_key, unpack_value, unpack_version};
-use kw_words::sizes::CELL_COUNT;
 use kw_world::activity::Activity;
-use kw_world::calls::{first_key, is_in_range};
+use kw_world::calls::first_key;
 use kw_world::event::StepDone;
 use kw_world::limits::NEWEST;
 use kw_world::local::Local;
-
-// How many cells of a row are read, where this count was found.
-fn count_read(found: u64) -> u32
-    ensures { result ≡ count_read product (count_of found) }
-{
-    match Count::unpack(found) {
-        Some(count) => count.given.min(CELL_COUNT),
-        None => 0,
-    }
-}
 
 // The seat was told the count of the row, and begins with the first cell.
 pub(crate) fn start_cells(local: &mut Local, found: u64) -> Result<StepDone, Memory>
@@ -62,15 +50,10 @@ pub(crate) fn cell_version(local: &mut Local, place: u32, found: u64) -> Result<
     ensures err { OnErr result (local.new ≡ local.old) }
     ensures scan { OnErr result (is_scan local.old.call ≡ true) }
 {
-    let version = match unpack_version(found) {
-        Some(version) => Some(version),
-        None => local.remembered.version(place),
-    };
-    match version {
+    match version_in_hand(local, place, found) {
         Some(version) => {
-            local.place = place;
-            local.place_version = version;
-            Ok(to(local, Activity::CellKey))
+            hold_version(local, place, version);
+            Ok(StepDone::Moved)
         }
         None => to_cell(local, place + 1),
     }
@@ -83,13 +66,15 @@ pub(crate) fn cell_key(local: &mut Local, found: u64) -> Result<StepDone, Memory
     ensures err { OnErr result (local.new ≡ local.old) }
     ensures scan { OnErr result (is_scan local.old.call ≡ true) }
 {
-    let key = unpack_key(found);
-    if is_in_range(local.call, key) {
-        local.place_key = key;
-        Ok(to(local, Activity::CellValue))
-    } else {
-        let next = local.place + 1;
-        to_cell(local, next)
+    match key_in_range(local, found) {
+        Some(key) => {
+            hold_key(local, key);
+            Ok(StepDone::Moved)
+        }
+        None => {
+            let next = local.place + 1;
+            to_cell(local, next)
+        }
     }
 }
 
@@ -103,12 +88,7 @@ pub(crate) fn cell_value(local: &mut Local, found: u64) -> Result<StepDone, Memo
 {
     let next = local.place + 1;
     let gathered = local.gathered.as_slice().len();
-    local.gathered.push(Cell {
-        key: local.place_key,
-        version: local.place_version,
-        place: local.place,
-        value: unpack_value(found),
-    });
+    gather(local, found);
     match to_cell(local, next) {
         Ok(done) => Ok(done),
         Err(memory) => {

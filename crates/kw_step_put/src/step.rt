@@ -3,7 +3,7 @@ ghost use Rattle.std.specs.Prelude.{◌≡◌, ◌<◌, length, IfOk, OnErr};
 ghost use Rattle.kw_world.specs.Sizes.{product};
 ghost use Rattle.kw_world.specs.Sane.{IsSane, CanStep, IsPutPart};
 ghost use Rattle.kw_world.specs.Step.{stepped, step};
-ghost use Rattle.kw_step_put.specs.RowEnd.{MayEndRowAt};
+ghost use Rattle.kw_world.specs.RowEnd.{MayEndRowAt};
 
 use crate::operation::put_operation;
 use crate::resume::put_resume;

@@ -15,3 +15,4 @@ pub mod Parts
 pub mod Step
 pub mod Opening
 pub mod Sane
+pub mod RowEnd
