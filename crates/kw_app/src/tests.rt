@@ -235,8 +235,14 @@ fn a_script_is_run_and_its_first_bad_line_is_named(rt: HostRuntime) -> Result<()
     assert_eq!(rt; ended.outcome, Outcome::of(Status::Done));
     assert_eq!(rt;
         ended.written.as_slice(),
-        b"1.1 scan 0 9: 5=10\n0.1 put 5 10: ok\n".as_slice()
+        b"1.1 scan 0 9: 5=10\n0.1 put 5 10: ok\norder 0.1 1.1\n".as_slice()
     );
+    let empty = ran(rt.alloc(), &["simulate"], Vec::new(rt.alloc()), &[], ROOM)?;
+    assert_eq!(rt; empty.outcome, Outcome::of(Status::Done));
+    assert_eq!(rt; empty.written.as_slice(), b"order none\n".as_slice());
+    let empty = ran(rt.alloc(), &["simulate"], Vec::new(rt.alloc()), &[], 7)?;
+    assert_eq!(rt; empty.outcome, Outcome::of(Status::WriteFault));
+    assert_eq!(rt; empty.written.as_slice(), b"order n".as_slice());
     let script = Vec::from_slice(rt.alloc(), b"call 0 put 5 10\ngo 0 0\n")?;
     let ended = ran(rt.alloc(), &["simulate"], script, &[], ROOM)?;
     assert_eq!(rt; ended.outcome, Outcome::bad_input(2));

@@ -1,37 +1,35 @@
 -- The laws, from what every event keeps.
-use Rattle.std.proofs.Common.{ℕ, zero, suc, ◌≡◌, ◌⊎◌, inl, inr, ◌<◌, ◌≤◌, Bool, true, false, Some, List, [], ◌∷◌, get_or, arith, refl, sym, ◌∙◌, subst, slice_get, length}
-use Rattle.std.proofs.lemmas.Option.{slice_get_within}
+use Rattle.std.proofs.Common.{ℕ, zero, suc, ◌≡◌, ◌<◌, ◌≤◌, true, Option, Some, None, List, [], ◌∷◌, get_or, arith, refl, sym, ◌∙◌, subst, slice_get, length}
 use Rattle.std.specs.Prelude.{Contains}
 use Rattle.kw_words.specs.declared.layout.Name.TheVariants as name
-use Rattle.kw_words.specs.declared.pend.Pend.TheVariants.{Idle, Pending, Stamped}
-use Rattle.kw_words.specs.declared.sizes.TheConstants.{MOST_CELLS}
-use Rattle.kw_words.specs.Pend.{pend_of, pend_word}
+use Rattle.kw_words.specs.declared.pend.Pend.{Pend}
+use Rattle.kw_words.specs.declared.pend.Pend.TheVariants.{Idle, Pending, Stamped, Frozen}
 use Rattle.kw_words.specs.Scan.{scan_of}
-use Rattle.kw_words.proofs.PendWords.{pend_of-Idle, pend_of-Pending, pend_of-Stamped}
 use Rattle.kw_words.proofs.ScanWords.{scan_of-Waiting}
 use Rattle.kw_cells.specs.declared.cell.Cell as kw_cell
 use Rattle.kw_model.specs.Map.{RisesFrom}
-use Rattle.kw_world.specs.declared.activity.Activity.TheVariants.{Announce, Stamp, ScanSettle}
+use Rattle.kw_world.specs.declared.activity.Activity.TheVariants.{ScanSettle}
 use Rattle.kw_world.specs.declared.local.Local.{Local}
 use Rattle.kw_world.specs.declared.opening.Opening.{Opening}
 use Rattle.kw_world.specs.declared.event.Event.{Event}
 use Rattle.kw_world.specs.Opening.{IsOpening}
 use Rattle.kw_world.specs.Sizes.{Sizes}
 use Rattle.kw_world.specs.Calls.{first_key}
-use Rattle.kw_world.specs.Sane.{IsVersion}
 use Rattle.kw_world.specs.Step.{word}
-use Rattle.kw_core.specs.History.{History, Attempt, LoadClock, attempt}
-use Rattle.kw_core.specs.HistoryLaws.{IsPut}
+use Rattle.kw_core.specs.History.{History}
 use Rattle.kw_core.specs.Events.{is_valid}
 use Rattle.kw_core.specs.Run.{Run, history}
-use Rattle.kw_core.specs.Stages.{IsPublished, IsPutting, IsKeeping, IsWaiting}
-use Rattle.kw_core.specs.Puts.{entry_of, IsPublishedAt}
+use Rattle.kw_core.specs.Shape.{Walks}
+use Rattle.kw_core.specs.Stages.{IsKeeping, IsWaiting}
 use Rattle.kw_core.specs.Readers.{IsDue, IsCopyOf, AreCopies}
 use Rattle.kw_core.specs.Replies.{RisesBelow}
 use Rattle.kw_core.specs.Inv.{Inv}
+use Rattle.kw_core.specs.Unfrozen.{HasCellOfOwn, IsUnfrozen}
 use Rattle.kw_core.specs.Laws.{IsIdleOrFrozen, HasCellOrFrozen, IsWaitingOrDrawn, IsGathered, KeepsLaws}
 use Rattle.kw_core.proofs.Attempts.{in_range}
 use Rattle.kw_core.proofs.Keeps.{inv_holds}
+use Rattle.kw_core.proofs.Walking.{past}
+use Rattle.kw_core.proofs.Unfrozen.{counts_hold, unfrozen}
 
 -- pairs that rise below a bound rise
 rising : (low bound : ℕ) (pairs : List (ℕ × ℕ)) → RisesBelow low bound pairs → RisesFrom low pairs
@@ -57,20 +55,34 @@ beside h q l (c ∷ cells) (x ∷ ids) p a n = which (λ m. beside h q l cells i
     which f zero o e = (c, (0, omega arith, refl), subst (IsCopyOf h q l.call c) e a.0)
     which f (suc k) o e = further (f (k, omega (arith, o), e))
 
--- the version of a stamped attempt is one
-pub version_in_range : (z : Sizes) (r : Run) → Inv z r → (p : ℕ) → IsPut r.history p → IsVersion (attempt r.history p).version
-version_in_range z r i p s =
-    let t = i.history.laws.loaded p s in
-    (i.positions.clocked.positive _ LoadClock _ t, omega (arith, i.positions.clocked.past _ LoadClock _ t, (i.shape.sane.each name.Clock tt).1))
+-- an idle entry, and one with a cell
+idle_or_frozen : (p : Option Pend) → p ≡ Some Idle → IsIdleOrFrozen p
+idle_or_frozen p e = subst IsIdleOrFrozen (sym e) tt
+
+cell_or_frozen : (own : ℕ) (p : Option Pend) → HasCellOfOwn own p → HasCellOrFrozen own p
+cell_or_frozen own (Some Idle) h = h
+cell_or_frozen own (Some (Pending cell)) h = h
+cell_or_frozen own (Some (Stamped cell version)) h = h
+cell_or_frozen own (Some Frozen) h = absurd h
+cell_or_frozen own None h = h
 
 -- the laws of a run in which all of it holds
-laws_from : (z : Sizes) (r : Run) → Inv z r → KeepsLaws z r
-laws_from z r i = record {
+laws_from : (z : Sizes) (r : Run) → Inv z r → IsUnfrozen z r.world → KeepsLaws z r
+laws_from z r i u = record {
   sane = i.shape.sane;
   links = λ q n. i.shape.chain.rises q n;
+  walks = i.shape.walks;
+  climbs = λ t l g a. let x = subst (λ q. Walks r.world.rows (word z r.world) q l) a (i.shape.walks t l g) in omega (arith, x.lower tt, i.shape.chain.rises l.row l.candidate x.on.0 x.on.2);
+  climbs_on = λ t l g y n e.
+      let x = i.shape.walks t l g in
+      let at = x.at y in
+      omega (arith, x.lower (past l.activity y), at.upper n e, i.shape.chain.rises l.row n at.linked (sym at.next ∙ e));
   pairs = λ t l g s c. let x = (i.replies.pairs t l g).covers s c in rising_from 0 (first_key l.call) l.pairs (omega arith) (rising (first_key l.call) l.want l.pairs x.rises);
-  announces = announces;
-  stamps = stamps;
+  below = λ t l g s c. let x = i.replies.pairs t l g in record { rises = (x.covers s c).rises; from = x.from s c; upto = x.upto s c };
+  early = λ t l g. (i.replies.pairs t l g).early;
+  unfrozen = u;
+  announces = λ t l g a. idle_or_frozen _ (u.announces t l g a);
+  stamps = λ t l g a. cell_or_frozen l.cell _ (u.stamps t l g a);
   settles = settles;
   stamped = λ p h. let a = i.history.laws.attempted p (in_range r.history p h) in record { announced = a.load h; load = a.at h; found = i.history.laws.loaded p h };
   seen = seen;
@@ -79,37 +91,6 @@ laws_from z r i = record {
   history = i.history.laws;
 }
   where
-    seat : (t : ℕ) (l : Local) → slice_get r.world.locals t ≡ Some l → t < z.seats
-    seat t l g = omega (arith, slice_get_within r.world.locals t l g, i.shape.sane.seats)
-
-    announces : (t : ℕ) (l : Local) → slice_get r.world.locals t ≡ Some l → l.activity ≡ Announce → IsIdleOrFrozen (pend_of (word z r.world (name.Pend l.row t)))
-    announces t l g a = which (i.puts.entry l.row t (i.shape.sane.locals t l g).below.row (seat t l g))
-      where
-        which : (word z r.world (name.Pend l.row t) ≡ pend_word Idle) ⊎ IsPublishedAt (slice_get r.world.locals) l.row t → IsIdleOrFrozen (pend_of (word z r.world (name.Pend l.row t)))
-        which (inl e) = rw (e, pend_of-Idle) tt
-        which (inr p) =
-            let x : Some l ≡ Some p.local = sym g ∙ p.knows in
-            let y : l ≡ p.local = cc in
-            absurd (subst IsPublished a (subst (λ u. IsPublished u.activity) (sym y) p.published))
-
-    entry : (e : Attempt) (cell w : ℕ) → e.cell ≡ cell → cell < MOST_CELLS → (e.is_stamped ≡ true → IsVersion e.version) → w ≡ entry_of e → HasCellOrFrozen cell (pend_of w)
-    entry e cell w c o f h = met e.is_stamped refl
-      where
-        met : (b : Bool) → e.is_stamped ≡ b → HasCellOrFrozen cell (pend_of w)
-        met true y =
-            let x : w ≡ pend_word (Stamped e.cell e.version) = rw y at h in
-            let g = f y in
-            rw (x, pend_of-Stamped e.cell e.version (omega (arith, c, o)) g.0 g.1) c
-        met false y =
-            let x : w ≡ pend_word (Pending e.cell) = rw y at h in
-            rw (x, pend_of-Pending e.cell (omega (arith, c, o))) c
-
-    stamps : (t : ℕ) (l : Local) → slice_get r.world.locals t ≡ Some l → l.activity ≡ Stamp → HasCellOrFrozen l.cell (pend_of (word z r.world (name.Pend l.row t)))
-    stamps t l g a =
-        let p : IsPutting l.activity = subst IsPutting (sym a) tt in
-        let o = i.puts.owns t l g p in
-        entry (attempt r.history (r.seats t).own) l.cell _ o.cell (omega (arith, (i.shape.sane.locals t l g).ranges.cell, i.shape.sane.sized.few_cells)) (λ s. version_in_range z r i (r.seats t).own s) (o.entry (subst IsPublished (sym a) tt))
-
     settles : (t : ℕ) (l : Local) → slice_get r.world.locals t ≡ Some l → l.activity ≡ ScanSettle → IsWaitingOrDrawn l.waiting (scan_of (word z r.world (name.Scan t)))
     settles t l g a =
         let w = (i.shape.sane.locals t l g).ranges.waiting in
@@ -123,4 +104,6 @@ laws_from z r i = record {
 
 -- every valid list from an opening keeps the laws
 pub laws_hold : (z : Sizes) (o : Opening) → IsOpening z o → (es : List Event) → is_valid z o es ≡ true → KeepsLaws z (history z o es)
-laws_hold z o i es v = laws_from z (history z o es) (inv_holds z o i es v)
+laws_hold z o i es v =
+    let all = inv_holds z o i es v in
+    laws_from z (history z o es) all (unfrozen z (history z o es) all (counts_hold z o i es v))

@@ -56,6 +56,7 @@ pub mod Recorded
 pub mod CanRecord
 pub mod Records
 pub mod EndedCalls
+pub mod Unfrozen
 pub mod LawProofs
 pub mod Worlds
 pub mod Ends

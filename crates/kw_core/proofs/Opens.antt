@@ -175,7 +175,7 @@ module _ (z : Sizes) (o : Opening) (i : IsOpening z o) where
     clock = omega (arith, opens name.Clock tt, no_drawers o.seats, i.clock);
     chain = chain_starts;
     kinds = each_rests z o (λ t l. Kinds l.activity l) (λ t. record { kind = tt; range = λ x. absurd x });
-    walks = each_rests z o (λ t l. Walks o.rows (word z (opened z o)) l.activity l) (λ t. record { on = tt; at = λ x. absurd x; begins = λ x. absurd x; wants = λ x. absurd x });
+    walks = each_rests z o (λ t l. Walks o.rows (word z (opened z o)) l.activity l) (λ t. record { on = tt; lower = λ x. absurd x; at = λ x. absurd x; begins = λ x. absurd x; wants = λ x. absurd x });
   }
 
   pub puts_start : Puts z (start z o)

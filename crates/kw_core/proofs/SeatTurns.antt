@@ -111,7 +111,7 @@ module _ (z : Sizes) (r r' : Run) (s : ℕ) (choice : Choice) (l l' : Local) (a 
 
   pub seen_own : AreLatest r → seen_by s r'.history.calls ≡ seen_after a choice l.number (length r.history.log) (seen_by s r.history.calls)
   unfolding new called
-  seen_own latest = subst (λ b. seen_by s r'.history.calls ≡ seen_after b choice l.number (length r.history.log) (seen_by s r.history.calls)) refl (which a refl)
+  seen_own latest = which a refl
     where
       stays : (b : Activity) → a ≡ b → IsUnderway b → IsBusy b → seen_by s r'.history.calls ≡ seen_by s r.history.calls
       stays b e u v = seen_alike (subst IsBusy (sym e) v) s (λ reply j q. subst IsUnderway (sym e ∙ j) u)

@@ -91,6 +91,7 @@ chain_stable rows v v' same c = record {
 pub walks_stable : (rows : ℕ) (v v' : Words) (a : Activity) (l : Local) → SameRows rows v v' → Chain rows v → l.row < rows → Walks rows v a l → Walks rows v' a l
 walks_stable rows v v' a l same c o w = record {
   on = on_walk a w.on;
+  lower = λ y. w.lower y ∙ sym (least_same rows v v' same l.row o);
   at = λ y. let x = w.at y in record {
     linked = linked_now rows v v' same l.row x.linked;
     from = omega (arith, x.from, least_same rows v v' same l.row o);

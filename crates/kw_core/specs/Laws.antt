@@ -1,5 +1,5 @@
 -- The laws over all valid lists of events.
-use Rattle.std.specs.Prelude.{ℕ, ◌≡◌, ◌<◌, true, Option, Some, None, Contains, slice_get}
+use Rattle.std.specs.Prelude.{ℕ, ◌≡◌, ◌<◌, ◌≤◌, true, Option, Some, None, [], Contains, slice_get}
 use Rattle.kw_words.specs.declared.layout.Name.TheVariants as name
 use Rattle.kw_words.specs.declared.pend.Pend.{Pend}
 use Rattle.kw_words.specs.declared.pend.Pend.TheVariants.{Idle, Pending, Stamped, Frozen}
@@ -9,18 +9,20 @@ use Rattle.kw_words.specs.Pend.{pend_of}
 use Rattle.kw_words.specs.Scan.{scan_of}
 use Rattle.kw_cells.specs.declared.cell.Cell as kw_cell
 use Rattle.kw_model.specs.Map.{IsRising}
-use Rattle.kw_world.specs.declared.activity.Activity.TheVariants.{Announce, Stamp, ScanSettle}
+use Rattle.kw_world.specs.declared.activity.Activity.TheVariants.{WalkMin, Announce, Stamp, ScanSettle}
 use Rattle.kw_world.specs.declared.local.Local.{Local}
 use Rattle.kw_world.specs.Sizes.{Sizes}
-use Rattle.kw_world.specs.Calls.{is_scan}
+use Rattle.kw_world.specs.Calls.{first_key, last_key, is_scan}
 use Rattle.kw_world.specs.Sane.{IsSane}
 use Rattle.kw_world.specs.Step.{word}
 use Rattle.kw_core.specs.History.{History, LoadClock, attempt, Stands}
 use Rattle.kw_core.specs.HistoryLaws.{HistoryLaws, IsPut}
 use Rattle.kw_core.specs.Run.{Run}
-use Rattle.kw_core.specs.Stages.{IsAtRow, IsCovering, IsKeeping}
-use Rattle.kw_core.specs.Shape.{IsLinked, HoldsKey, next_in, least_in}
+use Rattle.kw_core.specs.Stages.{IsAtRow, IsCovering, IsEarly, IsKeeping}
+use Rattle.kw_core.specs.Shape.{IsLinked, HoldsKey, next_in, least_in, Walks}
 use Rattle.kw_core.specs.Readers.{IsDue, IsCopyOf}
+use Rattle.kw_core.specs.Replies.{RisesBelow}
+use Rattle.kw_core.specs.Unfrozen.{IsUnfrozen}
 
 -- the entry is idle or frozen
 abbrev pub IsIdleOrFrozen : Option Pend → Type 0
@@ -59,14 +61,33 @@ pub record IsGathered (r : Run) (q : ℕ) (l : Local) (p : ℕ) : Type 0 where
   pub among : Contains l.gathered cell
   pub copy : IsCopyOf r.history q l.call cell p
 
+-- the pairs that a scan has rise and lie below the key that it wants next, which is in its range
+pub record IsBelowWanted (l : Local) : Type 0 where
+  pub rises : RisesBelow (first_key l.call) l.want l.pairs
+  pub from : first_key l.call ≤ l.want
+  pub upto : l.want ≤ last_key l.call
+
 -- what every valid list keeps
 pub record KeepsLaws (z : Sizes) (r : Run) : Type 0 where
   -- every word is one that may stand under its name, and all that a seat knows is in range
   pub sane : IsSane z r.world
   -- a row that is met along a link has a greater minimum than the row whose link it was
   pub links : (q n : ℕ) → IsLinked r.world.rows (word z r.world) q → next_in (word z r.world) q ≡ Some n → least_in (word z r.world) q < least_in (word z r.world) n
+  -- each seat is where its call has it: on its walk at a row of the list whose minimum it knows, and at the row of its key with the
+  -- row after it
+  pub walks : (t : ℕ) (l : Local) → slice_get r.world.locals t ≡ Some l → Walks r.world.rows (word z r.world) l.activity l
+  -- a walk goes up: the row after the one that it is at has a greater minimum than the seat knows of its own, and so has the row
+  -- after that of its key
+  pub climbs : (t : ℕ) (l : Local) → slice_get r.world.locals t ≡ Some l → l.activity ≡ WalkMin → l.lower < least_in (word z r.world) l.candidate
+  pub climbs_on : (t : ℕ) (l : Local) → slice_get r.world.locals t ≡ Some l → IsAtRow l.activity → (n : ℕ) → l.next ≡ Some n → l.lower < l.upper
   -- the pairs that a scan has added rise by key
   pub pairs : (t : ℕ) (l : Local) → slice_get r.world.locals t ≡ Some l → is_scan l.call ≡ true → IsCovering l.activity → IsRising l.pairs
+  -- they are keys of its range below the one that it wants next
+  pub below : (t : ℕ) (l : Local) → slice_get r.world.locals t ≡ Some l → is_scan l.call ≡ true → IsCovering l.activity → IsBelowWanted l
+  -- a call that has read no row has no pairs
+  pub early : (t : ℕ) (l : Local) → slice_get r.world.locals t ≡ Some l → IsEarly l.activity → l.pairs ≡ []
+  -- no count is frozen and no entry, as long as no row is rebalanced
+  pub unfrozen : IsUnfrozen z r.world
   -- a seat that is to announce a cell finds its entry idle or frozen
   pub announces : (t : ℕ) (l : Local) → slice_get r.world.locals t ≡ Some l → l.activity ≡ Announce → IsIdleOrFrozen (pend_of (word z r.world (name.Pend l.row t)))
   -- a seat that is to stamp its cell finds its entry pending or stamped with it, or frozen

@@ -17,6 +17,7 @@ pub mod Positions
 pub mod Readers
 pub mod Replies
 pub mod Inv
+pub mod Unfrozen
 pub mod Laws
 pub mod Example
 pub mod Mirror

@@ -91,9 +91,11 @@ IsOnWalk WalkMin rows v l = IsLinked rows v l.row × (least_in v l.row ≤ l.wan
 IsOnWalk _ rows v l = Unit {0}
 
 -- what a seat's walk is at. A put, a delete or a get wants its key throughout; a scan wants its first key, or the minimum of the
--- row to which it went on
+-- row to which it went on. From the first row on the seat knows the minimum of the row that it is at; as minima rise along the
+-- links, so does what it knows from row to row, and the walk ends
 pub record Walks (rows : ℕ) (v : Words) (a : Activity) (l : Local) : Type 0 where
   pub on : IsOnWalk a rows v l
+  pub lower : IsPastStart a → l.lower ≡ least_in v l.row
   pub at : IsAtRow a → IsAtItsRow rows v l
   pub begins : IsStarting a → l.want ≡ first_key l.call
   pub wants : IsPastStart a → (l.want ≡ first_key l.call) ⊎ (is_scan l.call ≡ true) × (least_in v l.row ≡ l.want)

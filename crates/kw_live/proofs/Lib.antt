@@ -1,3 +1,6 @@
+pub mod Fronts
+pub mod PutStages
+pub mod WalkStages
 pub mod Carrying
 pub mod Drawing
 pub mod Ends

@@ -2,5 +2,6 @@ pub mod Following
 pub mod Calling
 pub mod Meeting
 pub mod Stages
+pub mod Walking
 pub mod Putting
 pub mod Reading

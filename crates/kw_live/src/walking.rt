@@ -6,6 +6,7 @@ ghost use Rattle.kw_live.specs.Calling.{Keeps};
 ghost use Rattle.kw_live.specs.Following.{Follows, GoesTo, held};
 ghost use Rattle.kw_live.specs.Meeting.{BeginsWith};
 ghost use Rattle.kw_live.specs.Stages.{arrived, guessing};
+ghost use Rattle.kw_live.specs.Walking.{IsUnderWay, WalksOn};
 
 use crate::going::go;
 use kw_table::{Pass, Shared};
@@ -34,12 +35,46 @@ pub fn locate(shared: &Shared, pass: &mut Pass, local: &mut Local, guess: Option
     ensures held { held pass.new ≡ held pass.old }
 {
     if let Activity::Start = local.activity {
-        let choice = match guess {
-            Some(row) => Choice::Guess(row),
-            None => Choice::Go,
-        };
-        go(shared, pass, local, choice);
+        set_out(shared, pass, local, guess);
     }
+    walk(shared, pass, local);
+}
+
+// The first event of a walk.
+fn set_out(shared: &Shared, pass: &mut Pass, local: &mut Local, guess: Option<u32>)
+    requires follows { Follows shared.now pass.old local.old }
+    requires start { local.old.activity ≡ Activity.Start }
+    ensures goes { GoesTo shared.now pass.old pass.new }
+    ensures follows { Follows shared.now pass.new local.new }
+    ensures walks { WalksOn local.old local.new }
+    ensures guess { BeginsWith pass.old pass.new (guessing guess) }
+    ensures calls { Keeps pass.old pass.new }
+    ensures held { held pass.new ≡ held pass.old }
+{
+    go(shared, pass, local, choice_of(guess));
+}
+
+// The choice with which a walk begins.
+fn choice_of(guess: Option<u32>) -> Choice
+    ensures { result ≡ guessing guess }
+{
+    match guess {
+        Some(row) => Choice::Guess(row),
+        None => Choice::Go,
+    }
+}
+
+// The events of a walk up to the row of the key.
+fn walk(shared: &Shared, pass: &mut Pass, local: &mut Local)
+    requires follows { Follows shared.now pass.old local.old }
+    requires under_way { IsUnderWay local.old.call local.old.activity }
+    ensures goes { GoesTo shared.now pass.old pass.new }
+    ensures follows { Follows shared.now pass.new local.new }
+    ensures walks { WalksOn local.old local.new }
+    ensures arrived { local.new.activity ≡ arrived local.old.call }
+    ensures calls { Keeps pass.old pass.new }
+    ensures held { held pass.new ≡ held pass.old }
+{
     while local.activity.is_walking() {
         go(shared, pass, local, Choice::Go);
     }

@@ -3,7 +3,7 @@
 //! A `Trace` begins with an opening world and grows by one event at a time; whoever may make events at all may push them here.
 //! Its world and its record follow the events and are never set, and so every law of lists of events holds of it: `push` and the
 //! two functions on traces have these laws as their clauses.
-ghost use Rattle.std.specs.Prelude.{◌≡◌, ◌<◌, ◌++◌, ◌↔◌, true, Some, [], List, ℕ, IfOk, OnErr, slice_get};
+ghost use Rattle.std.specs.Prelude.{◌≡◌, ◌<◌, ◌++◌, ◌↔◌, true, Some, [], List, ℕ, IfOk, OnErr, length, slice_get};
 ghost use Rattle.kw_world.specs.declared.event.Event.{Event};
 ghost use Rattle.kw_world.specs.declared.local.Local.{Local};
 ghost use Rattle.kw_world.specs.Sizes.{product};
@@ -121,6 +121,7 @@ impl Trace {
     pub fn world(&self) -> &World
         ensures value { result.now ≡ world_of self.now }
         ensures sane { IsSane product result.now }
+        ensures seats { length result.now.locals ≡ self.now.opening.seats }
     {
         &self.world
     }

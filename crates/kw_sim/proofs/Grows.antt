@@ -5,12 +5,15 @@ use Rattle.kw_model.specs.declared.call.Call.{Call}
 use Rattle.kw_words.specs.declared.kind.Kind.{Kind}
 use Rattle.kw_world.specs.declared.event.Event.{Event}
 use Rattle.kw_world.specs.declared.event.Choice.TheVariants.{Guess, Stop}
+use Rattle.kw_world.specs.declared.event.StepDone.{StepDone}
+use Rattle.kw_world.specs.declared.event.StepDone.TheVariants.{Moved, Ended, Skipped}
+use Rattle.kw_order.specs.Trace.{TraceView, pushed}
 use Rattle.kw_sim.specs.declared.command.Command.{Command}
 use Rattle.kw_sim.specs.declared.command.Command.TheVariants as command
 use Rattle.kw_sim.specs.declared.parse.TheConstants.{MOST_STEPS}
 use Rattle.kw_sim.specs.Script.{IsCommand}
 use Rattle.kw_sim.specs.State.{State, queue_of}
-use Rattle.kw_sim.specs.Meaning.{event, made_of, kind_at, after_event, is_idle, taken, next_event, seat_step, go, until, is_kind, after_command}
+use Rattle.kw_sim.specs.Meaning.{event, done_by, kind_at, after_event, is_idle, taken, next_event, seat_step, go, until, is_kind, after_command}
 use Rattle.kw_sim.proofs.Steps.{taken-trace}
 
 -- at most so many events more, with the same opening
@@ -24,13 +27,20 @@ grows_none n st = record { opening = refl; events = omega arith }
 grows_both : (m n k : ℕ) (a b c : State) → m + n ≤ k → Grows m a b → Grows n b c → Grows k a c
 grows_both m n k a b c h g f = record { opening = f.opening ∙ g.opening; events = omega (arith, f.events, g.events) }
 
+-- an event adds itself at most
+push_grows : (t : TraceView) (e : Event) (done : StepDone) → length (pushed t e done).events ≤ length t.events + 1
+push_grows t e Moved = omega (arith, length-append t.events (e ∷ []))
+push_grows t e (Ended reply) = omega (arith, length-append t.events (e ∷ []))
+push_grows t e Skipped = omega arith
+
+push_opening : (t : TraceView) (e : Event) (done : StepDone) → (pushed t e done).opening ≡ t.opening
+push_opening t e Moved = refl
+push_opening t e (Ended reply) = refl
+push_opening t e Skipped = refl
+
 pub event_grows : (e : Event) (st : State) → Grows 1 st (after_event e st)
 unfolding after_event
-event_grows e st = by_kind (kind_at e st)
-  where
-    by_kind : (k : Option Kind) → Grows 1 st (made_of k e st)
-    by_kind (Some k) = record { opening = refl; events = omega (arith, length-append st.trace.events (e ∷ [])) }
-    by_kind None = grows_none 1 st
+event_grows e st = record { opening = push_opening st.trace e (done_by e st); events = push_grows st.trace e (done_by e st) }
 
 pub step_grows : (s : ℕ) (st : State) → Grows 1 st (seat_step s st)
 unfolding seat_step

@@ -15,9 +15,9 @@ use Rattle.kw_world.specs.Step.{step, is_skipped}
 use Rattle.kw_sim.specs.declared.command.Command.{Command}
 use Rattle.kw_sim.specs.declared.parse.TheConstants.{MOST_LINES, MOST_STEPS}
 use Rattle.kw_sim.specs.Script.{IsCommand}
-use Rattle.kw_sim.specs.TraceView.{TraceView, world_of, pushed}
+use Rattle.kw_order.specs.Trace.{TraceView, world_of, pushed}
 use Rattle.kw_sim.specs.State.{State, queue_of, with_queue}
-use Rattle.kw_sim.specs.Meaning.{printed, call_made, made, kind_at, makes_none, is_idle, taken, next_event, seat_step, go, until, missed, after_command, after_commands, first_state, script_state}
+use Rattle.kw_sim.specs.Meaning.{printed, call_made, done_by, after_event, kind_at, makes_none, is_idle, taken, next_event, seat_step, go, until, missed, after_command, after_commands, first_state, script_state}
 use Rattle.kw_sim.specs.Printed.{done_text}
 use Rattle.kw_sim.proofs.Steps.{still, go_still, until_still, queue_empty}
 use Rattle.kw_sim.proofs.Grows.{command_grows}
@@ -28,13 +28,14 @@ pub idle_is : (s : ℕ) (st : State) (w : WorldView) (l : Local) (b : Bool) → 
 idle_is s st w l b world knows is =
     is ∙ (sym (ap makes_none knows) ∙ ap (λ (x : WorldView). makes_none (slice_get x.locals s)) world)
 
--- an event that was made
-pub made_is : (st : State) (trace : TraceView) (text : List ℕ) (e : Event) (w : WorldView) (l : Local) (call : Call) (done : StepDone) → trace ≡ pushed e st.trace → w ≡ world_of st.trace → slice_get w.locals e.seat ≡ Some l → call ≡ call_made l → done ≡ (step product (world_of st.trace) e).done
-    → text ≡ st.text ++ done_text e.seat l.number call done → record { trace = trace; queues = st.queues; text = text } ≡ made e st
-made_is st trace text e w l call done t world knows same_call d x =
+-- an event, by a trace and a print
+pub event_is : (st : State) (trace : TraceView) (text : List ℕ) (e : Event) (w : WorldView) (l : Local) (call : Call) (done : StepDone) → trace ≡ pushed st.trace e done → w ≡ world_of st.trace → slice_get w.locals e.seat ≡ Some l → call ≡ call_made l → done ≡ (step product (world_of st.trace) e).done
+    → text ≡ st.text ++ done_text e.seat l.number call done → record { trace = trace; queues = st.queues; text = text } ≡ after_event e st
+unfolding after_event
+event_is st trace text e w l call done t world knows same_call d x =
     let there : slice_get (world_of st.trace).locals e.seat ≡ Some l = subst (λ (y : WorldView). slice_get y.locals e.seat ≡ Some l) world knows in
-    let same : text ≡ (made e st).text = x ∙ ap (λ (y : Call). st.text ++ done_text e.seat l.number y done) same_call ∙ ap (λ (y : StepDone). st.text ++ printed e.seat (Some l) y) d ∙ ap (λ (y : Option Local). st.text ++ printed e.seat y (step product (world_of st.trace) e).done) (sym there) in
-    ap (λ (y : TraceView). record { trace = y; queues = st.queues; text = text }) t ∙ ap (λ (y : List ℕ). record { trace = pushed e st.trace; queues = st.queues; text = y }) same
+    let same : text ≡ st.text ++ printed e.seat (slice_get (world_of st.trace).locals e.seat) (done_by e st) = x ∙ ap (λ (y : Call). st.text ++ done_text e.seat l.number y done) same_call ∙ ap (λ (y : StepDone). st.text ++ printed e.seat (Some l) y) d ∙ ap (λ (y : Option Local). st.text ++ printed e.seat y (done_by e st)) (sym there) in
+    ap (λ (y : TraceView). record { trace = y; queues = st.queues; text = text }) (t ∙ ap (pushed st.trace e) d) ∙ ap (λ (y : List ℕ). record { trace = pushed st.trace e (done_by e st); queues = st.queues; text = y }) same
 
 -- the queue of a seat that is there
 pub queue_there : (s : ℕ) (st : State) (q : List Call) → s < length st.queues → q ≡ get_or st.queues s q → queue_of s st ≡ q

@@ -1,7 +1,7 @@
 -- Steps of a seat: what nothing changes, and how the loops over them go.
 use Rattle.std.proofs.Common.{ℕ, zero, suc, ◌≡◌, ◌+◌, ◌<◌, ◌≤◌, Bool, true, false, cond, Option, Some, None, List, [], ◌∷◌, ◌++◌, length, refl, sym, ap, subst, ◌∙◌, arith, slice_get, slice_set, unwrap_or, eq-eqb, ne_eqb, eqb, get_or}
 use Rattle.std.proofs.lemmas.Option.{unwrap_or-slice_get}
-use Rattle.std.proofs.lemmas.List.{set-get_or}
+use Rattle.std.proofs.lemmas.List.{set-get_or, append-nil}
 use Rattle.std.proofs.lemmas.Bool.{cases_eq}
 use Rattle.kw_model.specs.declared.call.Call.{Call}
 use Rattle.kw_words.specs.declared.kind.Kind.{Kind}
@@ -15,10 +15,10 @@ use Rattle.kw_world.specs.declared.event.StepDone.TheVariants.{Moved, Ended, Ski
 use Rattle.kw_world.specs.declared.local.Local.{Local}
 use Rattle.kw_world.specs.Sizes.{product}
 use Rattle.kw_world.specs.WorldView.{WorldView}
-use Rattle.kw_world.specs.Step.{step, kind_of, kind_from, is_skipped}
-use Rattle.kw_sim.specs.TraceView.{TraceView, world_of, pushed}
+use Rattle.kw_world.specs.Step.{step, step_of, kind_of, kind_from, is_skipped}
+use Rattle.kw_order.specs.Trace.{TraceView, world_of, pushed}
 use Rattle.kw_sim.specs.State.{State, queue_of, with_queue}
-use Rattle.kw_sim.specs.Meaning.{event, printed, made, made_of, kind_at, after_event, makes_none, is_idle, next_choice, taken, next_event, seat_step, go, until, is_kind, missed}
+use Rattle.kw_sim.specs.Meaning.{event, printed, done_by, kind_at, after_event, makes_none, is_idle, next_choice, taken, next_event, seat_step, go, until, is_kind, missed}
 
 -- Taking a call leaves the events.
 
@@ -29,13 +29,31 @@ taken-trace false calls s st = refl
 
 -- A step of no kind changes nothing.
 
+-- an event of no kind is skipped
+skipped : (w : WorldView) (e : Event) → kind_of product w e ≡ None → (step product w e).done ≡ Skipped
+unfolding kind_of step
+skipped w e none = go (slice_get w.locals e.seat) none
+  where
+    moved : (l : Local) (b : Bool) → is_skipped l.activity e.choice ≡ b → kind_from product w e (Some l) ≡ None → (step_of product w e (Some l)).done ≡ Skipped
+    moved l true h n = rw h refl
+    moved l false h n = let m = rw h at n in cc
+
+    go : (x : Option Local) → kind_from product w e x ≡ None → (step_of product w e x).done ≡ Skipped
+    go (Some l) n = moved l (is_skipped l.activity e.choice) refl n
+    go None n = refl
+
+-- a skipped event prints nothing
+prints_none : (s : ℕ) (l : Option Local) → printed s l Skipped ≡ []
+prints_none s (Some l) = refl
+prints_none s None = refl
+
 pub none_made : (e : Event) (st : State) → kind_at e st ≡ None → after_event e st ≡ st
 unfolding after_event
-none_made e st h = ap (λ (k : Option Kind). made_of k e st) h
-
-pub some_made : (e : Event) (st : State) (k : Kind) → kind_at e st ≡ Some k → after_event e st ≡ made e st
-unfolding after_event
-some_made e st k h = ap (λ (x : Option Kind). made_of x e st) h
+none_made e st h =
+    let none : done_by e st ≡ Skipped = skipped (world_of st.trace) e h in
+    let l = slice_get (world_of st.trace).locals e.seat in
+    ap (λ (d : StepDone). record { trace = pushed st.trace e d; queues = st.queues; text = st.text ++ printed e.seat l d }) none
+    ∙ ap (λ (x : List ℕ). record { trace = st.trace; queues = st.queues; text = x }) (ap (λ (x : List ℕ). st.text ++ x) (prints_none e.seat l) ∙ append-nil st.text)
 
 -- a seat that is skipped when it goes on is idle, and so begins what it is asked to
 idle_begins : (a : Activity) (c : Call) → is_skipped a Go ≡ true → is_skipped a (Begin c) ≡ false

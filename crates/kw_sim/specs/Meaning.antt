@@ -1,4 +1,4 @@
--- What each line of a script does, and so what a script prints.
+-- What each line of a script does, and what the calls that end with it print.
 use Rattle.std.specs.Prelude.{ℕ, zero, suc, ◌==◌, Bool, true, false, if◌then◌else◌, Option, Some, None, unwrap_or, List, [], ◌∷◌, ◌++◌, replicate, slice_get}
 use Rattle.kw_model.specs.declared.call.Call.{Call}
 use Rattle.kw_model.specs.declared.call.Call.TheVariants.{Put, Get}
@@ -13,11 +13,12 @@ use Rattle.kw_world.specs.declared.local.Local.{Local}
 use Rattle.kw_world.specs.declared.opening.Opening.{Opening}
 use Rattle.kw_world.specs.Sizes.{product}
 use Rattle.kw_world.specs.Step.{step, kind_of, is_skipped}
+use Rattle.kw_line.specs.Line.{FitsCall}
+use Rattle.kw_order.specs.Trace.{world_of, pushed}
 use Rattle.kw_sim.specs.declared.command.Command.{Command}
 use Rattle.kw_sim.specs.declared.command.Command.TheVariants as command
 use Rattle.kw_sim.specs.declared.parse.TheConstants.{MOST_STEPS}
 use Rattle.kw_sim.specs.Printed.{done_text, missed_line}
-use Rattle.kw_sim.specs.TraceView.{world_of, pushed, begun}
 use Rattle.kw_sim.specs.State.{State, queue_of, with_queue}
 
 -- One event.
@@ -25,6 +26,11 @@ use Rattle.kw_sim.specs.State.{State, queue_of, with_queue}
 -- an event of a seat
 abbrev pub event : ℕ → Choice → Event
 event s choice = record { seat = s; choice = choice }
+
+-- the numbers of a call that begins are in range
+abbrev pub FitsChoice : Choice → Type 0
+FitsChoice (Begin call) = FitsCall call
+FitsChoice _ = Unit {0}
 
 -- the call that a seat makes; one that makes none is taken to ask for the value of key 0, and never ends a call
 abbrev pub call_made : Local → Call
@@ -35,26 +41,21 @@ abbrev pub printed : ℕ → Option Local → StepDone → List ℕ
 printed s (Some l) done = done_text s l.number (call_made l) done
 printed s None done = []
 
--- an event that is not skipped
-abbrev pub made : Event → State → State
-made e st = record {
-  trace = pushed e st.trace;
-  queues = st.queues;
-  text = st.text ++ printed e.seat (slice_get (world_of st.trace).locals e.seat) (step product (world_of st.trace) e).done;
-}
+-- what came of an event
+abbrev pub done_by : Event → State → StepDone
+done_by e st = (step product (world_of st.trace) e).done
 
--- an event of this kind, or none
-abbrev pub made_of : Option Kind → Event → State → State
-made_of None e st = st
-made_of (Some kind) e st = made e st
+-- an event, and the line of a call that ends with it; one that is skipped leaves all as it was
+unfoldable pub after_event : Event → State → State
+after_event e st = record {
+  trace = pushed st.trace e (done_by e st);
+  queues = st.queues;
+  text = st.text ++ printed e.seat (slice_get (world_of st.trace).locals e.seat) (done_by e st);
+}
 
 -- the kind of an event; none where it is skipped
 abbrev pub kind_at : Event → State → Option Kind
 kind_at e st = kind_of product (world_of st.trace) e
-
--- an event; one that is skipped leaves all as it was
-unfoldable pub after_event : Event → State → State
-after_event e st = made_of (kind_at e st) e st
 
 -- One step of a seat.
 
@@ -132,11 +133,8 @@ abbrev pub opening : ℕ → Opening
 opening rows = record { rows = rows; seats = SEATS; clock = 1; epoch = 1 }
 
 abbrev pub first_state : ℕ → State
-first_state rows = record { trace = begun (opening rows); queues = replicate SEATS []; text = [] }
+first_state rows = record { trace = record { opening = opening rows; events = [] }; queues = replicate SEATS []; text = [] }
 
--- what the lines of a script do in all, and what they print
+-- what the lines of a script do in all
 abbrev pub script_state : ℕ → List Command → State
 script_state rows commands = after_commands commands (first_state rows)
-
-abbrev pub script_output : ℕ → List Command → List ℕ
-script_output rows commands = (script_state rows commands).text

@@ -1,5 +1,6 @@
--- What is printed of a script: a line for each call that ends, and a line where a kind of event did not come.
+-- What is printed of a script: a line for each call that ends, a line where a kind of event did not come, and the order of the calls.
 use Rattle.std.specs.Prelude.{ℕ, List, [], ◌∷◌, ◌++◌, codes, decimal}
+use Rattle.std.specs.List.{flat_map}
 use Rattle.kw_model.specs.declared.call.Call.{Call}
 use Rattle.kw_model.specs.declared.call.Reply.{Reply}
 use Rattle.kw_model.specs.declared.call.Reply.TheVariants as reply
@@ -7,6 +8,7 @@ use Rattle.kw_world.specs.declared.event.StepDone.{StepDone}
 use Rattle.kw_world.specs.declared.event.StepDone.TheVariants.{Moved, Ended, Skipped}
 use Rattle.kw_line.specs.declared.words.TheConstants.{LINE_FEED, SPACE}
 use Rattle.kw_line.specs.Answered.{pairs_text}
+use Rattle.kw_order.specs.declared.points.CallName.{CallName}
 use Rattle.kw_sim.specs.declared.print.TheConstants.{DOT, COLON}
 use Rattle.kw_sim.specs.Script.{call_text}
 
@@ -37,3 +39,16 @@ done_text seat number call Skipped = []
 -- the line that says that no event of the kind was made
 abbrev pub missed_line : List ℕ
 missed_line = codes "missed" ++ LINE_FEED ∷ []
+
+-- a name in the order line
+abbrev pub ordered_text : CallName → List ℕ
+ordered_text name = SPACE ∷ name_text name.seat name.number
+
+-- names in the order line; it says where there are none
+abbrev pub ordered_texts : List CallName → List ℕ
+ordered_texts [] = codes " none"
+ordered_texts (name ∷ names) = flat_map ordered_text (name ∷ names)
+
+-- the line that says in which order these calls stand
+abbrev pub order_line : List CallName → List ℕ
+order_line names = codes "order" ++ ordered_texts names ++ LINE_FEED ∷ []

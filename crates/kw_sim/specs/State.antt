@@ -1,7 +1,7 @@
 -- What there is while a script runs.
 use Rattle.std.specs.Prelude.{ℕ, List, [], unwrap_or, slice_get, slice_set}
 use Rattle.kw_model.specs.declared.call.Call.{Call}
-use Rattle.kw_sim.specs.TraceView.{TraceView}
+use Rattle.kw_order.specs.Trace.{TraceView}
 
 -- the events that were made, the calls that each seat is still to make, and what is printed so far
 pub record State : Type 0 where

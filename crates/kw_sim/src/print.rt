@@ -5,13 +5,15 @@
 //! its text.
 ghost use Rattle.std.specs.Prelude.{◌≡◌, ◌++◌, OnOk, OnErr};
 ghost use Rattle.kw_sim.specs.Script.{call_text, call_word};
-ghost use Rattle.kw_sim.specs.Printed.{reply_text, name_text, ended_line, done_text, missed_line};
+ghost use Rattle.kw_sim.specs.Printed.{reply_text, name_text, ended_line, done_text, missed_line, ordered_text, order_line};
+ghost use Rattle.std.specs.List.{flat_map};
 
 use kw_line::number::push_number;
 use kw_line::print;
 use kw_line::words::{LINE_FEED, SPACE};
 use kw_model::call::{Call, Reply};
 use kw_model::memory::Memory;
+use kw_order::points::CallName;
 use kw_world::event::StepDone;
 
 /// The byte between a seat and the number of its call.
@@ -104,4 +106,27 @@ pub fn push_missed(out: &mut Vec<u8>) -> Result<(), Memory>
     ensures { OnOk result (out.new.items ≡ out.old.items ++ missed_line) }
 {
     Ok(out.extend_from_slice(b"missed\n")?)
+}
+
+/// Adds the line that says in which order these calls stand: their names in it, or `none` where there are none.
+pub fn push_order(out: &mut Vec<u8>, names: &[CallName]) -> Result<(), Memory>
+    ensures { OnOk result (out.new.items ≡ out.old.items ++ order_line names.now) }
+{
+    out.extend_from_slice(b"order")?;
+    if names.is_empty() {
+        out.extend_from_slice(b" none")?;
+    }
+    push_names(out, names)?;
+    Ok(out.push(LINE_FEED)?)
+}
+
+/// Adds the names of these calls at the end, each after a space.
+fn push_names(out: &mut Vec<u8>, names: &[CallName]) -> Result<(), Memory>
+    ensures { OnOk result (out.new.items ≡ out.old.items ++ flat_map ordered_text names.now) }
+{
+    for name in names {
+        out.push(SPACE)?;
+        push_name(out, name.seat, name.number)?;
+    }
+    Ok(())
 }

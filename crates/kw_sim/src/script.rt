@@ -24,43 +24,87 @@ pub fn run_script(alloc: Global, rows: u32, script: &[u8]) -> Result<Vec<u8>, Sc
     for command in &commands {
         simulator.run(*command)?;
     }
-    Ok(simulator.into_text())
+    Ok(simulator.into_output(alloc)?)
 }
 
 #[cfg(test)]
 mod tests {
     use super::*;
     use crate::parse::{MOST_LINES, MOST_STEPS};
+    use std::process::Abort;
     use std::test::Fail;
+
+    // Runs the script on 64 rows, and expects this output.
+    fn expect(
+        rt: &impl Abort,
+        alloc: Global,
+        script: &[u8],
+        want: &[u8],
+    ) -> Result<(), ScriptError> {
+        let output = run_script(alloc, 64, script)?;
+        assert_eq!(rt; output.as_slice(), want, "of {script:?}");
+        Ok(())
+    }
 
     #[test]
     fn puts_of_one_key_meet(rt: HostRuntime) -> Result<(), Fail> {
         let script =
             b"call 0 put 5 10\ncall 1 put 5 20\ncall 2 get 5\nuntil 0 add_count\ngo 1 100\n\
             go 2 100\ngo 0 100\ncall 2 get 5\ngo 2 100\n";
-        let want = b"1.1 put 5 20: ok\n2.1 get 5: 20\n0.1 put 5 10: ok\n2.2 get 5: 20\n";
-        let output = run_script(rt.alloc(), 64, script)?;
-        assert_eq!(rt; output.as_slice(), want.as_slice());
-        Ok(())
+        let want = b"1.1 put 5 20: ok\n2.1 get 5: 20\n0.1 put 5 10: ok\n2.2 get 5: 20\n\
+            order 0.1 1.1 2.1 2.2\n";
+        Ok(expect(&rt, rt.alloc(), script, want)?)
     }
 
     #[test]
     fn a_scan_misses_a_put_without_a_version(rt: HostRuntime) -> Result<(), Fail> {
         let script = b"call 0 put 5 10\ncall 1 scan 0 9\nuntil 0 load_clock\ngo 1 100\n\
             call 1 scan 0 9\ngo 1 100\ngo 0 100\n";
-        let want = b"1.1 scan 0 9: empty\n1.2 scan 0 9: 5=10\n0.1 put 5 10: ok\n";
-        let output = run_script(rt.alloc(), 64, script)?;
-        assert_eq!(rt; output.as_slice(), want.as_slice());
-        Ok(())
+        let want = b"1.1 scan 0 9: empty\n1.2 scan 0 9: 5=10\n0.1 put 5 10: ok\n\
+            order 1.1 0.1 1.2\n";
+        Ok(expect(&rt, rt.alloc(), script, want)?)
     }
 
     #[test]
     fn a_scan_that_drew_late_sees_the_put(rt: HostRuntime) -> Result<(), Fail> {
         let script = b"call 0 put 5 10\ncall 1 scan 0 9\nuntil 0 load_clock\nuntil 1 draw\n\
             until 0 stamp\ngo 1 100\ngo 0 100\n";
-        let want = b"1.1 scan 0 9: 5=10\n0.1 put 5 10: ok\n";
-        let output = run_script(rt.alloc(), 64, script)?;
-        assert_eq!(rt; output.as_slice(), want.as_slice());
+        let want = b"1.1 scan 0 9: 5=10\n0.1 put 5 10: ok\norder 0.1 1.1\n";
+        Ok(expect(&rt, rt.alloc(), script, want)?)
+    }
+
+    #[test]
+    fn a_script_that_ends_no_call_has_no_order(rt: HostRuntime) -> Result<(), Fail> {
+        let scripts = [
+            b"".as_slice(),
+            b"go 0 9\n",
+            b"call 0 get 5\n",
+            b"call 0 put 5 10\nuntil 0 load_clock\n",
+        ];
+        for script in scripts {
+            expect(&rt, rt.alloc(), script, b"order none\n")?;
+        }
+        let one_row = run_script(rt.alloc(), 1, b"")?;
+        assert_eq!(rt; one_row.as_slice(), b"order none\n".as_slice());
+        Ok(())
+    }
+
+    #[test]
+    fn a_stamped_put_that_goes_on_is_in_the_order(rt: HostRuntime) -> Result<(), Fail> {
+        let script = b"call 0 put 5 10\nuntil 0 stamp\ncall 1 get 5\ngo 1 100\n";
+        let want = b"1.1 get 5: 10\norder 0.1 1.1\n";
+        Ok(expect(&rt, rt.alloc(), script, want)?)
+    }
+
+    #[test]
+    fn a_kind_that_no_activity_makes_is_missed(rt: HostRuntime) -> Result<(), Fail> {
+        for kind in ["engage", "freeze_count", "replace", "reclaim", "mark_link"] {
+            let mut script = Vec::from_slice(rt.alloc(), b"call 0 put 5 1\nuntil 0 ")?;
+            script.extend_from_slice(kind.as_bytes())?;
+            script.extend_from_slice(b"\ncall 0 get 5\ngo 0 100\n")?;
+            let want = b"0.1 put 5 1: ok\nmissed\n0.2 get 5: 1\norder 0.1 0.2\n";
+            expect(&rt, rt.alloc(), &script, want)?;
+        }
         Ok(())
     }
 
@@ -69,11 +113,8 @@ mod tests {
         let script = b"stop 3\nguess 3 63\nuntil 7 load_epoch\nputs 0 2 5 1\nuntil 0 engage\n\
             call 0 del 5\ncall 0 get 5\ngo 0 100\nuntil 0 clear_pass\n";
         let want = b"missed\n0.1 put 5 1: ok\n0.2 put 5 1: ok\nmissed\n0.3 del 5: ok\n\
-            0.4 get 5: none\nmissed\n";
-        let output = run_script(rt.alloc(), 64, script)?;
-        assert_eq!(rt; output.as_slice(), want.as_slice());
-        assert_eq!(rt; run_script(rt.alloc(), 1, b"")?.len(), 0);
-        Ok(())
+            0.4 get 5: none\nmissed\norder 0.1 0.2 0.3 0.4\n";
+        Ok(expect(&rt, rt.alloc(), script, want)?)
     }
 
     #[test]
@@ -82,9 +123,15 @@ mod tests {
             call 2 scan 4 5\nuntil 2 load_link\nguess 2 0\nuntil 2 load_value\ngo 2 1000\n\
             call 2 scan 4 3\nuntil 2 settle\nstop 2\ngo 2 1\n";
         let output = run_script(rt.alloc(), 64, script)?;
-        let want =
-            b"1.64 put 5 9: ok\n1.65 put 6 9: no rows\n2.1 scan 4 5: 5=9\n2.2 scan 4 3: stopped\n";
-        assert!(rt; output.as_slice().ends_with(want));
+        let want = b"\n1.64 put 5 9: ok\n1.65 put 6 9: no rows\n2.1 scan 4 5: 5=9\n\
+            2.2 scan 4 3: stopped\norder 1.1 1.2 1.3";
+        assert!(rt;
+            output
+                .as_slice()
+                .windows(want.len())
+                .any(|part| part == want.as_slice())
+        );
+        assert!(rt; output.as_slice().ends_with(b" 1.63 1.64 1.65 2.1 2.2\n"));
         Ok(())
     }
 
@@ -138,7 +185,7 @@ mod tests {
     fn a_script_has_so_many_lines_at_most(rt: HostRuntime) -> Result<(), Fail> {
         assert_eq!(rt; (MOST_LINES, MOST_STEPS), (256, 100_000));
         let most = of_lines(rt.alloc(), 256)?;
-        assert_eq!(rt; run_script(rt.alloc(), 64, &most)?.len(), 0);
+        expect(&rt, rt.alloc(), &most, b"order none\n")?;
         let more = of_lines(rt.alloc(), 257)?;
         assert_eq!(rt;
             run_script(rt.alloc(), 64, &more),

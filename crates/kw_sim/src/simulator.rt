@@ -2,29 +2,28 @@
 //!
 //! A `Simulator` keeps the events that were made, the calls that each seat is still to make, and what is printed so far.
 //! Each rule of a script has one method here that is proved to be that rule: an event, a step of a seat, steps in number,
-//! steps until a kind of event, and a line. All events are made in `event`, by the `Trace`.
+//! steps until a kind of event, a line, and the order at the end. All events are made in `event`, by the `Trace`.
 ghost use Rattle.std.specs.Prelude.{◌≡◌, ◌+◌, ◌<◌, ◌≤◌, true, if◌then◌else◌, [], ◌∷◌, length, replicate, IfOk, OnOk, IfNone, IfSome};
 ghost use Rattle.kw_words.specs.declared.sizes.TheConstants.{SEATS, MOST_ROWS};
 ghost use Rattle.kw_world.specs.declared.limits.TheConstants.{MOST_CALLS};
-ghost use Rattle.kw_core.specs.Events.{may_begin, may_step};
 ghost use Rattle.kw_line.specs.Line.{FitsCall};
 ghost use Rattle.kw_sim.specs.declared.parse.TheConstants.{MOST_STEPS};
 ghost use Rattle.kw_sim.specs.Script.{IsCommand};
-ghost use Rattle.kw_sim.specs.TraceView.{world_of};
 ghost use Rattle.kw_sim.specs.State.{queue_of};
-ghost use Rattle.kw_sim.specs.Meaning.{event, kind_at, made, after_event, is_idle, next_choice, taken, next_event, seat_step, go, until, is_kind, missed, queued, after_command, first_state};
+ghost use Rattle.kw_sim.specs.Meaning.{event, FitsChoice, kind_at, after_event, is_idle, next_choice, taken, next_event, seat_step, go, until, is_kind, missed, queued, after_command, first_state};
+ghost use Rattle.kw_sim.specs.Output.{IsOutputAt};
 
 use crate::command::Command;
 use crate::parse::MOST_STEPS;
-use crate::print::{push_done, push_missed};
+use crate::print::{push_done, push_missed, push_order};
 use crate::queue::Queue;
-use crate::trace::Trace;
+use kw_core::step::kind_of;
 use kw_model::call::Call;
 use kw_model::memory::Memory;
+use kw_order::trace::{Trace, order};
 use kw_words::kind::Kind;
 use kw_words::sizes::{SEAT_COUNT, SEATS};
 use kw_world::event::{Choice, Event};
-use kw_world::opening::Opening;
 use std::alloc::Global;
 use std::marker::Model;
 
@@ -55,15 +54,7 @@ impl Simulator {
         requires few { rows ≤ MOST_ROWS }
         ensures { IfOk result (λ simulator. simulator ≡ first_state rows) }
     {
-        let trace = Trace::open(
-            alloc,
-            Opening {
-                rows,
-                seats: SEAT_COUNT,
-                clock: 1,
-                epoch: 1,
-            },
-        )?;
+        let trace = Trace::open(alloc, rows, SEAT_COUNT, 1, 1)?;
         let mut queues = Vec::new(alloc);
         for _seat in 0..SEATS {
             queues.push(Queue::new(alloc))?;
@@ -75,11 +66,14 @@ impl Simulator {
         })
     }
 
-    /// What was printed.
-    pub fn into_text(self) -> Vec<u8>
-        ensures { result.items ≡ self.text }
+    /// What was printed, and the order of the calls as its last line.
+    pub fn into_output(self, alloc: Global) -> Result<Vec<u8>, Memory>
+        ensures { IfOk result (λ bytes. IsOutputAt self bytes.items) }
     {
-        self.text
+        let names = order(alloc, &self.trace)?;
+        let mut text = self.text;
+        push_order(&mut text, &names)?;
+        Ok(text)
     }
 
     /// Runs one line.
@@ -98,8 +92,8 @@ impl Simulator {
             } => self.queue(seat, Call::Put(key, value), count),
             Command::Go { seat, count } => self.go(seat, count),
             Command::Until { seat, kind } => self.until(seat, kind),
-            Command::Guess { seat, row } => self.event_alone(seat, Choice::Guess(row)),
-            Command::Stop { seat } => self.event_alone(seat, Choice::Stop),
+            Command::Guess { seat, row } => self.event(seat, Choice::Guess(row)),
+            Command::Stop { seat } => self.event(seat, Choice::Stop),
         }
     }
 
@@ -167,7 +161,9 @@ impl Simulator {
         ensures state { OnOk result (self.new ≡ seat_step seat self.old) }
     {
         let choice = self.next_choice(seat);
-        self.event(seat, choice)
+        let kind = self.kind_of(seat, choice);
+        self.event(seat, choice)?;
+        Ok(kind)
     }
 
     /// What a seat chooses next. A call that it is to begin is taken from those that it is still to make.
@@ -175,7 +171,7 @@ impl Simulator {
         requires { seat < SEATS }
         ensures choice { result ≡ next_choice (is_idle seat self.old) (queue_of seat self.old) }
         ensures state { self.new ≡ taken (is_idle seat self.old) (queue_of seat self.old) seat self.old }
-        ensures begins { may_begin result ≡ true }
+        ensures fits { FitsChoice result }
     {
         if !self.is_idle(seat) {
             return Choice::Go;
@@ -207,48 +203,26 @@ impl Simulator {
         local.activity.skips(Choice::Go)
     }
 
-    /// Makes one event of a seat, whatever its kind.
-    fn event_alone(&mut self, seat: u32, choice: Choice) -> Result<(), Memory>
+    /// The kind of an event of a seat, before it is made; none where it would be skipped.
+    fn kind_of(&self, seat: u32, choice: Choice) -> Option<Kind>
+        requires { seat < SEATS }
+        ensures { result ≡ kind_at (event seat choice) self.now }
+    {
+        kind_of(self.trace.world(), Event { seat, choice })
+    }
+
+    /// Makes one event of a seat, and prints the line of a call that ends with it. One that is skipped leaves all as it was.
+    fn event(&mut self, seat: u32, choice: Choice) -> Result<(), Memory>
         requires seat { seat < SEATS }
-        requires begins { may_begin choice ≡ true }
+        requires fits { FitsChoice choice }
         requires room { length self.old.trace.events < MOST_CALLS }
         ensures { OnOk result (self.new ≡ after_event (event seat choice) self.old) }
     {
-        self.event(seat, choice)?;
-        Ok(())
-    }
-
-    /// Makes one event of a seat, prints the line of a call that ends with it, and gives its kind; none where it is skipped,
-    /// which leaves all as it was.
-    fn event(&mut self, seat: u32, choice: Choice) -> Result<Option<Kind>, Memory>
-        requires seat { seat < SEATS }
-        requires begins { may_begin choice ≡ true }
-        requires room { length self.old.trace.events < MOST_CALLS }
-        ensures kind { IfOk result (λ kind. kind ≡ kind_at (event seat choice) self.old) }
-        ensures state { OnOk result (self.new ≡ after_event (event seat choice) self.old) }
-    {
-        let event = Event { seat, choice };
-        match self.trace.kind_of(event) {
-            Some(kind) => {
-                self.make(event)?;
-                Ok(Some(kind))
-            }
-            None => Ok(None),
-        }
-    }
-
-    /// Makes an event that may come next, and prints the line of a call that ends with it. All events are made here.
-    fn make(&mut self, event: Event) -> Result<(), Memory>
-        requires seat { event.seat < SEATS }
-        requires may { may_step self.old.trace.opening (world_of self.old.trace) event ≡ true }
-        requires room { length self.old.trace.events < MOST_CALLS }
-        ensures { OnOk result (self.new ≡ made event self.old) }
-    {
-        let local = self.trace.world().local(event.seat);
+        let local = self.trace.world().local(seat);
         let number = local.number;
         let call = local.call.unwrap_or(Call::Get(0));
-        let done = self.trace.push(event)?;
-        push_done(&mut self.text, event.seat, number, &call, &done)
+        let done = self.trace.push(Event { seat, choice })?;
+        push_done(&mut self.text, seat, number, &call, &done)
     }
 }
 

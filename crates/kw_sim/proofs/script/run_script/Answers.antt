@@ -1,7 +1,8 @@
-use Rattle.std.proofs.Common.{sym, ap, ◌∙◌, arith, rules, List}
+use Rattle.std.proofs.Common.{◌≡◌, ap, ◌∙◌, arith, rules, List, ℕ, subst}
 use Rattle.kw_sim.specs.State.{State}
 use Rattle.kw_sim.specs.declared.command.Command.{Command}
-use Rattle.kw_sim.specs.Meaning.{script_output}
+use Rattle.kw_sim.specs.Meaning.{script_state}
+use Rattle.kw_sim.specs.Output.{IsOutputAt}
 use Rattle.kw_sim.proofs.Runs.{so_far_next, so_far_all}
 use Rattle.kw_sim.proofs.script.run_script.Goals as goal
 
@@ -9,8 +10,11 @@ pub loop-command-preserved : goal.loop-command-preserved
 loop-command-preserved c = so_far_next c.args.rows c.deref-command-items.result.now c.loop-command.command-index c.loop-command.simulator c.run.new.self _ c.loop-command.invariant (omega arith) (search rules) c.in_ok-run.ensures
 
 pub returns-clause-output : goal.returns-clause-output
-returns-clause-output c = record {
-  commands = c.in_ok-commands.commands.items;
-  lines = c.in_ok-commands.ensures.commands;
-  output = c.into_text.ensures ∙ (ap (λ (st : State). st.text) (so_far_all c.args.rows c.deref-command-items.result.now c.loop-command.command-index c.loop-command.simulator c.loop-command.invariant (omega arith)) ∙ ap (λ (cs : List Command). script_output c.args.rows cs) c.deref-command-items.ensures.value);
-}
+returns-clause-output c =
+    let all : c.loop-command.simulator ≡ script_state c.args.rows c.in_ok-commands.commands.items =
+    so_far_all c.args.rows c.deref-command-items.result.now c.loop-command.command-index c.loop-command.simulator c.loop-command.invariant (omega arith) ∙ ap (λ (cs : List Command). script_state c.args.rows cs) c.deref-command-items.ensures.value in
+    record {
+      commands = c.in_ok-commands.commands.items;
+      lines = c.in_ok-commands.ensures.commands;
+      output = subst (λ (st : State). IsOutputAt st c.in_ok-into_output.field-0.items) all c.in_ok-into_output.ensures;
+    }

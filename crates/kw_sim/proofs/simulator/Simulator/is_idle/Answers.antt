@@ -1,6 +1,6 @@
 use Rattle.std.proofs.Common.{◌∙◌, ap, arith}
 use Rattle.kw_sim.specs.State.{State}
-use Rattle.kw_sim.specs.TraceView.{world_of}
+use Rattle.kw_order.specs.Trace.{world_of}
 use Rattle.kw_sim.proofs.Runs.{idle_is}
 use Rattle.kw_sim.proofs.simulator.Simulator.is_idle.Goals as goal
 

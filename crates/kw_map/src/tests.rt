@@ -1,0 +1,177 @@
+//! What the gatherers make of pairs, and what is handed to them of the cells of a row.
+ghost use Rattle.std.specs.Prelude.{All};
+ghost use Rattle.kw_words.specs.Plain.{IsValue};
+ghost use Rattle.kw_map.specs.Gather.{IsBelow};
+
+use crate::gather::{Gather, Stop, take_pairs};
+use crate::gather_list::ListGather;
+use crate::gather_numbers::{CountGather, GreatestGather, LeastGather, SumGather};
+use kw_cells::cell::Cell;
+use std::test::Fail;
+
+/// The greatest value that a key may have.
+const GREATEST_VALUE: u64 = 9223372036854775807;
+
+/// Hands over the pairs 1=5, 2=0 and 3=9.
+fn take_three<G: Gather>(into: &mut G) -> Result<(), Stop>
+    requires { IsBelow (G.last into.old) 1 }
+{
+    into.take(1, 5)?;
+    into.take(2, 0)?;
+    into.take(3, 9)
+}
+
+#[test]
+fn sums_the_values(rt: HostRuntime) {
+    let mut sum = SumGather::new();
+    assert_eq!(rt; sum.total(), 0);
+    assert_eq!(rt; take_three(&mut sum), Ok(()));
+    assert_eq!(rt; sum.total(), 14);
+}
+
+#[test]
+fn sums_past_64_bits(rt: HostRuntime) -> Result<(), Fail> {
+    let mut sum = SumGather::new();
+    sum.take(0, GREATEST_VALUE)?;
+    sum.take(7, GREATEST_VALUE)?;
+    sum.take(4294967295, GREATEST_VALUE)?;
+    assert_eq!(rt; sum.total(), 27670116110564327421);
+    Ok(())
+}
+
+#[test]
+fn counts_a_pair_whatever_its_value(rt: HostRuntime) {
+    let mut count = CountGather::new();
+    assert_eq!(rt; count.total(), 0);
+    assert_eq!(rt; take_three(&mut count), Ok(()));
+    assert_eq!(rt; count.total(), 3);
+}
+
+#[test]
+fn the_least_of_nothing_is_none(rt: HostRuntime) {
+    let mut least = LeastGather::new();
+    assert_eq!(rt; least.least(), None);
+    assert_eq!(rt; take_three(&mut least), Ok(()));
+    assert_eq!(rt; least.least(), Some(0));
+}
+
+#[test]
+fn the_greatest_may_come_last(rt: HostRuntime) {
+    let mut greatest = GreatestGather::new();
+    assert_eq!(rt; greatest.greatest(), None);
+    assert_eq!(rt; take_three(&mut greatest), Ok(()));
+    assert_eq!(rt; greatest.greatest(), Some(9));
+}
+
+#[test]
+fn a_list_has_all_pairs_in_order(rt: HostRuntime) {
+    let mut list = ListGather::new(rt.alloc());
+    assert_eq!(rt; take_three(&mut list), Ok(()));
+    let pairs = list.finish();
+    assert_eq!(rt; pairs.pairs(), [(1, 5), (2, 0), (3, 9)].as_slice());
+    let none = ListGather::new(rt.alloc()).finish();
+    assert_eq!(rt; none.pairs(), [].as_slice());
+}
+
+/// A row in which key 5 has two versions, 7 a tombstone over a value, and 9 a late version.
+fn row() -> [Cell; 6]
+    ensures { All (λ cell. IsValue cell.value) result }
+{
+    let put = |key, version, place, value| Cell {
+        key,
+        version,
+        place,
+        value: Some(value),
+    };
+    [
+        put(5, 2, 6, 52),
+        put(7, 1, 1, 71),
+        put(5, 1, 0, 51),
+        put(9, 8, 3, 98),
+        Cell {
+            key: 7,
+            version: 3,
+            place: 5,
+            value: None,
+        },
+        put(4294967295, 1, 2, GREATEST_VALUE),
+    ]
+}
+
+#[test]
+fn hands_over_what_the_version_shows(rt: HostRuntime) {
+    let mut early = ListGather::new(rt.alloc());
+    assert_eq!(rt; take_pairs(&mut early, &row(), 0, 4294967295, 2), Ok(()));
+    let pairs = early.finish();
+    assert_eq!(rt;
+        pairs.pairs(),
+        [(5, 52), (7, 71), (4294967295, GREATEST_VALUE)].as_slice()
+    );
+    let mut late = ListGather::new(rt.alloc());
+    assert_eq!(rt; take_pairs(&mut late, &row(), 0, 4294967294, 8), Ok(()));
+    let pairs = late.finish();
+    assert_eq!(rt; pairs.pairs(), [(5, 52), (9, 98)].as_slice());
+}
+
+#[test]
+fn hands_over_one_range_after_another(rt: HostRuntime) {
+    let mut sum = SumGather::new();
+    assert_eq!(rt; take_pairs(&mut sum, &row(), 0, 6, 2), Ok(()));
+    assert_eq!(rt; sum.total(), 52);
+    assert_eq!(rt; take_pairs(&mut sum, &row(), 7, 7, 2), Ok(()));
+    assert_eq!(rt; sum.total(), 123);
+}
+
+#[test]
+fn hands_over_nothing_of_an_empty_range(rt: HostRuntime) {
+    let mut count = CountGather::new();
+    assert_eq!(rt; take_pairs(&mut count, &row(), 9, 5, 8), Ok(()));
+    assert_eq!(rt; count.total(), 0);
+}
+
+/// A gatherer with room for some pairs, of which it keeps the last key alone. It may stand for any list.
+#[derive(Drop)]
+struct Roomy {
+    room: u32,
+    last: Option<u32>,
+    stops: u64,
+}
+
+impl Gather for Roomy {
+    ghost last = { λ s. s.last };
+
+    ghost stands = { λ s list. Unit {0} };
+
+    ghost stops = { λ s. s.stops };
+
+    fn take(&mut self, key: u32, _value: u64) -> Result<(), Stop> {
+        let stops = self.stops;
+        if self.room == 0 {
+            self.stops = stops.saturating_add(1);
+            return Err(Stop);
+        }
+        self.room -= 1;
+        self.last = Some(key);
+        Ok(())
+    }
+}
+
+#[test]
+fn stops_where_the_gatherer_stops(rt: HostRuntime) {
+    let mut roomy = Roomy {
+        room: 2,
+        last: None,
+        stops: 0,
+    };
+    assert_eq!(rt; take_pairs(&mut roomy, &row(), 0, 4294967295, 2), Err(Stop));
+    assert_eq!(rt; (roomy.room, roomy.last, roomy.stops), (0, Some(7), 1));
+    roomy.room = 1;
+    assert_eq!(rt; roomy.take(8, 0), Ok(()));
+}
+
+#[test]
+fn a_stop_has_a_text(rt: HostRuntime) -> Result<(), Fail> {
+    let text = Stop.to_string(rt.alloc())?;
+    assert_eq!(rt; text.as_str(), "the gatherer stopped");
+    Ok(())
+}
