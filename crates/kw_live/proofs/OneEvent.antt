@@ -250,5 +250,4 @@ module _ {s : Shared} {p q : Pass} {c : Choice} {l after : Local} {done : StepDo
     };
     first = first_own w.makes;
     knew = ap known w.makes.step.here ∙ w.follows.knows;
-    first = first_own w.makes;
   }
