@@ -1,0 +1,70 @@
+-- Where a pass made one of its events: the laws hold there of all that came before, and what the event was told is what it found.
+use Rattle.std.proofs.Common.{◌≡◌, ℕ, ◌<◌, ◌++◌, [], ◌∷◌, true, Some, List, arith, sym, ◌∙◌, ap, subst, slice_get}
+use Rattle.kw_world.specs.declared.activity.Activity.{Activity}
+use Rattle.kw_world.specs.declared.event.Choice.{Choice}
+use Rattle.kw_world.specs.declared.event.Event.{Event}
+use Rattle.kw_world.specs.declared.local.Local.{Local}
+use Rattle.kw_world.specs.declared.opening.Opening.{Opening}
+use Rattle.kw_world.specs.Operation.{told_by}
+use Rattle.kw_world.specs.Row.{Row}
+use Rattle.kw_world.specs.RowWalk.{offered}
+use Rattle.kw_world.specs.Sizes.{product}
+use Rattle.kw_world.specs.Step.{word, row_of}
+use Rattle.kw_world.specs.Table.{row}
+use Rattle.kw_world.specs.WorldView.{WorldView}
+use Rattle.kw_core.specs.Events.{local_of, world, is_valid, event}
+use Rattle.kw_core.specs.Laws.{KeepsLaws}
+use Rattle.kw_core.specs.Run.{history}
+use Rattle.kw_core.proofs.Events.{valid_front}
+use Rattle.kw_core.proofs.LawProofs.{laws_hold}
+use Rattle.kw_core.proofs.Runs.{history-world}
+use Rattle.kw_core.proofs.Worlds.{world-local}
+use Rattle.kw_table.specs.declared.pass.Pass.{Pass}
+use Rattle.kw_table.specs.declared.shared.Shared.{Shared}
+use Rattle.kw_table.specs.Passes.{view}
+use Rattle.kw_live.specs.Following.{GoesTo}
+use Rattle.kw_live.specs.Meeting.{Met, row_after}
+
+-- what the pass's seat knows after these events
+abbrev pub local_at : Pass → List Event → Local
+local_at p front = local_of (world product (view p).opening front) (view p).number
+
+-- the seat of a pass is one of the run's
+pub seat_within : (p : Pass) → (view p).number < (view p).opening.seats
+seat_within p = omega (arith, p.known.seats, p.known.number)
+
+-- the events before it are a valid list
+pub met_valid : (s : Shared) (p q : Pass) (a : Activity) (c : Choice) (told : ℕ) → GoesTo s p q → (m : Met p q a c told) → is_valid product (view p).opening m.front ≡ true
+met_valid s p q a c told goes m =
+    let o : Opening = (view p).opening in
+    let e : Event = event (view p).number c in
+    let all : is_valid product o (view q).seen ≡ true = subst (λ (x : Opening). is_valid product x (view q).seen ≡ true) goes.opening q.known.valid in
+    let with_it : is_valid product o (m.front ++ e ∷ []) ≡ true = valid_front product o (m.front ++ e ∷ []) m.here.0 (ap (is_valid product o) m.here.1 ∙ all) in
+    valid_front product o m.front (e ∷ []) with_it
+
+-- so all laws hold of them
+pub met_laws : (s : Shared) (p q : Pass) (a : Activity) (c : Choice) (told : ℕ) → GoesTo s p q → (m : Met p q a c told) → KeepsLaws product (history product (view p).opening m.front)
+met_laws s p q a c told goes m = laws_hold product (view p).opening p.known.opens m.front (met_valid s p q a c told goes m)
+
+-- the seat's local is among those of that world
+pub met_local : (p q : Pass) (a : Activity) (c : Choice) (told : ℕ) → (m : Met p q a c told) → slice_get (history product (view p).opening m.front).world.locals (view p).number ≡ Some (local_at p m.front)
+met_local p q a c told m =
+    ap (λ (w : WorldView). slice_get w.locals (view p).number) (history-world product (view p).opening m.front)
+    ∙ world-local product (view p).opening m.front (view p).number (seat_within p)
+
+-- the line of the event, by the activity at which it was made
+pub met_row : (p q : Pass) (a : Activity) (c : Choice) (told : ℕ) → (m : Met p q a c told) → row_after (view p).opening m.front (view p).number c ≡ row product a (view p).number (offered (view p).opening.rows c) (local_at p m.front)
+unfolding row_of
+met_row p q a c told m = ap (λ b. row product b (view p).number (offered (view p).opening.rows c) (local_at p m.front)) m.activity
+
+-- what it was told, by that line
+pub met_told : (p q : Pass) (a : Activity) (c : Choice) (told : ℕ) → (m : Met p q a c told) → (r : Row) → row product a (view p).number (offered (view p).opening.rows c) (local_at p m.front) ≡ r
+    → told ≡ told_by r.operation.action (word product (history product (view p).opening m.front).world r.operation.name)
+met_told p q a c told m r is =
+    m.tells
+    ∙ (ap (λ (x : Row). told_by x.operation.action (word product (world product (view p).opening m.front) x.operation.name)) (met_row p q a c told m ∙ is)
+    ∙ ap (λ (w : WorldView). told_by r.operation.action (word product w r.operation.name)) (sym (history-world product (view p).opening m.front)))
+
+-- its row is one of the table's
+pub met_row_below : (s : Shared) (p q : Pass) (a : Activity) (c : Choice) (told : ℕ) → GoesTo s p q → (m : Met p q a c told) → (local_at p m.front).row < (history product (view p).opening m.front).world.rows
+met_row_below s p q a c told goes m = ((met_laws s p q a c told goes m).sane.locals (view p).number (local_at p m.front) (met_local p q a c told m)).below.row

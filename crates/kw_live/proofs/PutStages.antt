@@ -1,0 +1,212 @@
+-- How a put or a delete goes through its row, event by event: what it has found by then, and that each event takes it on.
+use Rattle.std.proofs.Common.{◌≡◌, ℕ, ◌<◌, ◌≤◌, Bool, true, false, nat_lt, ◌==◌, if◌then◌else◌, Option, Some, None, arith, refl, sym, ◌∙◌, ap, subst, inl, inr, eq-eqb}
+use Rattle.kw_words.specs.declared.layout.Name.TheVariants as name
+use Rattle.kw_words.specs.declared.count.Count.{Count}
+use Rattle.kw_words.specs.declared.pend.Pend.{Pend}
+use Rattle.kw_words.specs.declared.pend.Pend.TheVariants.{Idle, Pending, Stamped, Frozen}
+use Rattle.kw_words.specs.declared.sizes.TheConstants.{CELLS}
+use Rattle.kw_words.specs.Count.{count_of}
+use Rattle.kw_words.specs.Pend.{pend_of, pend_word}
+use Rattle.kw_words.proofs.PendWords.{pend_word_of}
+use Rattle.kw_model.specs.declared.call.Reply.TheVariants.{Done, NoRows}
+use Rattle.kw_world.specs.declared.activity.Activity.{Activity}
+use Rattle.kw_world.specs.declared.activity.Activity.TheVariants.{PutCount, PutAdd, PutKey, PutValue, Announce, PutClock, Stamp, PutVersion, PutClear, Leave}
+use Rattle.kw_world.specs.declared.event.Choice.TheVariants.{Go}
+use Rattle.kw_world.specs.declared.event.StepDone.TheVariants.{Moved}
+use Rattle.kw_world.specs.declared.local.Local.{Local}
+use Rattle.kw_world.specs.declared.opening.Opening.{Opening}
+use Rattle.kw_world.specs.Row.{Outcome, outcome, to}
+use Rattle.kw_world.specs.RowPut.{full, has_room, given_of, stamp_met}
+use Rattle.kw_world.specs.Sizes.{product}
+use Rattle.kw_world.specs.Step.{word, next_of, row_of}
+use Rattle.kw_world.specs.Table.{row}
+use Rattle.kw_core.specs.Unfrozen.{HasCellOfOwn}
+use Rattle.kw_core.specs.Run.{history}
+use Rattle.kw_core.proofs.Arrows.{below}
+use Rattle.kw_core.proofs.Owners.{true_false}
+use Rattle.kw_table.specs.declared.pass.Pass.{Pass}
+use Rattle.kw_table.specs.declared.shared.Shared.{Shared}
+use Rattle.kw_table.specs.Passes.{view}
+use Rattle.kw_table.proofs.Prefixes.{prefix_trans}
+use Rattle.kw_live.specs.Calling.{Keeps}
+use Rattle.kw_live.specs.Following.{Follows, GoesTo, held}
+use Rattle.kw_live.specs.Meeting.{MetIn, Met, MetAs, MetCount, MetFull, MetRoom}
+use Rattle.kw_live.specs.Putting.{is_putting}
+use Rattle.kw_live.proofs.Fronts.{met_laws, met_local, met_told, met_row_below, local_at}
+
+-- What a put has found.
+
+-- it asked for the count once, and there was room
+pub record HasAsked (p q : Pass) : Type 0 where
+  pub given : ℕ
+  pub asked : MetCount p q PutCount given
+  pub less : given < CELLS
+
+-- what it has found where it stands
+abbrev pub HasFound : Pass → Pass → Activity → Type 0
+HasFound p q PutCount = Unit {0}
+HasFound p q PutAdd = HasAsked p q
+HasFound p q PutKey = MetRoom CELLS p q
+HasFound p q PutValue = MetRoom CELLS p q
+HasFound p q Announce = MetRoom CELLS p q
+HasFound p q PutClock = MetRoom CELLS p q
+HasFound p q Stamp = MetRoom CELLS p q
+HasFound p q PutVersion = MetRoom CELLS p q
+HasFound p q PutClear = MetRoom CELLS p q
+HasFound p q (Leave Done) = MetRoom CELLS p q
+HasFound p q (Leave NoRows) = MetFull CELLS p q
+HasFound p q _ = ⊥
+
+-- how many events a put has yet to make at most
+abbrev pub put_ahead : Activity → ℕ
+put_ahead PutCount = 9
+put_ahead PutAdd = 8
+put_ahead PutKey = 7
+put_ahead PutValue = 6
+put_ahead Announce = 5
+put_ahead PutClock = 4
+put_ahead Stamp = 3
+put_ahead PutVersion = 2
+put_ahead PutClear = 1
+put_ahead _ = 0
+
+-- What was met by a pass was met by it later too.
+
+met_on : (s : Shared) (p q r : Pass) (a : Activity) (told : ℕ) → GoesTo s q r → Met p q a Go told → Met p r a Go told
+met_on s p q r a told goes m = record { front = m.front; later = m.later; here = prefix_trans _ _ _ m.here goes.seen; activity = m.activity; tells = m.tells }
+
+count_on : (s : Shared) (p q r : Pass) (a : Activity) (given : ℕ) → GoesTo s q r → MetCount p q a given → MetCount p r a given
+count_on s p q r a given goes m = record { told = m.told; met = met_on s p q r a m.told goes m.met; gives = m.gives }
+
+room_on : (s : Shared) (p q r : Pass) → GoesTo s q r → MetRoom CELLS p q → MetRoom CELLS p r
+room_on s p q r goes m = record { given = m.given; asked = count_on s p q r PutCount m.given goes m.asked; less = m.less; added = m.added; adds = count_on s p q r PutAdd m.added goes m.adds; fewer = m.fewer }
+
+-- What a pass meets it has met since it was at an earlier place.
+
+met_from : (s : Shared) (p q r : Pass) (a : Activity) (told : ℕ) → GoesTo s p q → Met q r a Go told → Met p r a Go told
+met_from s p q r a told goes m =
+    subst (λ (o : Opening). MetIn o (view p).number (view p).seen (view r).seen a Go told) goes.opening
+    (subst (λ n. MetIn (view q).opening n (view p).seen (view r).seen a Go told) goes.number
+    record { front = m.front; later = prefix_trans _ _ _ goes.seen m.later; here = m.here; activity = m.activity; tells = m.tells })
+
+count_from : (s : Shared) (p q r : Pass) (a : Activity) (told : ℕ) → GoesTo s p q → Met q r a Go told → MetCount p r a (given_of (count_of told))
+count_from s p q r a told goes m = record { told = told; met = met_from s p q r a told goes m; gives = refl }
+
+-- What the events of a put find.
+
+-- a count that has room has given fewer cells than there are
+room_less : (c : Option Count) → has_room product c ≡ true → given_of c < CELLS
+room_less (Some c) h = met c.frozen refl h
+  where
+    met : (b : Bool) → c.frozen ≡ b → (if b then false else nat_lt c.given CELLS) ≡ true → c.given < CELLS
+    met true e x = true_false x refl
+    met false e x = below c.given CELLS x
+room_less None h = true_false h refl
+
+-- a count without room has given all cells of its row
+count_full : (s : Shared) (p q : Pass) (a : Activity) (told : ℕ) → GoesTo s p q → (m : Met p q a Go told) → told ≡ word product (history product (view p).opening m.front).world (name.Count (local_at p m.front).row)
+    → has_room product (count_of told) ≡ false → CELLS ≤ given_of (count_of told)
+count_full s p q a told goes m is none =
+    subst (λ w. CELLS ≤ given_of (count_of w)) (sym is)
+    ((met_laws s p q a Go told goes m).unfrozen.full (local_at p m.front).row (met_row_below s p q a Go told goes m) (subst (λ w. has_room product (count_of w) ≡ false) is none))
+
+-- a put that is to announce finds its entry idle
+finds_idle : (s : Shared) (p q : Pass) (told : ℕ) → GoesTo s p q → (m : Met p q Announce Go told) → told ≡ pend_word Idle
+finds_idle s p q told goes m =
+    let is = met_told p q Announce Go told m _ refl in
+    is ∙ sym (pend_word_of _ Idle ((met_laws s p q Announce Go told goes m).unfrozen.announces (view p).number (local_at p m.front) (met_local p q Announce Go told m) m.activity))
+
+-- a put that is to stamp finds its entry with its own cell
+finds_own : (s : Shared) (p q : Pass) (told : ℕ) → GoesTo s p q → (m : Met p q Stamp Go told) → HasCellOfOwn (local_at p m.front).cell (pend_of told)
+finds_own s p q told goes m =
+    let is = met_told p q Stamp Go told m _ refl in
+    subst (λ w. HasCellOfOwn (local_at p m.front).cell (pend_of w)) (sym is) ((met_laws s p q Stamp Go told goes m).unfrozen.stamps (view p).number (local_at p m.front) (met_local p q Stamp Go told m) m.activity)
+
+-- and so goes on
+stamps_own : (l : Local) (own : ℕ) (e : Option Pend) → own ≡ l.cell → HasCellOfOwn own e → (stamp_met e l).local.activity ≡ PutVersion
+stamps_own l own (Some Idle) is has = absurd has
+stamps_own l own (Some (Pending cell)) is has = rw (eq-eqb cell l.cell (has ∙ is)) refl
+stamps_own l own (Some (Stamped cell version)) is has = rw (eq-eqb cell l.cell (has ∙ is)) refl
+stamps_own l own (Some Frozen) is has = absurd has
+stamps_own l own None is has = absurd has
+
+-- One event.
+
+-- the put has found what it needs where it now stands, and has fewer events to make
+pub record GoesOn (p q : Pass) (a : Activity) (ahead : ℕ) : Type 0 where
+  pub found : HasFound p q a
+  pub fewer : put_ahead a < ahead
+
+goes_on : (p q : Pass) (a b : Activity) (ahead : ℕ) → a ≡ b → HasFound p q b → put_ahead b < ahead → GoesOn p q a ahead
+goes_on p q a b ahead is found fewer = subst (λ x. GoesOn p q x ahead) (sym is) (record { found = found; fewer = fewer })
+
+-- what follows from the event, by its activity
+next_is : (a : Activity) (l m : Local) (told : ℕ) → l.activity ≡ a → outcome m Moved ≡ next_of product Go l told → m.activity ≡ ((row product a 0 Go l).next told).local.activity
+unfolding row_of
+next_is a l m told is line = ap (λ (x : Outcome). x.local.activity) (line ∙ ap (λ b. (row product b 0 Go l).next told) is)
+
+module _ (s : Shared) (o p q : Pass) (l m : Local) (told : ℕ) (was : GoesTo s o p) (goes : GoesTo s p q) (met : MetAs p q l Go told) (line : outcome m Moved ≡ next_of product Go l told) where
+  -- the event, by its activity
+  here : (a : Activity) → l.activity ≡ a → Met p q a Go told
+  here a is = record { front = met.met.front; later = met.met.later; here = met.met.here; activity = met.met.activity ∙ is; tells = met.met.tells }
+
+  asks : (b : Bool) → has_room product (count_of told) ≡ b → l.activity ≡ PutCount → m.activity ≡ (let x : Outcome = if b then to PutAdd l else full l in x).local.activity → GoesOn o q m.activity 9
+  asks true h is next = goes_on o q m.activity PutAdd 9 next (record { given = given_of (count_of told); asked = count_from s o p q PutCount told was (here PutCount is); less = room_less (count_of told) h }) (omega arith)
+  asks false h is next = goes_on o q m.activity (Leave NoRows) 9 next (record {
+    activity = PutCount;
+    at = inl refl;
+    given = given_of (count_of told);
+    met = count_from s o p q PutCount told was (here PutCount is);
+    full = count_full s p q PutCount told goes (here PutCount is) (met_told p q PutCount Go told (here PutCount is) _ refl) h;
+  }) (omega arith)
+
+  adds : (b : Bool) → has_room product (count_of told) ≡ b → l.activity ≡ PutAdd → HasAsked o p → m.activity ≡ (let x : Outcome = if b then to PutKey (record l { cell = given_of (count_of told) }) else full l in x).local.activity → GoesOn o q m.activity 8
+  adds true h is asked next = goes_on o q m.activity PutKey 8 next (record {
+    given = asked.given;
+    asked = count_on s o p q PutCount asked.given goes asked.asked;
+    less = asked.less;
+    added = given_of (count_of told);
+    adds = count_from s o p q PutAdd told was (here PutAdd is);
+    fewer = room_less (count_of told) h;
+  }) (omega arith)
+  adds false h is asked next = goes_on o q m.activity (Leave NoRows) 8 next (record {
+    activity = PutAdd;
+    at = inr refl;
+    given = given_of (count_of told);
+    met = count_from s o p q PutAdd told was (here PutAdd is);
+    full = count_full s p q PutAdd told goes (here PutAdd is) (met_told p q PutAdd Go told (here PutAdd is) _ refl) h;
+  }) (omega arith)
+
+  -- an event of a put takes it on
+  event : (a : Activity) → l.activity ≡ a → is_putting a ≡ true → HasFound o p a → GoesOn o q m.activity (put_ahead a)
+  unfolding here
+  event PutCount is put found = asks (has_room product (count_of told)) refl is (next_is PutCount l m told is line)
+  event PutAdd is put found = adds (has_room product (count_of told)) refl is found (next_is PutAdd l m told is line)
+  event PutKey is put found = goes_on o q m.activity PutValue 7 (next_is PutKey l m told is line) (room_on s o p q goes found) (omega arith)
+  event PutValue is put found = goes_on o q m.activity Announce 6 (next_is PutValue l m told is line) (room_on s o p q goes found) (omega arith)
+  event Announce is put found =
+      let idle : (told == pend_word Idle) ≡ true = eq-eqb told (pend_word Idle) (finds_idle s p q told goes (here Announce is)) in
+      goes_on o q m.activity PutClock 5 (next_is Announce l m told is line ∙ ap (λ b. (let x : Outcome = if b then to PutClock l else full l in x).local.activity) idle) (room_on s o p q goes found) (omega arith)
+  event PutClock is put found = goes_on o q m.activity Stamp 4 (next_is PutClock l m told is line) (room_on s o p q goes found) (omega arith)
+  event Stamp is put found =
+      let own = stamps_own l (local_at p met.met.front).cell (pend_of told) (ap (λ (k : Local). k.cell) met.knew) (finds_own s p q told goes (here Stamp is)) in
+      goes_on o q m.activity PutVersion 3 (next_is Stamp l m told is line ∙ own) (room_on s o p q goes found) (omega arith)
+  event PutVersion is put found = goes_on o q m.activity PutClear 2 (next_is PutVersion l m told is line) (room_on s o p q goes found) (omega arith)
+  event PutClear is put found = goes_on o q m.activity (Leave Done) 1 (next_is PutClear l m told is line) (room_on s o p q goes found) (omega arith)
+  event _ is put found = true_false put refl
+
+  -- the same, at the activity where it is
+  pub put_goes : is_putting l.activity ≡ true → HasFound o p l.activity → GoesOn o q m.activity (put_ahead l.activity)
+  put_goes = event l.activity refl
+
+-- What stays through all events of a put.
+pub record IsTrying (s : Shared) (o p : Pass) (l : Local) : Type 0 where
+  pub goes : GoesTo s o p
+  pub follows : Follows s p l
+  pub calls : Keeps o p
+  pub held : held p ≡ held o
+  pub found : HasFound o p l.activity
+
+-- the events of one after the other
+pub goes_trans : (s : Shared) (p q r : Pass) → GoesTo s p q → GoesTo s q r → GoesTo s p r
+goes_trans s p q r a b = record { of_table = b.of_table; number = b.number ∙ a.number; opening = b.opening ∙ a.opening; seen = prefix_trans _ _ _ a.seen b.seen }

@@ -1,0 +1,102 @@
+-- What a pass's seat knows before a call has read a row: nothing where it is idle, and no pairs.
+use Rattle.std.proofs.Common.{ℕ, ◌≡◌, true, Some, List, [], ◌<◌, refl, sym, ◌∙◌, ap, subst, slice_get, arith}
+use Rattle.kw_world.specs.declared.activity.Activity.{Activity}
+use Rattle.kw_world.specs.declared.activity.Activity.TheVariants.{Idle}
+use Rattle.kw_world.specs.declared.event.Choice.{Choice}
+use Rattle.kw_world.specs.declared.event.Event.{Event}
+use Rattle.kw_world.specs.declared.local.Local.{Local}
+use Rattle.kw_world.specs.declared.opening.Opening.{Opening}
+use Rattle.kw_world.specs.Local.{resting}
+use Rattle.kw_world.specs.Opening.{IsOpening}
+use Rattle.kw_world.specs.Sizes.{Sizes, product}
+use Rattle.kw_world.specs.WorldView.{WorldView}
+use Rattle.kw_core.specs.Events.{is_valid, may_step}
+use Rattle.kw_core.specs.Inv.{Inv}
+use Rattle.kw_core.specs.Run.{Run, goes_on, history, start}
+use Rattle.kw_core.specs.Shape.{Words}
+use Rattle.kw_core.specs.Stages.{IsEarly}
+use Rattle.kw_core.proofs.Arrows.{Arrow, NextCell, NextLook, reads_cell, answers, ends_scan, scans_on, looks, counts, leaves, meets_stamped, meets_neither, is_passed, helps, finds_stamped, finds_other, counts_cells, has_no_version, has_other_key, gathers}
+use Rattle.kw_core.proofs.Events.{may_come}
+use Rattle.kw_core.proofs.Happens.{happens, each_seat}
+use Rattle.kw_core.proofs.Keeps.{inv_goes_on, inv_holds}
+use Rattle.kw_core.proofs.Opens.{all_resting, inv_start}
+use Rattle.kw_core.proofs.Runs.{goes_on-moved, history-world, holds_of_history}
+use Rattle.kw_core.proofs.Worlds.{world-local}
+use Rattle.kw_table.specs.declared.pass.Pass.{Pass}
+use Rattle.kw_table.specs.Passes.{view}
+use Rattle.kw_table.specs.Views.{local_in}
+
+-- an idle seat knows how many calls it has begun, and nothing else
+abbrev pub Rests : Activity → Local → Type 0
+Rests Idle l = l ≡ resting l.number
+Rests _ l = Unit {0}
+
+look_rests : (z : Sizes) (j : ℕ) (next : Activity) (l : Local) → NextLook z j next → Rests next l
+look_rests z j next l (looks w) = tt
+look_rests z j next l (counts w) = tt
+
+cell_rests : (l : Local) (j : ℕ) (k : Local) → NextCell l j k → Rests k.activity k
+cell_rests l j k (reads_cell w) = tt
+cell_rests l j k (answers w e) = tt
+cell_rests l j k (ends_scan w e f) = tt
+cell_rests l j k (scans_on q w e f g) = tt
+
+-- so it is after every event
+arrow_rests : (z : Sizes) (v : Words) (s : ℕ) (choice : Choice) (l : Local) (a : Activity) (k : Local) → Arrow z v s choice l a k → Rests k.activity k
+arrow_rests z v s choice l a k (leaves reply) = refl
+arrow_rests z v s choice l a k (meets_stamped i c version next e n) = look_rests z _ next _ n
+arrow_rests z v s choice l a k (meets_neither i next e n) = look_rests z _ next _ n
+arrow_rests z v s choice l a k (is_passed next e n) = look_rests z _ next _ n
+arrow_rests z v s choice l a k (helps next e n) = look_rests z _ next _ n
+arrow_rests z v s choice l a k (finds_stamped c version next e n) = look_rests z _ next _ n
+arrow_rests z v s choice l a k (finds_other next e n) = look_rests z _ next _ n
+arrow_rests z v s choice l a k (counts_cells next n) = cell_rests _ _ _ n
+arrow_rests z v s choice l a k (has_no_version j next e n) = cell_rests _ _ _ n
+arrow_rests z v s choice l a k (has_other_key next e n) = cell_rests _ _ _ n
+arrow_rests z v s choice l a k (gathers next n) = cell_rests _ _ _ n
+arrow_rests z v s choice l a k _ = tt
+
+-- every seat of a run rests where it is idle
+pub record AllRest (z : Sizes) (r : Run) : Type 0 where
+  pub inv : Inv z r
+  pub rest : (t : ℕ) (l : Local) → slice_get r.world.locals t ≡ Some l → Rests l.activity l
+
+rest_goes_on : (z : Sizes) (o : Opening) (r : Run) (e : Event) → may_step o r.world e ≡ true → AllRest z r → AllRest z (goes_on z r e)
+rest_goes_on z o r e may i =
+    let c = may_come o r.world e may in
+    let h = happens z r e c.local i.inv.shape.sane c.begins c.knows c.moves in
+    record {
+      inv = inv_goes_on z o r e may i.inv;
+      rest = subst (λ (x : Run). (t : ℕ) (l : Local) → slice_get x.world.locals t ≡ Some l → Rests l.activity l) (sym (goes_on-moved z r e c.local c.knows c.moves))
+          (each_seat h (λ t l. Rests l.activity l) (arrow_rests z _ _ _ _ _ _ h.arrow) (λ t k ne g. i.rest t k g));
+    }
+
+rest_starts : (z : Sizes) (o : Opening) → IsOpening z o → AllRest z (start z o)
+rest_starts z o opens = record {
+  inv = inv_start z o opens;
+  rest = λ t l g. subst (λ (k : Local). Rests k.activity k) (sym (all_resting o.seats t l g)) refl;
+}
+
+-- after every valid list
+pub all_rest : (z : Sizes) (o : Opening) → IsOpening z o → (es : List Event) → is_valid z o es ≡ true → AllRest z (history z o es)
+all_rest z o opens es ok = holds_of_history z o (AllRest z) (rest_goes_on z o) (rest_starts z o opens) es ok
+
+-- Of a pass.
+
+-- its seat is one of the run's
+pub inside : (p : Pass) → (view p).number < (view p).opening.seats
+inside p = omega (arith, p.known.seats, p.known.number)
+
+-- what its seat knows stands in the run of what it has seen
+pub stands : (p : Pass) → slice_get (history product (view p).opening (view p).seen).world.locals (view p).number ≡ Some (local_in (view p))
+stands p =
+    ap (λ (w : WorldView). slice_get w.locals (view p).number) (history-world product (view p).opening (view p).seen)
+    ∙ world-local product (view p).opening (view p).seen (view p).number (inside p)
+
+-- an idle pass's seat rests
+pub idle_rests : (p : Pass) → (local_in (view p)).activity ≡ Idle → local_in (view p) ≡ resting (local_in (view p)).number
+idle_rests p is = subst (λ a. Rests a (local_in (view p))) is ((all_rest product (view p).opening p.known.opens (view p).seen p.known.valid).rest (view p).number (local_in (view p)) (stands p))
+
+-- a call that has read no row has no pairs
+pub early_pairs : (p : Pass) → IsEarly (local_in (view p)).activity → (local_in (view p)).pairs ≡ []
+early_pairs p = ((inv_holds product (view p).opening p.known.opens (view p).seen p.known.valid).replies.pairs (view p).number (local_in (view p)) (stands p)).early

@@ -1,0 +1,152 @@
+-- How a walk goes from row to row: each of its events takes it on, and the least keys that it knows rise.
+use Rattle.std.proofs.Common.{◌≡◌, ℕ, ◌+◌, ◌*◌, ◌-◌, ◌<◌, Bool, true, false, nat_le, nat_lt, if◌then◌else◌, Option, Some, None, arith, refl, sym, ◌∙◌, ap, subst, inl, inr}
+use Rattle.kw_words.specs.declared.layout.Name.TheVariants as name
+use Rattle.kw_words.specs.Link.{link_of}
+use Rattle.kw_words.specs.Plain.{key_of_word}
+use Rattle.kw_words.specs.State.{state_of}
+use Rattle.kw_words.specs.declared.state.State.{State}
+use Rattle.kw_words.specs.declared.state.State.TheVariants.{Free, Infant, Normal, Leader, Follower, Retired}
+use Rattle.kw_model.specs.declared.call.Call.{Call}
+use Rattle.kw_model.specs.declared.call.Call.TheVariants.{Put, Del, Get, Scan}
+use Rattle.kw_world.specs.declared.activity.Activity.{Activity}
+use Rattle.kw_world.specs.declared.activity.Activity.TheVariants.{Start, Head, GuessMin, Walk, WalkMin}
+use Rattle.kw_world.specs.declared.event.Choice.{Choice}
+use Rattle.kw_world.specs.declared.event.Choice.TheVariants.{Go, Guess}
+use Rattle.kw_world.specs.declared.event.StepDone.TheVariants.{Moved}
+use Rattle.kw_world.specs.declared.local.Local.{Local}
+use Rattle.kw_world.specs.Parts.{is_walking}
+use Rattle.kw_world.specs.Row.{Outcome, outcome, to, row_linked, row_or_first}
+use Rattle.kw_world.specs.RowWalk.{arrive, guess_met, link_met, offered}
+use Rattle.kw_world.specs.Sizes.{product}
+use Rattle.kw_world.specs.Step.{next_of, row_of, word}
+use Rattle.kw_world.specs.Table.{row}
+use Rattle.kw_core.specs.Run.{history}
+use Rattle.kw_core.proofs.Arrows.{at_most}
+use Rattle.kw_core.proofs.Owners.{true_false}
+use Rattle.kw_table.specs.declared.pass.Pass.{Pass}
+use Rattle.kw_table.specs.declared.shared.Shared.{Shared}
+use Rattle.kw_table.specs.Passes.{view}
+use Rattle.kw_table.proofs.Prefixes.{prefix_trans}
+use Rattle.kw_live.specs.Calling.{Keeps}
+use Rattle.kw_live.specs.Following.{Follows, GoesTo, held}
+use Rattle.kw_live.specs.Meeting.{Met, MetAs, BeginsWith}
+use Rattle.kw_live.specs.Stages.{arrived, guessing}
+use Rattle.kw_live.specs.Walking.{IsUnderWay, WalksOn}
+use Rattle.kw_live.proofs.Fronts.{met_laws, met_local, met_told, local_at}
+
+-- how many events a walk has yet to make at most, by the least key that it knows and the key that it wants
+abbrev pub walk_ahead : Activity → ℕ → ℕ → ℕ
+walk_ahead Start lower want = 2 * (want + 1) + 5
+walk_ahead GuessMin lower want = 2 * (want + 1) + 4
+walk_ahead Head lower want = 2 * (want + 1) + 3
+walk_ahead Walk lower want = 2 * (want + 1 - lower) + 2
+walk_ahead WalkMin lower want = 2 * (want + 1 - lower) + 1
+walk_ahead _ lower want = 0
+
+-- the event took the walk on, and it has fewer to make
+pub record Climbs (l m : Local) (ahead : ℕ) : Type 0 where
+  pub walks : WalksOn l m
+  pub fewer : walk_ahead m.activity m.lower m.want < ahead
+
+-- what follows from an event, by its activity
+after_is : (a : Activity) (choice : Choice) (l m : Local) (told : ℕ) → l.activity ≡ a → outcome m Moved ≡ next_of product choice l told → m ≡ ((row product a 0 choice l).next told).local
+unfolding row_of
+after_is a choice l m told is line = ap (λ (x : Outcome). x.local) (line ∙ ap (λ b. (row product b 0 choice l).next told) is)
+
+on : (l m x : Local) (ahead : ℕ) → m ≡ x → Climbs l x ahead → Climbs l m ahead
+on l m x ahead is w = subst (λ y. Climbs l y ahead) (sym is) w
+
+-- the arrival
+arrives : (l x : Local) (call : Option Call) (ahead : ℕ) → x.call ≡ l.call → x.want ≡ l.want → x.version ≡ l.version → x.has_read ≡ l.has_read → call ≡ l.call → 0 < ahead → Climbs l (arrive call x).local ahead
+arrives l x (Some (Put key value)) ahead a b c d is more = record { walks = record { call = a; want = b; version = c; has_read = d; stage = inr (ap arrived is) }; fewer = more }
+arrives l x (Some (Del key)) ahead a b c d is more = record { walks = record { call = a; want = b; version = c; has_read = d; stage = inr (ap arrived is) }; fewer = more }
+arrives l x (Some (Get key)) ahead a b c d is more = record { walks = record { call = a; want = b; version = c; has_read = d; stage = inr (ap arrived is) }; fewer = more }
+arrives l x (Some (Scan from upto)) ahead a b c d is more = record { walks = record { call = a; want = b; version = c; has_read = d; stage = inr (ap arrived is) }; fewer = more }
+arrives l x None ahead a b c d is more = record { walks = record { call = a; want = b; version = c; has_read = d; stage = inr (ap arrived is) }; fewer = more }
+
+-- the walk begins at the first row, or tries the guessed one
+from_head : (l : Local) (w ahead : ℕ) → 2 * (l.want + 1) + 2 < ahead → Climbs l (record l { row = w; lower = 0; activity = Walk }) ahead
+from_head l w ahead more = record { walks = record { call = refl; want = refl; version = refl; has_read = refl; stage = inl refl }; fewer = omega (arith, more) }
+
+guesses : (l : Local) (r : ℕ) (state : Option State) (ahead : ℕ) → 2 * (l.want + 1) + 4 < ahead → Climbs l (guess_met r state l).local ahead
+guesses l r (Some Free) ahead more = record { walks = record { call = refl; want = refl; version = refl; has_read = refl; stage = inl refl }; fewer = omega (arith, more) }
+guesses l r (Some (Infant seat)) ahead more = record { walks = record { call = refl; want = refl; version = refl; has_read = refl; stage = inl refl }; fewer = omega (arith, more) }
+guesses l r (Some Normal) ahead more = record { walks = record { call = refl; want = refl; version = refl; has_read = refl; stage = inl refl }; fewer = omega (arith, more) }
+guesses l r (Some (Leader count)) ahead more = record { walks = record { call = refl; want = refl; version = refl; has_read = refl; stage = inl refl }; fewer = omega (arith, more) }
+guesses l r (Some (Follower leader)) ahead more = record { walks = record { call = refl; want = refl; version = refl; has_read = refl; stage = inl refl }; fewer = omega (arith, more) }
+guesses l r (Some (Retired number)) ahead more = record { walks = record { call = refl; want = refl; version = refl; has_read = refl; stage = inl refl }; fewer = omega (arith, more) }
+guesses l r None ahead more = record { walks = record { call = refl; want = refl; version = refl; has_read = refl; stage = inl refl }; fewer = omega (arith, more) }
+
+-- the guessed row serves, or does not
+least_met : (l : Local) (least : ℕ) (b : Bool) → Climbs l (let x : Outcome = if b then to Walk (record l { lower = least }) else to Head l in x).local (2 * (l.want + 1) + 4)
+least_met l least true = record { walks = record { call = refl; want = refl; version = refl; has_read = refl; stage = inl refl }; fewer = omega arith }
+least_met l least false = record { walks = record { call = refl; want = refl; version = refl; has_read = refl; stage = inl refl }; fewer = omega arith }
+
+-- the row is the last one, or there is one after it
+links : (l : Local) (next : Option ℕ) → Climbs l (link_met next l).local (2 * (l.want + 1 - l.lower) + 2)
+links l None = arrives l (record l { next = None; upper = 0 }) l.call _ refl refl refl refl refl (omega arith)
+links l (Some r) = record { walks = record { call = refl; want = refl; version = refl; has_read = refl; stage = inl refl }; fewer = omega arith }
+
+-- the row after it is taken, whose least key is greater and at most the wanted one, or the walk has arrived
+climbs : (l : Local) (least : ℕ) → l.lower < least → (b : Bool) → nat_le least l.want ≡ b
+    → Climbs l (let x : Outcome = if b then to Walk (record l { row = l.candidate; lower = least }) else arrive l.call (record l { next = Some l.candidate; upper = least }) in x).local (2 * (l.want + 1 - l.lower) + 1)
+climbs l least above true h = record { walks = record { call = refl; want = refl; version = refl; has_read = refl; stage = inl refl }; fewer = let below = at_most least l.want h in omega (arith, above, below) }
+climbs l least above false h = arrives l (record l { next = Some l.candidate; upper = least }) l.call _ refl refl refl refl refl (omega arith)
+
+module _ (s : Shared) (p q : Pass) (l m : Local) (told : ℕ) (goes : GoesTo s p q) (met : MetAs p q l Go told) (line : outcome m Moved ≡ next_of product Go l told) where
+  -- the event at this activity
+  here : (a : Activity) → l.activity ≡ a → Met p q a Go told
+  here a is = record { front = met.met.front; later = met.met.later; here = met.met.here; activity = met.met.activity ∙ is; tells = met.met.tells }
+
+  -- the row after has a greater least key
+  above : l.activity ≡ WalkMin → l.lower < key_of_word told
+  unfolding here
+  above is =
+      let x = here WalkMin is in
+      let rises = (met_laws s p q WalkMin Go told goes x).climbs (view p).number (local_at p x.front) (met_local p q WalkMin Go told x) x.activity in
+      let least : ℕ = key_of_word (word product (history product (view p).opening x.front).world (name.Min (local_at p x.front).candidate)) in
+      let more : l.lower < least = subst (λ n. n < least) (ap (λ (k : Local). k.lower) met.knew) rises in
+      subst (λ w. l.lower < key_of_word w) (sym (met_told p q WalkMin Go told x _ refl)) more
+
+  event : (a : Activity) → l.activity ≡ a → is_walking a ≡ true → Climbs l m (walk_ahead a l.lower l.want)
+  event Start is w = on l m _ _ (after_is Start Go l m told is line) (from_head l (row_or_first (row_linked (link_of told))) _ (omega arith))
+  event Head is w = on l m _ _ (after_is Head Go l m told is line) (from_head l (row_or_first (row_linked (link_of told))) _ (omega arith))
+  event GuessMin is w = on l m _ _ (after_is GuessMin Go l m told is line) (least_met l (key_of_word told) (nat_le (key_of_word told) l.want))
+  event Walk is w = on l m _ _ (after_is Walk Go l m told is line) (links l (row_linked (link_of told)))
+  event WalkMin is w = on l m _ _ (after_is WalkMin Go l m told is line) (climbs l (key_of_word told) (above is) (nat_le (key_of_word told) l.want) refl)
+  event _ is w = true_false w refl
+
+  -- each event of a walk takes it on
+  pub walk_goes : is_walking l.activity ≡ true → Climbs l m (walk_ahead l.activity l.lower l.want)
+  walk_goes = event l.activity refl
+
+-- The first event of a walk, with the choice that a guess makes.
+pub sets_out : (l m : Local) (told rows : ℕ) (guess : Option ℕ) → l.activity ≡ Start → outcome m Moved ≡ next_of product (offered rows (guessing guess)) l told → WalksOn l m
+sets_out l m told rows None is line = (on l m _ _ (after_is Start Go l m told is line) (from_head l (row_or_first (row_linked (link_of told))) (2 * (l.want + 1) + 3) (omega arith))).walks
+sets_out l m told rows (Some r) is line = met (nat_lt r rows) line
+  where
+    met : (b : Bool) → outcome m Moved ≡ next_of product (if b then Guess r else Go) l told → WalksOn l m
+    met true e = (on l m _ _ (after_is Start (Guess r) l m told is e) (guesses l r (state_of told) (2 * (l.want + 1) + 5) (omega arith))).walks
+    met false e = (on l m _ _ (after_is Start Go l m told is e) (from_head l (row_or_first (row_linked (link_of told))) (2 * (l.want + 1) + 3) (omega arith))).walks
+
+-- one walk after the other
+pub walks_trans : (l m n : Local) → WalksOn l m → WalksOn m n → WalksOn l n
+walks_trans l m n a b = record {
+  call = b.call ∙ a.call;
+  want = b.want ∙ a.want;
+  version = b.version ∙ a.version;
+  has_read = b.has_read ∙ a.has_read;
+  stage = subst (λ c. IsUnderWay c n.activity) a.call b.stage;
+}
+
+-- What stays through all events of a walk.
+pub record IsWalkingOn (s : Shared) (o : Pass) (l : Local) (p : Pass) (m : Local) : Type 0 where
+  pub goes : GoesTo s o p
+  pub follows : Follows s p m
+  pub calls : Keeps o p
+  pub held : held p ≡ held o
+  pub walks : WalksOn l m
+
+-- what a pass began with it has begun with later too
+pub begins_on : (s : Shared) (p q r : Pass) (c : Choice) → GoesTo s q r → BeginsWith p q c → BeginsWith p r c
+begins_on s p q r c goes b = record { front = b.front; later = b.later; first = b.first; here = prefix_trans _ _ _ b.here goes.seen }

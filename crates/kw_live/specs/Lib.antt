@@ -1,0 +1,7 @@
+pub mod Following
+pub mod Calling
+pub mod Meeting
+pub mod Stages
+pub mod Walking
+pub mod Putting
+pub mod Reading

@@ -1,0 +1,57 @@
+-- What a reader knows once it has read a row.
+use Rattle.std.specs.Prelude.{◌≡◌, ◌⊎◌, ℕ, ◌<◌, ◌≤◌, ◌++◌, Bool, true, false, Option, Some, None, List, []}
+use Rattle.kw_cells.specs.Cells.{shown_at, pairs_of}
+use Rattle.kw_model.specs.declared.call.Call.{Call}
+use Rattle.kw_model.specs.declared.call.Call.TheVariants.{Put, Del, Get, Scan}
+use Rattle.kw_model.specs.declared.call.Reply.TheVariants.{Pairs}
+use Rattle.kw_model.specs.Map.{found}
+use Rattle.kw_world.specs.declared.activity.Activity.{Activity}
+use Rattle.kw_world.specs.declared.activity.Activity.TheVariants.{Walk, Look, LookKey, LookClock, LookHelp, LookCount, Cell, CellKey, CellValue, ClearScan, Leave}
+use Rattle.kw_world.specs.declared.limits.TheConstants.{NEWEST}
+use Rattle.kw_world.specs.declared.local.Local.{Local}
+use Rattle.kw_world.specs.declared.event.Choice.TheVariants.{Go}
+use Rattle.kw_world.specs.Sizes.{product}
+use Rattle.kw_world.specs.Step.{next_of}
+use Rattle.kw_live.specs.Following.{known}
+
+-- the reader looks at the entries of the row
+abbrev pub is_looking : Activity → Bool
+is_looking (Look i) = true
+is_looking LookKey = true
+is_looking LookClock = true
+is_looking LookHelp = true
+is_looking _ = false
+
+-- the reader reads the cells of the row
+abbrev pub is_reading_cells : Activity → Bool
+is_reading_cells LookCount = true
+is_reading_cells (Cell j) = true
+is_reading_cells CellKey = true
+is_reading_cells CellValue = true
+is_reading_cells _ = false
+
+-- a scan goes on with the next row, whose least key it then wants; it is above the one that it wanted and not above the range
+pub record GoesOn (upto : ℕ) (l m : Local) : Type 0 where
+  pub activity : m.activity ≡ Walk
+  pub rises : l.want < m.want
+  pub within : m.want ≤ upto
+  pub read : m.has_read ≡ true
+
+-- what a reader of this row gave: a get its answer, and a scan the pairs that the gathered cells show
+abbrev pub HasReadAs : Option Call → Local → Local → List (ℕ × ℕ) → List (ℕ × ℕ) → Type 0
+HasReadAs (Some (Get key)) l m before after = (m.activity ≡ Leave (found (shown_at m.gathered NEWEST key))) × (after ≡ before)
+HasReadAs (Some (Scan from upto)) l m before after = (GoesOn upto l m ⊎ (m.activity ≡ ClearScan (Pairs []))) × (after ≡ before ++ pairs_of m.gathered l.want upto l.version)
+HasReadAs _ l m before after = Unit {0}
+
+-- the same, of the call that the local has
+abbrev pub HasRead : Local → Local → List (ℕ × ℕ) → List (ℕ × ℕ) → Type 0
+HasRead l m before after = HasReadAs l.call l m before after
+
+-- what follows from one event of a reader that reads cells: it goes on in the row, or has read the row to its end
+pub record Reads (l m : Local) (before after : List (ℕ × ℕ)) : Type 0 where
+  pub call : m.call ≡ l.call
+  pub version : m.version ≡ l.version
+  pub told : ℕ
+  pub line : known m ≡ known (next_of product Go l told).local
+  pub on : is_reading_cells m.activity ≡ true → (m.want ≡ l.want) × (after ≡ before)
+  pub ends : is_reading_cells m.activity ≡ false → HasRead l m before after

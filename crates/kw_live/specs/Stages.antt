@@ -1,0 +1,44 @@
+-- Where a call stands between the functions that make its events.
+use Rattle.std.specs.Prelude.{◌≡◌, ℕ, ◌<◌, ◌≤◌, Option, Some, None, []}
+use Rattle.kw_model.specs.declared.call.Call.{Call}
+use Rattle.kw_model.specs.declared.call.Call.TheVariants.{Put, Del, Get, Scan}
+use Rattle.kw_model.specs.declared.call.Reply.TheVariants.{Pairs, Spent}
+use Rattle.kw_world.specs.declared.activity.Activity.{Activity}
+use Rattle.kw_world.specs.declared.activity.Activity.TheVariants.{Idle, Start, Look, LookCount, Cell, CellKey, CellValue, ClearScan, PutCount, Leave}
+use Rattle.kw_world.specs.declared.event.Choice.{Choice}
+use Rattle.kw_world.specs.declared.event.Choice.TheVariants.{Go, Guess}
+
+-- the seat is in the middle of a call, and its next event neither ends the call or a scan nor reads a cell
+abbrev pub IsWithinCall : Activity → Type 0
+IsWithinCall Idle = ⊥
+IsWithinCall LookCount = ⊥
+IsWithinCall (Cell j) = ⊥
+IsWithinCall CellKey = ⊥
+IsWithinCall CellValue = ⊥
+IsWithinCall (ClearScan reply) = ⊥
+IsWithinCall (Leave reply) = ⊥
+IsWithinCall _ = Unit {0}
+
+-- where a call stands once it has entered: on its way to the row of its first key; a scan of no keys is over, and one that found
+-- the versions spent leaves
+abbrev pub HasEntered : Call → Activity → Type 0
+HasEntered (Put key value) Start = Unit {0}
+HasEntered (Del key) Start = Unit {0}
+HasEntered (Get key) Start = Unit {0}
+HasEntered (Scan from upto) Start = from ≤ upto
+HasEntered (Scan from upto) (ClearScan (Pairs pairs)) = (upto < from) × (pairs ≡ [])
+HasEntered (Scan from upto) (Leave Spent) = Unit {0}
+HasEntered _ _ = ⊥
+
+-- where a call stands once it is at its row
+abbrev pub arrived : Option Call → Activity
+arrived (Some (Put key value)) = PutCount
+arrived (Some (Del key)) = PutCount
+arrived (Some (Get key)) = Look 0
+arrived (Some (Scan from upto)) = Look 0
+arrived None = Look 0
+
+-- the choice with which a walk begins
+abbrev pub guessing : Option ℕ → Choice
+guessing (Some row) = Guess row
+guessing None = Go

@@ -1,0 +1,111 @@
+//! How a call begins, how a scan gets its version and is over, and how a call ends.
+ghost use Rattle.std.specs.Prelude.{◌≡◌, ◌↔◌, ◌⊎◌, ◌≤◌, false, true, [], Some, IfSome};
+ghost use Rattle.kw_words.specs.declared.sizes.TheConstants.{SPENT};
+ghost use Rattle.kw_world.specs.Calls.{is_scan};
+ghost use Rattle.kw_core.specs.Events.{is_call_in_range};
+ghost use Rattle.kw_table.specs.Passes.{view, IsPassOf};
+ghost use Rattle.kw_live.specs.Calling.{Keeps, Opens, Closes};
+ghost use Rattle.kw_live.specs.Following.{Follows, GoesTo, activity_in, held, bare_reply};
+ghost use Rattle.kw_live.specs.Meeting.{MetClock};
+ghost use Rattle.kw_live.specs.Stages.{HasEntered};
+
+use crate::going::{begin, clear, end, go};
+use kw_model::call::{Call, Reply};
+use kw_table::{Pass, Shared};
+use kw_world::activity::Activity;
+use kw_world::event::Choice;
+use kw_world::local::Local;
+use std::alloc::Global;
+
+/// Begins a call of an idle pass, and makes its events up to the walk to its row.
+///
+/// The epoch is announced, and a scan gets its version. A scan of no keys then stands at its end, and one whose first clock was at
+/// `SPENT` or above is about to leave with `Spent`; every other call is to begin its walk. A put's value is below `VALUE_END`. Gives what
+/// the seat knows. Takes no memory.
+pub fn enter(shared: &Shared, pass: &mut Pass, alloc: Global, call: Call) -> Local
+    requires table { IsPassOf shared.now pass.old }
+    requires idle { activity_in pass.old ≡ Activity.Idle }
+    requires range { is_call_in_range call ≡ true }
+    ensures goes { GoesTo shared.now pass.old pass.new }
+    ensures follows { Follows shared.now pass.new result }
+    ensures entered { HasEntered call result.activity }
+    ensures call { result.call ≡ Some call }
+    ensures unread { result.has_read ≡ false }
+    ensures opens { Opens pass.old pass.new call }
+    ensures held { held pass.new ≡ [] }
+    ensures spent { is_scan (Some call) ≡ true → (clock : _) × MetClock pass.old pass.new clock × ((result.activity ≡ Activity.Leave Reply.Spent) ↔ (SPENT ≤ clock)) }
+{
+    let mut local = begin(shared, pass, alloc, call);
+    go(shared, pass, &mut local, Choice::Go);
+    if let Activity::ScanClock = local.activity {
+        draw(shared, pass, &mut local);
+    }
+    local
+}
+
+// A scan gets its version.
+fn draw(shared: &Shared, pass: &mut Pass, local: &mut Local)
+    requires follows { Follows shared.now pass.old local.old }
+    requires activity { local.old.activity ≡ Activity.ScanClock }
+    requires scan { is_scan local.old.call ≡ true }
+    ensures goes { GoesTo shared.now pass.old pass.new }
+    ensures follows { Follows shared.now pass.new local.new }
+    ensures entered { IfSome local.old.call (λ call. HasEntered call local.new.activity) }
+    ensures call { local.new.call ≡ local.old.call }
+    ensures unread { local.new.has_read ≡ local.old.has_read }
+    ensures calls { Keeps pass.old pass.new }
+    ensures held { held pass.new ≡ held pass.old }
+    ensures spent { (clock : _) × MetClock pass.old pass.new clock × ((local.new.activity ≡ Activity.Leave Reply.Spent) ↔ (SPENT ≤ clock)) }
+{
+    go(shared, pass, local, Choice::Go);
+    if let Activity::ScanWait = local.activity {
+        go(shared, pass, local, Choice::Go);
+        go(shared, pass, local, Choice::Go);
+        go(shared, pass, local, Choice::Go);
+    }
+}
+
+/// Ends a scan that has all its pairs: it is then about to leave with them.
+pub fn end_scan(shared: &Shared, pass: &mut Pass, local: &mut Local)
+    requires follows { Follows shared.now pass.old local.old }
+    requires over { (reply : Reply) × (local.old.activity ≡ Activity.ClearScan reply) }
+    ensures goes { GoesTo shared.now pass.old pass.new }
+    ensures follows { Follows shared.now pass.new local.new }
+    ensures leaves { (reply : Reply) → activity_in pass.old ≡ Activity.ClearScan reply → activity_in pass.new ≡ Activity.Leave reply }
+    ensures activity { (reply : Reply) → local.old.activity ≡ Activity.ClearScan reply → local.new.activity ≡ Activity.Leave reply }
+    ensures calls { Keeps pass.old pass.new }
+    ensures held { held pass.new ≡ held pass.old }
+{
+    clear(shared, pass, local, Choice::Go);
+}
+
+/// Stops a scan that has read a row: it is then about to leave with `Stopped`.
+pub fn stop_scan(shared: &Shared, pass: &mut Pass, local: &mut Local)
+    requires follows { Follows shared.now pass.old local.old }
+    requires scan { is_scan local.old.call ≡ true }
+    requires stage { ((local.old.activity ≡ Activity.Walk) × (local.old.has_read ≡ true)) ⊎ ((reply : Reply) × (local.old.activity ≡ Activity.ClearScan reply)) }
+    ensures goes { GoesTo shared.now pass.old pass.new }
+    ensures follows { Follows shared.now pass.new local.new }
+    ensures leaves { activity_in pass.new ≡ Activity.Leave Reply.Stopped }
+    ensures activity { local.new.activity ≡ Activity.Leave Reply.Stopped }
+    ensures calls { Keeps pass.old pass.new }
+{
+    if let Activity::ClearScan(_) = local.activity {
+        clear(shared, pass, local, Choice::Stop);
+    } else {
+        go(shared, pass, local, Choice::Stop);
+    }
+}
+
+/// Ends a call that is about to leave: the seat announces no epoch any more, and the pass is idle.
+///
+/// The answer is the reply that is recorded, without the pairs of a scan.
+pub fn leave(shared: &Shared, pass: &mut Pass, local: Local) -> Reply
+    requires follows { Follows shared.now pass.old local }
+    requires leaving { (reply : Reply) × (local.activity ≡ Activity.Leave reply) }
+    ensures goes { GoesTo shared.now pass.old pass.new }
+    ensures idle { activity_in pass.new ≡ Activity.Idle }
+    ensures closes { (reply : Reply) → activity_in pass.old ≡ Activity.Leave reply → Closes pass.old pass.new reply × (result ≡ bare_reply reply) }
+{
+    end(shared, pass, local)
+}

@@ -1,0 +1,67 @@
+//! The events of a put or a delete at its row.
+ghost use Rattle.std.specs.Prelude.{◌≡◌};
+ghost use Rattle.kw_words.specs.declared.sizes.TheConstants.{CELLS};
+ghost use Rattle.kw_table.specs.Passes.{view};
+ghost use Rattle.kw_live.specs.Calling.{Keeps};
+ghost use Rattle.kw_live.specs.Following.{Follows, GoesTo, held};
+ghost use Rattle.kw_live.specs.Meeting.{MetFull, MetRoom};
+ghost use Rattle.kw_live.specs.Putting.{Tried, is_putting, reply_of};
+
+use crate::going::go;
+use kw_model::call::Reply;
+use kw_table::{Pass, Shared};
+use kw_world::activity::Activity;
+use kw_world::event::Choice;
+use kw_world::local::Local;
+
+/// How a put or a delete ended at its row.
+#[derive(Clone, Copy, Debug, PartialEq, Eq)]
+pub enum TryPut {
+    /// Its cell is stamped.
+    Done,
+    /// This row has given all its cells. No cell is stamped.
+    RowFull(u32),
+}
+
+/// Puts the call's cell into the row that it stands at.
+///
+/// The call is a put or a delete that has arrived at its row; it is then about to leave, with `Done`, or with `NoRows` where the row was
+/// full. A row is full exactly where the count that this call found there, before it asked for a cell or when it did, was `CELLS` or above.
+/// Takes no memory.
+pub fn try_put(shared: &Shared, pass: &mut Pass, local: &mut Local) -> TryPut
+    requires follows { Follows shared.now pass.old local.old }
+    requires activity { local.old.activity ≡ Activity.PutCount }
+    ensures goes { GoesTo shared.now pass.old pass.new }
+    ensures follows { Follows shared.now pass.new local.new }
+    ensures leaves { local.new.activity ≡ Activity.Leave (reply_of result) }
+    ensures cause { Tried CELLS pass.old pass.new local.old.row result }
+    ensures calls { Keeps pass.old pass.new }
+    ensures held { held pass.new ≡ held pass.old }
+{
+    let row = local.row;
+    while is_putting(&local.activity) {
+        go(shared, pass, local, Choice::Go);
+    }
+    match &local.activity {
+        Activity::Leave(Reply::Done) => TryPut::Done,
+        _ => TryPut::RowFull(row),
+    }
+}
+
+// Whether the put is at its row.
+fn is_putting(activity: &Activity) -> bool
+    ensures { result ≡ is_putting activity.now }
+{
+    match activity {
+        Activity::PutCount
+        | Activity::PutAdd
+        | Activity::PutKey
+        | Activity::PutValue
+        | Activity::Announce
+        | Activity::PutClock
+        | Activity::Stamp
+        | Activity::PutVersion
+        | Activity::PutClear => true,
+        _ => false,
+    }
+}
