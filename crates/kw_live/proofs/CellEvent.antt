@@ -1,5 +1,5 @@
 -- One whole event of a reader that reads cells, of its pass and of the local that follows it.
-use Rattle.std.proofs.Common.{◌≡◌, ◌⊎◌, ℕ, ◌+◌, ◌<◌, suc, Bool, true, false, if◌then◌else◌, Option, Some, None, List, [], ◌∷◌, ◌++◌, All, arith, refl, sym, ◌∙◌, ap, subst, inl, inr}
+use Rattle.std.proofs.Common.{◌≡◌, ℕ, ◌+◌, ◌<◌, suc, Bool, true, false, if◌then◌else◌, Option, Some, None, List, [], ◌∷◌, ◌++◌, All, refl, sym, ◌∙◌, ap, subst, inl, inr}
 use Rattle.std.proofs.lemmas.List.Elements.{All-nil, All-cons}
 use Rattle.kw_cells.specs.Cells.{pairs_of}
 use Rattle.kw_model.specs.declared.call.Call.{Call}
@@ -11,7 +11,7 @@ use Rattle.kw_world.specs.declared.event.Choice.TheVariants.{Go}
 use Rattle.kw_world.specs.declared.local.Local.{Local}
 use Rattle.kw_world.specs.Calls.{first_key, is_in_range, is_scan}
 use Rattle.kw_world.specs.Row.{Outcome}
-use Rattle.kw_world.specs.RowEnd.{IsInCells, IsOnward, passed, read_at, read_on, version_read}
+use Rattle.kw_world.specs.RowEnd.{IsInCells, passed, read_at, read_on, version_read}
 use Rattle.kw_world.specs.RowRead.{version_in_hand}
 use Rattle.kw_world.specs.Sizes.{Sizes, product}
 use Rattle.kw_world.specs.Step.{next_of, row_of}
@@ -29,8 +29,8 @@ use Rattle.kw_table.specs.Passes.{view, Makes}
 use Rattle.kw_table.specs.Views.{local_in}
 use Rattle.kw_live.specs.Calling.{Keeps}
 use Rattle.kw_live.specs.Following.{Follows, GoesTo, activity_in, bare_activity, carried, held, held_at}
-use Rattle.kw_live.specs.Reading.{GoesOn, HasRead, HasReadAs, Reads, is_reading_cells, unpaired}
-use Rattle.kw_live.proofs.CellStages.{Ended, Goes, IsBelowNext, Passes, cell_ahead, cell_goes}
+use Rattle.kw_live.specs.Reading.{HasRead, HasReadAs, Reads, is_reading_cells, unpaired}
+use Rattle.kw_live.proofs.CellStages.{Ended, Goes, IsBelowNext, cell_ahead, cell_goes}
 use Rattle.kw_live.proofs.Growing.{IsStaying}
 use Rattle.kw_live.proofs.OneEvent.{follows_from}
 use Rattle.kw_live.proofs.Resting.{stands}

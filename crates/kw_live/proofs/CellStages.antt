@@ -1,6 +1,6 @@
 -- How a reader reads the cells of a row, one after the other, and what follows at the end of the row: for the seat, and for code, which
 -- keeps no pairs.
-use Rattle.std.proofs.Common.{◌≡◌, ◌⊎◌, ℕ, ◌+◌, ◌*◌, ◌-◌, ◌<◌, ◌≤◌, Bool, true, false, nat_lt, if◌then◌else◌, min, Option, Some, None, List, [], ◌∷◌, ◌++◌, arith, refl, sym, ◌∙◌, ap, subst, inl, inr}
+use Rattle.std.proofs.Common.{◌≡◌, ◌⊎◌, ℕ, ◌+◌, ◌*◌, ◌-◌, ◌<◌, ◌≤◌, Bool, true, false, nat_lt, if◌then◌else◌, min, Option, Some, None, List, [], ◌++◌, arith, refl, ap, inl, inr}
 use Rattle.std.proofs.lemmas.Bool.Decides.{nat_tests}
 use Rattle.kw_words.specs.Count.{count_of}
 use Rattle.kw_words.specs.Plain.{key_of_word, value_of_word, version_of_word}
@@ -18,7 +18,7 @@ use Rattle.kw_world.specs.Calls.{is_in_range}
 use Rattle.kw_world.specs.Marks.{version_marked}
 use Rattle.kw_world.specs.Row.{Outcome, to}
 use Rattle.kw_world.specs.RowPut.{given_of}
-use Rattle.kw_world.specs.RowRead.{count_read, gathering, get_answered, row_read, scan_on, scan_ended, to_cell, version_in_hand, version_met, with_pairs}
+use Rattle.kw_world.specs.RowRead.{gathering, row_read, scan_on, scan_ended, to_cell, version_in_hand, version_met, with_pairs}
 use Rattle.kw_world.specs.Sizes.{Sizes}
 use Rattle.kw_world.specs.Table.{row}
 use Rattle.kw_core.proofs.Owners.{true_false}
