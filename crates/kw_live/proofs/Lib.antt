@@ -10,3 +10,4 @@ pub mod Ends
 pub mod Growing
 pub mod OneEvent
 pub mod Resting
+pub mod Starting

@@ -20,3 +20,6 @@ pub use entering::{end_scan, enter, leave, stop_scan};
 pub use putting::{TryPut, try_put};
 pub use reading::read_row;
 pub use walking::locate;
+
+#[cfg(test)]
+mod tests;
