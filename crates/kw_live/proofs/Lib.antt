@@ -1,4 +1,7 @@
+pub mod CellEvent
+pub mod CellStages
 pub mod Fronts
+pub mod LookStages
 pub mod PutStages
 pub mod WalkStages
 pub mod Carrying
@@ -7,3 +10,4 @@ pub mod Ends
 pub mod Growing
 pub mod OneEvent
 pub mod Resting
+pub mod Starting

@@ -14,7 +14,6 @@ ghost use Rattle.kw_table.specs.Passes.{view, IsPassOf};
 ghost use Rattle.kw_live.specs.Calling.{Keeps, Opens, Closes};
 ghost use Rattle.kw_live.specs.Following.{Follows, GoesTo, activity_in, held, bare_reply};
 ghost use Rattle.kw_live.specs.Meeting.{MetAs};
-ghost use Rattle.kw_live.specs.Reading.{Reads, is_reading_cells};
 ghost use Rattle.kw_live.specs.Stages.{IsWithinCall};
 
 use kw_core::step::{operation, resume};
@@ -75,23 +74,6 @@ pub(crate) fn go(shared: &Shared, pass: &mut Pass, local: &mut Local, choice: Ch
         Ok(_) => told,
         Err(_) => unreachable!(),
     }
-}
-
-/// Makes the next event of a reader that reads cells, and passes the end of the row's cells, which has no event of its own.
-pub(crate) fn read(shared: &Shared, pass: &mut Pass, local: &mut Local)
-    requires follows { Follows shared.now pass.old local.old }
-    requires reading { is_reading_cells local.old.activity ≡ true }
-    ensures goes { GoesTo shared.now pass.old pass.new }
-    ensures follows { Follows shared.now pass.new local.new }
-    ensures reads { Reads local.old local.new (held pass.old) (held pass.new) }
-    ensures calls { Keeps pass.old pass.new }
-{
-    let told = make(
-        shared,
-        pass,
-        Choice::Go,
-        operation(pass.number(), local, Choice::Go),
-    );
 }
 
 /// Ends a scan: it is then about to leave, with its pairs, or with `Stopped` where the choice is to stop.

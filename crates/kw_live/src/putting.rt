@@ -49,7 +49,7 @@ pub fn try_put(shared: &Shared, pass: &mut Pass, local: &mut Local) -> TryPut
 }
 
 // Whether the put is at its row.
-fn is_putting(activity: &Activity) -> bool
+pub(crate) fn is_putting(activity: &Activity) -> bool
     ensures { result ≡ is_putting activity.now }
 {
     match activity {

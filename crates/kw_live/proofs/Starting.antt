@@ -1,0 +1,27 @@
+-- Where calls other than scans stand between the functions that make their events.
+use Rattle.std.proofs.Common.{◌≡◌, ℕ, Some, List, subst}
+use Rattle.kw_cells.specs.Cells.{shown_at}
+use Rattle.kw_model.specs.declared.call.Call.TheVariants.{Put, Get}
+use Rattle.kw_model.specs.declared.call.Reply.{Reply}
+use Rattle.kw_model.specs.Map.{found}
+use Rattle.kw_world.specs.declared.activity.Activity.{Activity}
+use Rattle.kw_world.specs.declared.activity.Activity.TheVariants.{Start, Leave}
+use Rattle.kw_world.specs.declared.limits.TheConstants.{NEWEST}
+use Rattle.kw_world.specs.declared.local.Local.{Local}
+use Rattle.kw_core.specs.Stages.{IsGoing}
+use Rattle.kw_live.specs.Reading.{HasRead, HasReadAs}
+use Rattle.kw_live.specs.Stages.{HasEntered}
+
+-- a put that has entered is to begin its walk
+pub put_starts : (key value : ℕ) (a : Activity) → HasEntered (Put key value) a → IsGoing a
+put_starts key value Start h = tt
+put_starts key value _ h = absurd h
+
+-- so is a get
+pub get_starts : (key : ℕ) (a : Activity) → HasEntered (Get key) a → IsGoing a
+get_starts key Start h = tt
+get_starts key _ h = absurd h
+
+-- a get that has read its row is about to leave
+pub get_leaves : (key : ℕ) (l m : Local) (before after : List (ℕ × ℕ)) → l.call ≡ Some (Get key) → HasRead l m before after → (reply : Reply) × (m.activity ≡ Leave reply)
+get_leaves key l m before after is read = (found (shown_at m.gathered NEWEST key), (subst (λ c. HasReadAs c l.want l.version m before after) is read).0)

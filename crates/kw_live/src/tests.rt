@@ -1,0 +1,145 @@
+//! Whole calls put together from the functions of this crate, between the events of another pass's put.
+ghost use Rattle.std.specs.Prelude.{◌≡◌, true, IfSome};
+ghost use Rattle.kw_core.specs.Events.{is_call_in_range};
+ghost use Rattle.kw_table.specs.Passes.{IsPassOf};
+ghost use Rattle.kw_live.specs.Following.{Follows, activity_in};
+
+use super::*;
+use crate::going::go;
+use crate::putting::is_putting;
+use kw_cells::cell::next_pair;
+use kw_model::call::{Call, Reply};
+use kw_model::memory::Memory;
+use kw_model::pair_list::PairList;
+use kw_table::{Pass, Shared};
+use kw_world::activity::Activity;
+use kw_world::event::Choice;
+use kw_world::local::Local;
+use std::alloc::Global;
+use std::test::Fail;
+
+// Begins a put, and makes at most this many of its events at its row. Gives what the seat knows.
+fn begin_put(
+    alloc: Global,
+    shared: &Shared,
+    pass: &mut Pass,
+    key: u32,
+    value: u64,
+    events: u32,
+) -> Local
+    requires table { IsPassOf shared.now pass.old }
+    requires idle { activity_in pass.old ≡ Activity.Idle }
+    requires range { is_call_in_range (Call.Put key value) ≡ true }
+    ensures follows { Follows shared.now pass.new result }
+{
+    let mut local = enter(shared, pass, alloc, Call::Put(key, value));
+    locate(shared, pass, &mut local, None);
+    for _ in 0..events {
+        if !is_putting(&local.activity) {
+            return local;
+        }
+        go(shared, pass, &mut local, Choice::Go);
+    }
+    local
+}
+
+// The reply of a whole put.
+fn put(alloc: Global, shared: &Shared, pass: &mut Pass, key: u32, value: u64) -> Reply
+    requires table { IsPassOf shared.now pass.old }
+    requires idle { activity_in pass.old ≡ Activity.Idle }
+    requires range { is_call_in_range (Call.Put key value) ≡ true }
+    ensures table { IsPassOf shared.now pass.new }
+    ensures idle { activity_in pass.new ≡ Activity.Idle }
+{
+    let mut local = enter(shared, pass, alloc, Call::Put(key, value));
+    locate(shared, pass, &mut local, None);
+    try_put(shared, pass, &mut local);
+    leave(shared, pass, local)
+}
+
+// The reply of a whole get.
+fn get(alloc: Global, shared: &Shared, pass: &mut Pass, key: u32) -> Reply
+    requires table { IsPassOf shared.now pass.old }
+    requires idle { activity_in pass.old ≡ Activity.Idle }
+    requires range { is_call_in_range (Call.Get key) ≡ true }
+{
+    let mut local = enter(shared, pass, alloc, Call::Get(key));
+    locate(shared, pass, &mut local, None);
+    read_row(shared, pass, &mut local);
+    leave(shared, pass, local)
+}
+
+// The get's reply, where the put of another pass has made this many events at its row.
+fn get_within_a_put(alloc: Global, events: u32) -> Result<Option<Reply>, Memory> {
+    let (shared, mut passes) = Shared::open(alloc, 64, 2, 1, 1)?;
+    let (Some(mut reader), Some(mut putter)) = (passes.pop(), passes.pop()) else {
+        return Ok(None);
+    };
+    begin_put(alloc, &shared, &mut putter, 5, 50, events);
+    Ok(Some(get(alloc, &shared, &mut reader, 5)))
+}
+
+// What a scan knows that has read its first row. None where it has none to read.
+fn scan_row(alloc: Global, shared: &Shared, pass: &mut Pass, from: u32, upto: u32) -> Option<Local>
+    requires table { IsPassOf shared.now pass.old }
+    requires idle { activity_in pass.old ≡ Activity.Idle }
+    requires range { is_call_in_range (Call.Scan from upto) ≡ true }
+    ensures follows { IfSome result (Follows shared.now pass.new) }
+{
+    let mut local = enter(shared, pass, alloc, Call::Scan(from, upto));
+    let Activity::Start = local.activity else {
+        return None;
+    };
+    locate(shared, pass, &mut local, None);
+    read_row(shared, pass, &mut local);
+    Some(local)
+}
+
+// The reply of a scan that is at its end.
+fn finish(shared: &Shared, pass: &mut Pass, local: Local) -> Option<Reply>
+    requires follows { Follows shared.now pass.old local }
+{
+    let mut local = local;
+    let Activity::ClearScan(_) = local.activity else {
+        return None;
+    };
+    end_scan(shared, pass, &mut local);
+    Some(leave(shared, pass, local))
+}
+
+// Of the nine events of a put at its row the fifth announces its cell, and the seventh stamps it.
+#[test]
+fn a_get_helps_a_put_that_has_announced_its_cell(rt: HostRuntime) -> Result<(), Fail> {
+    for events in 0..9 {
+        let value = if events < 5 {
+            Reply::Absent
+        } else {
+            Reply::Value(50)
+        };
+        assert_eq!(rt; get_within_a_put(rt.alloc(), events)?, Some(value));
+    }
+    Ok(())
+}
+
+// The table has one row, so that a scan is at its end once it has read it.
+#[test]
+fn a_scan_gathers_the_cells_of_its_row(rt: HostRuntime) -> Result<(), Fail> {
+    let (shared, mut passes) = Shared::open(rt.alloc(), 64, 2, 1, 1)?;
+    let (Some(mut reader), Some(mut putter)) = (passes.pop(), passes.pop()) else {
+        panic!(rt; "two passes");
+    };
+    assert_eq!(rt; put(rt.alloc(), &shared, &mut putter, 5, 50), Reply::Done);
+    assert_eq!(rt; put(rt.alloc(), &shared, &mut putter, 7, 70), Reply::Done);
+    assert_eq!(rt; put(rt.alloc(), &shared, &mut putter, 5, 51), Reply::Done);
+    let Some(local) = scan_row(rt.alloc(), &shared, &mut reader, 0, 200) else {
+        panic!(rt; "a row to read");
+    };
+    let cells = local.gathered.as_slice();
+    assert_eq!(rt; cells.len(), 3);
+    assert_eq!(rt; next_pair(cells, 0, 200, local.version), Some((5, 51)));
+    assert_eq!(rt; next_pair(cells, 6, 200, local.version), Some((7, 70)));
+    assert_eq!(rt; next_pair(cells, 8, 200, local.version), None);
+    let none = Reply::Pairs(PairList::new(rt.alloc()));
+    assert_eq!(rt; finish(&shared, &mut reader, local), Some(none));
+    Ok(())
+}
