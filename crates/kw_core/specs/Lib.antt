@@ -6,7 +6,6 @@ pub mod Noted
 pub mod Appended
 pub mod Events
 pub mod Run
-pub mod SeatCalls
 pub mod Recording
 pub mod Remarks
 pub mod Recorder
@@ -22,3 +21,4 @@ pub mod Unfrozen
 pub mod Laws
 pub mod Example
 pub mod Mirror
+pub mod SeatCalls

@@ -90,8 +90,8 @@ module _ {s : Shared} {p q : Pass} {l after : Local} {done : StepDone} {told : �
   end_replies w reply is = ap (λ (x : Outcome). x.done) w.goes ∙ ap (λ (x : Outcome). x.done) (left l told (bare_reply reply) (same_reply s p l reply w.follows is))
 
 -- what resume gives at the end of a call
-pub ends : {l after : Local} {done : StepDone} {told : ℕ} (reply : Reply) → l.activity ≡ Leave reply → outcome after done ≡ next_of product Go l told → done ≡ Ended reply
-ends {l} {after} {done} {told} reply is goes = ap (λ (x : Outcome). x.done) (goes ∙ left l told reply is)
+pub ends : (l after : Local) (done : StepDone) (told : ℕ) (reply : Reply) → l.activity ≡ Leave reply → outcome after done ≡ next_of product Go l told → done ≡ Ended reply
+ends l after done told reply is goes = ap (λ (x : Outcome). x.done) (goes ∙ left l told reply is)
 
 -- The begin of a call.
 

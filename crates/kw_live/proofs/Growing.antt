@@ -12,9 +12,10 @@ use Rattle.kw_world.specs.declared.local.Local.{Local}
 use Rattle.kw_world.specs.declared.opening.Opening.{Opening}
 use Rattle.kw_world.specs.Sizes.{product}
 use Rattle.kw_core.specs.Events.{event, is_valid, local_of, of_seat, world}
-use Rattle.kw_core.specs.SeatCalls.{CallSeen, begun_at, calls_seen, end_last, ended_at, seen_after}
+use Rattle.kw_core.specs.SeatCalls.{CallSeen, begun_at, calls_seen, end_last, seen_after}
 use Rattle.kw_core.proofs.Events.{of_seat-append, of_seat-here, valid_front}
 use Rattle.kw_core.proofs.SeatCalls.{calls-own, calls_still}
+use Rattle.kw_core.proofs.SeatLists.{end_last-snoc}
 use Rattle.kw_table.specs.declared.pass.Pass.{Pass}
 use Rattle.kw_table.specs.declared.shared.Shared.{Shared}
 use Rattle.kw_table.specs.Passes.{view, Makes}
@@ -91,13 +92,6 @@ stays_after Idle c number n cs u = absurd u
 stays_after (Leave reply) c number n cs u = absurd u
 stays_after _ c number n cs u = refl
 
--- the last of the calls is ended
-last_ended : (n : ℕ) (reply : Reply) (earlier : List CallSeen) (c : CallSeen) → end_last n reply (earlier ++ c ∷ []) ≡ earlier ++ ended_at n reply c ∷ []
-unfolding end_last
-last_ended n reply [] c = refl
-last_ended n reply (d ∷ []) c = refl
-last_ended n reply (d ∷ e ∷ earlier) c = ap (λ cs. d ∷ cs) (last_ended n reply (e ∷ earlier) c)
-
 module _ {s : Shared} {p q : Pass} {told : ℕ} where
   -- an event in the middle of a call leaves the calls
   pub keeps : {c : Choice} → Makes s p c told q → IsStaying (activity_in p) → Keeps p q
@@ -120,5 +114,5 @@ module _ {s : Shared} {p q : Pass} {told : ℕ} where
     calls = λ earlier c is.
         grows makes
         ∙ (ap (λ a. seen_after a Go (local_in (view p)).number (length makes.step.front) (calls_in p)) leaves
-        ∙ (ap (end_last (length makes.step.front) reply) is ∙ last_ended (length makes.step.front) reply earlier c));
+        ∙ (ap (end_last (length makes.step.front) reply) is ∙ end_last-snoc (length makes.step.front) reply earlier c));
   }

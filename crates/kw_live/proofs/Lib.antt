@@ -2,6 +2,7 @@ pub mod Fronts
 pub mod PutStages
 pub mod WalkStages
 pub mod Carrying
+pub mod Drawing
 pub mod Ends
 pub mod Growing
 pub mod OneEvent

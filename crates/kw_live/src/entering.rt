@@ -1,5 +1,5 @@
 //! How a call begins, how a scan gets its version and is over, and how a call ends.
-ghost use Rattle.std.specs.Prelude.{◌≡◌, ◌↔◌, ◌≤◌, false, true, [], Some, IfSome};
+ghost use Rattle.std.specs.Prelude.{◌≡◌, ◌↔◌, ◌⊎◌, ◌≤◌, false, true, [], Some, IfSome};
 ghost use Rattle.kw_words.specs.declared.sizes.TheConstants.{SPENT};
 ghost use Rattle.kw_world.specs.Calls.{is_scan};
 ghost use Rattle.kw_core.specs.Events.{is_call_in_range};

@@ -111,6 +111,8 @@ pub(crate) fn end(shared: &Shared, pass: &mut Pass, local: Local) -> Reply
     let told = make(shared, pass, Choice::Go, operation(pass.number(), &local, Choice::Go));
     match resume(&mut local, Choice::Go, told) {
         Ok(StepDone::Ended(reply)) => reply,
-        _ => unreachable!(),
+        Ok(StepDone::Moved) => unreachable!(),
+        Ok(StepDone::Skipped) => unreachable!(),
+        Err(_) => unreachable!(),
     }
 }
