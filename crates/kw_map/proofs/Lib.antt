@@ -1,3 +1,5 @@
 pub mod TakeLemmas
 pub mod CellLemmas
 pub mod TallyLemmas
+pub mod Ordering
+pub mod WholeCalls

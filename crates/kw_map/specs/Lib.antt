@@ -1,3 +1,4 @@
 pub mod Gather
 pub mod GatherNumbers
 pub mod GatherList
+pub mod Kiwi

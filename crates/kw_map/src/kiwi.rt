@@ -3,26 +3,24 @@
 //! A `Kiwi` is the shared table; a caller asks it with a pass, its seat. Each call here is put together from `kw_live`'s functions:
 //! enter, find the row, put into it or read it, leave. So its events are the core's, and the clauses say what follows: the call is the
 //! pass's next one, it has ended, its answer is the recorded reply, and the order of all calls that the pass has seen is legal.
-ghost use Rattle.std.specs.Prelude.{◌≡◌, ℕ, ◌<◌, ◌≤◌, IfOk, MatchResult, vec_len, slice_index_or, All};
-ghost use Rattle.kw_words.specs.declared.sizes.TheConstants.{CELLS, SEATS, VALUE_END};
+ghost use Rattle.std.specs.Prelude.{◌≡◌, ℕ, ◌<◌, true, Some, IfOk, MatchResult, vec_len, slice_index_or, All};
+ghost use Rattle.kw_words.specs.declared.sizes.TheConstants.{CELLS, VALUE_END};
+ghost use Rattle.kw_core.specs.Events.{is_call_in_range};
+ghost use Rattle.kw_core.specs.Stages.{is_put};
 ghost use Rattle.kw_world.specs.Opening.{IsOpening};
 ghost use Rattle.kw_world.specs.Sizes.{product};
 ghost use Rattle.kw_table.specs.Meetings.{AtEach, Gathers, front_seen};
 ghost use Rattle.kw_table.specs.Passes.{IsFresh, IsPassOf, view};
 ghost use Rattle.kw_table.specs.Views.{Meets};
 ghost use Rattle.kw_live.specs.Calling.{Calls};
-ghost use Rattle.kw_live.specs.Following.{GoesTo, activity_in};
+ghost use Rattle.kw_live.specs.Following.{GoesTo};
 ghost use Rattle.kw_live.specs.Meeting.{MetFull, MetRoom};
-ghost use Rattle.kw_map.specs.Gather.{IsBelow};
-ghost use Rattle.kw_map.specs.Kiwi.{IsIdle, IsOrdered, Answers, got, put_reply};
+ghost use Rattle.kw_map.specs.Kiwi.{IsIdle, IsOrdered, put_reply};
 
-use crate::gather::{Gather, take_pairs};
-use kw_live::{TryPut, end_scan, enter, leave, locate, read_row, stop_scan, try_put};
-use kw_model::call::{Call, Reply};
+use kw_live::{TryPut, enter, leave, locate, try_put};
+use kw_model::call::Call;
 use kw_model::memory::Memory;
 use kw_table::{Pass, Shared};
-use kw_world::activity::Activity;
-use kw_world::local::Local;
 use std::alloc::Global;
 use thiserror::Error;
 
@@ -84,25 +82,6 @@ impl Kiwi {
         Ok((Kiwi { shared, alloc }, passes))
     }
 
-    /// The value of a key, if it has one.
-    ///
-    /// The pass is one of this map and idle, as it is afterwards. Takes no memory and never waits.
-    pub fn get(&self, pass: &mut Pass, key: u32) -> Option<u64>
-        requires { IsIdle self.now pass.old }
-        ensures idle { IsIdle self.now pass.new }
-        ensures goes { GoesTo self.now.shared pass.old pass.new }
-        ensures calls { Calls pass.old pass.new (Call.Get key) (got result) }
-        ensures ordered { IsOrdered (view pass.new) }
-    {
-        let mut local = enter(&self.shared, pass, self.alloc, Call::Get(key));
-        locate(&self.shared, pass, &mut local, None);
-        read_row(&self.shared, pass, &mut local);
-        match leave(&self.shared, pass, local) {
-            Reply::Value(value) => Some(value),
-            _ => None,
-        }
-    }
-
     /// Sets the value of a key, which is below `VALUE_END`.
     ///
     /// The pass is one of this map and idle, as it is afterwards. `NoRows` comes exactly where a count that this call found in the row of the
@@ -131,32 +110,23 @@ impl Kiwi {
         self.update(pass, Call::Del(key))
     }
 
-    /// Gathers the pairs of a range, both ends included, as they stood at one moment, by rising key.
-    ///
-    /// The pass is one of this map and idle, as it is afterwards, and the last key that the gatherer took, if there is one, is below
-    /// `from`. After `Ok` it took just the pairs of the range. `Stopped` comes only where the gatherer stopped in this call; it took the first
-    /// of the pairs. `Spent` comes exactly where the clock that this call loaded first was at `SPENT` or above; nothing was taken. A range
-    /// with `from` above `to` has no keys. The scan takes no memory of its own and never waits.
-    pub fn scan<G: Gather>(
-        &self,
-        pass: &mut Pass,
-        from: u32,
-        to: u32,
-        into: &mut G,
-    ) -> Result<(), ScanEnd>
+    // A put or a delete.
+    fn update(&self, pass: &mut Pass, call: Call) -> Result<(), PutEnd>
         requires idle { IsIdle self.now pass.old }
-        requires above { IsBelow (G.last into.old) from }
+        requires update { is_put (Some call) ≡ true }
+        requires range { is_call_in_range call ≡ true }
         ensures idle { IsIdle self.now pass.new }
         ensures goes { GoesTo self.now.shared pass.old pass.new }
-        ensures answers { Answers G.last G.stands G.stops pass.old pass.new from to into.old into.new result }
-        ensures ordered { IsOrdered (view pass.new) }
+        ensures calls { Calls pass.old pass.new call (put_reply result) }
+        ensures cause { MatchResult result (λ done. MetRoom CELLS pass.old pass.new) (λ end. MetFull CELLS pass.old pass.new) }
     {
-        let mut local = enter(&self.shared, pass, self.alloc, Call::Scan(from, to));
-        let stopped = self.read_rows(pass, &mut local, to, into);
-        match leave(&self.shared, pass, local) {
-            Reply::Pairs(_) => Ok(()),
-            Reply::Spent => Err(ScanEnd::Spent),
-            _ => Err(ScanEnd::Stopped),
+        let mut local = enter(&self.shared, pass, self.alloc, call);
+        locate(&self.shared, pass, &mut local, None);
+        let tried = try_put(&self.shared, pass, &mut local);
+        leave(&self.shared, pass, local);
+        match tried {
+            TryPut::Done => Ok(()),
+            TryPut::RowFull(_) => Err(PutEnd::NoRows),
         }
     }
 

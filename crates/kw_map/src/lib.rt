@@ -9,5 +9,6 @@
 pub mod gather;
 pub mod gather_list;
 pub mod gather_numbers;
+pub mod kiwi;
 #[cfg(test)]
 mod tests;
