@@ -3,3 +3,5 @@ pub mod CellLemmas
 pub mod TallyLemmas
 pub mod Ordering
 pub mod WholeCalls
+pub mod RowStages
+pub mod ScanEnds

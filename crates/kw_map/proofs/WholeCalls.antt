@@ -12,7 +12,7 @@ use Rattle.kw_table.specs.declared.pass.Pass.{Pass}
 use Rattle.kw_table.specs.declared.shared.Shared.{Shared}
 use Rattle.kw_live.specs.Calling.{Opens, Keeps, Closes, Calls, calls_in}
 use Rattle.kw_live.specs.Following.{Follows, GoesTo, activity_in, bare_reply}
-use Rattle.kw_live.specs.Meeting.{Met, MetCount, MetFull, MetRoom}
+use Rattle.kw_live.specs.Meeting.{Met, MetClock, MetCount, MetFull, MetRoom}
 use Rattle.kw_live.proofs.Drawing.{met_earlier, met_later}
 use Rattle.kw_live.proofs.Ends.{leaves_in, same_reply}
 
@@ -54,6 +54,10 @@ module _ {s : Shared} {p q r t : Pass} where
     adds = count_within before after m.adds;
     fewer = m.fewer;
   }
+
+-- and a clock that a scan loaded before was its clock
+pub clock_later : {s : Shared} {p q r : Pass} {clock : ℕ} → MetClock p q clock → GoesTo s q r → MetClock p r clock
+clock_later {s} {p} {q} {r} m after = record { met = met_later p q r m.met after.seen }
 
 -- What it replies.
 

@@ -9,18 +9,23 @@ ghost use Rattle.kw_core.specs.Events.{is_call_in_range};
 ghost use Rattle.kw_core.specs.Stages.{is_put};
 ghost use Rattle.kw_world.specs.Opening.{IsOpening};
 ghost use Rattle.kw_world.specs.Sizes.{product};
+ghost use Rattle.kw_model.specs.Map.{found};
 ghost use Rattle.kw_table.specs.Meetings.{AtEach, Gathers, front_seen};
 ghost use Rattle.kw_table.specs.Passes.{IsFresh, IsPassOf, view};
 ghost use Rattle.kw_table.specs.Views.{Meets};
 ghost use Rattle.kw_live.specs.Calling.{Calls};
 ghost use Rattle.kw_live.specs.Following.{GoesTo};
 ghost use Rattle.kw_live.specs.Meeting.{MetFull, MetRoom};
-ghost use Rattle.kw_map.specs.Kiwi.{IsIdle, IsOrdered, put_reply};
+ghost use Rattle.kw_map.specs.Gather.{IsBelow};
+ghost use Rattle.kw_map.specs.Kiwi.{IsIdle, IsOrdered, Answers, put_reply};
 
-use kw_live::{TryPut, enter, leave, locate, try_put};
-use kw_model::call::Call;
+use crate::gather::{Gather, Stop};
+use crate::scanning::gather_rows;
+use kw_live::{TryPut, enter, leave, locate, read_row, try_put};
+use kw_model::call::{Call, Reply};
 use kw_model::memory::Memory;
 use kw_table::{Pass, Shared};
+use kw_world::activity::Activity;
 use std::alloc::Global;
 use thiserror::Error;
 
@@ -82,6 +87,25 @@ impl Kiwi {
         Ok((Kiwi { shared, alloc }, passes))
     }
 
+    /// The value of a key, if it has one.
+    ///
+    /// The pass is one of this map and idle, as it is afterwards. Takes no memory and never waits.
+    pub fn get(&self, pass: &mut Pass, key: u32) -> Option<u64>
+        requires { IsIdle self.now pass.old }
+        ensures idle { IsIdle self.now pass.new }
+        ensures goes { GoesTo self.now.shared pass.old pass.new }
+        ensures calls { Calls pass.old pass.new (Call.Get key) (found result) }
+        ensures ordered { IsOrdered (view pass.new) }
+    {
+        let mut local = enter(&self.shared, pass, self.alloc, Call::Get(key));
+        locate(&self.shared, pass, &mut local, None);
+        read_row(&self.shared, pass, &mut local);
+        match leave(&self.shared, pass, local) {
+            Reply::Value(value) => Some(value),
+            _ => None,
+        }
+    }
+
     /// Sets the value of a key, which is below `VALUE_END`.
     ///
     /// The pass is one of this map and idle, as it is afterwards. `NoRows` comes exactly where a count that this call found in the row of the
@@ -108,6 +132,39 @@ impl Kiwi {
         ensures ordered { IsOrdered (view pass.new) }
     {
         self.update(pass, Call::Del(key))
+    }
+
+    /// Gathers the pairs of a range, both ends included, as they stood at one moment, by rising key.
+    ///
+    /// The pass is one of this map and idle, as it is afterwards, and the last key that the gatherer took, if there is one, is below
+    /// `from`. After `Ok` it took just the pairs of the range. `Stopped` comes only where the gatherer stopped in this call; it took the first
+    /// of the pairs. `Spent` comes exactly where the clock that this call loaded first was at `SPENT` or above; nothing was taken. A range
+    /// with `from` above `to` has no keys. The scan takes no memory of its own and never waits.
+    pub fn scan<G: Gather>(
+        &self,
+        pass: &mut Pass,
+        from: u32,
+        to: u32,
+        into: &mut G,
+    ) -> Result<(), ScanEnd>
+        requires idle { IsIdle self.now pass.old }
+        requires above { IsBelow (G.last into.old) from }
+        ensures idle { IsIdle self.now pass.new }
+        ensures goes { GoesTo self.now.shared pass.old pass.new }
+        ensures answers { Answers G.last G.stands G.stops pass.old pass.new from to into.old into.new result }
+        ensures ordered { IsOrdered (view pass.new) }
+    {
+        let mut local = enter(&self.shared, pass, self.alloc, Call::Scan(from, to));
+        if let Activity::Leave(_) = local.activity {
+            leave(&self.shared, pass, local);
+            return Err(ScanEnd::Spent);
+        }
+        let gathered = gather_rows(&self.shared, pass, &mut local, to, into);
+        leave(&self.shared, pass, local);
+        match gathered {
+            Ok(()) => Ok(()),
+            Err(Stop) => Err(ScanEnd::Stopped),
+        }
     }
 
     // A put or a delete.
