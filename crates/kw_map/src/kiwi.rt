@@ -1,0 +1,208 @@
+//! The concurrent map, and its calls.
+//!
+//! A `Kiwi` is the shared table; a caller asks it with a pass, its seat. Each call here is put together from `kw_live`'s functions:
+//! enter, find the row, put into it or read it, leave. So its events are the core's, and the clauses say what follows: the call is the
+//! pass's next one, it has ended, its answer is the recorded reply, and the order of all calls that the pass has seen is legal.
+ghost use Rattle.std.specs.Prelude.{◌≡◌, ℕ, ◌<◌, true, Some, IfOk, MatchResult, vec_len, slice_index_or, All};
+ghost use Rattle.kw_words.specs.declared.sizes.TheConstants.{CELLS, VALUE_END};
+ghost use Rattle.kw_core.specs.Events.{is_call_in_range};
+ghost use Rattle.kw_core.specs.Stages.{is_put};
+ghost use Rattle.kw_world.specs.Opening.{IsOpening};
+ghost use Rattle.kw_world.specs.Sizes.{product};
+ghost use Rattle.kw_model.specs.Map.{found};
+ghost use Rattle.kw_table.specs.Meetings.{AtEach, Gathers, front_seen};
+ghost use Rattle.kw_table.specs.Passes.{IsFresh, IsPassOf, view};
+ghost use Rattle.kw_table.specs.Views.{Meets};
+ghost use Rattle.kw_live.specs.Calling.{Calls};
+ghost use Rattle.kw_live.specs.Following.{GoesTo};
+ghost use Rattle.kw_live.specs.Meeting.{MetFull, MetRoom};
+ghost use Rattle.kw_map.specs.Gather.{IsBelow};
+ghost use Rattle.kw_map.specs.Kiwi.{IsIdle, IsOrdered, Answers, put_reply};
+
+use crate::gather::{Gather, Stop};
+use crate::scanning::gather_rows;
+use kw_live::{TryPut, enter, leave, locate, read_row, try_put};
+use kw_model::call::{Call, Reply};
+use kw_model::memory::Memory;
+use kw_table::{Pass, Shared};
+use kw_world::activity::Activity;
+use std::alloc::Global;
+use thiserror::Error;
+
+/// Why a put or a delete changed nothing.
+#[derive(Clone, Copy, Debug, Error, PartialEq, Eq)]
+pub enum PutEnd {
+    /// The row of the key has given all its cells.
+    #[error("no rows are left")]
+    NoRows,
+}
+
+/// Why a scan gave no pairs, or not all.
+#[derive(Clone, Copy, Debug, Error, PartialEq, Eq)]
+pub enum ScanEnd {
+    /// The gatherer stopped.
+    #[error("the gatherer stopped")]
+    Stopped,
+    /// The versions are spent.
+    #[error("the versions are spent")]
+    Spent,
+}
+
+/// An ordered map from keys to values below `VALUE_END`, which threads share by `&`, each with a pass of its own.
+#[derive(Drop)]
+pub struct Kiwi {
+    pub(crate) shared: Shared,
+    pub(crate) alloc: Global,
+}
+
+impl Kiwi {
+    /// An empty map of this many rows, and a pass for each of this many callers, numbered from 0.
+    ///
+    /// There are 1 to `MOST_ROWS` rows and 1 to `SEATS` passes. All memory of the map is taken here, and the only error is the want of it.
+    pub fn open(alloc: Global, rows: u32, passes: u32) -> Result<(Kiwi, Vec<Pass>), Memory>
+        requires { IsOpening product (record { rows = rows; seats = passes; clock = 1; epoch = 1 }) }
+        ensures opening { IfOk result (λ made. made.0.shared.opening ≡ record { rows = rows; seats = passes; clock = 1; epoch = 1 }) }
+        ensures len { IfOk result (λ made. vec_len made.1 ≡ passes) }
+        ensures each { IfOk result (λ made. (i : ℕ) (d : _) → i < vec_len made.1 → IsFresh made.0.shared i (slice_index_or made.1.items i d)) }
+        ensures idle { IfOk result (λ made. All (IsIdle made.0) made.1.items) }
+    {
+        Kiwi::open_at(alloc, rows, passes, 1, 1)
+    }
+
+    /// The same, with a clock and an epoch to begin with, from 1 to `SPENT`.
+    pub fn open_at(
+        alloc: Global,
+        rows: u32,
+        passes: u32,
+        clock: u64,
+        epoch: u64,
+    ) -> Result<(Kiwi, Vec<Pass>), Memory>
+        requires { IsOpening product (record { rows = rows; seats = passes; clock = clock; epoch = epoch }) }
+        ensures opening { IfOk result (λ made. made.0.shared.opening ≡ record { rows = rows; seats = passes; clock = clock; epoch = epoch }) }
+        ensures len { IfOk result (λ made. vec_len made.1 ≡ passes) }
+        ensures each { IfOk result (λ made. (i : ℕ) (d : _) → i < vec_len made.1 → IsFresh made.0.shared i (slice_index_or made.1.items i d)) }
+        ensures idle { IfOk result (λ made. All (IsIdle made.0) made.1.items) }
+    {
+        let (shared, passes) = Shared::open(alloc, rows, passes, clock, epoch)?;
+        Ok((Kiwi { shared, alloc }, passes))
+    }
+
+    /// The value of a key, if it has one.
+    ///
+    /// The pass is one of this map and idle, as it is afterwards. Takes no memory and never waits.
+    pub fn get(&self, pass: &mut Pass, key: u32) -> Option<u64>
+        requires { IsIdle self.now pass.old }
+        ensures idle { IsIdle self.now pass.new }
+        ensures goes { GoesTo self.now.shared pass.old pass.new }
+        ensures calls { Calls pass.old pass.new (Call.Get key) (found result) }
+        ensures ordered { IsOrdered (view pass.new) }
+    {
+        let mut local = enter(&self.shared, pass, self.alloc, Call::Get(key));
+        locate(&self.shared, pass, &mut local, None);
+        read_row(&self.shared, pass, &mut local);
+        match leave(&self.shared, pass, local) {
+            Reply::Value(value) => Some(value),
+            _ => None,
+        }
+    }
+
+    /// Sets the value of a key, which is below `VALUE_END`.
+    ///
+    /// The pass is one of this map and idle, as it is afterwards. `NoRows` comes exactly where a count that this call found in the row of the
+    /// key was `CELLS` or above; then nothing has changed. Takes no memory.
+    pub fn put(&self, pass: &mut Pass, key: u32, value: u64) -> Result<(), PutEnd>
+        requires idle { IsIdle self.now pass.old }
+        requires value { value < VALUE_END }
+        ensures idle { IsIdle self.now pass.new }
+        ensures goes { GoesTo self.now.shared pass.old pass.new }
+        ensures calls { Calls pass.old pass.new (Call.Put key value) (put_reply result) }
+        ensures cause { MatchResult result (λ done. MetRoom CELLS pass.old pass.new) (λ end. MetFull CELLS pass.old pass.new) }
+        ensures ordered { IsOrdered (view pass.new) }
+    {
+        self.update(pass, Call::Put(key, value))
+    }
+
+    /// Takes a key away, whether it has a value or not. Otherwise it is as `put`.
+    pub fn delete(&self, pass: &mut Pass, key: u32) -> Result<(), PutEnd>
+        requires { IsIdle self.now pass.old }
+        ensures idle { IsIdle self.now pass.new }
+        ensures goes { GoesTo self.now.shared pass.old pass.new }
+        ensures calls { Calls pass.old pass.new (Call.Del key) (put_reply result) }
+        ensures cause { MatchResult result (λ done. MetRoom CELLS pass.old pass.new) (λ end. MetFull CELLS pass.old pass.new) }
+        ensures ordered { IsOrdered (view pass.new) }
+    {
+        self.update(pass, Call::Del(key))
+    }
+
+    /// Gathers the pairs of a range, both ends included, as they stood at one moment, by rising key.
+    ///
+    /// The pass is one of this map and idle, as it is afterwards, and the last key that the gatherer took, if there is one, is below
+    /// `from`. After `Ok` it took just the pairs of the range. `Stopped` comes only where the gatherer stopped in this call; it took the first
+    /// of the pairs. `Spent` comes exactly where the clock that this call loaded first was at `SPENT` or above; nothing was taken. A range
+    /// with `from` above `to` has no keys. The scan takes no memory of its own and never waits.
+    pub fn scan<G: Gather>(
+        &self,
+        pass: &mut Pass,
+        from: u32,
+        to: u32,
+        into: &mut G,
+    ) -> Result<(), ScanEnd>
+        requires idle { IsIdle self.now pass.old }
+        requires above { IsBelow (G.last into.old) from }
+        ensures idle { IsIdle self.now pass.new }
+        ensures goes { GoesTo self.now.shared pass.old pass.new }
+        ensures answers { Answers G.last G.stands G.stops pass.old pass.new from to into.old into.new result }
+        ensures ordered { IsOrdered (view pass.new) }
+    {
+        let mut local = enter(&self.shared, pass, self.alloc, Call::Scan(from, to));
+        if let Activity::Leave(_) = local.activity {
+            leave(&self.shared, pass, local);
+            return Err(ScanEnd::Spent);
+        }
+        let gathered = gather_rows(&self.shared, pass, &mut local, to, into);
+        leave(&self.shared, pass, local);
+        match gathered {
+            Ok(()) => Ok(()),
+            Err(Stop) => Err(ScanEnd::Stopped),
+        }
+    }
+
+    // A put or a delete.
+    fn update(&self, pass: &mut Pass, call: Call) -> Result<(), PutEnd>
+        requires idle { IsIdle self.now pass.old }
+        requires update { is_put (Some call) ≡ true }
+        requires range { is_call_in_range call ≡ true }
+        ensures idle { IsIdle self.now pass.new }
+        ensures goes { GoesTo self.now.shared pass.old pass.new }
+        ensures calls { Calls pass.old pass.new call (put_reply result) }
+        ensures cause { MatchResult result (λ done. MetRoom CELLS pass.old pass.new) (λ end. MetFull CELLS pass.old pass.new) }
+    {
+        let mut local = enter(&self.shared, pass, self.alloc, call);
+        locate(&self.shared, pass, &mut local, None);
+        let tried = try_put(&self.shared, pass, &mut local);
+        leave(&self.shared, pass, local);
+        match tried {
+            TryPut::Done => Ok(()),
+            TryPut::RowFull(_) => Err(PutEnd::NoRows),
+        }
+    }
+
+    /// Both passes have then seen one list of events, which both old ones begin. No event is made, and no memory taken.
+    pub fn meet(&self, a: &mut Pass, b: &mut Pass)
+        requires one { IsPassOf self.now.shared a.old }
+        requires other { IsPassOf self.now.shared b.old }
+        ensures one { IsPassOf self.now.shared a.new × Meets (view a.old) (view a.new) }
+        ensures other { IsPassOf self.now.shared b.new × Meets (view b.old) (view b.new) }
+        ensures same { (view a.new).seen ≡ (view b.new).seen }
+    {
+        kw_table::meet(&self.shared, a, b);
+    }
+
+    /// The same, of all passes in a slice.
+    pub fn gather_all(&self, passes: &mut [Pass])
+        requires { All (IsPassOf self.now.shared) passes.old }
+        ensures { AtEach (Gathers self.now.shared (front_seen passes.new)) passes.old passes.new }
+    {
+        kw_table::gather_all(&self.shared, passes);
+    }
+}
