@@ -16,3 +16,7 @@ pub mod kiwi;
 mod scanning;
 #[cfg(test)]
 mod tests;
+#[cfg(test)]
+mod tests_calls;
+#[cfg(test)]
+mod tests_threads;

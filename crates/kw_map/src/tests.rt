@@ -1,5 +1,5 @@
 //! What the gatherers make of pairs, and what is handed to them of the cells of a row.
-ghost use Rattle.std.specs.Prelude.{All};
+ghost use Rattle.std.specs.Prelude.{◌≡◌, None, All};
 ghost use Rattle.kw_words.specs.Plain.{IsValue};
 ghost use Rattle.kw_map.specs.Gather.{IsBelow};
 
@@ -131,10 +131,23 @@ fn hands_over_nothing_of_an_empty_range(rt: HostRuntime) {
 
 /// A gatherer with room for some pairs, of which it keeps the last key alone. It may stand for any list.
 #[derive(Drop)]
-struct Roomy {
-    room: u32,
-    last: Option<u32>,
-    stops: u64,
+pub(crate) struct Roomy {
+    pub(crate) room: u32,
+    pub(crate) last: Option<u32>,
+    pub(crate) stops: u64,
+}
+
+impl Roomy {
+    /// One that has taken no pair.
+    pub(crate) fn new(room: u32) -> Roomy
+        ensures { result ≡ record { room = room; last = None; stops = 0 } }
+    {
+        Roomy {
+            room,
+            last: None,
+            stops: 0,
+        }
+    }
 }
 
 impl Gather for Roomy {
@@ -158,11 +171,7 @@ impl Gather for Roomy {
 
 #[test]
 fn stops_where_the_gatherer_stops(rt: HostRuntime) {
-    let mut roomy = Roomy {
-        room: 2,
-        last: None,
-        stops: 0,
-    };
+    let mut roomy = Roomy::new(2);
     assert_eq!(rt; take_pairs(&mut roomy, &row(), 0, 4294967295, 2), Err(Stop));
     assert_eq!(rt; (roomy.room, roomy.last, roomy.stops), (0, Some(7), 1));
     roomy.room = 1;

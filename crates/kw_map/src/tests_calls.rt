@@ -1,0 +1,154 @@
+//! What the calls of one pass answer, one after the other.
+ghost use Rattle.std.specs.Prelude.{◌<◌, IfOk};
+ghost use Rattle.kw_words.specs.declared.sizes.TheConstants.{VALUE_END};
+ghost use Rattle.kw_world.specs.Opening.{IsOpening};
+ghost use Rattle.kw_world.specs.Sizes.{product};
+ghost use Rattle.kw_map.specs.Kiwi.{IsIdle};
+
+use crate::gather_list::ListGather;
+use crate::gather_numbers::{CountGather, SumGather};
+use crate::kiwi::{Kiwi, PutEnd, ScanEnd};
+use crate::tests::Roomy;
+use kw_model::memory::Memory;
+use kw_table::Pass;
+use std::alloc::Global;
+use std::test::Fail;
+
+/// The clock from which on no scan begins.
+const LAST_CLOCK: u64 = 281474976710656;
+
+/// How many cells a row has.
+const ROW: u32 = 64;
+
+/// A map of 64 rows, whose clock begins here, and its one pass.
+fn open_one(alloc: Global, clock: u64) -> Result<(Kiwi, Pass), Memory>
+    requires { IsOpening product (record { rows = 64; seats = 1; clock = clock; epoch = 1 }) }
+    ensures { IfOk result (λ made. IsIdle made.0 made.1) }
+{
+    let (kiwi, mut passes) = Kiwi::open_at(alloc, 64, 1, clock, 1)?;
+    let Some(pass) = passes.pop() else {
+        unreachable!()
+    };
+    Ok((kiwi, pass))
+}
+
+/// Puts this value for each key from `from` to below `end`, up to the first refusal.
+pub(crate) fn put_each(
+    kiwi: &Kiwi,
+    pass: &mut Pass,
+    from: u32,
+    end: u32,
+    value: u64,
+) -> Result<(), PutEnd>
+    requires idle { IsIdle kiwi.now pass.old }
+    requires value { value < VALUE_END }
+    ensures { IsIdle kiwi.now pass.new }
+{
+    for key in from..end {
+        kiwi.put(pass, key, value)?;
+    }
+    Ok(())
+}
+
+#[test]
+fn a_key_has_the_value_that_was_put_last(rt: HostRuntime) -> Result<(), Fail> {
+    let (kiwi, mut pass) = open_one(rt.alloc(), 1)?;
+    assert_eq!(rt; kiwi.get(&mut pass, 5), None);
+    assert_eq!(rt; kiwi.put(&mut pass, 5, 50), Ok(()));
+    assert_eq!(rt; kiwi.put(&mut pass, 5, 51), Ok(()));
+    assert_eq!(rt; kiwi.get(&mut pass, 5), Some(51));
+    assert_eq!(rt; kiwi.get(&mut pass, 4), None);
+    Ok(())
+}
+
+#[test]
+fn a_key_that_is_deleted_has_no_value(rt: HostRuntime) -> Result<(), Fail> {
+    let (kiwi, mut pass) = open_one(rt.alloc(), 1)?;
+    assert_eq!(rt; kiwi.delete(&mut pass, 5), Ok(()));
+    assert_eq!(rt; kiwi.get(&mut pass, 5), None);
+    assert_eq!(rt; kiwi.put(&mut pass, 5, 50), Ok(()));
+    assert_eq!(rt; kiwi.delete(&mut pass, 5), Ok(()));
+    assert_eq!(rt; kiwi.get(&mut pass, 5), None);
+    let mut count = CountGather::new();
+    assert_eq!(rt; kiwi.scan(&mut pass, 0, 4294967295, &mut count), Ok(()));
+    assert_eq!(rt; count.total(), 0);
+    Ok(())
+}
+
+#[test]
+fn a_full_row_refuses_and_keeps_what_it_has(rt: HostRuntime) -> Result<(), Fail> {
+    let (kiwi, mut pass) = open_one(rt.alloc(), 1)?;
+    assert_eq!(rt; put_each(&kiwi, &mut pass, 0, ROW, 7), Ok(()));
+    assert_eq!(rt; kiwi.put(&mut pass, 64, 8), Err(PutEnd::NoRows));
+    assert_eq!(rt; kiwi.put(&mut pass, 0, 8), Err(PutEnd::NoRows));
+    assert_eq!(rt; kiwi.delete(&mut pass, 1), Err(PutEnd::NoRows));
+    assert_eq!(rt; kiwi.get(&mut pass, 64), None);
+    assert_eq!(rt; kiwi.get(&mut pass, 0), Some(7));
+    let mut sum = SumGather::new();
+    assert_eq!(rt; kiwi.scan(&mut pass, 0, 4294967295, &mut sum), Ok(()));
+    assert_eq!(rt; sum.total(), 448);
+    Ok(())
+}
+
+#[test]
+fn a_scan_gives_the_pairs_of_its_range_in_order(rt: HostRuntime) -> Result<(), Fail> {
+    let (kiwi, mut pass) = open_one(rt.alloc(), 1)?;
+    for (key, value) in [(9, 90), (4294967295, 1), (3, 30), (7, 70), (0, 5), (7, 71)] {
+        assert_eq!(rt; kiwi.put(&mut pass, key, value), Ok(()));
+    }
+    let mut all = ListGather::new(rt.alloc());
+    assert_eq!(rt; kiwi.scan(&mut pass, 0, 4294967295, &mut all), Ok(()));
+    assert_eq!(rt;
+        all.finish().pairs(),
+        [(0, 5), (3, 30), (7, 71), (9, 90), (4294967295, 1)].as_slice()
+    );
+    let mut some = ListGather::new(rt.alloc());
+    assert_eq!(rt; kiwi.scan(&mut pass, 3, 7, &mut some), Ok(()));
+    assert_eq!(rt; some.finish().pairs(), [(3, 30), (7, 71)].as_slice());
+    let mut none = ListGather::new(rt.alloc());
+    assert_eq!(rt; kiwi.scan(&mut pass, 9, 3, &mut none), Ok(()));
+    assert_eq!(rt; none.finish().pairs(), [].as_slice());
+    Ok(())
+}
+
+#[test]
+fn a_scan_stops_where_the_gatherer_stops(rt: HostRuntime) -> Result<(), Fail> {
+    let (kiwi, mut pass) = open_one(rt.alloc(), 1)?;
+    assert_eq!(rt; put_each(&kiwi, &mut pass, 10, 15, 1), Ok(()));
+    let mut roomy = Roomy::new(3);
+    assert_eq!(rt;
+        kiwi.scan(&mut pass, 0, 100, &mut roomy),
+        Err(ScanEnd::Stopped)
+    );
+    assert_eq!(rt; (roomy.room, roomy.last, roomy.stops), (0, Some(12), 1));
+    assert_eq!(rt; kiwi.get(&mut pass, 14), Some(1));
+    Ok(())
+}
+
+#[test]
+fn no_scan_begins_where_the_versions_are_spent(rt: HostRuntime) -> Result<(), Fail> {
+    let (kiwi, mut pass) = open_one(rt.alloc(), LAST_CLOCK)?;
+    let mut sum = SumGather::new();
+    assert_eq!(rt; kiwi.scan(&mut pass, 0, 10, &mut sum), Err(ScanEnd::Spent));
+    assert_eq!(rt; kiwi.put(&mut pass, 5, 50), Ok(()));
+    assert_eq!(rt; kiwi.get(&mut pass, 5), Some(50));
+    Ok(())
+}
+
+#[test]
+fn ends_have_texts(rt: HostRuntime) -> Result<(), Fail> {
+    let texts = [
+        PutEnd::NoRows.to_string(rt.alloc())?,
+        ScanEnd::Stopped.to_string(rt.alloc())?,
+        ScanEnd::Spent.to_string(rt.alloc())?,
+    ];
+    let wants = [
+        "no rows are left",
+        "the gatherer stopped",
+        "the versions are spent",
+    ];
+    for (text, want) in texts.iter().zip(wants) {
+        assert_eq!(rt; text.as_str(), want);
+    }
+    Ok(())
+}
