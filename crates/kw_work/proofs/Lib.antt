@@ -1,8 +1,8 @@
-mod Cuts
-mod Shares
-mod Merges
-mod Numbers
-mod Quieted
-mod Onces
-mod Collected
-mod Answering
+pub mod Cuts
+pub mod Shares
+pub mod Merges
+pub mod Numbers
+pub mod Quieted
+pub mod Onces
+pub mod Collected
+pub mod Answering
