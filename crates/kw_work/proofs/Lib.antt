@@ -15,3 +15,11 @@ mod QuietReplies
 mod WorkerOrders
 mod MadeCalls
 mod QuietItems
+pub mod Cuts
+pub mod Shares
+pub mod Merges
+pub mod Numbers
+pub mod Quieted
+pub mod Onces
+pub mod Collected
+pub mod Answering
