@@ -6,12 +6,12 @@ mod Quieted
 mod Onces
 mod Collected
 mod Answering
-mod LastShown
-mod Asked
-mod LineOrders
-mod QuietBlocks
-mod LineCalls
-mod QuietReplies
-mod WorkerOrders
-mod MadeCalls
-mod QuietItems
+pub mod LastShown
+pub mod Asked
+pub mod LineOrders
+pub mod QuietBlocks
+pub mod LineCalls
+pub mod QuietReplies
+pub mod WorkerOrders
+pub mod MadeCalls
+pub mod QuietItems
