@@ -23,3 +23,12 @@ pub mod Quieted
 pub mod Onces
 pub mod Collected
 pub mod Answering
+pub mod LastShown
+pub mod Asked
+pub mod LineOrders
+pub mod QuietBlocks
+pub mod LineCalls
+pub mod QuietReplies
+pub mod WorkerOrders
+pub mod MadeCalls
+pub mod QuietItems
