@@ -1,0 +1,27 @@
+//! Words in, figures out.
+use crate::timing::Figure;
+use std::{env, io};
+
+/// How many calls the program's word asks for; none where there is no such word.
+pub fn given_calls(rt: &HostRuntime) -> io::Result<Option<u32>> {
+    let Some(word) = env::args(rt)?.nth(1) else {
+        return Ok(None);
+    };
+    Ok(word.parse().ok())
+}
+
+/// Says how the program is used.
+pub fn print_usage(rt: &HostRuntime) -> io::Result<()> {
+    println!(rt;
+        "kw_bench N: makes N calls of each kind on maps of one row, and prints what a call took"
+    )
+}
+
+/// Prints what a call took, and how many calls two threads made in the time in which one made a hundred.
+pub fn print_figure(rt: &HostRuntime, name: &str, figure: Figure) -> io::Result<()> {
+    let a_call = figure.one / u128::from(figure.calls.max(1));
+    let by_two = figure.one.saturating_mul(200) / figure.two.max(1);
+    println!(rt;
+        "{name}: {a_call} ns a call by one thread; two threads make {by_two} calls where one makes 100"
+    )
+}

@@ -1,0 +1,34 @@
+//! How fast the map's calls are, by one thread and by two on one map.
+//!
+//! With a number N the program makes N calls of each kind on maps of one row and prints what a call took, in nanoseconds, and how many
+//! calls two threads made in the time in which one made a hundred. All figures of a run come from that run, so its ratios can be
+//! compared where its times cannot. Without a number it says how it is used. Nothing is promised of the figures; the calls
+//! are those of `kw_map`, by their contracts.
+#![tactic(auto)]
+
+mod asking;
+mod figures;
+mod timing;
+
+use crate::figures::{given_calls, print_figure, print_usage};
+use crate::timing::{time_gets, time_puts, time_scans};
+use std::io;
+use std::process::ExitCode;
+use std::thread::Threads;
+
+fn main(rt: HostRuntime) -> ExitCode {
+    match run(&rt, &rt) {
+        Ok(()) => ExitCode::SUCCESS,
+        Err(_) => ExitCode::FAILURE,
+    }
+}
+
+/// Takes all figures and prints them, or says how the program is used.
+fn run<T: Threads + Sync>(rt: &HostRuntime, threads: &T) -> io::Result<()> {
+    let Some(calls) = given_calls(rt)? else {
+        return print_usage(rt);
+    };
+    print_figure(rt, "get", time_gets(rt, threads, calls)?)?;
+    print_figure(rt, "scan", time_scans(rt, threads, calls)?)?;
+    print_figure(rt, "put", time_puts(rt, threads, calls)?)
+}
