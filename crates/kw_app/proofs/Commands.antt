@@ -1,29 +1,149 @@
--- Which command words are.
-use Rattle.std.proofs.Common.{◌≡◌, ◌≢◌, ℕ, List, [], ◌∷◌, codes, get_or, refl, sym, ◌∙◌, ap, subst, arith}
+-- Which command words mean, as a function of them: it gives just the command that the definition gives, and so words mean one command
+-- at most.
+use Rattle.std.proofs.Common.{◌≡◌, ℕ, Bool, true, false, cond, Option, Some, None, List, [], ◌∷◌, ◌++◌, codes, get_or, refl, sym, ◌∙◌, ap, subst}
+use Rattle.std.specs.Prelude.{MatchOption}
+use Rattle.std.specs.List.{flat_map, AllByRecursion}
+use Rattle.std.specs.Str.{bytes_eq}
+use Rattle.std.proofs.lemmas.Slice.Eq.{bytes_eq-Decides}
 use Rattle.kw_app.specs.declared.command.Command.{Command}
 use Rattle.kw_app.specs.declared.command.Command.TheVariants as command
-use Rattle.kw_app.specs.Words.{command_words}
+use Rattle.kw_app.specs.declared.command.Name.{Name}
+use Rattle.kw_app.specs.declared.command.Name.TheVariants as name
+use Rattle.kw_app.specs.declared.command.TheConstants.{MOST_START, MOST_LINES}
+use Rattle.kw_app.specs.declared.words.Arguments.{Arguments}
+use Rattle.kw_app.specs.Words.{Part, number, workers, rows, part_words, numbers, number_in, AreNumbers, Makes, Means, command_word}
+use Rattle.kw_app.specs.Reading.{with_number, then_with, reads, no_arguments, name_of, picked}
+use Rattle.kw_app.proofs.Meaning.{adds, cut_of}
+use Rattle.kw_app.proofs.Options.{IsPicked, picks, makes, command_name}
 
--- words that are neither of the two are no command
-pub no_command : (words : List (List ℕ)) → (words ≡ codes "replay" ∷ [] → ⊥) → (words ≡ codes "simulate" ∷ [] → ⊥) → (c : Command) → words ≢ command_words c
-no_command words h k command.Replay = h
-no_command words h k command.Simulate = k
+-- ---- a number is no option's name
 
--- the first byte of the first word
-abbrev first_byte : List (List ℕ) → ℕ
-first_byte words = get_or (get_or words 0 []) 0 0
+abbrev pub IsPlain : List ℕ → Type 0
+IsPlain w = (bytes_eq w (codes "--workers") ≡ false) × (bytes_eq w (codes "--rows") ≡ false)
 
--- the first bytes of the commands differ
-differ : (m n : ℕ) → m ≡ 114 → n ≡ 115 → m ≡ n → ⊥
-differ m n a b e = omega (arith, a, b, e)
+no_name : (least most n : ℕ) (w : List ℕ) → number_in least most w ≡ Some n → IsPlain w
+no_name least most n w h = (at (codes "--workers") refl (bytes_eq w (codes "--workers")) refl, at (codes "--rows") refl (bytes_eq w (codes "--rows")) refl)
+  where
+    at : (other : List ℕ) → number_in least most other ≡ None → (b : Bool) → bytes_eq w other ≡ b → b ≡ false
+    at other e false f = refl
+    at other e true f =
+        let same : w ≡ other = (bytes_eq-Decides w other).0 f in
+        let bad : Some n ≡ None = sym h ∙ (ap (number_in least most) same ∙ e) in
+        absurd cc
 
--- words are one command at most
-pub same_command : (c d : Command) → command_words c ≡ command_words d → c ≡ d
-same_command command.Replay command.Replay e = refl
-same_command command.Replay command.Simulate e = absurd (differ 114 115 refl refl (ap first_byte e))
-same_command command.Simulate command.Replay e = absurd (differ 114 115 refl refl (sym (ap first_byte e)))
-same_command command.Simulate command.Simulate e = refl
+are_plain : (ws : List (List ℕ)) (s n : ℕ) → AreNumbers ws s n → AllByRecursion IsPlain ws
+are_plain [] s n h = absurd h
+are_plain (w ∷ []) s n h = absurd h
+are_plain (w ∷ x ∷ []) s n h = (no_name 0 MOST_START s w h.0, (no_name 1 MOST_LINES n x h.1, tt))
+are_plain (w ∷ x ∷ y ∷ ws) s n h = absurd h
 
--- what holds of the command of words holds of each command that they are
-pub at_command : (P : Command → Type 0) (words : List (List ℕ)) (c d : Command) → words ≡ command_words c → words ≡ command_words d → P c → P d
-at_command P words c d e f h = subst P (same_command c d (sym e ∙ f)) h
+none_plain : (ws : List (List ℕ)) → ws ≡ [] → AllByRecursion IsPlain ws
+none_plain ws e = subst (AllByRecursion IsPlain) (sym e) tt
+
+numbers_plain : (parts : List Part) (c : Command) → Makes parts c → AllByRecursion IsPlain (numbers parts)
+numbers_plain parts (command.Replay w r) h = none_plain (numbers parts) h.0
+numbers_plain parts (command.Simulate r) h = none_plain (numbers parts) h.0
+numbers_plain parts (command.Gen s n w r) h = are_plain (numbers parts) s n h.0
+
+-- ---- the words of parts are read as these parts
+
+reads-number : (o : Option Arguments) (w : List ℕ) (ws : List (List ℕ)) → IsPlain w → reads o (w ∷ ws) ≡ reads (then_with with_number o w) ws
+reads-number o w [] h = refl
+reads-number o w (x ∷ ws) h = rw (h.0, h.1)
+
+reads-parts : (o : Option Arguments) (parts : List Part) → AllByRecursion IsPlain (numbers parts) → reads o (flat_map part_words parts) ≡ adds o parts
+reads-parts o [] h = refl
+reads-parts o (number w ∷ parts) h = reads-number o w (flat_map part_words parts) h.0 ∙ reads-parts (then_with with_number o w) parts h.1
+reads-parts o (workers w ∷ parts) h = reads-parts _ parts h
+reads-parts o (rows w ∷ parts) h = reads-parts _ parts h
+
+-- ---- the command of words
+
+abbrev chosen : Option Name → Option Arguments → Option Command
+chosen None a = None
+chosen (Some n) None = None
+chosen (Some n) (Some a) = picked n a
+
+abbrev pub meaning : List (List ℕ) → Option Command
+meaning [] = None
+meaning (w ∷ ws) = chosen (name_of w) (reads (Some no_arguments) ws)
+
+name_of-command_word : (c : Command) → name_of (command_word c) ≡ Some (command_name c)
+name_of-command_word (command.Replay w r) = refl
+name_of-command_word (command.Simulate r) = refl
+name_of-command_word (command.Gen s n w r) = refl
+
+meaning_if : (ws : List (List ℕ)) (c : Command) → Means ws c → meaning ws ≡ Some c
+meaning_if ws c m =
+    let p = picks m.parts c m.makes in
+    ap meaning m.cut
+    ∙ (ap (λ (n : Option Name). chosen n (reads (Some no_arguments) (flat_map part_words m.parts))) (name_of-command_word c)
+    ∙ (ap (chosen (Some (command_name c))) (reads-parts (Some no_arguments) m.parts (numbers_plain m.parts c m.makes) ∙ p.adds_are) ∙ p.picked_is))
+
+-- the word of a name
+abbrev name_word : Name → List ℕ
+name_word name.Replay = codes "replay"
+name_word name.Simulate = codes "simulate"
+name_word name.Gen = codes "gen"
+
+name_word-command_name : (c : Command) → name_word (command_name c) ≡ command_word c
+name_word-command_name (command.Replay w r) = refl
+name_word-command_name (command.Simulate r) = refl
+name_word-command_name (command.Gen s n w r) = refl
+
+-- a word that names a command is its own word
+word_of_name : (w : List ℕ) (c : Command) → name_of w ≡ Some (command_name c) → w ≡ command_word c
+word_of_name w c e = at (bytes_eq w (codes "replay")) refl (bytes_eq w (codes "simulate")) refl (bytes_eq w (codes "gen")) refl e ∙ name_word-command_name c
+  where
+    is : (n : Name) → w ≡ name_word n → Some n ≡ Some (command_name c) → w ≡ name_word (command_name c)
+    is n f e = let same : n ≡ command_name c = cc in f ∙ ap name_word same
+
+    at : (p : Bool) → bytes_eq w (codes "replay") ≡ p → (q : Bool) → bytes_eq w (codes "simulate") ≡ q → (r : Bool) → bytes_eq w (codes "gen") ≡ r
+        → cond p (Some name.Replay) (cond q (Some name.Simulate) (cond r (Some name.Gen) None)) ≡ Some (command_name c) → w ≡ name_word (command_name c)
+    at true f q g r h e = is name.Replay ((bytes_eq-Decides w (codes "replay")).0 f) e
+    at false f true g r h e = is name.Simulate ((bytes_eq-Decides w (codes "simulate")).0 g) e
+    at false f false g true h e = is name.Gen ((bytes_eq-Decides w (codes "gen")).0 h) e
+    at false f false g false h e = absurd cc
+
+means_if : (w : List ℕ) (ws : List (List ℕ)) (n : Name) (a : Arguments) (c : Command) → name_of w ≡ Some n → reads (Some no_arguments) ws ≡ Some a → picked n a ≡ Some c → Means (w ∷ ws) c
+means_if w ws n a c e f h =
+    let cut = cut_of (Some no_arguments) ws in
+    let made = makes cut.parts n a c (cut.adds_are ∙ f) h in
+    let word : w ≡ command_word c = word_of_name w c (e ∙ ap (λ (x : Name). Some x) (sym made.1)) in
+    record {
+      parts = cut.parts;
+      cut = ap (λ (x : List ℕ). x ∷ ws) word ∙ ap (λ (x : List (List ℕ)). command_word c ∷ x) cut.cut;
+      makes = made.0;
+    }
+
+-- words whose first one names no command, or whose other ones are no arguments, mean nothing
+pub no_meaning : (w : List ℕ) (ws : List (List ℕ)) → reads (Some no_arguments) ws ≡ None → meaning (w ∷ ws) ≡ None
+no_meaning w ws e = at (name_of w)
+  where
+    at : (n : Option Name) → chosen n (reads (Some no_arguments) ws) ≡ None
+    at None = refl
+    at (Some n) = ap (chosen (Some n)) e
+
+pub picked_meaning : (w : List ℕ) (ws : List (List ℕ)) (n : Name) (a : Arguments) → name_of w ≡ Some n → reads (Some no_arguments) ws ≡ Some a → meaning (w ∷ ws) ≡ picked n a
+picked_meaning w ws n a e f = ap (λ (m : Option Name). chosen m (reads (Some no_arguments) ws)) e ∙ ap (chosen (Some n)) f
+
+-- what is told of words by their meaning
+pub told : (ws : List (List ℕ)) (r : Option Command) → meaning ws ≡ r → MatchOption r ((c : Command) → Means ws c → ⊥) (Means ws)
+told ws None e = λ c m. let bad : None ≡ Some c = sym e ∙ meaning_if ws c m in cc
+told [] (Some c) e = absurd cc
+told (w ∷ ws) (Some c) e = at (name_of w) refl (reads (Some no_arguments) ws) refl e
+  where
+    at : (n : Option Name) → name_of w ≡ n → (a : Option Arguments) → reads (Some no_arguments) ws ≡ a → chosen n a ≡ Some c → Means (w ∷ ws) c
+    at None f a g h = absurd cc
+    at (Some n) f None g h = absurd cc
+    at (Some n) f (Some a) g h = means_if w ws n a c f g h
+
+-- words mean one command at most
+pub same_command : (ws : List (List ℕ)) (c d : Command) → Means ws c → Means ws d → c ≡ d
+same_command ws c d h k =
+    let both : Some c ≡ Some d = sym (meaning_if ws c h) ∙ meaning_if ws d k in
+    cc
+
+-- what holds of the command of words holds of each command that they mean
+pub at_command : (P : Command → Type 0) (ws : List (List ℕ)) (c d : Command) → Means ws c → Means ws d → P c → P d
+at_command P ws c d e f h = subst P (same_command ws c d e f) h

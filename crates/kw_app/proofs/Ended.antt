@@ -8,37 +8,38 @@ use Rattle.kw_app.specs.declared.command.Command.{Command}
 use Rattle.kw_app.specs.declared.command.Command.TheVariants as command
 use Rattle.kw_app.specs.declared.outcome.Outcome.{Outcome}
 use Rattle.kw_app.specs.declared.outcome.Status.TheVariants as status
-use Rattle.kw_app.specs.declared.text.TheConstants.{SIMULATED_ROWS}
-use Rattle.kw_app.specs.Ends.{IsPrinted, IsFirstBad, IsBadInput, IsToldBad}
+use Rattle.kw_app.specs.Ends.{IsPrinted, IsFirstBad, IsBadInput, IsToldBad, Prints, Reads, Tells}
 use Rattle.kw_app.proofs.Scripts.{commands_or_bad, same_bad_line}
 
 -- what has a text has no bad line
 printed_or_bad : (c : Command) (bytes printed : List ℕ) (at : ℕ) → IsPrinted c bytes printed → IsFirstBad c bytes at → ⊥
-printed_or_bad command.Replay bytes printed at good bad = items_or_bad bytes good.items at good.lines bad
-printed_or_bad command.Simulate bytes printed at good bad = commands_or_bad SIMULATED_ROWS bytes good.commands at good.lines bad
+printed_or_bad (command.Replay w r) bytes printed at good bad = items_or_bad bytes good.items at good.lines bad
+printed_or_bad (command.Simulate r) bytes printed at good bad = commands_or_bad r bytes good.commands at good.lines bad
+printed_or_bad (command.Gen s n w r) bytes printed at good bad = bad
 
 -- there is one first bad line at most
 one_bad : (c : Command) (bytes : List ℕ) (m n : ℕ) → IsFirstBad c bytes m → IsFirstBad c bytes n → m ≡ n
-one_bad command.Replay bytes m n h k = same_bad bytes m n h k
-one_bad command.Simulate bytes m n h k = same_bad_line SIMULATED_ROWS bytes m n h k
+one_bad (command.Replay w r) bytes m n h k = same_bad bytes m n h k
+one_bad (command.Simulate r) bytes m n h k = same_bad_line r bytes m n h k
+one_bad (command.Gen s i w r) bytes m n h k = absurd h
 
 -- an input that has a text is not bad
 pub good_is_not_bad : (c : Command) (bytes printed : List ℕ) (outcome : Outcome) → length bytes ≤ MOST_BYTES → IsPrinted c bytes printed → IsToldBad c outcome bytes
-good_is_not_bad c bytes printed outcome short good at bad = absurd (⊎_elim (λ long. at_length long.0) (λ first. printed_or_bad c bytes printed at good first.1) bad)
+good_is_not_bad c bytes printed outcome short good at bad = absurd (⊎_elim (λ long. at_length long.0) (λ first. printed_or_bad c bytes printed at good first.1) bad.1)
   where
     at_length : MOST_BYTES < length bytes → ⊥
     at_length long = omega arith
 
 -- the first bad line is the line that is told
 pub bad_is_told : (c : Command) (bytes : List ℕ) (outcome : Outcome) (n : ℕ) → length bytes ≤ MOST_BYTES → outcome.status ≡ status.BadInput → outcome.line ≡ n → IsFirstBad c bytes n → IsToldBad c outcome bytes
-bad_is_told c bytes outcome n short is_bad is_at first at bad = inl (is_bad, ⊎_elim (λ long. absurd (at_length long.0)) (λ other. is_at ∙ one_bad c bytes n at first other.1) bad)
+bad_is_told c bytes outcome n short is_bad is_at first at bad = inl (is_bad, ⊎_elim (λ long. absurd (at_length long.0)) (λ other. is_at ∙ one_bad c bytes n at first other.1) bad.1)
   where
     at_length : MOST_BYTES < length bytes → ⊥
     at_length long = omega arith
 
 -- an input that is too long is told as line 0
 pub long_is_told : (c : Command) (bytes : List ℕ) (outcome : Outcome) → MOST_BYTES < length bytes → outcome.status ≡ status.BadInput → outcome.line ≡ 0 → IsToldBad c outcome bytes
-long_is_told c bytes outcome long is_bad is_none at bad = inl (is_bad, ⊎_elim (λ other. is_none ∙ sym other.1) (λ first. absurd (at_length first.0)) bad)
+long_is_told c bytes outcome long is_bad is_none at bad = inl (is_bad, ⊎_elim (λ other. is_none ∙ sym other.1) (λ first. absurd (at_length first.0)) bad.1)
   where
     at_length : length bytes ≤ MOST_BYTES → ⊥
     at_length short = omega arith
@@ -47,3 +48,9 @@ long_is_told c bytes outcome long is_bad is_none at bad = inl (is_bad, ⊎_elim 
 pub told_of_left : (c : Command) (left : Option (List ℕ)) (bytes : List ℕ) (outcome : Outcome) → IfSome left (λ all. bytes ≡ all) → IsToldBad c outcome bytes → IfSome left (IsToldBad c outcome)
 told_of_left c None bytes outcome e h = tt
 told_of_left c (Some all) bytes outcome e h = subst (IsToldBad c outcome) e h
+
+-- what is written of an input is what the command tells
+pub tells_of : (c : Command) (left : Option (List ℕ)) (Writes : List ℕ → Type 0) → Reads c → IfSome left (Prints c Writes) → Tells c left Writes
+tells_of (command.Replay w r) left Writes reads h = h
+tells_of (command.Simulate r) left Writes reads h = h
+tells_of (command.Gen s n w r) left Writes reads h = absurd reads

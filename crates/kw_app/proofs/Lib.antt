@@ -1,7 +1,11 @@
 pub mod Asked
+pub mod Meaning
+pub mod Numbers
+pub mod Options
 pub mod Commands
+pub mod Ranges
+pub mod Lines
 pub mod Scripts
 pub mod Ended
 pub mod Inputs
-pub mod Lists
 pub mod Streams

@@ -1,5 +1,5 @@
 -- What an input must be for a run to end in each way.
-use Rattle.std.specs.Prelude.{ℕ, ◌≡◌, ◌≤◌, ◌<◌, ◌⊎◌, List, length, Result, Ok, Err}
+use Rattle.std.specs.Prelude.{ℕ, ◌≡◌, ◌≤◌, ◌<◌, ◌⊎◌, List, length, Option, IfSome, Result, Ok, Err}
 use Rattle.kw_line.specs.declared.parse.TheConstants.{MOST_BYTES}
 use Rattle.kw_line.specs.Line as line
 use Rattle.kw_sim.specs.Output.{IsOutputOf}
@@ -8,20 +8,28 @@ use Rattle.kw_app.specs.declared.command.Command.{Command}
 use Rattle.kw_app.specs.declared.command.Command.TheVariants as command
 use Rattle.kw_app.specs.declared.text.InputError.{InputError}
 use Rattle.kw_app.specs.declared.text.InputError.TheVariants as error
-use Rattle.kw_app.specs.declared.text.TheConstants.{SIMULATED_ROWS}
 use Rattle.kw_app.specs.declared.outcome.Outcome.{Outcome}
 use Rattle.kw_app.specs.declared.outcome.Status.TheVariants as status
 use Rattle.kw_app.specs.Replay.{IsReplayed}
+use Rattle.kw_app.specs.Load.{load_text}
+
+-- the command reads an input
+abbrev pub Reads : Command → Type 0
+Reads (command.Replay w r) = Unit {0}
+Reads (command.Simulate r) = Unit {0}
+Reads (command.Gen s n w r) = ⊥
 
 -- the text that a command prints of these bytes, each line of which is in its grammar
 abbrev pub IsPrinted : Command → List ℕ → List ℕ → Type 0
-IsPrinted command.Replay bytes printed = IsReplayed bytes printed
-IsPrinted command.Simulate bytes printed = IsOutputOf SIMULATED_ROWS bytes printed
+IsPrinted (command.Replay w r) bytes printed = IsReplayed bytes printed
+IsPrinted (command.Simulate r) bytes printed = IsOutputOf r bytes printed
+IsPrinted (command.Gen s n w r) bytes printed = ⊥
 
 -- this line of the bytes, counted from 1, is the first that is not in the command's grammar
 abbrev pub IsFirstBad : Command → List ℕ → ℕ → Type 0
-IsFirstBad command.Replay bytes at = line.IsFirstBad bytes at
-IsFirstBad command.Simulate bytes at = script.IsFirstBad SIMULATED_ROWS bytes at
+IsFirstBad (command.Replay w r) bytes at = line.IsFirstBad bytes at
+IsFirstBad (command.Simulate r) bytes at = script.IsFirstBad r bytes at
+IsFirstBad (command.Gen s n w r) bytes at = ⊥
 
 -- a line that is named is the first bad one
 abbrev pub IfBad : {X : Type 0} → Command → List ℕ → Result X InputError → Type 0
@@ -29,9 +37,9 @@ IfBad command bytes (Ok x) = Unit {0}
 IfBad command bytes (Err (error.Bad at)) = IsFirstBad command bytes at
 IfBad command bytes (Err error.Memory) = Unit {0}
 
--- the input is too long, which is said as line 0, or this line is the first that is not in the grammar
+-- the command reads, and its input is too long, which is said as line 0, or this line is the first that is not in the grammar
 abbrev pub IsBadInput : Command → ℕ → List ℕ → Type 0
-IsBadInput command at bytes = ((MOST_BYTES < length bytes) × (at ≡ 0)) ⊎ ((length bytes ≤ MOST_BYTES) × IsFirstBad command bytes at)
+IsBadInput command at bytes = Reads command × (((MOST_BYTES < length bytes) × (at ≡ 0)) ⊎ ((length bytes ≤ MOST_BYTES) × IsFirstBad command bytes at))
 
 -- the input is good, and the text that the command prints of it was written, whole or in part
 pub record Prints (command : Command) (Writes : List ℕ → Type 0) (bytes : List ℕ) : Type 0 where
@@ -39,6 +47,12 @@ pub record Prints (command : Command) (Writes : List ℕ → Type 0) (bytes : Li
   pub printed : List ℕ
   pub is_printed : IsPrinted command bytes printed
   pub writes : Writes printed
+
+-- the text of the command was written in this way: of what was left to read, where the source tells that, or of no input
+abbrev pub Tells : Command → Option (List ℕ) → (List ℕ → Type 0) → Type 0
+Tells (command.Replay w r) left Writes = IfSome left (Prints (command.Replay w r) Writes)
+Tells (command.Simulate r) left Writes = IfSome left (Prints (command.Simulate r) Writes)
+Tells (command.Gen s n w r) left Writes = Writes (load_text s n)
 
 -- the outcome names this line of bad input, or a read failed before, or memory was wanted
 abbrev pub TellsBad : Outcome → ℕ → Type 0

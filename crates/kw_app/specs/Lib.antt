@@ -1,5 +1,9 @@
 pub mod Words
+pub mod Reading
 pub mod Status
 pub mod Shown
 pub mod Replay
+pub mod Generated
+pub mod Summary
+pub mod Load
 pub mod Ends

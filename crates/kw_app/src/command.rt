@@ -1,43 +1,117 @@
 //! The commands of the program, and which lists of words they are.
 //!
-//! A command is the whole list of its words: the one word `replay`, or the one word `simulate`. Every other list is bad words,
-//! the empty one among them.
-ghost use Rattle.std.specs.Prelude.{◌≡◌, ◌≢◌, ◌↔◌, IsTrue, MatchOption, [], ◌∷◌, ℕ, List};
+//! A command is the whole list of its words: its own word first, and then numbers and options, each option at most once.
+//! `specs/Words.antt` says which lists these are. Every other list is bad words, the empty one among them. What stands after
+//! the first word is read by `words`; here the first word is read, and what its command takes of the rest is picked.
+ghost use Rattle.std.specs.Prelude.{◌≡◌, IfSome, MatchOption};
 ghost use Rattle.kw_app.specs.declared.command.Command.{Command as AnyCommand};
-ghost use Rattle.kw_app.specs.Words.{command_words};
+ghost use Rattle.kw_app.specs.Words.{AreInRange, Means};
+ghost use Rattle.kw_app.specs.Reading.{name_of, picked};
 
 use crate::word::Word;
+use crate::words::{Arguments, arguments_of};
+use kw_words::sizes::SEAT_COUNT;
 
-/// What the program is asked to do with its input.
+/// The most workers that may be asked for.
+pub const MOST_WORKERS: u32 = SEAT_COUNT;
+
+/// How many workers there are where none are asked for.
+pub const DEFAULT_WORKERS: u32 = 1;
+
+/// The fewest rows that may be asked for.
+pub const FEWEST_ROWS: u32 = 64;
+
+/// How many rows the table of a map has where none are asked for.
+pub const DEFAULT_ROWS: u32 = 16_384;
+
+/// How many rows the table of a simulated map has where none are asked for.
+pub const SIMULATED_ROWS: u32 = 64;
+
+/// The greatest number that a generator may begin with.
+pub const MOST_START: u32 = u32::MAX;
+
+/// The most lines that may be generated.
+pub const MOST_LINES: u32 = 1_000_000;
+
+/// What the program is asked to do.
 #[derive(Clone, Copy, Debug, PartialEq, Eq)]
 pub enum Command {
-    /// Asks the lines of one map, in line order.
-    Replay,
+    /// Asks the lines of the input of one map.
+    Replay {
+        workers: u32,
+        rows: u32,
+    },
     /// Runs a script of seats and steps on the core of the concurrent map.
+    Simulate {
+        rows: u32,
+    },
+    /// Asks `count` generated lines of one map; the generator begins with `start`.
+    Gen {
+        start: u32,
+        count: u32,
+        workers: u32,
+        rows: u32,
+    },
+}
+
+/// The commands' own words.
+#[derive(Clone, Copy, Debug, PartialEq, Eq)]
+pub enum Name {
+    Replay,
     Simulate,
+    Gen,
 }
 
-/// The command of these words, or none.
+/// The command that these words mean, or none where they are bad.
 pub fn command_of(words: &[Word]) -> Option<Command>
-    ensures { MatchOption result
-        ((command : AnyCommand) → words.now ≢ command_words command)
-        (λ command. words.now ≡ command_words command) }
+    ensures meant { MatchOption result ((command : AnyCommand) → Means words.now command → ⊥) (Means words.now) }
+    ensures range { IfSome result AreInRange }
 {
-    if is_word(words, b"replay") {
-        Some(Command::Replay)
-    } else if is_word(words, b"simulate") {
-        Some(Command::Simulate)
-    } else {
-        None
+    let (first, rest) = words.split_first()?;
+    let name = name_of(first.text())?;
+    picked(name, arguments_of(rest, Arguments::new())?)
+}
+
+/// The command whose own word this is.
+fn name_of(word: &str) -> Option<Name>
+    ensures { result ≡ name_of word.now }
+{
+    match word {
+        "replay" => Some(Name::Replay),
+        "simulate" => Some(Name::Simulate),
+        "gen" => Some(Name::Gen),
+        _ => None,
     }
 }
 
-/// Whether the words are this one word.
-fn is_word(words: &[Word], text: &[u8]) -> bool
-    ensures { IsTrue result ↔ (words.now ≡ text.now ∷ []) }
+/// The command of this name, where it takes just these arguments.
+fn picked(name: Name, arguments: Arguments) -> Option<Command>
+    ensures { result ≡ picked name arguments }
 {
-    match words {
-        [word] => word.bytes() == text,
-        _ => false,
+    let Arguments {
+        start,
+        count,
+        workers,
+        rows,
+    } = arguments;
+    let asked = workers.unwrap_or(DEFAULT_WORKERS);
+    match (name, start, count, workers) {
+        (Name::Replay, None, None, _) => Some(Command::Replay {
+            workers: asked,
+            rows: rows.unwrap_or(DEFAULT_ROWS),
+        }),
+        (Name::Simulate, None, None, None) => Some(Command::Simulate {
+            rows: rows.unwrap_or(SIMULATED_ROWS),
+        }),
+        (Name::Gen, Some(start), Some(count), _) => Some(Command::Gen {
+            start,
+            count,
+            workers: asked,
+            rows: rows.unwrap_or(DEFAULT_ROWS),
+        }),
+        _ => None,
     }
 }
+
+#[cfg(test)]
+mod tests;

@@ -2,20 +2,25 @@
 //!
 //! This module holds `main` alone, the trusted edge: it gathers the words of the command line, hands the process's streams to
 //! [`run::run`], says a fault on standard error, and ends with the outcome's status. All that is promised of the program stands
-//! on the contract of `run`; the modules below it read the command's words (`word`, `command`), make the text of an input's replies
-//! (`text`, `replay`, `ask`) and say how a run ended (`outcome`, `fault`).
+//! on the contract of `run`; the modules below it read the command's words (`word`, `words`, `command`), make the text of an input's
+//! replies (`text`, `replay`, `ask`) or the summary of a generated load (`load`, `generate`, `summary`), and say how a run ended
+//! (`outcome`, `fault`).
 #![tactic(auto)]
 
 mod ask;
 mod command;
 mod fault;
+mod generate;
+mod load;
 mod outcome;
 mod replay;
 mod run;
+mod summary;
 #[cfg(test)]
 mod tests;
 mod text;
 mod word;
+mod words;
 
 use crate::fault::write_fault;
 use crate::outcome::{Outcome, Status};
@@ -27,7 +32,7 @@ use std::process::ExitCode;
 use std::{env, io};
 
 fn main(rt: HostRuntime) -> ExitCode {
-    let outcome = match words(&rt) {
+    let outcome = match given_words(&rt) {
         Ok(words) => {
             let mut source = StdSource::new(&rt);
             let mut sink = StdSink::new(&rt);
@@ -41,7 +46,7 @@ fn main(rt: HostRuntime) -> ExitCode {
 }
 
 /// The words of the command line after the program's name. A word that is not text is a bad word.
-fn words(rt: &HostRuntime) -> Result<Vec<Word>, Status> {
+fn given_words(rt: &HostRuntime) -> Result<Vec<Word>, Status> {
     let arguments = env::args(rt).map_err(|error| match error.kind() {
         io::ErrorKind::OutOfMemory => Status::OutOfMemory,
         _ => Status::BadWords,

@@ -37,7 +37,7 @@ fn printed(alloc: Global, items: &[Item]) -> Result<Vec<u8>, Memory>
 }
 
 /// The answers to the calls of these items, asked in order of a map that was empty.
-fn answers(alloc: Global, items: &[Item]) -> Result<Vec<Answer>, Memory>
+pub fn answers(alloc: Global, items: &[Item]) -> Result<Vec<Answer>, Memory>
     requires { AllByRecursion IsItem items.now }
     ensures { IfOk result (λ answers. answers.items ≡ answers_to items.now) }
 {

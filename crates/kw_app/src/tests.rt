@@ -131,12 +131,12 @@ fn a_read_that_fails_ends_the_run_with_nothing_written(rt: HostRuntime) -> Resul
 }
 
 #[test]
-fn other_words_than_one_command_are_bad(rt: HostRuntime) -> Result<(), Fail> {
+fn bad_words_are_told_before_anything_is_read(rt: HostRuntime) -> Result<(), Fail> {
     let lists: [&[&str]; 4] = [
         &[],
-        &["Replay"],
-        &["replay", "replay"],
-        &["replay", "--workers", "1"],
+        &["replay", "--workers", "9"],
+        &["replay", "--workers", "1", "--workers", "1"],
+        &["replay", "--rows", "63"],
     ];
     for list in lists {
         let input = Vec::from_slice(rt.alloc(), b"get 1\n")?;
@@ -247,5 +247,67 @@ fn a_script_is_run_and_its_first_bad_line_is_named(rt: HostRuntime) -> Result<()
     let ended = ran(rt.alloc(), &["simulate"], script, &[], ROOM)?;
     assert_eq!(rt; ended.outcome, Outcome::bad_input(2));
     assert!(rt; ended.written.is_empty());
+    Ok(())
+}
+
+/// The summary of a load, which is asked of a source whose first read would fail.
+fn expect_summary(rt: &impl Abort, alloc: Global, texts: &[&str], text: &str) -> Result<(), Fail> {
+    let ended = ran(alloc, texts, Vec::new(alloc), &[0], ROOM)?;
+    assert_eq!(rt; ended.outcome, Outcome::of(Status::Done), "of {texts:?}");
+    assert_eq!(rt; ended.written.as_slice(), text.as_bytes(), "of {texts:?}");
+    Ok(())
+}
+
+#[test]
+fn a_load_is_summarised_and_nothing_is_read(rt: HostRuntime) -> Result<(), Fail> {
+    let loads: [(&[&str], &str); 4] = [
+        (
+            &["gen", "1", "3"],
+            "puts 2\ndels 0\ngets 1\nfound 0\ncount 2\nsum 21839\nleast 5627\ngreatest 16212\n",
+        ),
+        (
+            &["gen", "1", "1000"],
+            "puts 610\ndels 126\ngets 264\nfound 24\ncount 560\nsum 8968157\nleast 30\ngreatest 32724\n",
+        ),
+        (
+            &["gen", "1", "1000", "--workers", "4"],
+            "puts 610\ndels 126\ngets 264\nfound 24\ncount 560\nsum 8968157\nleast 30\ngreatest 32724\n",
+        ),
+        (
+            &["gen", "--rows", "64", "1", "10000"],
+            "puts 6209\ndels 1273\ngets 2518\nfound 1140\ncount 2815\nsum 45459495\nleast 0\ngreatest 32724\n",
+        ),
+    ];
+    for (texts, text) in loads {
+        expect_summary(&rt, rt.alloc(), texts, text)?;
+    }
+    Ok(())
+}
+
+#[test]
+fn a_sink_that_fills_up_holds_a_prefix_of_the_summary(rt: HostRuntime) -> Result<(), Fail> {
+    let ended = ran(
+        rt.alloc(),
+        &["gen", "1", "3"],
+        Vec::new(rt.alloc()),
+        &[],
+        10,
+    )?;
+    assert_eq!(rt; ended.outcome, Outcome::of(Status::WriteFault));
+    assert_eq!(rt; ended.written.as_slice(), b"puts 2\ndel".as_slice());
+    Ok(())
+}
+
+#[test]
+fn a_script_names_rows_of_as_many_as_asked(rt: HostRuntime) -> Result<(), Fail> {
+    let lists: [(&[&str], Outcome); 2] = [
+        (&["simulate", "--rows", "70"], Outcome::of(Status::Done)),
+        (&["simulate"], Outcome::bad_input(1)),
+    ];
+    for (list, outcome) in lists {
+        let script = Vec::from_slice(rt.alloc(), b"guess 0 69\n")?;
+        let ended = ran(rt.alloc(), list, script, &[], ROOM)?;
+        assert_eq!(rt; ended.outcome, outcome, "of {list:?}");
+    }
     Ok(())
 }

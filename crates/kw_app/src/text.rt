@@ -1,6 +1,10 @@
 //! The text that a command prints of an input.
+//!
+//! Each command that reads has its own reader and its own errors; here they become one text or one [`InputError`], so that
+//! `run` need not know which command it was.
 ghost use Rattle.std.specs.Prelude.{◌≤◌, length, IfOk};
-ghost use Rattle.kw_app.specs.Ends.{IsPrinted, IfBad};
+ghost use Rattle.kw_app.specs.Words.{AreInRange};
+ghost use Rattle.kw_app.specs.Ends.{IfBad, IsPrinted, Reads};
 
 use crate::command::Command;
 use crate::replay::replay;
@@ -9,9 +13,6 @@ use kw_line::parse::MOST_BYTES;
 use kw_sim::command::ScriptError;
 use kw_sim::script::run_script;
 use std::alloc::Global;
-
-/// How many rows the table of a simulated map has.
-pub const SIMULATED_ROWS: u32 = 64;
 
 /// Why an input has no text.
 #[derive(Clone, Copy, Debug, PartialEq, Eq)]
@@ -24,20 +25,23 @@ pub enum InputError {
 
 /// The text that the command prints of these bytes. `Bad` names the first line that is not in its grammar.
 pub fn text_of(alloc: Global, command: Command, bytes: &[u8]) -> Result<Vec<u8>, InputError>
-    requires { length bytes.now ≤ MOST_BYTES }
+    requires reads { Reads command }
+    requires range { AreInRange command }
+    requires short { length bytes.now ≤ MOST_BYTES }
     ensures printed { IfOk result (λ text. IsPrinted command bytes.now text.items) }
     ensures bad { IfBad command bytes.now result }
 {
     match command {
-        Command::Replay => match replay(alloc, bytes) {
+        Command::Replay { .. } => match replay(alloc, bytes) {
             Ok(text) => Ok(text),
             Err(LineError::Bad { line }) => Err(InputError::Bad { line }),
             Err(LineError::Memory) => Err(InputError::Memory),
         },
-        Command::Simulate => match run_script(alloc, SIMULATED_ROWS, bytes) {
+        Command::Simulate { rows } => match run_script(alloc, rows, bytes) {
             Ok(text) => Ok(text),
             Err(ScriptError::Bad { line }) => Err(InputError::Bad { line }),
             Err(ScriptError::Memory) => Err(InputError::Memory),
         },
+        Command::Gen { .. } => unreachable!(),
     }
 }

@@ -1,6 +1,9 @@
 //! The words of the command line.
+//!
+//! A word is text, and contracts see its bytes. Nothing here knows what a word may be: `words` tests that.
 ghost use Rattle.std.specs.Prelude.{◌≡◌, string_bytes};
 
+use std::convert::AsStr;
 use std::marker::Model;
 
 /// One word of the command line, seen as its bytes.
@@ -25,10 +28,18 @@ impl Word {
         Word { text }
     }
 
-    /// The bytes of the word.
-    pub fn bytes(&self) -> &[u8]
+    /// The text of the word.
+    pub fn text(&self) -> &str
         ensures { result.now ≡ self.now }
     {
-        self.text.as_bytes()
+        self.text.as_str()
+    }
+}
+
+impl AsStr for Word {
+    ghost text = { λ word. word };
+
+    fn as_str(&self) -> &str {
+        self.text.as_str()
     }
 }

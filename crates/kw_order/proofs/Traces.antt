@@ -29,6 +29,7 @@ use Rattle.kw_core.proofs.Keeps.{inv_holds}
 use Rattle.kw_core.proofs.LawProofs.{laws_hold}
 use Rattle.kw_core.proofs.Records.{records_start, seats_kept}
 use Rattle.kw_core.proofs.Runs.{history-nil, history-snoc, history-world}
+use Rattle.kw_core.proofs.Worlds.{world-rows}
 use Rattle.kw_order.specs.Trace.{TraceView, IsTrace, run_of, history_of, pushed, longer, GivesTops}
 use Rattle.kw_order.proofs.Separate.{scan_top}
 
@@ -43,6 +44,10 @@ trace_sane t w k i = subst (IsSane product) (history-world product t.opening t.e
 -- it has as many seats as its opening says
 pub trace_seats : (t : TraceView) (w : WorldView) (k : Recording) → IsTrace t w k → length w.locals ≡ t.opening.seats
 trace_seats t w k i = ap (λ (x : WorldView). length x.locals) i.world ∙ seats_kept product t.opening t.events i.valid
+
+-- and as many rows
+pub trace_rows : (t : TraceView) (w : WorldView) (k : Recording) → IsTrace t w k → w.rows ≡ t.opening.rows
+trace_rows t w k i = ap (λ (x : WorldView). x.rows) i.world ∙ world-rows product t.opening t.events
 
 -- the run that its world and its record are of
 pub trace_run : (t : TraceView) (w : WorldView) (k : Recording) → IsTrace t w k → (r : Run) × (r.world ≡ w) × Records product k r × Inv product r

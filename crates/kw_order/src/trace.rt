@@ -117,10 +117,11 @@ impl Trace {
         &self.events
     }
 
-    /// The world after these events.
+    /// The world after these events. It has the rows and the seats of the opening.
     pub fn world(&self) -> &World
         ensures value { result.now ≡ world_of self.now }
         ensures sane { IsSane product result.now }
+        ensures rows { result.now.rows ≡ self.now.opening.rows }
         ensures seats { length result.now.locals ≡ self.now.opening.seats }
     {
         &self.world
@@ -159,5 +160,7 @@ pub fn order(alloc: Global, trace: &Trace) -> Result<Vec<CallName>, Memory>
     points::order(alloc, trace.recorder.history())
 }
 
+#[cfg(test)]
+mod events_tests;
 #[cfg(test)]
 mod tests;

@@ -1,5 +1,5 @@
 -- A seat begins at most one call with an event, so it has begun no more calls than there are events.
-use Rattle.std.proofs.Common.{ℕ, zero, suc, ◌≡◌, ◌+◌, ◌≤◌, ◌⊎◌, ◌≢◌, inl, inr, List, ◌∷◌, length, replicate, slice_get, slice_set, refl, sym, ap, subst, ◌∙◌, arith, Option, Some, None, Bool, true, false, nat_lt, nat_le, ◌==◌, [], if◌then◌else◌}
+use Rattle.std.proofs.Common.{ℕ, zero, suc, ◌≡◌, ◌+◌, ◌≤◌, ◌⊎◌, ◌≢◌, inl, inr, List, ◌∷◌, length, replicate, slice_get, slice_set, refl, sym, ap, ◌∙◌, arith, Option, Some, None, Bool, true, false, nat_lt, nat_le, ◌==◌, [], if◌then◌else◌}
 use Rattle.kw_words.specs.declared.pend.Pend.{Pend}
 use Rattle.kw_words.specs.declared.pend.Pend.TheVariants as pend
 use Rattle.kw_words.specs.declared.state.State.{State}

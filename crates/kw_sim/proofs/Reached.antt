@@ -1,5 +1,5 @@
 -- Which events a simulator may make.
-use Rattle.std.proofs.Common.{ℕ, ◌≡◌, ◌<◌, Some, List, length, slice_get, subst, arith}
+use Rattle.std.proofs.Common.{◌≡◌, ◌<◌, Some, length, slice_get, arith}
 use Rattle.kw_model.specs.declared.call.Call.{Call}
 use Rattle.kw_model.specs.declared.call.Call.TheVariants.{Put, Del, Get, Scan}
 use Rattle.kw_line.specs.Line.{FitsCall}

@@ -1,5 +1,5 @@
 -- The words of a command's text, and which lines are texts.
-use Rattle.std.proofs.Common.{ℕ, ◌≡◌, ◌≢◌, ◌<◌, ◌≤◌, ◌+◌, ◌^◌, List, [], ◌∷◌, ◌++◌, map, Option, Some, None, Bool, true, false, not, cond, eqb, length, MatchOption, ◌↔◌, codes, refl, sym, ap, subst, ◌∙◌, arith}
+use Rattle.std.proofs.Common.{ℕ, ◌≡◌, ◌≢◌, ◌<◌, ◌≤◌, ◌+◌, ◌^◌, List, [], ◌∷◌, ◌++◌, map, Option, Some, None, Bool, true, false, not, cond, eqb, length, MatchOption, ◌↔◌, codes, refl, sym, ap, ◌∙◌, arith}
 use Rattle.std.specs.Fmt.{decimal}
 use Rattle.std.specs.Bool.{then_some}
 use Rattle.std.specs.Str.{bytes_eq}
@@ -24,7 +24,6 @@ use Rattle.kw_sim.specs.declared.parse.Verb.{Verb}
 use Rattle.kw_sim.specs.declared.parse.Verb.TheVariants as verb
 use Rattle.kw_sim.specs.declared.parse.CallVerb.{CallVerb}
 use Rattle.kw_sim.specs.declared.parse.CallVerb.TheVariants as call_verb
-use Rattle.kw_sim.specs.declared.parse.TheConstants.{MOST_STEPS}
 use Rattle.kw_sim.specs.Script.{call_verb_of, call_verb_word, call_words, verb_of, verb_word, seat_of, rest_words, command_words, command_text, HasRange, IsCommand, IsText}
 
 -- No space stands in a word of a command.

@@ -1,5 +1,5 @@
 -- The calls that a seat is still to make, in runs of one call each.
-use Rattle.std.specs.Prelude.{ℕ, ◌≤◌, List, ◌++◌, replicate}
+use Rattle.std.specs.Prelude.{◌≤◌, List, replicate}
 use Rattle.std.specs.List.{flat_map}
 use Rattle.kw_model.specs.declared.call.Call.{Call}
 use Rattle.kw_line.specs.Line.{FitsCall}

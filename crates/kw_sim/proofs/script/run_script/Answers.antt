@@ -1,4 +1,4 @@
-use Rattle.std.proofs.Common.{◌≡◌, ap, ◌∙◌, arith, rules, List, ℕ, subst}
+use Rattle.std.proofs.Common.{◌≡◌, ap, ◌∙◌, arith, rules, List, subst}
 use Rattle.kw_sim.specs.State.{State}
 use Rattle.kw_sim.specs.declared.command.Command.{Command}
 use Rattle.kw_sim.specs.Meaning.{script_state}

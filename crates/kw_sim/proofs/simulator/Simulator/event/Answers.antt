@@ -1,9 +1,7 @@
-use Rattle.std.proofs.Common.{◌≡◌, ◌<◌, length, sym, ap, subst, ◌∙◌, arith}
+use Rattle.std.proofs.Common.{◌≡◌, ◌<◌, length, ap, subst, arith}
 use Rattle.std.proofs.lemmas.Result.{on_ok_weaker}
 use Rattle.kw_world.specs.declared.limits.TheConstants.{MOST_CALLS}
 use Rattle.kw_world.specs.declared.event.Event.{Event}
-use Rattle.kw_world.specs.Sane.{CanStep}
-use Rattle.kw_order.specs.Trace.{TraceView, world_of}
 use Rattle.kw_sim.specs.State.{State}
 use Rattle.kw_sim.specs.Meaning.{event, after_event}
 use Rattle.kw_sim.proofs.Reached.{can_step}

@@ -1,5 +1,5 @@
 -- The steps that are left lead to where all steps lead, and so many events at most were made.
-use Rattle.std.proofs.Common.{ℕ, ◌≡◌, ◌+◌, ◌≤◌}
+use Rattle.std.proofs.Common.{ℕ, ◌≡◌, ◌+◌}
 use Rattle.kw_sim.specs.Meaning.{go}
 use Rattle.kw_sim.proofs.Grows.{Grows}
 use Rattle.kw_sim.proofs.simulator.Simulator.go.Given as goal
