@@ -6,3 +6,10 @@ mod Quieted
 mod Onces
 mod Collected
 mod Answering
+mod LastShown
+mod Asked
+mod LineOrders
+mod QuietBlocks
+mod LineCalls
+mod QuietReplies
+mod WorkerOrders

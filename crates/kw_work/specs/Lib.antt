@@ -1,3 +1,4 @@
 pub mod Dealing
 pub mod Collecting
 pub mod Lines
+pub mod LineOrder

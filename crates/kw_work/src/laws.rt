@@ -2,9 +2,13 @@
 //!
 //! Nothing runs here: the functions' clauses are the statements. Whoever runs the workers needs them to speak of an
 //! input's lines where the contracts of `deal`, `part` and `collect` speak of blocks and parts.
-ghost use Rattle.std.specs.Prelude.{ℕ, ◌≡◌, ◌<◌, List, [], length, map, All, IsPermutation, Vec};
-ghost use Rattle.std.specs.List.{flat_map};
+ghost use Rattle.std.specs.Prelude.{ℕ, ◌≡◌, ◌<◌, false, List, [], length, map, All, IsPermutation, Vec};
+ghost use Rattle.std.specs.List.{flat_map, range_with_len};
 ghost use Rattle.std.specs.declared.alloc.Global.{Global};
+ghost use Rattle.kw_model.specs.declared.call.Call.{Call};
+ghost use Rattle.kw_model.specs.declared.call.Reply.{Reply};
+ghost use Rattle.kw_model.specs.Map.{answers};
+ghost use Rattle.kw_model.specs.Legal.{IsLegal, is_refusal};
 ghost use Rattle.kw_line.specs.declared.item.Item.{Item};
 ghost use Rattle.kw_line.specs.Line.{calls, forms};
 ghost use Rattle.kw_line.specs.Quiet.{blocks, quiet};
@@ -13,6 +17,7 @@ ghost use Rattle.kw_work.specs.declared.line.Answered.{Answered};
 ghost use Rattle.kw_work.specs.Dealing.{blocks_of, lines_of, part};
 ghost use Rattle.kw_work.specs.Collecting.{answers_of, merge, no_answer, AnswersEach};
 ghost use Rattle.kw_work.specs.Lines.{all_parts, quiet_lines, IsItemOf, AreRising};
+ghost use Rattle.kw_work.specs.LineOrder.{IsOrderOf, StandsBefore, IsLegalIn, joined, calls_of, KeepsKeys, KeepsWorkers, HaveForms, NoneRefused, QuietAnswered};
 
 /// The lines are the items that make calls, in order. The blocks, one after another, are the lines, cut where the waits
 /// stand, and a line is as quiet as its item. The lines of a worker in a block rise. Each line of a block is dealt to one
@@ -35,4 +40,18 @@ pub fn collecting_laws()
     ensures back { (workers : ℕ) (lines : List Line) (none : Line) → 0 < workers → merge workers (λ worker. part workers worker lines) none [] lines ≡ lines }
     ensures one_part { (lines : List Line) → part 1 0 lines ≡ lines }
     ensures one { (lines : List Line) (given : ℕ → List Answered) → length (given 0) ≡ length lines → merge 1 given no_answer [] lines ≡ given 0 }
+{}
+
+/// Replies that are right in some order of the lines are, where the order keeps enough of the order of the lines, those that
+/// the map gives when it is asked in line order. An order that keeps all of it, as one worker's does, is the order of the
+/// lines, and where nothing is refused all replies are the map's. An order that keeps the blocks and each worker's lines
+/// keeps the lines on each key in their order, and then the replies to quiet lines are the map's, if no line that sets a
+/// value or takes a key away was refused; a range line may be refused all the same.
+pub fn quiet_laws()
+    ensures whole { (n : ℕ) (xs : List ℕ) → IsOrderOf n xs → ((i j : ℕ) → i < j → StandsBefore xs i j) → xs ≡ range_with_len 0 n }
+    ensures right { (cs : List Call) (rs : List Reply) (xs : List ℕ) → length cs ≡ length rs → IsOrderOf (length cs) xs → ((i j : ℕ) → i < j → StandsBefore xs i j) → IsLegalIn cs rs xs → IsLegal [] cs rs }
+    ensures answered { (cs : List Call) (rs : List Reply) → All (λ r. is_refusal r ≡ false) rs → IsLegal [] cs rs → rs ≡ answers [] cs }
+    ensures one_worker { (blocks : List (List Line)) (xs : List ℕ) → IsOrderOf (length (joined blocks)) xs → KeepsWorkers 1 blocks xs → (i j : ℕ) → i < j → StandsBefore xs i j }
+    ensures keys { (workers : ℕ) (blocks : List (List Line)) (xs : List ℕ) → KeepsWorkers workers blocks xs → KeepsKeys blocks xs }
+    ensures quiet { (blocks : List (List Line)) (rs : List Reply) (xs : List ℕ) → length rs ≡ length (joined blocks) → HaveForms (joined blocks) → IsOrderOf (length (joined blocks)) xs → KeepsKeys blocks xs → NoneRefused (joined blocks) rs → IsLegalIn (calls_of (joined blocks)) rs xs → QuietAnswered blocks rs }
 {}
