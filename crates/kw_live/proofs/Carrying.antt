@@ -3,8 +3,7 @@
 --
 -- One lemma for each part of the table, over what the seat knows. A record update of the whole computes, so that each line is one
 -- equation, but for the tests that a line makes.
-use Rattle.std.proofs.Common.{ℕ, ◌≡◌, ◌+◌, ◌==◌, ◌&&◌, Bool, true, false, nat_lt, nat_le, if◌then◌else◌, Option, Some, None, List, [], ◌∷◌, refl, sym, ◌∙◌, ap, subst}
-use Rattle.kw_words.specs.declared.count.Count.{Count as Counted}
+use Rattle.std.proofs.Common.{ℕ, ◌≡◌, ◌+◌, ◌==◌, ◌&&◌, Bool, true, false, nat_lt, nat_le, if◌then◌else◌, Option, Some, None, List, [], refl, sym, ap}
 use Rattle.kw_words.specs.declared.pend.Pend.{Pend}
 use Rattle.kw_words.specs.declared.pend.Pend.TheVariants as pend
 use Rattle.kw_words.specs.declared.state.State.{State}
@@ -26,8 +25,8 @@ use Rattle.kw_world.specs.declared.event.Choice.TheVariants.{Begin, Go, Guess, S
 use Rattle.kw_world.specs.declared.event.StepDone.TheVariants.{Moved}
 use Rattle.kw_world.specs.declared.local.Local.{Local}
 use Rattle.kw_world.specs.Calls.{is_in_range, is_range_empty, is_scan}
-use Rattle.kw_world.specs.Row.{Outcome, row_linked, to, leave}
-use Rattle.kw_world.specs.RowPut.{given_of, has_room, stamp_met}
+use Rattle.kw_world.specs.Row.{Outcome, row_linked, leave}
+use Rattle.kw_world.specs.RowPut.{has_room, stamp_met}
 use Rattle.kw_world.specs.RowRead.{to_look, look_met, help_met, remembering}
 use Rattle.kw_world.specs.RowScan.{entered, reply_or_stopped, settled, version_settled}
 use Rattle.kw_world.specs.RowWalk.{arrive, guess_met, is_stop, is_stopped, link_met, start_row, walk_min, walk_row}

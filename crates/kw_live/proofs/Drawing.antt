@@ -1,5 +1,5 @@
 -- The first events of a call, and those by which a scan gets its version or is stopped, as code makes them.
-use Rattle.std.proofs.Common.{ℕ, ◌≡◌, ◌<◌, ◌≤◌, ◌↔◌, ◌⊎◌, inl, inr, ◌&&◌, Bool, true, false, nat_le, nat_lt, if◌then◌else◌, Option, Some, None, List, [], ◌∷◌, ◌++◌, refl, sym, ◌∙◌, ap, subst, arith}
+use Rattle.std.proofs.Common.{ℕ, ◌≡◌, ◌<◌, ◌≤◌, ◌↔◌, ◌⊎◌, inl, inr, Bool, true, false, nat_le, nat_lt, if◌then◌else◌, Option, Some, None, [], refl, sym, ◌∙◌, ap, subst, arith}
 use Rattle.std.proofs.lemmas.Bool.Decides.{nat_tests}
 use Rattle.std.specs.Prelude.{IfSome}
 use mathlib.Core.List.{IsPrefix}
@@ -8,17 +8,16 @@ use Rattle.kw_words.specs.Scan.{scan_of}
 use Rattle.kw_model.specs.declared.call.Call.{Call}
 use Rattle.kw_model.specs.declared.call.Call.TheVariants.{Put, Del, Get, Scan}
 use Rattle.kw_model.specs.declared.call.Reply.{Reply}
-use Rattle.kw_model.specs.declared.call.Reply.TheVariants.{Done, Value, Absent, Pairs, NoRows, Spent, Stopped}
+use Rattle.kw_model.specs.declared.call.Reply.TheVariants.{Pairs, Spent, Stopped}
 use Rattle.kw_world.specs.declared.activity.Activity.{Activity}
 use Rattle.kw_world.specs.declared.activity.Activity.TheVariants.{Enter, ScanClock, ScanWait, ScanDraw, ScanSettle, Start, Walk, ClearScan, Leave}
 use Rattle.kw_world.specs.declared.event.Choice.{Choice}
 use Rattle.kw_world.specs.declared.event.Choice.TheVariants.{Go, Stop}
 use Rattle.kw_world.specs.declared.event.StepDone.TheVariants.{Moved}
 use Rattle.kw_world.specs.declared.local.Local.{Local}
-use Rattle.kw_world.specs.declared.opening.Opening.{Opening}
 use Rattle.kw_world.specs.Calls.{is_range_empty, is_scan}
 use Rattle.kw_world.specs.Row.{Outcome, leave, outcome, to}
-use Rattle.kw_world.specs.RowScan.{clock_met, entered, settled, to_start, version_settled}
+use Rattle.kw_world.specs.RowScan.{entered, to_start, version_settled}
 use Rattle.kw_world.specs.RowWalk.{is_stopped, walk_row}
 use Rattle.kw_world.specs.Sizes.{product}
 use Rattle.kw_world.specs.Step.{next_of, row_of}
@@ -41,7 +40,7 @@ met_later p q r m more = record { front = m.front; later = m.later; here = prefi
 pub met_earlier : (s : Shared) (p q r : Pass) {a : Activity} {c : Choice} {told : ℕ} → GoesTo s p q → Met q r a c told → Met p r a c told
 met_earlier s p q r {a} {c} {told} goes m =
     let x : MetIn (view p).opening (view p).number (view q).seen (view r).seen a c told =
-            subst (λ n. MetIn (view p).opening n (view q).seen (view r).seen a c told) goes.number (subst (λ o. MetIn o (view q).number (view q).seen (view r).seen a c told) goes.opening m) in
+    subst (λ n. MetIn (view p).opening n (view q).seen (view r).seen a c told) goes.number (subst (λ o. MetIn o (view q).number (view q).seen (view r).seen a c told) goes.opening m) in
     record { front = x.front; later = prefix_trans _ _ _ goes.seen x.later; here = x.here; activity = x.activity; tells = x.tells }
 
 -- the load of a scan's first clock

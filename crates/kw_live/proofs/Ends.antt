@@ -1,5 +1,5 @@
 -- How a call begins and ends, and how a scan is over: what follows for the seat and for code.
-use Rattle.std.proofs.Common.{ℕ, ◌≡◌, ◌+◌, Bool, true, false, Some, List, [], nat_lt, if◌then◌else◌, refl, sym, ◌∙◌, ap, subst}
+use Rattle.std.proofs.Common.{ℕ, ◌≡◌, ◌+◌, Bool, true, false, Some, [], nat_lt, if◌then◌else◌, refl, sym, ◌∙◌, ap, subst}
 use Rattle.kw_model.specs.declared.call.Call.{Call}
 use Rattle.kw_model.specs.declared.call.Reply.{Reply}
 use Rattle.kw_world.specs.declared.activity.Activity.{Activity}
@@ -23,7 +23,7 @@ use Rattle.kw_table.specs.declared.shared.Shared.{Shared}
 use Rattle.kw_table.specs.Passes.{view, Asks, IsPassOf, Makes}
 use Rattle.kw_table.specs.Views.{local_in}
 use Rattle.kw_live.specs.Following.{Follows, activity_in, bare_activity, bare_reply, carried, held, held_at}
-use Rattle.kw_live.proofs.OneEvent.{Went, seat_goes, code_goes, follows_from}
+use Rattle.kw_live.proofs.OneEvent.{Went, seat_goes, follows_from}
 use Rattle.kw_live.proofs.Resting.{idle_rests}
 use Rattle.kw_world.proofs.Rows.{row_of-next}
 

@@ -1,6 +1,5 @@
 -- Where a pass made one of its events: the laws hold there of all that came before, and what the event was told is what it found.
-use Rattle.std.proofs.Common.{◌≡◌, ℕ, ◌<◌, ◌++◌, [], ◌∷◌, true, Some, List, arith, refl, sym, ◌∙◌, ap, subst, slice_get}
-use mathlib.Core.List.{IsPrefix}
+use Rattle.std.proofs.Common.{◌≡◌, ℕ, ◌<◌, ◌++◌, [], ◌∷◌, true, Some, List, arith, sym, ◌∙◌, ap, subst, slice_get}
 use Rattle.kw_world.specs.declared.activity.Activity.{Activity}
 use Rattle.kw_world.specs.declared.event.Choice.{Choice}
 use Rattle.kw_world.specs.declared.event.Event.{Event}
@@ -9,7 +8,6 @@ use Rattle.kw_world.specs.declared.opening.Opening.{Opening}
 use Rattle.kw_world.specs.Operation.{told_by}
 use Rattle.kw_world.specs.Row.{Row}
 use Rattle.kw_world.specs.RowWalk.{offered}
-use Rattle.kw_world.specs.Sane.{IsSane}
 use Rattle.kw_world.specs.Sizes.{product}
 use Rattle.kw_world.specs.Step.{word, row_of}
 use Rattle.kw_world.specs.Table.{row}
@@ -20,7 +18,7 @@ use Rattle.kw_core.specs.Run.{history}
 use Rattle.kw_core.proofs.Events.{valid_front}
 use Rattle.kw_core.proofs.LawProofs.{laws_hold}
 use Rattle.kw_core.proofs.Runs.{history-world}
-use Rattle.kw_core.proofs.Worlds.{world-rows, world-local}
+use Rattle.kw_core.proofs.Worlds.{world-local}
 use Rattle.kw_table.specs.declared.pass.Pass.{Pass}
 use Rattle.kw_table.specs.declared.shared.Shared.{Shared}
 use Rattle.kw_table.specs.Passes.{view}

@@ -1,6 +1,5 @@
 -- How the calls of a pass go on with one event of it.
 use Rattle.std.proofs.Common.{ℕ, ◌≡◌, ◌+◌, ◌<◌, ◌≤◌, true, List, [], ◌∷◌, ◌++◌, arith, refl, sym, ◌∙◌, ap, subst, length, length-append, append_assoc, append-nil}
-use mathlib.Core.List.{IsPrefix}
 use Rattle.kw_model.specs.declared.call.Call.{Call}
 use Rattle.kw_model.specs.declared.call.Reply.{Reply}
 use Rattle.kw_world.specs.declared.activity.Activity.{Activity}
@@ -11,15 +10,15 @@ use Rattle.kw_world.specs.declared.event.Event.{Event}
 use Rattle.kw_world.specs.declared.local.Local.{Local}
 use Rattle.kw_world.specs.declared.opening.Opening.{Opening}
 use Rattle.kw_world.specs.Sizes.{product}
-use Rattle.kw_core.specs.Events.{event, is_valid, local_of, of_seat, world}
-use Rattle.kw_core.specs.SeatCalls.{CallSeen, begun_at, calls_seen, end_last, seen_after}
+use Rattle.kw_core.specs.Events.{event, is_valid, of_seat}
+use Rattle.kw_core.specs.SeatCalls.{CallSeen, calls_seen, end_last, seen_after}
 use Rattle.kw_core.proofs.Events.{of_seat-append, of_seat-here, valid_front}
 use Rattle.kw_core.proofs.SeatCalls.{calls-own, calls_still}
 use Rattle.kw_core.proofs.SeatLists.{end_last-snoc}
 use Rattle.kw_table.specs.declared.pass.Pass.{Pass}
 use Rattle.kw_table.specs.declared.shared.Shared.{Shared}
 use Rattle.kw_table.specs.Passes.{view, Makes}
-use Rattle.kw_table.specs.Views.{local_in, mine_in}
+use Rattle.kw_table.specs.Views.{local_in}
 use Rattle.kw_live.specs.Calling.{Closes, Keeps, Opens, calls_in, now_in}
 use Rattle.kw_live.specs.Following.{activity_in}
 
@@ -38,19 +37,20 @@ module _ {s : Shared} {p q : Pass} {c : Choice} {told : ℕ} (makes : Makes s p 
       let own : List Event = event n c ∷ [] in
       let front : old ++ rest ≡ makes.step.front = makes.step.later.1 in
       let seen : of_seat n ((old ++ rest) ++ own) ≡ of_seat n old ++ own =
-          ap (λ es. of_seat n (es ++ own)) front ∙ (ap (of_seat n) (sym makes.step.seen) ∙ (ap (λ k. of_seat k (view q).seen) (sym makes.step.number) ∙ makes.step.mine)) in
+      ap (λ es. of_seat n (es ++ own)) front ∙ (ap (of_seat n) (sym makes.step.seen) ∙ (ap (λ k. of_seat k (view q).seen) (sym makes.step.number) ∙ makes.step.mine)) in
       adds_none (of_seat n old) (of_seat n rest) own
       (sym (append_assoc (of_seat n old) (of_seat n rest) own)
       ∙ (ap (λ es. es ++ own) (sym (of_seat-append n old rest))
       ∙ (ap (λ es. of_seat n (old ++ rest) ++ es) (sym (of_seat-here n c))
       ∙ (sym (of_seat-append n (old ++ rest) own) ∙ seen))))
 
-  -- so its event is its first one since
+  -- so its event is the first one of its own since
   pub first_own : of_seat (view p).number makes.step.front ≡ of_seat (view p).number (view p).seen
   first_own =
-      let n : ℕ = (view p).number in
-      let old : List Event = (view p).seen in
-      ap (of_seat n) (sym makes.step.later.1) ∙ (of_seat-append n old makes.step.later.0 ∙ (ap (λ es. of_seat n old ++ es) others ∙ append-nil (of_seat n old)))
+      ap (of_seat (view p).number) (sym makes.step.later.1)
+      ∙ (of_seat-append (view p).number (view p).seen makes.step.later.0
+      ∙ (ap (λ es. of_seat (view p).number (view p).seen ++ es) others
+      ∙ append-nil (of_seat (view p).number (view p).seen)))
 
   -- all that the pass has then seen is valid
   all_valid : is_valid product (view p).opening (makes.step.front ++ event (view p).number c ∷ []) ≡ true

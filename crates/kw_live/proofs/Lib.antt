@@ -1,4 +1,7 @@
+pub mod CellEvent
+pub mod CellStages
 pub mod Fronts
+pub mod LookStages
 pub mod PutStages
 pub mod WalkStages
 pub mod Carrying

@@ -1,9 +1,9 @@
 -- One whole event of a pass and of the local that follows it.
-use Rattle.std.proofs.Common.{ℕ, ◌≡◌, ◌<◌, ◌≤◌, Bool, true, false, List, [], ◌∷◌, ◌++◌, nat_lt, if◌then◌else◌, refl, sym, ◌∙◌, ap, subst, length, All}
+use Rattle.std.proofs.Common.{ℕ, ◌≡◌, ◌≤◌, Bool, true, false, [], ◌∷◌, ◌++◌, nat_lt, if◌then◌else◌, refl, sym, ◌∙◌, ap, subst, length}
 use Rattle.std.proofs.lemmas.List.Elements.{All-nil}
 use mathlib.Core.List.{IsPrefix}
 use Rattle.kw_model.specs.declared.call.Reply.{Reply}
-use Rattle.kw_model.specs.declared.call.Reply.TheVariants.{Done, Value, Absent, Pairs, NoRows, Spent, Stopped}
+use Rattle.kw_model.specs.declared.call.Reply.TheVariants.{Value, Pairs}
 use Rattle.kw_world.specs.declared.activity.Activity.{Activity}
 use Rattle.kw_world.specs.declared.activity.Activity.TheVariants.{Idle, ClearScan, Leave}
 use Rattle.kw_world.specs.declared.event.Choice.{Choice}
@@ -14,23 +14,22 @@ use Rattle.kw_world.specs.declared.local.Local.{Local}
 use Rattle.kw_world.specs.declared.opening.Opening.{Opening}
 use Rattle.kw_world.specs.declared.operation.Operation.{Operation}
 use Rattle.kw_world.specs.Operation.{told_by}
-use Rattle.kw_world.specs.Row.{Outcome, Row, outcome}
+use Rattle.kw_world.specs.Row.{Outcome, outcome}
 use Rattle.kw_world.specs.RowWalk.{offered, is_stop}
 use Rattle.kw_world.specs.Sane.{IsActivity, IsPair, IsReply, IsLocal, HasRoom, RisesBetween, marks_by, copies_by}
 use Rattle.kw_world.specs.Sizes.{Sizes, product}
 use Rattle.kw_world.specs.Step.{is_skipped, next_of, row_of, word}
-use Rattle.kw_world.specs.Table.{row}
 use Rattle.kw_world.proofs.Rows.{row_of-next}
-use Rattle.kw_core.specs.Events.{event, local_of, may_begin, world}
+use Rattle.kw_core.specs.Events.{event, may_begin, world}
 use Rattle.kw_core.specs.Stages.{IsBusy, IsEarly}
 use Rattle.kw_table.specs.declared.pass.Pass.{Pass}
 use Rattle.kw_table.specs.declared.shared.Shared.{Shared}
 use Rattle.kw_table.specs.Passes.{view, Asks, IsPassOf, Makes}
-use Rattle.kw_table.specs.Views.{local_in, row_in}
+use Rattle.kw_table.specs.Views.{local_in}
 use Rattle.kw_table.proofs.Carried.{known_in}
 use Rattle.kw_table.proofs.Prefixes.{prefix_self}
 use Rattle.kw_live.specs.Following.{Follows, activity_in, bare_activity, bare_reply, carried, held, held_at, known}
-use Rattle.kw_live.specs.Meeting.{Met, MetAs, row_after}
+use Rattle.kw_live.specs.Meeting.{MetAs}
 use Rattle.kw_live.specs.Stages.{IsWithinCall}
 use Rattle.kw_live.proofs.Carrying.{Carries, IsGoingOn, carries, operates}
 use Rattle.kw_live.proofs.Growing.{IsStaying, first_own}
@@ -249,6 +248,6 @@ module _ {s : Shared} {p q : Pass} {c : Choice} {l after : Local} {done : StepDo
           (λ (k : Local). told ≡ told_by (row_of product (view p).number (offered (view p).opening.rows c) k).operation.action (word product (world product (view p).opening w.makes.step.front) (row_of product (view p).number (offered (view p).opening.rows c) k).operation.name))
           (sym w.makes.step.here) w.makes.step.told_there;
     };
-    knew = ap known w.makes.step.here ∙ w.follows.knows;
     first = first_own w.makes;
+    knew = ap known w.makes.step.here ∙ w.follows.knows;
   }

@@ -1,7 +1,5 @@
 -- How a put or a delete goes through its row, event by event: what it has found by then, and that each event takes it on.
-use Rattle.std.proofs.Common.{◌≡◌, ℕ, ◌+◌, ◌<◌, ◌≤◌, Bool, true, false, nat_lt, ◌==◌, if◌then◌else◌, Option, Some, None, List, arith, refl, sym, ◌∙◌, ap, subst, inl, inr, eq-eqb}
-use Rattle.std.proofs.lemmas.Bool.{cases_eq}
-use mathlib.Core.List.{IsPrefix}
+use Rattle.std.proofs.Common.{◌≡◌, ℕ, ◌<◌, ◌≤◌, Bool, true, false, nat_lt, ◌==◌, if◌then◌else◌, Option, Some, None, arith, refl, sym, ◌∙◌, ap, subst, inl, inr, eq-eqb}
 use Rattle.kw_words.specs.declared.layout.Name.TheVariants as name
 use Rattle.kw_words.specs.declared.count.Count.{Count}
 use Rattle.kw_words.specs.declared.pend.Pend.{Pend}
@@ -10,7 +8,6 @@ use Rattle.kw_words.specs.declared.sizes.TheConstants.{CELLS}
 use Rattle.kw_words.specs.Count.{count_of}
 use Rattle.kw_words.specs.Pend.{pend_of, pend_word}
 use Rattle.kw_words.proofs.PendWords.{pend_word_of}
-use Rattle.kw_model.specs.declared.call.Reply.{Reply}
 use Rattle.kw_model.specs.declared.call.Reply.TheVariants.{Done, NoRows}
 use Rattle.kw_world.specs.declared.activity.Activity.{Activity}
 use Rattle.kw_world.specs.declared.activity.Activity.TheVariants.{PutCount, PutAdd, PutKey, PutValue, Announce, PutClock, Stamp, PutVersion, PutClear, Leave}
@@ -20,7 +17,6 @@ use Rattle.kw_world.specs.declared.local.Local.{Local}
 use Rattle.kw_world.specs.declared.opening.Opening.{Opening}
 use Rattle.kw_world.specs.Row.{Outcome, outcome, to}
 use Rattle.kw_world.specs.RowPut.{full, has_room, given_of, stamp_met}
-use Rattle.kw_world.specs.RowWalk.{offered}
 use Rattle.kw_world.specs.Sizes.{product}
 use Rattle.kw_world.specs.Step.{word, next_of, row_of}
 use Rattle.kw_world.specs.Table.{row}
@@ -33,7 +29,7 @@ use Rattle.kw_table.specs.declared.shared.Shared.{Shared}
 use Rattle.kw_table.specs.Passes.{view}
 use Rattle.kw_table.proofs.Prefixes.{prefix_trans}
 use Rattle.kw_live.specs.Calling.{Keeps}
-use Rattle.kw_live.specs.Following.{Follows, GoesTo, known, held}
+use Rattle.kw_live.specs.Following.{Follows, GoesTo, held}
 use Rattle.kw_live.specs.Meeting.{MetIn, Met, MetAs, MetCount, MetFull, MetRoom}
 use Rattle.kw_live.specs.Putting.{is_putting}
 use Rattle.kw_live.proofs.Fronts.{met_laws, met_local, met_told, met_row_below, local_at}

@@ -1,5 +1,5 @@
 -- How a walk goes from row to row: each of its events takes it on, and the least keys that it knows rise.
-use Rattle.std.proofs.Common.{◌≡◌, ◌⊎◌, ℕ, ◌+◌, ◌*◌, ◌-◌, ◌<◌, ◌≤◌, Bool, true, false, nat_le, nat_lt, if◌then◌else◌, Option, Some, None, [], arith, refl, sym, ◌∙◌, ap, subst, inl, inr}
+use Rattle.std.proofs.Common.{◌≡◌, ℕ, ◌+◌, ◌*◌, ◌-◌, ◌<◌, Bool, true, false, nat_le, nat_lt, if◌then◌else◌, Option, Some, None, arith, refl, sym, ◌∙◌, ap, subst, inl, inr}
 use Rattle.kw_words.specs.declared.layout.Name.TheVariants as name
 use Rattle.kw_words.specs.Link.{link_of}
 use Rattle.kw_words.specs.Plain.{key_of_word}
@@ -16,7 +16,7 @@ use Rattle.kw_world.specs.declared.event.StepDone.TheVariants.{Moved}
 use Rattle.kw_world.specs.declared.local.Local.{Local}
 use Rattle.kw_world.specs.Parts.{is_walking}
 use Rattle.kw_world.specs.Row.{Outcome, outcome, to, row_linked, row_or_first}
-use Rattle.kw_world.specs.RowWalk.{arrive, guess_met, guess_min, link_met, offered, walk_min}
+use Rattle.kw_world.specs.RowWalk.{arrive, guess_met, link_met, offered}
 use Rattle.kw_world.specs.Sizes.{product}
 use Rattle.kw_world.specs.Step.{next_of, row_of, word}
 use Rattle.kw_world.specs.Table.{row}
@@ -28,7 +28,7 @@ use Rattle.kw_table.specs.declared.shared.Shared.{Shared}
 use Rattle.kw_table.specs.Passes.{view}
 use Rattle.kw_table.proofs.Prefixes.{prefix_trans}
 use Rattle.kw_live.specs.Calling.{Keeps}
-use Rattle.kw_live.specs.Following.{Follows, GoesTo, known, held}
+use Rattle.kw_live.specs.Following.{Follows, GoesTo, held}
 use Rattle.kw_live.specs.Meeting.{Met, MetAs, BeginsWith}
 use Rattle.kw_live.specs.Stages.{arrived, guessing}
 use Rattle.kw_live.specs.Walking.{IsUnderWay, WalksOn}

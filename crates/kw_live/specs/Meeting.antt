@@ -2,7 +2,6 @@
 use Rattle.std.specs.Prelude.{◌≡◌, ◌⊎◌, ℕ, ◌<◌, ◌≤◌, List, [], ◌∷◌, ◌++◌}
 use mathlib.Core.List.{IsPrefix}
 use Rattle.kw_words.specs.Count.{count_of}
-use Rattle.kw_words.specs.declared.sizes.TheConstants.{SPENT}
 use Rattle.kw_world.specs.declared.activity.Activity.{Activity}
 use Rattle.kw_world.specs.declared.activity.Activity.TheVariants.{ScanClock, PutCount, PutAdd}
 use Rattle.kw_world.specs.declared.event.Choice.{Choice}

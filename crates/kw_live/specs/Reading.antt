@@ -1,8 +1,8 @@
 -- What a reader knows once it has read a row.
-use Rattle.std.specs.Prelude.{◌≡◌, ◌⊎◌, ℕ, ◌<◌, ◌≤◌, ◌++◌, Bool, true, false, Option, Some, None, List, []}
+use Rattle.std.specs.Prelude.{◌≡◌, ◌⊎◌, ℕ, ◌<◌, ◌≤◌, ◌++◌, Bool, true, false, Option, Some, List, [], All}
 use Rattle.kw_cells.specs.Cells.{shown_at, pairs_of}
 use Rattle.kw_model.specs.declared.call.Call.{Call}
-use Rattle.kw_model.specs.declared.call.Call.TheVariants.{Put, Del, Get, Scan}
+use Rattle.kw_model.specs.declared.call.Call.TheVariants.{Get, Scan}
 use Rattle.kw_model.specs.declared.call.Reply.TheVariants.{Pairs}
 use Rattle.kw_model.specs.Map.{found}
 use Rattle.kw_world.specs.declared.activity.Activity.{Activity}
@@ -10,9 +10,10 @@ use Rattle.kw_world.specs.declared.activity.Activity.TheVariants.{Walk, Look, Lo
 use Rattle.kw_world.specs.declared.limits.TheConstants.{NEWEST}
 use Rattle.kw_world.specs.declared.local.Local.{Local}
 use Rattle.kw_world.specs.declared.event.Choice.TheVariants.{Go}
+use Rattle.kw_world.specs.Row.{Outcome}
 use Rattle.kw_world.specs.Sizes.{product}
 use Rattle.kw_world.specs.Step.{next_of}
-use Rattle.kw_live.specs.Following.{known}
+use Rattle.kw_live.specs.Following.{carried}
 
 -- the reader looks at the entries of the row
 abbrev pub is_looking : Activity → Bool
@@ -30,28 +31,43 @@ is_reading_cells CellKey = true
 is_reading_cells CellValue = true
 is_reading_cells _ = false
 
--- a scan goes on with the next row, whose least key it then wants; it is above the one that it wanted and not above the range
-pub record GoesOn (upto : ℕ) (l m : Local) : Type 0 where
+-- what follows for code that had the first local, where this follows in the core: the same but for the pairs, and with the number and
+-- the pairs that the code had
+abbrev pub unpaired : Local → Outcome → Local
+unpaired l o = record (carried o.local) { number = l.number; pairs = l.pairs }
+
+-- while a reader looks at entries, what the call wants is as it was
+pub record LooksOn (l m : Local) : Type 0 where
+  pub call : m.call ≡ l.call
+  pub want : m.want ≡ l.want
+  pub version : m.version ≡ l.version
+  pub stage : is_looking m.activity ≡ false → m.activity ≡ LookCount
+
+-- a scan that wanted this key goes on with the next row, whose least key it then wants: it is above the one that it wanted and not above
+-- the range, and the keys of all pairs of this row are below it
+pub record GoesOn (want upto version : ℕ) (m : Local) : Type 0 where
   pub activity : m.activity ≡ Walk
-  pub rises : l.want < m.want
+  pub rises : want < m.want
   pub within : m.want ≤ upto
   pub read : m.has_read ≡ true
+  pub above : All (λ pair. pair.0 < m.want) (pairs_of m.gathered want upto version)
 
--- what a reader of this row gave: a get its answer, and a scan the pairs that the gathered cells show
-abbrev pub HasReadAs : Option Call → Local → Local → List (ℕ × ℕ) → List (ℕ × ℕ) → Type 0
-HasReadAs (Some (Get key)) l m before after = (m.activity ≡ Leave (found (shown_at m.gathered NEWEST key))) × (after ≡ before)
-HasReadAs (Some (Scan from upto)) l m before after = (GoesOn upto l m ⊎ (m.activity ≡ ClearScan (Pairs []))) × (after ≡ before ++ pairs_of m.gathered l.want upto l.version)
-HasReadAs _ l m before after = Unit {0}
+-- what a reader of this row gave: a get its answer, and a scan, which wanted this key at this version, the pairs that the gathered cells
+-- show
+abbrev pub HasReadAs : Option Call → ℕ → ℕ → Local → List (ℕ × ℕ) → List (ℕ × ℕ) → Type 0
+HasReadAs (Some (Get key)) want version m before after = (m.activity ≡ Leave (found (shown_at m.gathered NEWEST key))) × (after ≡ before)
+HasReadAs (Some (Scan from upto)) want version m before after = (GoesOn want upto version m ⊎ (m.activity ≡ ClearScan (Pairs []))) × (after ≡ before ++ pairs_of m.gathered want upto version)
+HasReadAs _ want version m before after = Unit {0}
 
--- the same, of the call that the local has
+-- the same, of the call of the local with which the reader came to the row
 abbrev pub HasRead : Local → Local → List (ℕ × ℕ) → List (ℕ × ℕ) → Type 0
-HasRead l m before after = HasReadAs l.call l m before after
+HasRead l m before after = HasReadAs l.call l.want l.version m before after
 
 -- what follows from one event of a reader that reads cells: it goes on in the row, or has read the row to its end
 pub record Reads (l m : Local) (before after : List (ℕ × ℕ)) : Type 0 where
   pub call : m.call ≡ l.call
   pub version : m.version ≡ l.version
   pub told : ℕ
-  pub line : known m ≡ known (next_of product Go l told).local
+  pub line : m ≡ carried (next_of product Go l told).local
   pub on : is_reading_cells m.activity ≡ true → (m.want ≡ l.want) × (after ≡ before)
   pub ends : is_reading_cells m.activity ≡ false → HasRead l m before after

@@ -14,7 +14,6 @@ ghost use Rattle.kw_table.specs.Passes.{view, IsPassOf};
 ghost use Rattle.kw_live.specs.Calling.{Keeps, Opens, Closes};
 ghost use Rattle.kw_live.specs.Following.{Follows, GoesTo, activity_in, held, bare_reply};
 ghost use Rattle.kw_live.specs.Meeting.{MetAs};
-ghost use Rattle.kw_live.specs.Reading.{Reads, is_reading_cells};
 ghost use Rattle.kw_live.specs.Stages.{IsWithinCall};
 
 use kw_core::step::{operation, resume};
@@ -40,7 +39,12 @@ pub(crate) fn begin(shared: &Shared, pass: &mut Pass, alloc: Global, call: Call)
 {
     let mut local = Local::idle(alloc);
     let choice = Choice::Begin(call);
-    let told = make(shared, pass, choice, operation(pass.number(), &local, choice));
+    let told = make(
+        shared,
+        pass,
+        choice,
+        operation(pass.number(), &local, choice),
+    );
     match resume(&mut local, choice, told) {
         Ok(_) => local,
         Err(_) => unreachable!(),
@@ -60,23 +64,16 @@ pub(crate) fn go(shared: &Shared, pass: &mut Pass, local: &mut Local, choice: Ch
     ensures held { is_stop choice ≡ false → held pass.new ≡ held pass.old }
 {
     let offered = choice.offered(shared.rows());
-    let told = make(shared, pass, choice, operation(pass.number(), local, offered));
+    let told = make(
+        shared,
+        pass,
+        choice,
+        operation(pass.number(), local, offered),
+    );
     match resume(local, offered, told) {
         Ok(_) => told,
         Err(_) => unreachable!(),
     }
-}
-
-/// Makes the next event of a reader that reads cells, and passes the end of the row's cells, which has no event of its own.
-pub(crate) fn read(shared: &Shared, pass: &mut Pass, local: &mut Local)
-    requires follows { Follows shared.now pass.old local.old }
-    requires reading { is_reading_cells local.old.activity ≡ true }
-    ensures goes { GoesTo shared.now pass.old pass.new }
-    ensures follows { Follows shared.now pass.new local.new }
-    ensures reads { Reads local.old local.new (held pass.old) (held pass.new) }
-    ensures calls { Keeps pass.old pass.new }
-{
-    let told = make(shared, pass, Choice::Go, operation(pass.number(), local, Choice::Go));
 }
 
 /// Ends a scan: it is then about to leave, with its pairs, or with `Stopped` where the choice is to stop.
@@ -92,7 +89,12 @@ pub(crate) fn clear(shared: &Shared, pass: &mut Pass, local: &mut Local, choice:
     ensures held { is_stop choice ≡ false → held pass.new ≡ held pass.old }
 {
     let offered = choice.offered(shared.rows());
-    let told = make(shared, pass, choice, operation(pass.number(), local, offered));
+    let told = make(
+        shared,
+        pass,
+        choice,
+        operation(pass.number(), local, offered),
+    );
     match resume(local, offered, told) {
         Ok(_) => (),
         Err(_) => unreachable!(),
@@ -108,7 +110,12 @@ pub(crate) fn end(shared: &Shared, pass: &mut Pass, local: Local) -> Reply
     ensures closes { (reply : Reply) → activity_in pass.old ≡ Activity.Leave reply → Closes pass.old pass.new reply × (result ≡ bare_reply reply) }
 {
     let mut local = local;
-    let told = make(shared, pass, Choice::Go, operation(pass.number(), &local, Choice::Go));
+    let told = make(
+        shared,
+        pass,
+        Choice::Go,
+        operation(pass.number(), &local, Choice::Go),
+    );
     match resume(&mut local, Choice::Go, told) {
         Ok(StepDone::Ended(reply)) => reply,
         Ok(StepDone::Moved) => unreachable!(),

@@ -4,11 +4,12 @@
 //! seen go on, which of them it found what it answers by, and which pairs a scan has. Code follows its seat with a `Local`, which is
 //! what the seat knows but for the number of its calls and the pairs of a scan; so no call takes memory.
 //!
-//! `going` makes single events; `entering` begins calls, gives a scan its version, and ends both; `walking` finds the row of a key;
+//! `going` makes single events, and `cells` those at the cells of a row; `entering` begins calls, gives a scan its version, and ends both; `walking` finds the row of a key;
 //! `putting` puts a cell into it, and `reading` reads it. Whoever stands above puts whole calls together from these, by their
 //! contracts, and knows no event.
 #![tactic(auto)]
 
+mod cells;
 mod entering;
 mod going;
 mod putting;

@@ -22,9 +22,10 @@ returns-in-ScanWait-clause-unread c = (settles_on _ _ _ _ _ _ _ _ _ c.requires.a
 
 pub returns-in-ScanWait-clause-spent : goal.returns-in-ScanWait-clause-spent
 returns-in-ScanWait-clause-spent c = (
-    c.go.result,
-    met_clock c.requires.activity c.go.ensures.met (prefix_trans _ _ _ c.go-in-ScanWait.ensures.goes.seen (prefix_trans _ _ _ c.go-in-ScanWait-2.ensures.goes.seen c.go-in-ScanWait-3.ensures.goes.seen)),
-    (settles_on _ _ _ _ _ _ _ _ _ c.requires.activity c.go.ensures.line c.in-ScanWait.is c.go-in-ScanWait.ensures.line c.go-in-ScanWait-2.ensures.line c.go-in-ScanWait-3.ensures.line).spent)
+  c.go.result,
+  met_clock c.requires.activity c.go.ensures.met (prefix_trans _ _ _ c.go-in-ScanWait.ensures.goes.seen (prefix_trans _ _ _ c.go-in-ScanWait-2.ensures.goes.seen c.go-in-ScanWait-3.ensures.goes.seen)),
+  (settles_on _ _ _ _ _ _ _ _ _ c.requires.activity c.go.ensures.line c.in-ScanWait.is c.go-in-ScanWait.ensures.line c.go-in-ScanWait-2.ensures.line c.go-in-ScanWait-3.ensures.line).spent,
+)
 
 pub returns-in_default-clause-entered : goal.returns-in_default-clause-entered
 returns-in_default-clause-entered c = (settles_spent _ _ _ c.requires.activity c.go.ensures.line c.in_default.not-ScanWait).entered c.requires.scan

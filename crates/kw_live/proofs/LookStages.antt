@@ -1,0 +1,95 @@
+-- How a reader looks at the entries of a row, one after the other.
+use Rattle.std.proofs.Common.{◌≡◌, ℕ, ◌+◌, ◌*◌, ◌-◌, ◌<◌, Bool, true, false, nat_lt, ◌==◌, if◌then◌else◌, Option, Some, None, arith, refl, sym, ◌∙◌, ap, subst}
+use Rattle.std.proofs.lemmas.Bool.Decides.{nat_tests}
+use Rattle.kw_words.specs.declared.pend.Pend.{Pend}
+use Rattle.kw_words.specs.declared.pend.Pend.TheVariants.{Idle, Pending, Stamped, Frozen}
+use Rattle.kw_words.specs.Pend.{pend_of}
+use Rattle.kw_words.specs.Plain.{key_of_word}
+use Rattle.kw_world.specs.declared.activity.Activity.{Activity}
+use Rattle.kw_world.specs.declared.activity.Activity.TheVariants.{Look, LookKey, LookClock, LookHelp, LookCount}
+use Rattle.kw_world.specs.declared.event.Choice.TheVariants.{Go}
+use Rattle.kw_world.specs.declared.event.StepDone.TheVariants.{Moved}
+use Rattle.kw_world.specs.declared.local.Local.{Local}
+use Rattle.kw_world.specs.Calls.{is_in_range}
+use Rattle.kw_world.specs.Row.{Outcome, outcome, to}
+use Rattle.kw_world.specs.RowRead.{to_look, look_met, help_met, remembering}
+use Rattle.kw_world.specs.Sizes.{Sizes, product}
+use Rattle.kw_world.specs.Step.{next_of, row_of}
+use Rattle.kw_world.specs.Table.{row}
+use Rattle.kw_core.proofs.Owners.{true_false}
+use Rattle.kw_table.specs.declared.pass.Pass.{Pass}
+use Rattle.kw_table.specs.declared.shared.Shared.{Shared}
+use Rattle.kw_live.specs.Calling.{Keeps}
+use Rattle.kw_live.specs.Following.{Follows, GoesTo, held}
+use Rattle.kw_live.specs.Reading.{LooksOn, is_looking}
+
+-- how many events of looking a reader has yet to make at most, by the entry that it is at
+abbrev pub look_ahead : Sizes → Activity → ℕ → ℕ
+look_ahead z (Look i) looked = 4 * (z.seats - i) + 4
+look_ahead z LookKey looked = 4 * (z.seats - looked) + 3
+look_ahead z LookClock looked = 4 * (z.seats - looked) + 2
+look_ahead z LookHelp looked = 4 * (z.seats - looked) + 1
+look_ahead z _ looked = 0
+
+-- the event was a look, and there are fewer to make
+pub record Looked (z : Sizes) (l m : Local) (ahead : ℕ) : Type 0 where
+  pub looks : LooksOn l m
+  pub fewer : look_ahead z m.activity m.looked < ahead
+
+-- the next entry is looked at, or the count is, where there is none
+goes_on : (z : Sizes) (l x : Local) (i ahead : ℕ) → x.call ≡ l.call → x.want ≡ l.want → x.version ≡ l.version → 0 < ahead → (i < z.seats → 4 * (z.seats - i) + 4 < ahead) → Looked z l (to_look z i x).local ahead
+goes_on z l x i ahead a b c some fewer = met (nat_lt i z.seats) refl
+  where
+    met : (e : Bool) → nat_lt i z.seats ≡ e → Looked z l (let o : Outcome = if e then to (Look i) x else to LookCount x in o).local ahead
+    met true h = record { looks = record { call = a; want = b; version = c; stage = λ f. true_false refl f }; fewer = fewer (grind (arith, nat_tests)) }
+    met false h = record { looks = record { call = a; want = b; version = c; stage = λ f. refl }; fewer = some }
+
+-- an entry is met
+meets : (z : Sizes) (l : Local) (i : ℕ) (e : Option Pend) → Looked z l (look_met z i e l).local (4 * (z.seats - i) + 4)
+meets z l i (Some Idle) = goes_on z l l (i + 1) _ refl refl refl (omega arith) (λ h. omega (arith, h))
+meets z l i (Some (Pending cell)) = record { looks = record { call = refl; want = refl; version = refl; stage = λ f. true_false refl f }; fewer = omega arith }
+meets z l i (Some (Stamped cell version)) = goes_on z l (remembering cell version l) (i + 1) _ refl refl refl (omega arith) (λ h. omega (arith, h))
+meets z l i (Some Frozen) = goes_on z l l (i + 1) _ refl refl refl (omega arith) (λ h. omega (arith, h))
+meets z l i None = goes_on z l l (i + 1) _ refl refl refl (omega arith) (λ h. omega (arith, h))
+
+-- its cell's key is read
+keys : (z : Sizes) (l : Local) (b : Bool) → Looked z l (let o : Outcome = if b then to LookClock l else to_look z (l.looked + 1) l in o).local (4 * (z.seats - l.looked) + 3)
+keys z l true = record { looks = record { call = refl; want = refl; version = refl; stage = λ f. true_false refl f }; fewer = omega arith }
+keys z l false = goes_on z l l (l.looked + 1) _ refl refl refl (omega arith) (λ h. omega (arith, h))
+
+-- its put is helped
+helps : (z : Sizes) (l : Local) (e : Option Pend) → Looked z l (help_met z e l).local (4 * (z.seats - l.looked) + 1)
+helps z l (Some Idle) = goes_on z l l (l.looked + 1) _ refl refl refl (omega arith) (λ h. omega (arith, h))
+helps z l (Some (Pending cell)) = own (cell == l.met)
+  where
+    own : (b : Bool) → Looked z l (to_look z (l.looked + 1) (if b then remembering cell l.helping l else l)).local (4 * (z.seats - l.looked) + 1)
+    own true = goes_on z l (remembering cell l.helping l) (l.looked + 1) _ refl refl refl (omega arith) (λ h. omega (arith, h))
+    own false = goes_on z l l (l.looked + 1) _ refl refl refl (omega arith) (λ h. omega (arith, h))
+helps z l (Some (Stamped cell version)) = goes_on z l (remembering cell version l) (l.looked + 1) _ refl refl refl (omega arith) (λ h. omega (arith, h))
+helps z l (Some Frozen) = goes_on z l l (l.looked + 1) _ refl refl refl (omega arith) (λ h. omega (arith, h))
+helps z l None = goes_on z l l (l.looked + 1) _ refl refl refl (omega arith) (λ h. omega (arith, h))
+
+-- the event, by its activity
+event : (z : Sizes) (a : Activity) (l : Local) (told : ℕ) → is_looking a ≡ true → Looked z l ((row z a 0 Go l).next told).local (look_ahead z a l.looked)
+event z (Look i) l told u = meets z l i (pend_of told)
+event z LookKey l told u = keys z l (is_in_range l.call (key_of_word told))
+event z LookClock l told u = record { looks = record { call = refl; want = refl; version = refl; stage = λ f. true_false refl f }; fewer = omega arith }
+event z LookHelp l told u = helps z l (pend_of told)
+event z _ l told u = true_false u refl
+
+-- each event of looking takes the reader on
+pub look_goes : (l m : Local) (told : ℕ) → outcome m Moved ≡ next_of product Go l told → is_looking l.activity ≡ true → Looked product l m (look_ahead product l.activity l.looked)
+unfolding row_of
+look_goes l m told line u = subst (λ k. Looked product l k (look_ahead product l.activity l.looked)) (sym (ap (λ (x : Outcome). x.local) line)) (event product l.activity l told u)
+
+-- one look after the other
+pub looks_trans : (l m n : Local) → LooksOn l m → LooksOn m n → LooksOn l n
+looks_trans l m n a b = record { call = b.call ∙ a.call; want = b.want ∙ a.want; version = b.version ∙ a.version; stage = b.stage }
+
+-- What stays through all looks.
+pub record IsLookingOn (s : Shared) (o : Pass) (l : Local) (p : Pass) (m : Local) : Type 0 where
+  pub goes : GoesTo s o p
+  pub follows : Follows s p m
+  pub calls : Keeps o p
+  pub held : held p ≡ held o
+  pub looks : LooksOn l m
