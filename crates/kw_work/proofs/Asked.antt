@@ -1,13 +1,11 @@
 -- Lines asked in some order: what the map is where one of them is asked, and what it answers there.
-use Rattle.std.proofs.Common.{ℕ, zero, suc, Bool, true, false, ◌≡◌, ◌<◌, ◌≤◌, ◌&&◌, cond, leb, List, [], ◌∷◌, length, map, take, Option, Some, None, refl, sym, ap, ◌∙◌, subst, arith}
+use Rattle.std.proofs.Common.{ℕ, zero, suc, ◌≡◌, ◌<◌, ◌&&◌, cond, leb, List, [], ◌∷◌, length, map, take, Some, None, refl, sym, ap, ◌∙◌, subst, arith}
 use Rattle.std.specs.List.{slice_get}
 use Rattle.std.proofs.lemmas.Option.{same_Some}
-use Rattle.kw_model.specs.Map.{Pairs, IsRising, value_of, after, answer, answers, found, between}
+use Rattle.kw_model.specs.Map.{Pairs, IsRising, value_of, after, answer, answers, between}
 use Rattle.kw_model.specs.Legal.{IsLegal, IsRight, went, went_all}
 use Rattle.kw_model.specs.declared.call.Call.{Call}
-use Rattle.kw_model.specs.declared.call.Call.TheVariants.{Put, Del, Get, Scan}
 use Rattle.kw_model.specs.declared.call.Reply.{Reply}
-use Rattle.kw_model.specs.declared.call.Reply.TheVariants as reply
 use Rattle.kw_model.proofs.Pairs.{same_from_values, rises-between, value-between}
 use Rattle.kw_model.proofs.Lookups.{rises-went, value-went_all}
 use Rattle.kw_work.proofs.LastShown.{AreAlike, same_shown}

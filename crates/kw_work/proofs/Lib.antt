@@ -13,3 +13,5 @@ mod QuietBlocks
 mod LineCalls
 mod QuietReplies
 mod WorkerOrders
+mod MadeCalls
+mod QuietItems

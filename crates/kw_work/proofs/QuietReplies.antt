@@ -1,13 +1,13 @@
 -- The replies to quiet lines are those in line order.
-use Rattle.std.proofs.Common.{ℕ, true, false, ◌≡◌, suc, ◌<◌, ◌≤◌, ◌⊎◌, inl, inr, List, [], length, map, take, get_or, Option, Some, None, refl, sym, ap, ◌∙◌, subst, arith, IsTrue}
+use Rattle.std.proofs.Common.{ℕ, true, ◌≡◌, suc, ◌<◌, ◌≤◌, ◌⊎◌, inl, inr, List, [], length, map, take, get_or, Some, refl, sym, ap, ◌∙◌, subst, arith}
 use Rattle.std.specs.List.{slice_get, range_with_len, flat_map}
 use Rattle.std.specs.Option.{option_map}
 use Rattle.std.proofs.lemmas.Bool.{cases_lt, cases_order, false≢true}
 use Rattle.std.proofs.lemmas.List.{length-map, get_or_past}
 use Rattle.std.proofs.lemmas.List.FromFn.{get_or-range_with_len, length-range_with_len}
-use Rattle.std.proofs.lemmas.Option.{same_Some, slice_get-map, slice_get-get_or, slice_get_within, get_or_from_slice_get}
+use Rattle.std.proofs.lemmas.Option.{slice_get-map, slice_get-get_or, slice_get_within, get_or_from_slice_get}
 use Rattle.kw_model.specs.Map.{Pairs, after, answer, answers, found}
-use Rattle.kw_model.specs.Legal.{IsRight, is_update, is_refusal, may_refuse, went}
+use Rattle.kw_model.specs.Legal.{IsRight, is_update, may_refuse, went}
 use Rattle.kw_model.specs.declared.call.Call.{Call}
 use Rattle.kw_model.specs.declared.call.Call.TheVariants.{Put, Del, Get, Scan}
 use Rattle.kw_model.specs.declared.call.Reply.{Reply}

@@ -1,5 +1,5 @@
 -- Orders of the lines of an input: the calls and replies in such an order, and what an order keeps of the order of the lines.
-use Rattle.std.specs.Prelude.{ℕ, ◌≡◌, ◌<◌, ◌≤◌, ◌⊎◌, Bool, true, false, IsTrue, All, List, [], ◌∷◌, map, length, take, get_or, slice_get, Option, Some, None}
+use Rattle.std.specs.Prelude.{ℕ, ◌≡◌, ◌<◌, ◌≤◌, ◌⊎◌, true, false, IsTrue, All, List, [], map, length, take, get_or, slice_get, Option, Some, None}
 use Rattle.std.specs.List.{flat_map}
 use Rattle.kw_model.specs.declared.call.Call.{Call}
 use Rattle.kw_model.specs.declared.call.Call.TheVariants as call
@@ -7,7 +7,10 @@ use Rattle.kw_model.specs.declared.call.Reply.{Reply}
 use Rattle.kw_model.specs.declared.call.Reply.TheVariants.{Done}
 use Rattle.kw_model.specs.Map.{answers}
 use Rattle.kw_model.specs.Legal.{IsLegal, may_refuse, is_refusal}
-use Rattle.kw_line.specs.Line.{IsCallOf}
+use Rattle.kw_line.specs.declared.item.Form.{Form}
+use Rattle.kw_line.specs.declared.item.Item.{Item}
+use Rattle.kw_line.specs.Line.{IsCallOf, calls, forms}
+use Rattle.kw_line.specs.Quiet.{quiet}
 use Rattle.kw_line.specs.Answered.{is_update, is_range}
 use Rattle.kw_work.specs.declared.line.Line.{Line}
 use Rattle.kw_work.specs.Dealing.{worker_of}
@@ -84,3 +87,28 @@ IsAnswered l r answer = (answer ≡ Some r) ⊎ (IsTrue (is_range l.form) × IsT
 abbrev pub QuietAnswered : List (List Line) → List Reply → Type 0
 QuietAnswered blocks rs =
     (i : ℕ) (l : Line) (r : Reply) → slice_get (joined blocks) i ≡ Some l → slice_get rs i ≡ Some r → slice_get (flat_map quiet_lines blocks) i ≡ Some true → IsAnswered l r (slice_get (answers [] (calls_of (joined blocks))) i)
+
+-- Calls that were made, by their numbers, and the lines that they are of.
+
+-- the calls that were made, in this order, are those of the lines: each line has one call, and it has the call and the reply of its line
+pub record AreOfLines (cs : List Call) (rs : List Reply) (call_of : ℕ → Call) (reply_of : ℕ → Reply) (line_of : ℕ → ℕ) (ys : List ℕ) : Type 0 where
+  pub every : (i : ℕ) → i < length cs → (p : ℕ) × (y : ℕ) × (slice_get ys p ≡ Some y) × (line_of y ≡ i)
+  pub once : (p q y z : ℕ) → slice_get ys p ≡ Some y → slice_get ys q ≡ Some z → line_of y ≡ line_of z → p ≡ q
+  pub calls : (p y : ℕ) → slice_get ys p ≡ Some y → slice_get cs (line_of y) ≡ Some (call_of y)
+  pub replies : (p y : ℕ) → slice_get ys p ≡ Some y → slice_get rs (line_of y) ≡ Some (reply_of y)
+
+-- each call of line i stands before each call of line j
+abbrev pub StandsBeforeBy : (ℕ → ℕ) → List ℕ → ℕ → ℕ → Type 0
+StandsBeforeBy line_of ys i j = (p q y z : ℕ) → slice_get ys p ≡ Some y → slice_get ys q ≡ Some z → line_of y ≡ i → line_of z ≡ j → p < q
+
+-- The lines of an input.
+
+-- no item that sets a value or takes a key away was refused
+abbrev pub NoItemRefused : List Item → List Reply → Type 0
+NoItemRefused items rs = (i : ℕ) (f : Form) (r : Reply) → slice_get (forms items) i ≡ Some f → slice_get rs i ≡ Some r → IsTrue (is_update f) → is_refusal r ≡ false
+
+-- each quiet item has the reply that the map gives when it is asked in the order of the items, or is a range item that was refused
+abbrev pub QuietItemsAnswered : List Item → List Reply → Type 0
+QuietItemsAnswered items rs =
+    (i : ℕ) (c : Call) (f : Form) (r : Reply) → slice_get (calls items) i ≡ Some c → slice_get (forms items) i ≡ Some f → slice_get rs i ≡ Some r → slice_get (quiet items) i ≡ Some true
+    → (slice_get (answers [] (calls items)) i ≡ Some r) ⊎ (IsTrue (is_range f) × IsTrue (may_refuse c r))

@@ -3,21 +3,21 @@
 //! Nothing runs here: the functions' clauses are the statements. Whoever runs the workers needs them to speak of an
 //! input's lines where the contracts of `deal`, `part` and `collect` speak of blocks and parts.
 ghost use Rattle.std.specs.Prelude.{ℕ, ◌≡◌, ◌<◌, false, List, [], length, map, All, IsPermutation, Vec};
-ghost use Rattle.std.specs.List.{flat_map, range_with_len};
+ghost use Rattle.std.specs.List.{flat_map, range_with_len, AllByRecursion};
 ghost use Rattle.std.specs.declared.alloc.Global.{Global};
 ghost use Rattle.kw_model.specs.declared.call.Call.{Call};
 ghost use Rattle.kw_model.specs.declared.call.Reply.{Reply};
 ghost use Rattle.kw_model.specs.Map.{answers};
 ghost use Rattle.kw_model.specs.Legal.{IsLegal, is_refusal};
 ghost use Rattle.kw_line.specs.declared.item.Item.{Item};
-ghost use Rattle.kw_line.specs.Line.{calls, forms};
+ghost use Rattle.kw_line.specs.Line.{calls, forms, IsItem};
 ghost use Rattle.kw_line.specs.Quiet.{blocks, quiet};
 ghost use Rattle.kw_work.specs.declared.line.Line.{Line};
 ghost use Rattle.kw_work.specs.declared.line.Answered.{Answered};
 ghost use Rattle.kw_work.specs.Dealing.{blocks_of, lines_of, part};
 ghost use Rattle.kw_work.specs.Collecting.{answers_of, merge, no_answer, AnswersEach};
 ghost use Rattle.kw_work.specs.Lines.{all_parts, quiet_lines, IsItemOf, AreRising};
-ghost use Rattle.kw_work.specs.LineOrder.{IsOrderOf, StandsBefore, IsLegalIn, joined, calls_of, KeepsKeys, KeepsWorkers, HaveForms, NoneRefused, QuietAnswered};
+ghost use Rattle.kw_work.specs.LineOrder.{IsOrderOf, StandsBefore, IsLegalIn, joined, calls_of, KeepsKeys, KeepsWorkers, HaveForms, NoneRefused, QuietAnswered, NoItemRefused, QuietItemsAnswered, AreOfLines, StandsBeforeBy};
 
 /// The lines are the items that make calls, in order. The blocks, one after another, are the lines, cut where the waits
 /// stand, and a line is as quiet as its item. The lines of a worker in a block rise. Each line of a block is dealt to one
@@ -54,4 +54,13 @@ pub fn quiet_laws()
     ensures one_worker { (blocks : List (List Line)) (xs : List ℕ) → IsOrderOf (length (joined blocks)) xs → KeepsWorkers 1 blocks xs → (i j : ℕ) → i < j → StandsBefore xs i j }
     ensures keys { (workers : ℕ) (blocks : List (List Line)) (xs : List ℕ) → KeepsWorkers workers blocks xs → KeepsKeys blocks xs }
     ensures quiet { (blocks : List (List Line)) (rs : List Reply) (xs : List ℕ) → length rs ≡ length (joined blocks) → HaveForms (joined blocks) → IsOrderOf (length (joined blocks)) xs → KeepsKeys blocks xs → NoneRefused (joined blocks) rs → IsLegalIn (calls_of (joined blocks)) rs xs → QuietAnswered blocks rs }
+    ensures items { (n : ℕ) (items : List Item) (rs : List Reply) (xs : List ℕ) → AllByRecursion IsItem items → length rs ≡ length (calls items) → IsOrderOf (length (calls items)) xs → KeepsKeys (blocks_of n items) xs → NoItemRefused items rs → IsLegalIn (calls items) rs xs → QuietItemsAnswered items rs }
+{}
+
+/// Calls that were made in some order, each of one line: by their lines this is an order of the lines. It is legal where the
+/// order of the calls is, and a line stands before another where its call does.
+pub fn made_calls_laws()
+    ensures order { (cs : List Call) (rs : List Reply) (call_of : ℕ → Call) (reply_of : ℕ → Reply) (line_of : ℕ → ℕ) (ys : List ℕ) → AreOfLines cs rs call_of reply_of line_of ys → IsOrderOf (length cs) (map line_of ys) }
+    ensures legal { (cs : List Call) (rs : List Reply) (call_of : ℕ → Call) (reply_of : ℕ → Reply) (line_of : ℕ → ℕ) (ys : List ℕ) → AreOfLines cs rs call_of reply_of line_of ys → IsLegal [] (map call_of ys) (map reply_of ys) → IsLegalIn cs rs (map line_of ys) }
+    ensures before { (line_of : ℕ → ℕ) (ys : List ℕ) (i j : ℕ) → StandsBeforeBy line_of ys i j → StandsBefore (map line_of ys) i j }
 {}

@@ -3,6 +3,7 @@ use Rattle.kw_model.proofs.Answers.{answers_only}
 use Rattle.kw_work.proofs.LineOrders.{line_order, legal_in_line_order}
 use Rattle.kw_work.proofs.WorkerOrders.{keeps_all, keeps_keys}
 use Rattle.kw_work.proofs.QuietReplies.{quiet_answered}
+use Rattle.kw_work.proofs.QuietItems.{quiet_items_answered}
 use Rattle.kw_work.proofs.laws.quiet_laws.Goals as goal
 
 pub returns : goal.returns
@@ -13,4 +14,5 @@ returns c = record {
   one_worker = keeps_all;
   keys = keeps_keys;
   quiet = λ blocks rs xs long forms o keeps served legal. quiet_answered blocks rs xs long forms o keeps served legal;
+  items = λ n items rs xs all long o keeps served legal. quiet_items_answered n items rs xs all long o keeps served legal;
 }
