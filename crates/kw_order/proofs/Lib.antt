@@ -24,3 +24,5 @@ pub mod PickedDeletes
 pub mod CallRanks
 pub mod RankedCalls
 pub mod Traces
+pub mod Turns
+pub mod SeatOrders

@@ -6,3 +6,4 @@ pub mod LastPassing
 pub mod Served
 pub mod Legal
 pub mod Trace
+pub mod SeatOrder
