@@ -1,0 +1,4 @@
+pub mod LineOrdersPlaces
+pub mod LineOrders
+pub mod AnswerForms
+pub mod Headlines
