@@ -1,3 +1,7 @@
 pub mod TakeLemmas
 pub mod CellLemmas
 pub mod TallyLemmas
+pub mod Ordering
+pub mod WholeCalls
+pub mod RowStages
+pub mod ScanEnds

@@ -1,6 +1,5 @@
 -- What the calls of the map say of a pass: that it is idle, how its calls go on, and that what it has seen has a legal order.
-use Rattle.std.specs.Prelude.{◌≡◌, ◌↔◌, ℕ, ◌≤◌, true, Option, Some, None, List, ◌++◌, Result, Ok, Err}
-use mathlib.Core.List.{IsPrefix}
+use Rattle.std.specs.Prelude.{◌≡◌, ◌↔◌, ℕ, ◌≤◌, true, Option, Some, List, ◌++◌, Result, Ok, Err}
 use Rattle.kw_io.specs.Counts.{CountRose}
 use Rattle.kw_words.specs.declared.sizes.TheConstants.{SPENT}
 use Rattle.kw_model.specs.declared.call.Call.{Call}
@@ -11,7 +10,7 @@ use Rattle.kw_world.specs.declared.activity.Activity.TheVariants.{Idle}
 use Rattle.kw_world.specs.declared.event.Event.{Event}
 use Rattle.kw_world.specs.declared.opening.Opening.{Opening}
 use Rattle.kw_world.specs.Sizes.{product}
-use Rattle.kw_core.specs.Events.{is_valid, local_of, world}
+use Rattle.kw_core.specs.Events.{is_valid}
 use Rattle.kw_core.specs.History.{History}
 use Rattle.kw_core.specs.Run.{history}
 use Rattle.kw_order.specs.Legal.{IsLegalOrder}
@@ -20,26 +19,22 @@ use Rattle.kw_order.specs.OrderLaws.{OrderLaws}
 use Rattle.kw_order.specs.Trace.{GivesTops}
 use Rattle.kw_table.specs.declared.pass.Pass.{Pass}
 use Rattle.kw_table.specs.declared.pass.View.{View}
-use Rattle.kw_table.specs.Passes.{view, IsPassOf}
+use Rattle.kw_table.specs.Passes.{IsPassOf}
 use Rattle.kw_live.specs.Calling.{Calls}
-use Rattle.kw_live.specs.Following.{activity_in, held_at}
+use Rattle.kw_live.specs.Following.{activity_in}
 use Rattle.kw_live.specs.Meeting.{MetClock}
 use Rattle.kw_map.specs.declared.kiwi.Kiwi.{Kiwi}
 use Rattle.kw_map.specs.declared.kiwi.PutEnd.{PutEnd}
 use Rattle.kw_map.specs.declared.kiwi.PutEnd.TheVariants.{NoRows}
 use Rattle.kw_map.specs.declared.kiwi.ScanEnd.{ScanEnd}
 use Rattle.kw_map.specs.declared.kiwi.ScanEnd.TheVariants.{Stopped, Spent}
-use Rattle.kw_map.specs.Gather.{Takes, TakesPrefix}
+use Rattle.kw_map.specs.Gather.{Takes}
+use Rattle.kw_map.specs.Scanning.{StoppedAt}
 
 -- the pass is one of the map, and makes no call
 pub record IsIdle (m : Kiwi) (p : Pass) : Type 0 where
   pub of_map : IsPassOf m.shared p
   pub idle : activity_in p ≡ Idle
-
--- the reply of a get that found this
-abbrev pub got : Option ℕ → Reply
-got (Some value) = reply.Value value
-got None = reply.Absent
 
 -- the reply of a put or a delete that ended so
 abbrev pub put_reply : Result Unit PutEnd → Reply
@@ -59,28 +54,17 @@ pub record IsOrdered (v : View) : Type 0 where
   pub legal : (xs : List ℕ) → IsOrder (happened v.opening v.seen) xs → IsLegalOrder (happened v.opening v.seen) xs
   pub later : (events : List Event) → is_valid product v.opening (v.seen ++ events) ≡ true → GivesTops (happened v.opening v.seen) (happened v.opening (v.seen ++ events))
 
--- the pairs that the pass's seat had after these events
-abbrev pub had : Pass → List Event → List (ℕ × ℕ)
-had p es = held_at (local_of (world product (view p).opening es) (view p).number).activity (local_of (world product (view p).opening es) (view p).number).pairs
-
--- a scan that stopped: it took the first of the pairs that its seat had when it stopped
-pub record StoppedAt {S : Type 0} (last : S → Option ℕ) (stands : S → List (ℕ × ℕ) → Type 0) (p q : Pass) (old new : S) : Type 0 where
-  pub front : List Event
-  pub later : IsPrefix (view p).seen front
-  pub here : IsPrefix front (view q).seen
-  pub took : TakesPrefix last stands old (had p front) new
-
 -- how a scan ended, what it replied, and what the gatherer took
-abbrev pub Took : {S : Type 0} → (S → Option ℕ) → (S → List (ℕ × ℕ) → Type 0) → (S → ℕ) → Pass → Pass → S → S → Reply → Result Unit ScanEnd → Type 0
-Took last stands stops p q old new answer (Ok done) = (pairs : List (ℕ × ℕ)) × (answer ≡ reply.Pairs pairs) × Takes last stands old pairs new
-Took last stands stops p q old new answer (Err Stopped) = (answer ≡ reply.Stopped) × CountRose (stops old) (stops new) × StoppedAt last stands p q old new
-Took last stands stops p q old new answer (Err Spent) = (answer ≡ reply.Spent) × (new ≡ old)
+abbrev pub Took : {S : Type 0} → (S → Option ℕ) → (S → List (ℕ × ℕ) → Type 0) → (S → ℕ) → Pass → Pass → Call → S → S → Reply → Result Unit ScanEnd → Type 0
+Took last stands stops p q call old new answer (Ok done) = (pairs : List (ℕ × ℕ)) × (answer ≡ reply.Pairs pairs) × Takes last stands old pairs new
+Took last stands stops p q call old new answer (Err Stopped) = (answer ≡ reply.Stopped) × CountRose (stops old) (stops new) × StoppedAt last stands p q (Some call) old new
+Took last stands stops p q call old new answer (Err Spent) = (answer ≡ reply.Spent) × (new ≡ old)
 
 -- the scan is the pass's next call, and has ended with what it answered
 pub record Answers {S : Type 0} (last : S → Option ℕ) (stands : S → List (ℕ × ℕ) → Type 0) (stops : S → ℕ) (p q : Pass) (from upto : ℕ) (old new : S) (result : Result Unit ScanEnd) : Type 0 where
   pub reply : Reply
   pub calls : Calls p q (Scan from upto) reply
-  pub took : Took last stands stops p q old new reply result
+  pub took : Took last stands stops p q (Scan from upto) old new reply result
   pub clock : ℕ
   pub met : MetClock p q clock
   pub spent : (result ≡ Err Spent) ↔ (SPENT ≤ clock)

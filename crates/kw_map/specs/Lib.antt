@@ -1,3 +1,5 @@
 pub mod Gather
 pub mod GatherNumbers
 pub mod GatherList
+pub mod Scanning
+pub mod Kiwi

@@ -3,26 +3,29 @@
 //! A `Kiwi` is the shared table; a caller asks it with a pass, its seat. Each call here is put together from `kw_live`'s functions:
 //! enter, find the row, put into it or read it, leave. So its events are the core's, and the clauses say what follows: the call is the
 //! pass's next one, it has ended, its answer is the recorded reply, and the order of all calls that the pass has seen is legal.
-ghost use Rattle.std.specs.Prelude.{◌≡◌, ℕ, ◌<◌, ◌≤◌, IfOk, MatchResult, vec_len, slice_index_or, All};
-ghost use Rattle.kw_words.specs.declared.sizes.TheConstants.{CELLS, SEATS, VALUE_END};
+ghost use Rattle.std.specs.Prelude.{◌≡◌, ℕ, ◌<◌, true, Some, IfOk, MatchResult, vec_len, slice_index_or, All};
+ghost use Rattle.kw_words.specs.declared.sizes.TheConstants.{CELLS, VALUE_END};
+ghost use Rattle.kw_core.specs.Events.{is_call_in_range};
+ghost use Rattle.kw_core.specs.Stages.{is_put};
 ghost use Rattle.kw_world.specs.Opening.{IsOpening};
 ghost use Rattle.kw_world.specs.Sizes.{product};
+ghost use Rattle.kw_model.specs.Map.{found};
 ghost use Rattle.kw_table.specs.Meetings.{AtEach, Gathers, front_seen};
 ghost use Rattle.kw_table.specs.Passes.{IsFresh, IsPassOf, view};
 ghost use Rattle.kw_table.specs.Views.{Meets};
 ghost use Rattle.kw_live.specs.Calling.{Calls};
-ghost use Rattle.kw_live.specs.Following.{GoesTo, activity_in};
+ghost use Rattle.kw_live.specs.Following.{GoesTo};
 ghost use Rattle.kw_live.specs.Meeting.{MetFull, MetRoom};
 ghost use Rattle.kw_map.specs.Gather.{IsBelow};
-ghost use Rattle.kw_map.specs.Kiwi.{IsIdle, IsOrdered, Answers, got, put_reply};
+ghost use Rattle.kw_map.specs.Kiwi.{IsIdle, IsOrdered, Answers, put_reply};
 
-use crate::gather::{Gather, take_pairs};
-use kw_live::{TryPut, end_scan, enter, leave, locate, read_row, stop_scan, try_put};
+use crate::gather::{Gather, Stop};
+use crate::scanning::gather_rows;
+use kw_live::{TryPut, enter, leave, locate, read_row, try_put};
 use kw_model::call::{Call, Reply};
 use kw_model::memory::Memory;
 use kw_table::{Pass, Shared};
 use kw_world::activity::Activity;
-use kw_world::local::Local;
 use std::alloc::Global;
 use thiserror::Error;
 
@@ -91,7 +94,7 @@ impl Kiwi {
         requires { IsIdle self.now pass.old }
         ensures idle { IsIdle self.now pass.new }
         ensures goes { GoesTo self.now.shared pass.old pass.new }
-        ensures calls { Calls pass.old pass.new (Call.Get key) (got result) }
+        ensures calls { Calls pass.old pass.new (Call.Get key) (found result) }
         ensures ordered { IsOrdered (view pass.new) }
     {
         let mut local = enter(&self.shared, pass, self.alloc, Call::Get(key));
@@ -152,11 +155,35 @@ impl Kiwi {
         ensures ordered { IsOrdered (view pass.new) }
     {
         let mut local = enter(&self.shared, pass, self.alloc, Call::Scan(from, to));
-        let stopped = self.read_rows(pass, &mut local, to, into);
-        match leave(&self.shared, pass, local) {
-            Reply::Pairs(_) => Ok(()),
-            Reply::Spent => Err(ScanEnd::Spent),
-            _ => Err(ScanEnd::Stopped),
+        if let Activity::Leave(_) = local.activity {
+            leave(&self.shared, pass, local);
+            return Err(ScanEnd::Spent);
+        }
+        let gathered = gather_rows(&self.shared, pass, &mut local, to, into);
+        leave(&self.shared, pass, local);
+        match gathered {
+            Ok(()) => Ok(()),
+            Err(Stop) => Err(ScanEnd::Stopped),
+        }
+    }
+
+    // A put or a delete.
+    fn update(&self, pass: &mut Pass, call: Call) -> Result<(), PutEnd>
+        requires idle { IsIdle self.now pass.old }
+        requires update { is_put (Some call) ≡ true }
+        requires range { is_call_in_range call ≡ true }
+        ensures idle { IsIdle self.now pass.new }
+        ensures goes { GoesTo self.now.shared pass.old pass.new }
+        ensures calls { Calls pass.old pass.new call (put_reply result) }
+        ensures cause { MatchResult result (λ done. MetRoom CELLS pass.old pass.new) (λ end. MetFull CELLS pass.old pass.new) }
+    {
+        let mut local = enter(&self.shared, pass, self.alloc, call);
+        locate(&self.shared, pass, &mut local, None);
+        let tried = try_put(&self.shared, pass, &mut local);
+        leave(&self.shared, pass, local);
+        match tried {
+            TryPut::Done => Ok(()),
+            TryPut::RowFull(_) => Err(PutEnd::NoRows),
         }
     }
 

@@ -1,0 +1,111 @@
+-- How the rows of a scan go by: what stays from row to row, that they come to an end, and what the gatherer took by then.
+use Rattle.std.proofs.Common.{ℕ, ◌≡◌, ◌<◌, ◌≤◌, ◌+◌, ◌-◌, ◌⊎◌, ◌++◌, suc, Bool, true, false, Option, Some, [], ◌∷◌, take, length, inl, inr, sym, ap, ◌∙◌, subst, arith}
+use Rattle.std.specs.Prelude.{All}
+use Rattle.std.proofs.lemmas.List.Elements.{All-tail}
+use Rattle.std.proofs.Math.Seq.{take-append-add}
+use Rattle.kw_io.specs.Counts.{CountRose}
+use Rattle.kw_cells.specs.Cells.{pairs_of}
+use Rattle.kw_model.specs.Map.{Pairs}
+use Rattle.kw_model.specs.declared.call.Call.{Call}
+use Rattle.kw_model.specs.declared.call.Reply.TheVariants as reply
+use Rattle.kw_world.specs.declared.activity.Activity.TheVariants.{ClearScan}
+use Rattle.kw_world.specs.declared.local.Local.{Local}
+use Rattle.kw_world.specs.declared.opening.Opening.{Opening}
+use Rattle.kw_world.specs.Parts.{is_walking}
+use Rattle.kw_world.specs.Sizes.{product}
+use Rattle.kw_core.specs.Events.{local_of, world}
+use Rattle.kw_core.specs.Stages.{IsGoing}
+use Rattle.kw_table.specs.declared.pass.Pass.{Pass}
+use Rattle.kw_table.specs.declared.shared.Shared.{Shared}
+use Rattle.kw_table.specs.Passes.{view}
+use Rattle.kw_table.specs.Views.{local_in}
+use Rattle.kw_table.proofs.Prefixes.{prefix_trans}
+use Rattle.kw_live.specs.Calling.{Keeps}
+use Rattle.kw_live.specs.Following.{Follows, GoesTo, held, held_at}
+use Rattle.kw_live.specs.Reading.{GoesOn}
+use Rattle.kw_map.specs.Gather.{last_key, IsBelow, Takes, TakesPrefix}
+use Rattle.kw_map.specs.Scanning.{IsBetween, StoppedAt, knew}
+use Rattle.kw_map.proofs.TakeLemmas.{IsBelow-le, Takes-append}
+
+-- What the gatherer took.
+
+-- a key above the last one and above those of some pairs is above the last one of them
+last_below : (before : Option ℕ) (pairs : Pairs) (next : ℕ) → IsBelow before next → All (λ pair. pair.0 < next) pairs → IsBelow (last_key before pairs) next
+last_below before [] next below all = below
+last_below before (p ∷ ps) next below all =
+    let here : p.0 < next = all 0 p (omega arith) in
+    last_below (Some p.0) ps next (λ k e. let same : p.0 ≡ k = cc in omega arith) (All-tail (λ pair. pair.0 < next) p ps all)
+
+-- after pairs, the first of further pairs
+pub prefix_behind : {S : Type 0} (last : S → Option ℕ) (stands : S → Pairs → Type 0) (a b c : S) (ps qs : Pairs) → Takes last stands a ps b → TakesPrefix last stands b qs c → TakesPrefix last stands a (ps ++ qs) c
+prefix_behind last stands a b c ps qs t u =
+    (length ps + u.0, subst (λ (x : Pairs). Takes last stands a x c) (sym (take-append-add ps qs u.0)) (Takes-append last stands a b c ps (take u.0 qs) t u.1))
+
+-- a count that rose later rose in all
+pub rose_later : (a b c : ℕ) → a ≤ b → CountRose b c → CountRose a c
+rose_later a b c le (inl lt) = inl (omega arith)
+rose_later a b c le (inr is) = inr is
+
+-- From row to row.
+
+-- what stays while the rows of a scan are read
+pub record IsGathering {S : Type 0} (last : S → Option ℕ) (stands : S → Pairs → Type 0) (stops : S → ℕ) (s : Shared) (o p : Pass) (first l : Local) (old new : S) : Type 0 where
+  pub goes : GoesTo s o p
+  pub follows : Follows s p l
+  pub asks : l.call ≡ first.call
+  pub calls : Keeps o p
+  pub takes : Takes last stands old (held p) new
+  pub counts : stops old ≤ stops new
+  pub between : IsBetween last new l
+
+-- how far the rows may go on
+abbrev pub rows_ahead : Bool → ℕ → ℕ → ℕ
+rows_ahead true want upto = suc (upto - want)
+rows_ahead false want upto = 0
+
+-- while a scan walks, the gatherer took no key from the wanted one on
+pub wanted_above : {S : Type 0} (last : S → Option ℕ) (into : S) (l : Local) → is_walking l.activity ≡ true → IsBetween last into l → IsBelow (last into) l.want
+wanted_above last into l walks (inl b) = b.1
+wanted_above last into l walks (inr e) = let x : false ≡ true = sym (ap is_walking e) ∙ walks in absurd (cc)
+
+-- after a row the scan is between rows again
+pub between_rows : {S : Type 0} (last : S → Option ℕ) (stands : S → Pairs → Type 0) (old new : S) (want upto version : ℕ) (m : Local) → IsBelow (last old) want → GoesOn want upto version m ⊎ (m.activity ≡ ClearScan (reply.Pairs [])) →
+    Takes last stands old (pairs_of m.gathered want upto version) new → IsBetween last new m
+between_rows last stands old new want upto version m above (inl g) t =
+    let earlier : want ≤ m.want = omega (arith, g.rises) in
+    inl (subst IsGoing (sym g.activity) tt, subst (λ o. IsBelow o m.want) (sym t.last_is) (last_below (last old) (pairs_of m.gathered want upto version) m.want (IsBelow-le (last old) want m.want earlier above) g.above))
+between_rows last stands old new want upto version m above (inr e) t = inr e
+
+-- Where the gatherer stopped.
+
+-- what the seat knew when the pass had seen just this
+knew_then : (s : Shared) (o r : Pass) → GoesTo s o r → knew o (view r).seen ≡ local_in (view r)
+knew_then s o r goes =
+    ap (λ n. local_of (world product (view o).opening (view r).seen) n) (sym goes.number)
+    ∙ ap (λ (x : Opening). local_of (world product x (view r).seen) (view r).number) (sym goes.opening)
+
+-- a scan that stops where the gatherer did
+pub stopped_here : {S : Type 0} (last : S → Option ℕ) (stands : S → Pairs → Type 0) (s : Shared) (o r q : Pass) (l : Local) (call : Option Call) (old new : S) → GoesTo s o r → GoesTo s r q → Follows s r l → l.call ≡ call →
+    TakesPrefix last stands old (held r) new → StoppedAt last stands o q call old new
+stopped_here last stands s o r q l call old new before after follows is took =
+    let e = knew_then s o r before in record {
+      front = (view r).seen;
+      later = before.seen;
+      here = after.seen;
+      asks = ap (λ (k : Local). k.call) e ∙ (sym (ap (λ (k : Local). k.call) follows.carries) ∙ is);
+      took = subst (λ (ps : Pairs). TakesPrefix last stands old ps new) (sym (ap (λ (k : Local). held_at k.activity k.pairs) e)) took;
+    }
+
+-- what happened in the middle happened in the whole
+pub stopped_within : {S : Type 0} (last : S → Option ℕ) (stands : S → Pairs → Type 0) (s : Shared) (p q r t : Pass) (call : Option Call) (old new : S) → GoesTo s p q → GoesTo s r t → StoppedAt last stands q r call old new → StoppedAt last stands p t call old new
+stopped_within last stands s p q r t call old new before after stopped =
+    let e : knew q stopped.front ≡ knew p stopped.front =
+    ap (λ n. local_of (world product (view q).opening stopped.front) n) before.number
+    ∙ ap (λ (x : Opening). local_of (world product x stopped.front) (view p).number) before.opening in
+    record {
+      front = stopped.front;
+      later = prefix_trans _ _ _ before.seen stopped.later;
+      here = prefix_trans _ _ _ stopped.here after.seen;
+      asks = sym (ap (λ (k : Local). k.call) e) ∙ stopped.asks;
+      took = subst (λ (ps : Pairs). TakesPrefix last stands old ps new) (ap (λ (k : Local). held_at k.activity k.pairs) e) stopped.took;
+    }

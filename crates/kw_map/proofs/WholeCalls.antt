@@ -1,0 +1,75 @@
+-- How a whole call comes of the stages that `kw_live` takes it through: its begin and its end, what it met on the way, and its reply.
+use Rattle.std.proofs.Common.{ℕ, ◌≡◌, ◌∙◌, ap, sym, []}
+use Rattle.kw_model.specs.declared.call.Call.{Call}
+use Rattle.kw_model.specs.declared.call.Reply.{Reply}
+use Rattle.kw_model.specs.declared.call.Reply.TheVariants.{Pairs}
+use Rattle.kw_world.specs.declared.activity.Activity.{Activity}
+use Rattle.kw_world.specs.declared.activity.Activity.TheVariants.{Leave}
+use Rattle.kw_world.specs.declared.event.Choice.{Choice}
+use Rattle.kw_world.specs.declared.local.Local.{Local}
+use Rattle.kw_core.specs.SeatCalls.{begun_at}
+use Rattle.kw_table.specs.declared.pass.Pass.{Pass}
+use Rattle.kw_table.specs.declared.shared.Shared.{Shared}
+use Rattle.kw_live.specs.Calling.{Opens, Keeps, Closes, Calls, calls_in}
+use Rattle.kw_live.specs.Following.{Follows, GoesTo, activity_in, bare_reply}
+use Rattle.kw_live.specs.Meeting.{Met, MetClock, MetCount, MetFull, MetRoom}
+use Rattle.kw_live.proofs.Drawing.{met_earlier, met_later}
+use Rattle.kw_live.proofs.Ends.{leaves_in, same_reply}
+
+-- The call.
+
+-- a call that begins, goes on and ends is a whole call
+pub whole : {p q r t : Pass} {call : Call} {reply : Reply} → Opens p q call → Keeps q r → Closes r t reply → Calls p t call reply
+whole {p} {q} {r} {t} {call} {reply} o k c = record {
+  first = o.first;
+  last = c.last;
+  number = o.number;
+  begins = o.begins;
+  ends = c.ends;
+  calls = c.calls (calls_in p) (begun_at o.first o.number call) (k ∙ o.calls);
+}
+
+-- What it met.
+
+module _ {s : Shared} {p q r t : Pass} where
+  -- an event that was met in the middle was met in the whole
+  pub met_within : {a : Activity} {c : Choice} {told : ℕ} → GoesTo s p q → GoesTo s r t → Met q r a c told → Met p t a c told
+  met_within before after m = met_later p r t (met_earlier s p q r before m) after.seen
+
+  -- so was a count
+  pub count_within : {a : Activity} {given : ℕ} → GoesTo s p q → GoesTo s r t → MetCount q r a given → MetCount p t a given
+  count_within before after m = record { told = m.told; met = met_within before after m.met; gives = m.gives }
+
+  -- and that the row is full
+  pub full_within : {cells : ℕ} → GoesTo s p q → GoesTo s r t → MetFull cells q r → MetFull cells p t
+  full_within before after m = record { activity = m.activity; at = m.at; given = m.given; met = count_within before after m.met; full = m.full }
+
+  -- or has room
+  pub room_within : {cells : ℕ} → GoesTo s p q → GoesTo s r t → MetRoom cells q r → MetRoom cells p t
+  room_within before after m = record {
+    given = m.given;
+    asked = count_within before after m.asked;
+    less = m.less;
+    added = m.added;
+    adds = count_within before after m.adds;
+    fewer = m.fewer;
+  }
+
+-- and a clock that a scan loaded before was its clock
+pub clock_later : {s : Shared} {p q r : Pass} {clock : ℕ} → MetClock p q clock → GoesTo s q r → MetClock p r clock
+clock_later {s} {p} {q} {r} m after = record { met = met_later p q r m.met after.seen }
+
+-- What it replies.
+
+-- a reply other than pairs is whole without pairs
+bare_is : (x r : Reply) → bare_reply x ≡ r → (Pairs [] ≡ r → ⊥) → x ≡ r
+bare_is (Pairs pairs) r e bare = absurd (bare e)
+bare_is _ r e bare = e
+
+-- code that is about to leave with such a reply follows a seat that is about to leave with it
+pub leaves_with : {s : Shared} {p : Pass} {l : Local} (r : Reply) → Follows s p l → l.activity ≡ Leave r → (Pairs [] ≡ r → ⊥) → activity_in p ≡ Leave r
+leaves_with {s} {p} {l} r f is bare =
+    let x = leaves_in s p l r f is in
+    let e : Leave (bare_reply x.0) ≡ Leave r = sym (same_reply s p l x.0 f x.1) ∙ is in
+    let b : bare_reply x.0 ≡ r = cc in
+    x.1 ∙ ap Leave (bare_is x.0 r b bare)

@@ -1,0 +1,36 @@
+-- Where a scan stands between its rows, and what it took when it stopped.
+use Rattle.std.specs.Prelude.{◌≡◌, ◌⊎◌, ℕ, Option, List, []}
+use mathlib.Core.List.{IsPrefix}
+use Rattle.kw_model.specs.declared.call.Call.{Call}
+use Rattle.kw_model.specs.declared.call.Reply.TheVariants.{Pairs}
+use Rattle.kw_world.specs.declared.activity.Activity.TheVariants.{ClearScan}
+use Rattle.kw_world.specs.declared.event.Event.{Event}
+use Rattle.kw_world.specs.declared.local.Local.{Local}
+use Rattle.kw_world.specs.Sizes.{product}
+use Rattle.kw_core.specs.Events.{local_of, world}
+use Rattle.kw_core.specs.Stages.{IsGoing}
+use Rattle.kw_table.specs.declared.pass.Pass.{Pass}
+use Rattle.kw_table.specs.Passes.{view}
+use Rattle.kw_live.specs.Following.{held_at}
+use Rattle.kw_map.specs.Gather.{IsBelow, TakesPrefix}
+
+-- the scan is on its way to the row of the key that it wants, and the gatherer took no key from there on; or it has all its pairs
+abbrev pub IsBetween : {S : Type 0} → (S → Option ℕ) → S → Local → Type 0
+IsBetween last s l = (IsGoing l.activity × IsBelow (last s) l.want) ⊎ (l.activity ≡ ClearScan (Pairs []))
+
+-- what the pass's seat knew after these events
+abbrev pub knew : Pass → List Event → Local
+knew p es = local_of (world product (view p).opening es) (view p).number
+
+-- the pairs that it had then
+abbrev pub had : Pass → List Event → List (ℕ × ℕ)
+had p es = held_at (knew p es).activity (knew p es).pairs
+
+-- the gatherer of this call stopped: at some moment the seat was in the middle of the call, and of the pairs that it had then the
+-- gatherer took the first ones
+pub record StoppedAt {S : Type 0} (last : S → Option ℕ) (stands : S → List (ℕ × ℕ) → Type 0) (p q : Pass) (call : Option Call) (old new : S) : Type 0 where
+  pub front : List Event
+  pub later : IsPrefix (view p).seen front
+  pub here : IsPrefix front (view q).seen
+  pub asks : (knew p front).call ≡ call
+  pub took : TakesPrefix last stands old (had p front) new

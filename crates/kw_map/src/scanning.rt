@@ -1,0 +1,85 @@
+//! The rows of a scan, one after the other.
+//!
+//! A scan that has entered reads row after row, and hands on the pairs of each as soon as it has them. The functions here take it
+//! from its entry to the point where it is about to leave, with all its pairs or because the gatherer stopped.
+ghost use Rattle.std.specs.Prelude.{◌≡◌, ◌⊎◌, ◌≤◌, ◌++◌, ℕ, Some, [], OnOk, OnErr, MatchResult};
+ghost use Rattle.kw_cells.specs.Cells.{pairs_of};
+ghost use Rattle.kw_core.specs.Stages.{IsGoing};
+ghost use Rattle.kw_io.specs.Counts.{CountRose};
+ghost use Rattle.kw_live.specs.Calling.{Keeps};
+ghost use Rattle.kw_live.specs.Following.{Follows, GoesTo, held};
+ghost use Rattle.kw_live.specs.Reading.{GoesOn};
+ghost use Rattle.kw_map.specs.Gather.{IsBelow, Takes, TakesPrefix};
+ghost use Rattle.kw_map.specs.Scanning.{IsBetween, StoppedAt};
+
+use crate::gather::{Gather, Stop, take_pairs};
+use kw_live::{end_scan, locate, read_row, stop_scan};
+use kw_model::call::{Call, Reply};
+use kw_table::{Pass, Shared};
+use kw_world::activity::Activity;
+use kw_world::local::Local;
+
+/// Reads the rows of a scan that has entered, and hands its pairs on, until it has all of them or the gatherer stops.
+///
+/// The scan ends at `upto`, and has no pairs yet. It is then about to leave with its pairs, all of which the gatherer took, or with
+/// `Stopped`. Takes no memory.
+pub(crate) fn gather_rows<G: Gather>(
+    shared: &Shared,
+    pass: &mut Pass,
+    local: &mut Local,
+    upto: u32,
+    into: &mut G,
+) -> Result<(), Stop>
+    requires follows { Follows shared.now pass.old local.old }
+    requires scan { (from : ℕ) × (local.old.call ≡ Some (Call.Scan from upto)) }
+    requires between { IsBetween G.last into.old local.old }
+    requires none { held pass.old ≡ [] }
+    ensures goes { GoesTo shared.now pass.old pass.new }
+    ensures follows { Follows shared.now pass.new local.new }
+    ensures calls { Keeps pass.old pass.new }
+    ensures leaves { MatchResult result (λ done. local.new.activity ≡ Activity.Leave (Reply.Pairs [])) (λ stop. local.new.activity ≡ Activity.Leave Reply.Stopped) }
+    ensures all { OnOk result (Takes G.last G.stands into.old (held pass.new) into.new) }
+    ensures prefix { OnErr result (StoppedAt G.last G.stands pass.old pass.new local.old.call into.old into.new) }
+    ensures stopped { OnErr result (CountRose (G.stops into.old) (G.stops into.new)) }
+{
+    while local.activity.is_walking() {
+        if let Err(Stop) = gather_row(shared, pass, local, upto, into) {
+            stop_scan(shared, pass, local);
+            return Err(Stop);
+        }
+    }
+    end_scan(shared, pass, local);
+    Ok(())
+}
+
+/// Reads the row of the key that a scan wants, and hands its pairs on.
+///
+/// The gatherer took no key from there on. The scan then walks on to the next row, with the least key of that row as the wanted one, or
+/// is at its end.
+fn gather_row<G: Gather>(
+    shared: &Shared,
+    pass: &mut Pass,
+    local: &mut Local,
+    upto: u32,
+    into: &mut G,
+) -> Result<(), Stop>
+    requires follows { Follows shared.now pass.old local.old }
+    requires scan { (from : ℕ) × (local.old.call ≡ Some (Call.Scan from upto)) }
+    requires going { IsGoing local.old.activity }
+    requires above { IsBelow (G.last into.old) local.old.want }
+    ensures goes { GoesTo shared.now pass.old pass.new }
+    ensures follows { Follows shared.now pass.new local.new }
+    ensures call { local.new.call ≡ local.old.call }
+    ensures calls { Keeps pass.old pass.new }
+    ensures held { held pass.new ≡ held pass.old ++ pairs_of local.new.gathered local.old.want upto local.old.version }
+    ensures stage { GoesOn local.old.want upto local.old.version local.new ⊎ (local.new.activity ≡ Activity.ClearScan (Reply.Pairs [])) }
+    ensures all { OnOk result (Takes G.last G.stands into.old (pairs_of local.new.gathered local.old.want upto local.old.version) into.new) }
+    ensures prefix { OnErr result (TakesPrefix G.last G.stands into.old (pairs_of local.new.gathered local.old.want upto local.old.version) into.new) }
+    ensures stopped { OnErr result (CountRose (G.stops into.old) (G.stops into.new)) }
+    ensures never_falls { G.stops into.old ≤ G.stops into.new }
+{
+    locate(shared, pass, local, None);
+    let low = local.want;
+    read_row(shared, pass, local);
+    take_pairs(into, local.gathered.as_slice(), low, upto, local.version)
+}

@@ -1,0 +1,12 @@
+pub mod Each
+pub mod Gathered
+pub mod Works
+pub mod Merging
+pub mod Seats
+pub mod Blocks
+pub mod CutPlaces
+pub mod Runs
+pub mod Shown
+pub mod MapVec
+pub mod OneSeat
+pub mod OneWorker

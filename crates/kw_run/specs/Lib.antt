@@ -1,0 +1,4 @@
+pub mod Recorded
+pub mod Working
+pub mod Rounds
+pub mod Running
