@@ -27,12 +27,12 @@ use Rattle.kw_work.proofs.Numbers.{calls-lines_of, joined-blocks_of}
 use Rattle.kw_work.proofs.QuietItems.{quiet_items_answered}
 use Rattle.kw_work.proofs.WorkerOrders.{keeps_all, keeps_keys}
 use Rattle.kw_table.specs.declared.pass.View.{View}
-use Rattle.kw_bridge.specs.Recorded.{no_call, recorded, reply_of, seat_calls}
-use Rattle.kw_bridge.specs.Running.{is_refused, Shows}
-use Rattle.kw_bridge.specs.Headline.{Headline, HasOneOrder, UpdatesServed, QuietAnswered, AreRefusals, answers_to, line_calls}
-use Rattle.kw_bridge.proofs.AnswerForms.{MayBeRefused, answers_at, unrefused, range_refused, right_refusal}
-use Rattle.kw_bridge.proofs.LineOrders.{AreOrdered, lines_ordered}
-use Rattle.kw_bridge.proofs.LineOrdersPlaces.{length-merged}
+use Rattle.kw_run.specs.Recorded.{no_call, recorded, reply_of, seat_calls}
+use Rattle.kw_run.specs.Running.{is_refused, Shows}
+use Rattle.kw_run.specs.Headline.{Headline, HasOneOrder, UpdatesServed, QuietAnswered, AreRefusals, answers_to, line_calls}
+use Rattle.kw_run.proofs.AnswerForms.{MayBeRefused, answers_at, unrefused, range_refused, right_refusal}
+use Rattle.kw_run.proofs.Merging.{length-merge}
+use Rattle.kw_run.proofs.LineOrders.{AreOrdered, lines_ordered}
 
 -- there are as many forms as calls
 many_forms : (items : List Item) → length (forms items) ≡ length (calls items)
@@ -59,7 +59,7 @@ module _ (o : Opening) (items : List Item) (printed : List Answer) (v : View) (o
   -- there are as many replies as calls
   many_replies : length replies ≡ length (calls items)
   many_replies =
-      length-map (line_calls o v.seen (lines_of 1 items)) reply_of ∙ (length-merged o.seats (seat_calls o v.seen) no_call [] (lines_of 1 items)
+      length-map (line_calls o v.seen (lines_of 1 items)) reply_of ∙ (length-merge o.seats (seat_calls o v.seen) no_call [] (lines_of 1 items)
       ∙ (sym (length-map (lines_of 1 items) (λ (l : Line). l.call)) ∙ ap length (calls-lines_of 1 items)))
 
   -- the order has each call once

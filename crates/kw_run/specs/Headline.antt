@@ -15,8 +15,8 @@ use Rattle.kw_work.specs.declared.line.Line.{Line}
 use Rattle.kw_work.specs.Collecting.{merge}
 use Rattle.kw_work.specs.Dealing.{lines_of, blocks_of}
 use Rattle.kw_work.specs.LineOrder.{IsOrderOf, StandsBefore, IsLegalIn, KeepsWorkers}
-use Rattle.kw_bridge.specs.Recorded.{asked, EndsBefore, IsWithin, no_call, recorded, seat_calls}
-use Rattle.kw_bridge.specs.Running.{is_refused}
+use Rattle.kw_run.specs.Recorded.{asked, EndsBefore, IsWithin, no_call, recorded, seat_calls}
+use Rattle.kw_run.specs.Running.{is_refused}
 
 -- the calls of the lines in line order, as the list of events shows them
 abbrev pub line_calls : Opening → List Event → List Line → List CallSeen

@@ -15,7 +15,7 @@ use Rattle.kw_line.specs.declared.item.Form.{Form}
 use Rattle.kw_line.specs.declared.item.Form.TheVariants as form
 use Rattle.kw_line.specs.Answered.{answer_for, answer_of_pairs, answers_for, number_or_nothing, is_update, is_get, is_range, least, greatest, values}
 use Rattle.kw_line.specs.Line.{IsCallOf}
-use Rattle.kw_bridge.specs.Running.{is_refused}
+use Rattle.kw_run.specs.Running.{is_refused}
 
 -- the answer at a place is that of the reply there
 pub answers_at : (fs : List Form) (rs : List Reply) (i : ℕ) (f : Form) (r : Reply) → slice_get fs i ≡ Some f → slice_get rs i ≡ Some r → slice_get (answers_for fs rs) i ≡ Some (answer_for f r)

@@ -32,10 +32,11 @@ use Rattle.kw_work.specs.LineOrder.{IsOrderOf, StandsBefore, IsLegalIn, AreOfLin
 use Rattle.kw_work.proofs.Asked.{element_at}
 use Rattle.kw_work.proofs.Collected.{map-merge}
 use Rattle.kw_work.proofs.MadeCalls.{lines_in_order, lines_legal, lines_before_by}
-use Rattle.kw_bridge.specs.Recorded.{asked, asks, EndsBefore, IsWithin, no_call, recorded, reply_at, reply_of, seat_calls}
-use Rattle.kw_bridge.specs.Running.{AreInBlocks}
-use Rattle.kw_bridge.specs.Headline.{KeepsPrecedence, line_calls}
-use Rattle.kw_bridge.proofs.LineOrdersPlaces.{across, own_before, in_part, share_of, own_before_more, own_before_once, own_before_grows, length-merged, merged_at}
+use Rattle.kw_run.specs.Recorded.{asked, asks, EndsBefore, IsWithin, no_call, recorded, reply_at, reply_of, seat_calls}
+use Rattle.kw_run.specs.Running.{AreInBlocks}
+use Rattle.kw_run.specs.Headline.{KeepsPrecedence, line_calls}
+use Rattle.kw_run.proofs.Merging.{length-merge}
+use Rattle.kw_run.proofs.LineOrdersPlaces.{across, own_before, in_part, share_of, own_before_more, own_before_once, own_before_grows, merged_at}
 
 -- what has ended before a place has ended
 has_end : (n : ℕ) (e : Option End) → EndsBefore n e → (d : End) × (e ≡ Some d) × (d.at < n)
@@ -126,7 +127,7 @@ module _ (o : Opening) (E : List Event) (lines : List Line) (opening : IsOpening
   -- so do the lines' calls
   pub all_within : All (IsWithin 0 (length E)) (line_calls o E lines)
   all_within i d lt =
-      let l = element_at lines i (let w = length-merged o.seats (seat_calls o E) no_call [] lines in omega arith) in
+      let l = element_at lines i (let w = length-merge o.seats (seat_calls o E) no_call [] lines in omega arith) in
       let x = call_named i l.0 l.1 in
       subst (λ (c : CallSeen). IsWithin 0 (length E) c) (sym (get_or_from_slice_get (line_calls o E lines) i (seen (called h x.0)) d (made_here i x.0 x.1)))
       (within (worker_of o.seats x.1.line) (own_before o.seats (worker_of o.seats x.1.line) lines i) (seen (called h x.0)) (seated x.1.line) (seen_here i x.0 x.1))

@@ -85,9 +85,3 @@ merged_behind n has none before (m ∷ ms) (suc i) l e =
 pub merged_at : {A : Type 0} (n : ℕ) (has : ℕ → List A) (none : A) (lines : List Line) (i : ℕ) (l : Line) → slice_get lines i ≡ Some l
     → slice_get (merge n has none [] lines) i ≡ Some (get_or (has (worker_of n l)) (own_before n (worker_of n l) lines i) none)
 merged_at n has none lines i l e = merged_behind n has none [] lines i l e
-
--- as much is merged as there are lines
-pub length-merged : {A : Type 0} (n : ℕ) (has : ℕ → List A) (none : A) (before lines : List Line) → length (merge n has none before lines) ≡ length lines
-unfolding merge
-length-merged n has none before [] = refl
-length-merged n has none before (l ∷ ls) = ap suc (length-merged n has none (before ++ l ∷ []) ls)

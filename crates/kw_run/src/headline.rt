@@ -12,8 +12,8 @@ ghost use Rattle.kw_world.specs.declared.opening.Opening.{Opening};
 ghost use Rattle.kw_world.specs.Opening.{IsOpening};
 ghost use Rattle.kw_world.specs.Sizes.{product};
 ghost use Rattle.kw_table.specs.declared.pass.View.{View};
-ghost use Rattle.kw_bridge.specs.Running.{Shows};
-ghost use Rattle.kw_bridge.specs.Headline.{Headline};
+ghost use Rattle.kw_run.specs.Running.{Shows};
+ghost use Rattle.kw_run.specs.Headline.{Headline};
 
 /// What a run prints are the answers of an ordered map of one thread, asked by the lines' calls in one order that has each of them once and
 /// keeps each two of which one ended before the other began; refused calls leave the map as it was. So it keeps the blocks and each worker's

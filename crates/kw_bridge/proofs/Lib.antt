@@ -1,4 +1,0 @@
-pub mod LineOrdersPlaces
-pub mod LineOrders
-pub mod AnswerForms
-pub mod Headlines
