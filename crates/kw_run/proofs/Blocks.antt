@@ -1,12 +1,11 @@
 -- One block: from the workers' jobs to what the list of events then shows.
-use Rattle.std.proofs.Common.{◌≡◌, ℕ, ◌+◌, ◌<◌, List, [], ◌∷◌, ◌++◌, length, map, drop, take, slice_index_or, IfOk, Ok, Err, Vec, sym, ap, ◌∙◌, subst, arith, vec_len}
+use Rattle.std.proofs.Common.{◌≡◌, ℕ, ◌<◌, List, [], ◌∷◌, ◌++◌, length, map, drop, take, slice_index_or, IfOk, Ok, Err, Vec, sym, ap, ◌∙◌, subst, arith, vec_len}
 use Rattle.std.specs.declared.alloc.Global.{Global}
 use Rattle.std.specs.declared.result.Result.{Result}
 use Rattle.std.proofs.lemmas.List.{drop_all, take_all, append-nil}
 use Rattle.kw_model.specs.declared.memory.Memory.{Memory}
 use Rattle.kw_line.specs.declared.answer.Answer.{Answer}
 use Rattle.kw_world.specs.declared.event.Event.{Event}
-use Rattle.kw_world.specs.declared.opening.Opening.{Opening}
 use Rattle.kw_table.specs.declared.pass.Pass.{Pass}
 use Rattle.kw_table.specs.Passes.{view}
 use Rattle.kw_table.specs.Meetings.{AtEach, Gathers, front_seen}

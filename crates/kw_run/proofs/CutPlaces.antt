@@ -1,5 +1,5 @@
 -- Places in the list of events that part the calls of some lines from all others.
-use Rattle.std.proofs.Common.{◌≡◌, ℕ, ◌+◌, ◌-◌, ◌<◌, ◌≤◌, List, [], ◌++◌, length, take, drop, get_or, All, sym, ap, ◌∙◌, subst, arith, le_refl}
+use Rattle.std.proofs.Common.{◌≡◌, ℕ, ◌+◌, ◌-◌, ◌<◌, ◌≤◌, List, [], ◌++◌, length, take, drop, get_or, All, ap, ◌∙◌, subst, arith, le_refl}
 use Rattle.std.proofs.lemmas.List.{take-append-le, drop-append-le, drop_all, get_or-take, get_or-drop, length-take, length-drop}
 use Rattle.std.proofs.lemmas.List.Elements.{All-nil, All-append, All-weaker, All-same, All-take, All-drop}
 use Rattle.kw_core.specs.SeatCalls.{CallSeen}

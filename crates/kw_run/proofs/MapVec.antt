@@ -1,5 +1,5 @@
 -- What holds of each call that `map_vec` made, by what a call ensures.
-use Rattle.std.proofs.Common.{◌≡◌, ℕ, ◌<◌, List, length, slice_index_or, IfOk, All, Ok, Err, sym, subst}
+use Rattle.std.proofs.Common.{ℕ, ◌<◌, List, length, slice_index_or, IfOk, Ok, Err, sym, subst}
 use Rattle.std.specs.declared.result.Result.{Result}
 use denote.Param.Members.{Shared}
 use Rattle.std.specs.Fork.{GivesJobs}

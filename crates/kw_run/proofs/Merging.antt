@@ -1,12 +1,9 @@
 -- What the workers have for lines, put into line order: where the workers have more than these lines take, and where they have the answers to calls.
-use Rattle.std.proofs.Common.{◌≡◌, ℕ, zero, suc, ◌+◌, ◌<◌, ◌==◌, List, [], ◌∷◌, ◌++◌, length, map, get_or, All, refl, sym, ap, ◌∙◌, arith, length-append, append_assoc, append-nil}
+use Rattle.std.proofs.Common.{◌≡◌, ℕ, zero, suc, ◌+◌, ◌<◌, ◌==◌, List, [], ◌∷◌, ◌++◌, length, map, get_or, All, refl, sym, ap, ◌∙◌, arith, length-append, append_assoc}
 use Rattle.std.proofs.lemmas.List.{get_or_at, get_or_append_left, get_or-append-add}
 use Rattle.std.proofs.lemmas.List.Elements.{All-filter}
 use Rattle.kw_core.specs.SeatCalls.{CallSeen}
-use Rattle.kw_line.specs.declared.answer.Answer.{Answer}
-use Rattle.kw_line.specs.declared.item.Form.{Form}
 use Rattle.kw_line.specs.Answered.{answer_for, answers_for}
-use Rattle.kw_model.specs.declared.call.Reply.{Reply}
 use Rattle.kw_work.specs.declared.line.Line.{Line}
 use Rattle.kw_work.specs.declared.line.Answered.{Answered}
 use Rattle.kw_work.specs.Dealing.{worker_of, part}

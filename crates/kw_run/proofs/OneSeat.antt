@@ -1,16 +1,14 @@
 -- A list of events of one seat alone, whose calls have all ended: their one order is that in which they began, so their replies are
 -- legal in this order.
-use Rattle.std.proofs.Common.{◌≡◌, ◌≢◌, ◌⊎◌, inl, inr, ℕ, zero, suc, ◌+◌, ◌<◌, ◌≤◌, ◌==◌, true, false, Option, Some, None, List, [], ◌∷◌, length, map, take, drop, get_or, slice_get, All, refl, sym, ap, ◌∙◌, subst, arith}
+use Rattle.std.proofs.Common.{◌≡◌, ◌≢◌, ◌⊎◌, inl, inr, ℕ, zero, suc, ◌+◌, ◌<◌, ◌≤◌, true, false, Option, Some, None, List, [], ◌∷◌, length, map, take, drop, get_or, slice_get, All, refl, sym, ap, ◌∙◌, subst, arith}
 use Rattle.std.specs.List.{range_with_len}
 use Rattle.std.proofs.lemmas.Bool.{cases_eq, cases_lt}
 use Rattle.std.proofs.lemmas.List.{get_or-map, get_or_past, length-map, take-append-drop}
-use Rattle.std.proofs.lemmas.Option.{same_Some, slice_get_within, slice_get-get_or, get_or_from_slice_get}
+use Rattle.std.proofs.lemmas.Option.{same_Some, slice_get_within, slice_get-get_or}
 use mathlib.Core.Logic.{⊎_elim}
 use Rattle.kw_model.specs.Legal.{IsLegal, is_refusal}
 use Rattle.kw_model.specs.Map.{answers}
 use Rattle.kw_model.proofs.Answers.{answers_only}
-use Rattle.kw_model.specs.declared.call.Call.{Call}
-use Rattle.kw_model.specs.declared.call.Reply.{Reply}
 use Rattle.kw_world.specs.declared.event.Event.{Event}
 use Rattle.kw_world.specs.declared.opening.Opening.{Opening}
 use Rattle.kw_world.specs.Opening.{IsOpening}
@@ -28,7 +26,7 @@ use Rattle.kw_core.proofs.MirrorKeeps.{mirrors_hold}
 use Rattle.kw_core.proofs.Records.{seats_kept}
 use Rattle.kw_core.proofs.SeatCalls.{calls_apart}
 use Rattle.kw_core.proofs.SeatLists.{seen_by, seen_by-own}
-use Rattle.kw_order.specs.Legal.{IsLegalOrder, call_of, reply_of as order_reply, reply_or_done}
+use Rattle.kw_order.specs.Legal.{call_of, reply_of as order_reply, reply_or_done}
 use Rattle.kw_order.specs.Order.{IsOrder, IsPlaced}
 use Rattle.kw_order.specs.OrderLaws.{OrderLaws}
 use Rattle.kw_order.proofs.LegalOrder.{order_is_legal}

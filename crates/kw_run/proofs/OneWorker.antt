@@ -1,5 +1,5 @@
 -- What one worker answers, where no call is refused.
-use Rattle.std.proofs.Common.{◌≡◌, ℕ, zero, suc, ◌<◌, true, false, List, [], ◌∷◌, length, map, All, refl, sym, ap, ◌∙◌, subst, arith}
+use Rattle.std.proofs.Common.{◌≡◌, zero, suc, ◌<◌, false, List, [], ◌∷◌, length, map, All, refl, sym, ap, ◌∙◌, subst, arith}
 use Rattle.std.proofs.lemmas.List.{length-map}
 use Rattle.kw_model.specs.Legal.{is_refusal}
 use Rattle.kw_model.specs.Map.{answers}
@@ -18,7 +18,7 @@ use Rattle.kw_work.specs.declared.line.Line.{Line}
 use Rattle.kw_work.specs.Dealing.{lines_of, part}
 use Rattle.kw_work.proofs.Collected.{merge-one_worker, part-one_worker}
 use Rattle.kw_work.proofs.Numbers.{calls-lines_of, forms-lines_of}
-use Rattle.kw_run.specs.Recorded.{IsWithin, asked, asks, line_forms, no_call, recorded, reply_of, seat_calls}
+use Rattle.kw_run.specs.Recorded.{IsWithin, asked, asks, no_call, recorded, reply_of, seat_calls}
 use Rattle.kw_run.specs.Running.{Shows, is_refused}
 use Rattle.kw_run.proofs.OneSeat.{replies_are_answers}
 use Rattle.kw_run.proofs.Works.{as_many}

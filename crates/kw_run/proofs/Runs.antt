@@ -16,7 +16,7 @@ use Rattle.kw_work.specs.declared.line.Line.{Line}
 use Rattle.kw_work.specs.Dealing.{Dealt, part}
 use Rattle.kw_work.specs.Collecting.{merge}
 use Rattle.kw_work.proofs.Cuts.{lists, lists-push}
-use Rattle.kw_work.proofs.Merges.{merge-nil, merge-append}
+use Rattle.kw_work.proofs.Merges.{merge-append}
 use Rattle.kw_work.proofs.Shares.{part-nil, part-append}
 use Rattle.kw_run.specs.Recorded.{IsWithin, asked, asks, line_forms, no_call, printed, reply_of, seat_calls}
 use Rattle.kw_run.specs.Rounds.{Grew, more_calls}

@@ -1,12 +1,11 @@
 -- What one pass knows of its calls, in the list of events that all passes then have seen.
-use Rattle.std.proofs.Common.{◌≡◌, ℕ, ◌<◌, true, List, [], ◌++◌, length, drop, All, refl, sym, ap, ◌∙◌, subst, arith}
+use Rattle.std.proofs.Common.{◌≡◌, ℕ, true, List, ◌++◌, length, drop, All, refl, sym, ap, ◌∙◌, subst, arith}
 use Rattle.std.proofs.lemmas.List.{drop_at}
 use Rattle.std.proofs.lemmas.List.Elements.{All-weaker, All-same}
 use mathlib.Core.List.{IsPrefix}
 use Rattle.kw_world.specs.declared.event.Event.{Event}
 use Rattle.kw_world.specs.declared.local.Local.{Local}
 use Rattle.kw_world.specs.declared.opening.Opening.{Opening}
-use Rattle.kw_world.specs.Opening.{IsOpening}
 use Rattle.kw_world.specs.Sizes.{product}
 use Rattle.kw_core.specs.Events.{is_valid, of_seat}
 use Rattle.kw_core.specs.SeatCalls.{CallSeen, calls_seen}

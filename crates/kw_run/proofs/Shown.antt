@@ -1,18 +1,15 @@
 -- What the first of the passes shows once all blocks are answered.
-use Rattle.std.proofs.Common.{◌≡◌, ℕ, ◌<◌, List, [], ◌∷◌, length, slice_index_or, sym, ap, ◌∙◌, subst, arith}
+use Rattle.std.proofs.Common.{◌≡◌, List, [], ◌∷◌, sym, ap, ◌∙◌, subst}
 use Rattle.kw_core.specs.Events.{is_valid}
 use Rattle.kw_line.specs.declared.answer.Answer.{Answer}
 use Rattle.kw_line.specs.declared.item.Item.{Item}
 use Rattle.kw_line.specs.Answered.{answers_for}
-use Rattle.kw_line.specs.Line.{forms}
-use Rattle.kw_world.specs.declared.event.Event.{Event}
 use Rattle.kw_world.specs.declared.opening.Opening.{Opening}
 use Rattle.kw_world.specs.Sizes.{product}
 use Rattle.kw_table.specs.declared.pass.Pass.{Pass}
-use Rattle.kw_table.specs.Passes.{view, IsFresh}
+use Rattle.kw_table.specs.Passes.{view}
 use Rattle.kw_table.specs.Meetings.{front_seen}
 use Rattle.kw_map.specs.declared.kiwi.Kiwi.{Kiwi}
-use Rattle.kw_map.specs.Kiwi.{IsIdle}
 use Rattle.kw_work.specs.declared.line.Line.{Line}
 use Rattle.kw_work.specs.Dealing.{part, lines_of, blocks_of}
 use Rattle.kw_work.proofs.Numbers.{forms-lines_of, joined-blocks_of}

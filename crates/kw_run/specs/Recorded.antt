@@ -1,5 +1,5 @@
 -- What a list of events has recorded of the calls that lines make.
-use Rattle.std.specs.Prelude.{◌≡◌, ℕ, ◌<◌, ◌≤◌, List, [], map, Option, Some, None}
+use Rattle.std.specs.Prelude.{ℕ, ◌<◌, ◌≤◌, List, [], map, Option, Some, None}
 use Rattle.kw_model.specs.declared.call.Call.{Call}
 use Rattle.kw_model.specs.declared.call.Call.TheVariants.{Get}
 use Rattle.kw_model.specs.declared.call.Reply.{Reply}

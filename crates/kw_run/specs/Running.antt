@@ -1,5 +1,5 @@
 -- What a run shows in the list of events that its first pass has seen.
-use Rattle.std.specs.Prelude.{◌≡◌, ℕ, ◌<◌, ◌≤◌, Bool, true, false, List, [], ◌∷◌, length, take, drop, slice_index_or, All}
+use Rattle.std.specs.Prelude.{◌≡◌, ℕ, ◌<◌, ◌≤◌, Bool, true, false, List, length, take, drop, slice_index_or, All}
 use Rattle.std.specs.List.{flat_map}
 use Rattle.kw_core.specs.Events.{is_valid}
 use Rattle.kw_core.specs.SeatCalls.{CallSeen}
