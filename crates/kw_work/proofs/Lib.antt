@@ -6,6 +6,14 @@ pub mod Quieted
 pub mod Onces
 pub mod Collected
 pub mod Answering
+mod Cuts
+mod Shares
+mod Merges
+mod Numbers
+mod Quieted
+mod Onces
+mod Collected
+mod Answering
 pub mod LastShown
 pub mod Asked
 pub mod LineOrders
