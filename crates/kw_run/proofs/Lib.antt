@@ -10,3 +10,7 @@ pub mod Shown
 pub mod MapVec
 pub mod OneSeat
 pub mod OneWorker
+pub mod LineOrdersPlaces
+pub mod LineOrders
+pub mod AnswerForms
+pub mod Headlines
