@@ -1,20 +1,3 @@
-mod Cuts
-mod Shares
-mod Merges
-mod Numbers
-mod Quieted
-mod Onces
-mod Collected
-mod Answering
-mod LastShown
-mod Asked
-mod LineOrders
-mod QuietBlocks
-mod LineCalls
-mod QuietReplies
-mod WorkerOrders
-mod MadeCalls
-mod QuietItems
 pub mod Cuts
 pub mod Shares
 pub mod Merges
