@@ -1,23 +1,20 @@
 -- The replies to quiet items are those in the order of the items.
-use Rattle.std.proofs.Common.{ℕ, ◌≡◌, ◌+◌, ◌<◌, List, [], ◌∷◌, length, map, Some, true, ◌⊎◌, inl, inr, refl, sym, ap, ◌∙◌, subst, IsTrue}
-use Rattle.std.specs.List.{slice_get, flat_map, AllByRecursion}
+use Rattle.std.proofs.Common.{ℕ, ◌≡◌, ◌+◌, ◌<◌, List, [], ◌∷◌, length, map, Some, ◌⊎◌, inl, inr, sym, ap, ◌∙◌, subst, IsTrue}
+use Rattle.std.specs.List.{slice_get, AllByRecursion}
 use Rattle.std.specs.Option.{option_map}
 use Rattle.std.proofs.lemmas.List.{length-map}
 use Rattle.std.proofs.lemmas.List.Elements.{All-cons, All-nil}
 use Rattle.std.proofs.lemmas.Option.{same_Some, slice_get-map, slice_get_within}
 use Rattle.kw_model.specs.Map.{answers}
-use Rattle.kw_model.specs.Legal.{may_refuse, is_refusal}
-use Rattle.kw_model.specs.declared.call.Call.{Call}
+use Rattle.kw_model.specs.Legal.{may_refuse}
 use Rattle.kw_model.specs.declared.call.Reply.{Reply}
-use Rattle.kw_line.specs.declared.item.Form.{Form}
 use Rattle.kw_line.specs.declared.item.Item.{Item}
 use Rattle.kw_line.specs.declared.item.Item.TheVariants as item
 use Rattle.kw_line.specs.Line.{IsItem, IsCallOf, calls, forms}
-use Rattle.kw_line.specs.Answered.{is_update, is_range}
-use Rattle.kw_line.specs.Quiet.{quiet}
+use Rattle.kw_line.specs.Answered.{is_range}
 use Rattle.kw_work.specs.declared.line.Line.{Line}
 use Rattle.kw_work.specs.Dealing.{blocks_of, lines_of, line_at}
-use Rattle.kw_work.specs.LineOrder.{IsOrderOf, IsLegalIn, joined, calls_of, KeepsKeys, HaveForms, NoneRefused, IsAnswered, QuietAnswered, NoItemRefused, QuietItemsAnswered}
+use Rattle.kw_work.specs.LineOrder.{IsOrderOf, IsLegalIn, joined, calls_of, KeepsKeys, HaveForms, IsAnswered, QuietAnswered, NoItemRefused, QuietItemsAnswered}
 use Rattle.kw_work.proofs.Numbers.{calls-lines_of, forms-lines_of, joined-blocks_of}
 use Rattle.kw_work.proofs.Quieted.{quiet-blocks_of}
 use Rattle.kw_work.proofs.Asked.{element_at}
