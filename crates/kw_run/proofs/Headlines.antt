@@ -26,11 +26,14 @@ use Rattle.kw_work.proofs.LineOrders.{legal_in_line_order}
 use Rattle.kw_work.proofs.Numbers.{calls-lines_of, joined-blocks_of}
 use Rattle.kw_work.proofs.QuietItems.{quiet_items_answered}
 use Rattle.kw_work.proofs.WorkerOrders.{keeps_all, keeps_keys}
+use Rattle.kw_table.specs.declared.pass.Pass.{Pass}
 use Rattle.kw_table.specs.declared.pass.View.{View}
+use Rattle.kw_table.specs.Passes.{view}
 use Rattle.kw_run.specs.Recorded.{no_call, recorded, reply_of, seat_calls}
 use Rattle.kw_run.specs.Running.{is_refused, Shows}
 use Rattle.kw_run.specs.Headline.{Headline, HasOneOrder, UpdatesServed, QuietAnswered, AreRefusals, answers_to, line_calls}
 use Rattle.kw_run.proofs.AnswerForms.{MayBeRefused, answers_at, unrefused, range_refused, right_refusal}
+use Rattle.kw_run.proofs.Shown.{IfFirst}
 use Rattle.kw_run.proofs.Merging.{length-merge}
 use Rattle.kw_run.proofs.LineOrders.{AreOrdered, lines_ordered}
 
@@ -168,3 +171,8 @@ module _ (o : Opening) (items : List Item) (printed : List Answer) (v : View) (o
   -- all of it
   pub headline : Headline o v.seen items printed
   headline = record { order = one_order; alone = alone; quiet = quiet_answered; refusals = refusals }
+
+-- what the first of some passes shows is worth so much
+pub headline_first : (o : Opening) (items : List Item) (printed : List Answer) (ps : List Pass) → IsOpening product o → AllByRecursion IsItem items → IfFirst ps (λ p. Shows o items printed (view p)) → IfFirst ps (λ p. Headline o (view p).seen items printed)
+headline_first o items printed [] opening each shows = tt
+headline_first o items printed (p ∷ ps) opening each shows = headline o items printed (view p) opening each shows

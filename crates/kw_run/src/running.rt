@@ -11,6 +11,7 @@ ghost use Rattle.kw_map.specs.Kiwi.{IsOrdered};
 ghost use Rattle.kw_work.specs.Dealing.{IsLine};
 ghost use Rattle.kw_world.specs.Opening.{IsOpening};
 ghost use Rattle.kw_world.specs.Sizes.{product};
+ghost use Rattle.kw_run.specs.Headline.{Headline};
 ghost use Rattle.kw_run.specs.Rounds.{AreTogether};
 ghost use Rattle.kw_run.specs.Running.{Ran, Shows};
 
@@ -70,6 +71,7 @@ pub fn run_on_map<R: Threads + Sync, G: Gate + Sync>(
     requires items { AllByRecursion IsItem items.now }
     ensures shows { IfOk result (λ both. Shows (record { rows = rows; seats = workers; clock = 1; epoch = 1 }) items.now both.1.items (view both.0)) }
     ensures ordered { IfOk result (λ both. IsOrdered (view both.0)) }
+    ensures headline { IfOk result (λ both. Headline (record { rows = rows; seats = workers; clock = 1; epoch = 1 }) (view both.0).seen items.now both.1.items) }
 {
     let (kiwi, passes) = Kiwi::open(alloc, rows, workers)?;
     let blocks = deal(alloc, items, workers)?;
