@@ -8,8 +8,6 @@ pub mod CutPlaces
 pub mod Runs
 pub mod Shown
 pub mod MapVec
-pub mod OneSeat
-pub mod OneWorker
 pub mod LineOrdersPlaces
 pub mod LineOrders
 pub mod AnswerForms
