@@ -1,6 +1,6 @@
 -- Which command words mean, as a function of them: it gives just the command that the definition gives, and so words mean one command
 -- at most.
-use Rattle.std.proofs.Common.{◌≡◌, ℕ, Bool, true, false, cond, Option, Some, None, List, [], ◌∷◌, ◌++◌, codes, get_or, refl, sym, ◌∙◌, ap, subst}
+use Rattle.std.proofs.Common.{◌≡◌, ℕ, Bool, true, false, cond, Option, Some, None, List, [], ◌∷◌, ◌++◌, codes, drop, refl, sym, ◌∙◌, ap, subst}
 use Rattle.std.specs.Prelude.{MatchOption}
 use Rattle.std.specs.List.{flat_map, AllByRecursion}
 use Rattle.std.specs.Str.{bytes_eq}
@@ -12,7 +12,7 @@ use Rattle.kw_app.specs.declared.command.Name.TheVariants as name
 use Rattle.kw_app.specs.declared.command.TheConstants.{MOST_START, MOST_LINES}
 use Rattle.kw_app.specs.declared.words.Arguments.{Arguments}
 use Rattle.kw_app.specs.Words.{Part, number, workers, rows, part_words, numbers, number_in, AreNumbers, Makes, Means, command_word}
-use Rattle.kw_app.specs.Reading.{with_number, then_with, reads, no_arguments, name_of, picked}
+use Rattle.kw_app.specs.Reading.{with_number, then_with, reads, no_arguments, first_name, name_of, picked}
 use Rattle.kw_app.proofs.Meaning.{adds, cut_of}
 use Rattle.kw_app.proofs.Options.{IsPicked, picks, makes, command_name}
 
@@ -47,7 +47,7 @@ numbers_plain parts (command.Gen s n w r) h = are_plain (numbers parts) s n h.0
 
 -- ---- the words of parts are read as these parts
 
-reads-number : (o : Option Arguments) (w : List ℕ) (ws : List (List ℕ)) → IsPlain w → reads o (w ∷ ws) ≡ reads (then_with with_number o w) ws
+pub reads-number : (o : Option Arguments) (w : List ℕ) (ws : List (List ℕ)) → IsPlain w → reads o (w ∷ ws) ≡ reads (then_with with_number o w) ws
 reads-number o w [] h = refl
 reads-number o w (x ∷ ws) h = rw (h.0, h.1)
 
@@ -147,3 +147,17 @@ same_command ws c d h k =
 -- what holds of the command of words holds of each command that they mean
 pub at_command : (P : Command → Type 0) (ws : List (List ℕ)) (c d : Command) → Means ws c → Means ws d → P c → P d
 at_command P ws c d e f h = subst P (same_command ws c d e f) h
+
+-- ---- the meaning by the first word and the rest
+
+pub meaning_by : (ws : List (List ℕ)) (n : Name) (a : Arguments) → first_name ws ≡ Some n → reads (Some no_arguments) (drop 1 ws) ≡ Some a → meaning ws ≡ picked n a
+meaning_by [] n a e f = absurd cc
+meaning_by (w ∷ ws) n a e f = picked_meaning w ws n a e f
+
+pub no_meaning_by : (ws : List (List ℕ)) → reads (Some no_arguments) (drop 1 ws) ≡ None → meaning ws ≡ None
+no_meaning_by [] f = refl
+no_meaning_by (w ∷ ws) f = no_meaning w ws f
+
+pub no_name_meaning : (ws : List (List ℕ)) → first_name ws ≡ None → meaning ws ≡ None
+no_name_meaning [] f = refl
+no_name_meaning (w ∷ ws) f = ap (λ (n : Option Name). chosen n (reads (Some no_arguments) ws)) f

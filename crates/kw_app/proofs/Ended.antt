@@ -1,9 +1,10 @@
 -- Which inputs are bad: a good one has no bad line, and a bad one has one line that is told.
-use Rattle.std.proofs.Common.{◌≡◌, ℕ, ◌≤◌, ◌<◌, List, length, inl, inr, sym, ◌∙◌, subst, arith, Option, Some, None}
+use Rattle.std.proofs.Common.{◌≡◌, ℕ, Bool, ◌≤◌, ◌<◌, List, length, inl, inr, sym, ◌∙◌, subst, arith, Option, Some, None}
 use mathlib.Core.Logic.{⊎_elim}
 use Rattle.std.specs.Prelude.{IfSome}
 use Rattle.kw_line.specs.declared.parse.TheConstants.{MOST_BYTES}
 use Rattle.kw_line.proofs.Unique.{items_or_bad, same_bad}
+use Rattle.kw_table.specs.declared.pass.Pass.{Pass}
 use Rattle.kw_app.specs.declared.command.Command.{Command}
 use Rattle.kw_app.specs.declared.command.Command.TheVariants as command
 use Rattle.kw_app.specs.declared.outcome.Outcome.{Outcome}
@@ -12,10 +13,10 @@ use Rattle.kw_app.specs.Ends.{IsPrinted, IsFirstBad, IsBadInput, IsToldBad, Prin
 use Rattle.kw_app.proofs.Scripts.{commands_or_bad, same_bad_line}
 
 -- what has a text has no bad line
-printed_or_bad : (c : Command) (bytes printed : List ℕ) (at : ℕ) → IsPrinted c bytes printed → IsFirstBad c bytes at → ⊥
-printed_or_bad (command.Replay w r) bytes printed at good bad = items_or_bad bytes good.items at good.lines bad
-printed_or_bad (command.Simulate r) bytes printed at good bad = commands_or_bad r bytes good.commands at good.lines bad
-printed_or_bad (command.Gen s n w r) bytes printed at good bad = bad
+printed_or_bad : (c : Command) (front : Option Pass) (refused : Bool) (bytes printed : List ℕ) (at : ℕ) → IsPrinted c front refused bytes printed → IsFirstBad c bytes at → ⊥
+printed_or_bad (command.Replay w r) front refused bytes printed at good bad = items_or_bad bytes good.items at good.lines bad
+printed_or_bad (command.Simulate r) front refused bytes printed at good bad = commands_or_bad r bytes good.2.commands at good.2.lines bad
+printed_or_bad (command.Gen s n w r) front refused bytes printed at good bad = bad
 
 -- there is one first bad line at most
 one_bad : (c : Command) (bytes : List ℕ) (m n : ℕ) → IsFirstBad c bytes m → IsFirstBad c bytes n → m ≡ n
@@ -24,8 +25,8 @@ one_bad (command.Simulate r) bytes m n h k = same_bad_line r bytes m n h k
 one_bad (command.Gen s i w r) bytes m n h k = absurd h
 
 -- an input that has a text is not bad
-pub good_is_not_bad : (c : Command) (bytes printed : List ℕ) (outcome : Outcome) → length bytes ≤ MOST_BYTES → IsPrinted c bytes printed → IsToldBad c outcome bytes
-good_is_not_bad c bytes printed outcome short good at bad = absurd (⊎_elim (λ long. at_length long.0) (λ first. printed_or_bad c bytes printed at good first.1) bad.1)
+pub good_is_not_bad : (c : Command) (front : Option Pass) (refused : Bool) (bytes printed : List ℕ) (outcome : Outcome) → length bytes ≤ MOST_BYTES → IsPrinted c front refused bytes printed → IsToldBad c outcome bytes
+good_is_not_bad c front refused bytes printed outcome short good at bad = absurd (⊎_elim (λ long. at_length long.0) (λ first. printed_or_bad c front refused bytes printed at good first.1) bad.1)
   where
     at_length : MOST_BYTES < length bytes → ⊥
     at_length long = omega arith
@@ -49,8 +50,23 @@ pub told_of_left : (c : Command) (left : Option (List ℕ)) (bytes : List ℕ) (
 told_of_left c None bytes outcome e h = tt
 told_of_left c (Some all) bytes outcome e h = subst (IsToldBad c outcome) e h
 
+-- what is printed of the bytes that were read is printed of all that was left to read
+pub prints_of_left : (P : List ℕ → Type 0) (left : Option (List ℕ)) (bytes : List ℕ) → IfSome left (λ all. bytes ≡ all) → P bytes → IfSome left P
+prints_of_left P None bytes e h = tt
+prints_of_left P (Some all) bytes e h = subst P e h
+
+-- the text, the pass and whether a reply is a refusal, as the outcome has them
+pub prints : (c : Command) (front shown : Option Pass) (refused said : Bool) (Writes : List ℕ → Type 0) (bytes printed : List ℕ) → shown ≡ front → refused ≡ said → length bytes ≤ MOST_BYTES
+    → IsPrinted c front refused bytes printed → Writes printed → Prints c shown said Writes bytes
+prints c front shown refused said Writes bytes printed e h short is writes = record {
+  short = short;
+  printed = printed;
+  is_printed = subst (λ (x : Option Pass). IsPrinted c x said bytes printed) (sym e) (subst (λ (x : Bool). IsPrinted c front x bytes printed) h is);
+  writes = writes;
+}
+
 -- what is written of an input is what the command tells
-pub tells_of : (c : Command) (left : Option (List ℕ)) (Writes : List ℕ → Type 0) → Reads c → IfSome left (Prints c Writes) → Tells c left Writes
-tells_of (command.Replay w r) left Writes reads h = h
-tells_of (command.Simulate r) left Writes reads h = h
-tells_of (command.Gen s n w r) left Writes reads h = absurd reads
+pub tells_of : (c : Command) (left : Option (List ℕ)) (front : Option Pass) (refused : Bool) (Writes : List ℕ → Type 0) → Reads c → IfSome left (Prints c front refused Writes) → Tells c left front refused Writes
+tells_of (command.Replay w r) left front refused Writes reads h = h
+tells_of (command.Simulate r) left front refused Writes reads h = h
+tells_of (command.Gen s n w r) left front refused Writes reads h = absurd reads

@@ -4,6 +4,12 @@ pub mod Numbers
 pub mod Options
 pub mod Commands
 pub mod Ranges
+pub mod Walk
+pub mod Parsed
+pub mod Tokens
+pub mod Known
+pub mod Getters
+pub mod Means
 pub mod Lines
 pub mod Scripts
 pub mod Ended

@@ -69,31 +69,3 @@ cut_of o [] = record { parts = []; cut = refl; adds_are = refl }
 cut_of o (w ∷ []) = record { parts = number w ∷ []; cut = refl; adds_are = refl }
 cut_of o (w ∷ x ∷ ws) = cut_by o o w x ws (bytes_eq w (codes "--workers")) (bytes_eq w (codes "--rows")) refl refl
     (cut_of (then_with with_workers o x) ws) (cut_of (then_with with_rows o x) ws) (cut_of (then_with with_number o w) (x ∷ ws))
-
--- ---- what reading adds at each word
-
-two_words : {X : Type 0} (ws : List X) (w x : X) → 2 ≤ length ws → w ≡ get_or ws 0 w → x ≡ get_or ws 1 x → ws ≡ w ∷ x ∷ drop 2 ws
-two_words [] w x l e f = absurd (omega arith)
-two_words (a ∷ []) w x l e f = absurd (omega arith)
-two_words (a ∷ b ∷ ws) w x l e f = cc
-
-pub reads_workers : (o : Option Arguments) (ws : List (List ℕ)) (w x : List ℕ) → 2 ≤ length ws → w ≡ get_or ws 0 w → x ≡ get_or ws 1 x → w ≡ codes "--workers"
-    → reads o ws ≡ reads (then_with with_workers o x) (drop 2 ws)
-reads_workers o ws w x l e f h = ap (reads o) (two_words ws w x l e f ∙ ap (λ (v : List ℕ). v ∷ x ∷ drop 2 ws) h)
-
-pub reads_rows : (o : Option Arguments) (ws : List (List ℕ)) (w x : List ℕ) → 2 ≤ length ws → w ≡ get_or ws 0 w → x ≡ get_or ws 1 x → w ≡ codes "--rows"
-    → reads o ws ≡ reads (then_with with_rows o x) (drop 2 ws)
-reads_rows o ws w x l e f h = ap (reads o) (two_words ws w x l e f ∙ ap (λ (v : List ℕ). v ∷ x ∷ drop 2 ws) h)
-
-pub reads_number : (o : Option Arguments) (ws : List (List ℕ)) (w x : List ℕ) → 2 ≤ length ws → w ≡ get_or ws 0 w → x ≡ get_or ws 1 x → (w ≡ codes "--workers" → ⊥) → (w ≡ codes "--rows" → ⊥)
-    → reads o ws ≡ reads (then_with with_number o w) (drop 1 ws)
-reads_number o ws w x l e f h k =
-    let is : ws ≡ w ∷ x ∷ drop 2 ws = two_words ws w x l e f in
-    ap (reads o) is ∙ (at (bytes_eq w (codes "--workers")) refl (bytes_eq w (codes "--rows")) refl ∙ ap (λ (v : List (List ℕ)). reads (then_with with_number o w) (drop 1 v)) (sym is))
-  where
-    at : (p : Bool) → bytes_eq w (codes "--workers") ≡ p → (q : Bool) → bytes_eq w (codes "--rows") ≡ q
-        → cond p (reads (then_with with_workers o x) (drop 2 ws)) (cond q (reads (then_with with_rows o x) (drop 2 ws)) (reads (then_with with_number o w) (x ∷ drop 2 ws)))
-        ≡ reads (then_with with_number o w) (x ∷ drop 2 ws)
-    at true e q f = absurd (h ((bytes_eq-Decides w (codes "--workers")).0 e))
-    at false e true f = absurd (k ((bytes_eq-Decides w (codes "--rows")).0 f))
-    at false e false f = refl

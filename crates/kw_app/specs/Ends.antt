@@ -1,5 +1,5 @@
 -- What an input must be for a run to end in each way.
-use Rattle.std.specs.Prelude.{ℕ, ◌≡◌, ◌≤◌, ◌<◌, ◌⊎◌, List, length, Option, IfSome, Result, Ok, Err}
+use Rattle.std.specs.Prelude.{ℕ, Bool, false, ◌≡◌, ◌≤◌, ◌<◌, ◌⊎◌, List, length, Option, None, IfSome, Result, Ok, Err}
 use Rattle.kw_line.specs.declared.parse.TheConstants.{MOST_BYTES}
 use Rattle.kw_line.specs.Line as line
 use Rattle.kw_sim.specs.Output.{IsOutputOf}
@@ -10,6 +10,7 @@ use Rattle.kw_app.specs.declared.text.InputError.{InputError}
 use Rattle.kw_app.specs.declared.text.InputError.TheVariants as error
 use Rattle.kw_app.specs.declared.outcome.Outcome.{Outcome}
 use Rattle.kw_app.specs.declared.outcome.Status.TheVariants as status
+use Rattle.kw_table.specs.declared.pass.Pass.{Pass}
 use Rattle.kw_app.specs.Replay.{IsReplayed}
 use Rattle.kw_app.specs.Load.{load_text}
 
@@ -19,11 +20,12 @@ Reads (command.Replay w r) = Unit {0}
 Reads (command.Simulate r) = Unit {0}
 Reads (command.Gen s n w r) = ⊥
 
--- the text that a command prints of these bytes, each line of which is in its grammar
-abbrev pub IsPrinted : Command → List ℕ → List ℕ → Type 0
-IsPrinted (command.Replay w r) bytes printed = IsReplayed bytes printed
-IsPrinted (command.Simulate r) bytes printed = IsOutputOf r bytes printed
-IsPrinted (command.Gen s n w r) bytes printed = ⊥
+-- the text that a command prints of these bytes, each line of which is in its grammar; the pass that shows the run of `replay` on the
+-- concurrent map; and whether a reply is a refusal
+abbrev pub IsPrinted : Command → Option Pass → Bool → List ℕ → List ℕ → Type 0
+IsPrinted (command.Replay w r) front refused bytes printed = IsReplayed w r bytes printed front refused
+IsPrinted (command.Simulate r) front refused bytes printed = (front ≡ None) × (refused ≡ false) × IsOutputOf r bytes printed
+IsPrinted (command.Gen s n w r) front refused bytes printed = ⊥
 
 -- this line of the bytes, counted from 1, is the first that is not in the command's grammar
 abbrev pub IsFirstBad : Command → List ℕ → ℕ → Type 0
@@ -42,17 +44,17 @@ abbrev pub IsBadInput : Command → ℕ → List ℕ → Type 0
 IsBadInput command at bytes = Reads command × (((MOST_BYTES < length bytes) × (at ≡ 0)) ⊎ ((length bytes ≤ MOST_BYTES) × IsFirstBad command bytes at))
 
 -- the input is good, and the text that the command prints of it was written, whole or in part
-pub record Prints (command : Command) (Writes : List ℕ → Type 0) (bytes : List ℕ) : Type 0 where
+pub record Prints (command : Command) (front : Option Pass) (refused : Bool) (Writes : List ℕ → Type 0) (bytes : List ℕ) : Type 0 where
   pub short : length bytes ≤ MOST_BYTES
   pub printed : List ℕ
-  pub is_printed : IsPrinted command bytes printed
+  pub is_printed : IsPrinted command front refused bytes printed
   pub writes : Writes printed
 
 -- the text of the command was written in this way: of what was left to read, where the source tells that, or of no input
-abbrev pub Tells : Command → Option (List ℕ) → (List ℕ → Type 0) → Type 0
-Tells (command.Replay w r) left Writes = IfSome left (Prints (command.Replay w r) Writes)
-Tells (command.Simulate r) left Writes = IfSome left (Prints (command.Simulate r) Writes)
-Tells (command.Gen s n w r) left Writes = Writes (load_text s n)
+abbrev pub Tells : Command → Option (List ℕ) → Option Pass → Bool → (List ℕ → Type 0) → Type 0
+Tells (command.Replay w r) left front refused Writes = IfSome left (Prints (command.Replay w r) front refused Writes)
+Tells (command.Simulate r) left front refused Writes = IfSome left (Prints (command.Simulate r) front refused Writes)
+Tells (command.Gen s n w r) left front refused Writes = (front ≡ None) × (refused ≡ false) × Writes (load_text s n)
 
 -- the outcome names this line of bad input, or a read failed before, or memory was wanted
 abbrev pub TellsBad : Outcome → ℕ → Type 0

@@ -1,5 +1,6 @@
 pub mod Words
 pub mod Reading
+pub mod Clap
 pub mod Status
 pub mod Shown
 pub mod Replay

@@ -53,6 +53,11 @@ name_of w = if bytes_eq w (codes "replay") then Some name.Replay
     else (if bytes_eq w (codes "simulate") then Some name.Simulate
     else (if bytes_eq w (codes "gen") then Some name.Gen else None))
 
+-- the command whose own word is the first of these
+abbrev pub first_name : List (List ℕ) → Option Name
+first_name [] = None
+first_name (w ∷ ws) = name_of w
+
 -- the command of this name, where it takes just these arguments
 abbrev pub picked_from : Name → Option ℕ → Option ℕ → Option ℕ → Option ℕ → Option Command
 picked_from name.Replay None None w r = Some (command.Replay (unwrap_or w DEFAULT_WORKERS) (unwrap_or r DEFAULT_ROWS))

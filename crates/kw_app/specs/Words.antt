@@ -1,7 +1,8 @@
 -- Which lists of words are commands. A word is seen as its bytes.
-use Rattle.std.specs.Prelude.{ℕ, Bool, ◌≡◌, ◌≤◌, ◌&&◌, if◌then◌else◌, nat_le, nat_lt, List, [], ◌∷◌, Option, Some, None, codes, length}
+use Rattle.std.specs.Prelude.{ℕ, Bool, ◌≡◌, ◌≤◌, ◌&&◌, ◌||◌, if◌then◌else◌, nat_le, nat_lt, List, [], ◌∷◌, Option, Some, None, codes, length}
 use Rattle.std.specs.List.{flat_map, list_all}
 use Rattle.std.specs.Char.{is_ascii_digit}
+use Rattle.std.specs.Str.{bytes_eq}
 use Rattle.std.specs.Str.Parse.{digits_value}
 use Rattle.kw_words.specs.declared.sizes.TheConstants.{MOST_ROWS}
 use Rattle.kw_app.specs.declared.command.Command.{Command}
@@ -45,6 +46,11 @@ all_rows (rows w ∷ parts) = w ∷ all_rows parts
 -- the word is one digit to ten, of which the first may be 0
 abbrev pub is_digits : List ℕ → Bool
 is_digits w = list_all is_ascii_digit w && (nat_lt 0 (length w) && nat_le (length w) MOST_DIGITS)
+
+-- the word is a command's own, the name of an option, or digits; every other word is bad wherever it stands
+abbrev pub is_known : List ℕ → Bool
+is_known w = bytes_eq w (codes "replay") || (bytes_eq w (codes "simulate") || (bytes_eq w (codes "gen")
+    || (bytes_eq w (codes "--workers") || (bytes_eq w (codes "--rows") || is_digits w))))
 
 -- the number that a word of digits writes, where it is in range
 abbrev pub number_in : ℕ → ℕ → List ℕ → Option ℕ

@@ -3,14 +3,16 @@
 //! A command is the whole list of its words: its own word first, and then numbers and options, each option at most once.
 //! `specs/Words.antt` says which lists these are. Every other list is bad words, the empty one among them. What stands after
 //! the first word is read by `words`; here the first word is read, and what its command takes of the rest is picked.
-ghost use Rattle.std.specs.Prelude.{◌≡◌, IfSome, MatchOption};
+ghost use Rattle.std.specs.Prelude.{◌≡◌, IfOk, IfSome, MatchOption};
 ghost use Rattle.kw_app.specs.declared.command.Command.{Command as AnyCommand};
 ghost use Rattle.kw_app.specs.Words.{AreInRange, Means};
-ghost use Rattle.kw_app.specs.Reading.{name_of, picked};
+ghost use Rattle.kw_app.specs.Reading.{first_name, name_of, picked};
 
 use crate::word::Word;
-use crate::words::{Arguments, arguments_of};
+use crate::words::{Arguments, are_known, arguments_of};
+use kw_model::memory::Memory;
 use kw_words::sizes::SEAT_COUNT;
+use std::alloc::Global;
 
 /// The most workers that may be asked for.
 pub const MOST_WORKERS: u32 = SEAT_COUNT;
@@ -63,13 +65,27 @@ pub enum Name {
 }
 
 /// The command that these words mean, or none where they are bad.
-pub fn command_of(words: &[Word]) -> Option<Command>
-    ensures meant { MatchOption result ((command : AnyCommand) → Means words.now command → ⊥) (Means words.now) }
-    ensures range { IfSome result AreInRange }
+pub fn command_of(alloc: Global, words: &[Word]) -> Result<Option<Command>, Memory>
+    ensures meant { IfOk result (λ found. MatchOption found ((command : AnyCommand) → Means words.now command → ⊥) (Means words.now)) }
+    ensures range { IfOk result (λ found. IfSome found AreInRange) }
 {
-    let (first, rest) = words.split_first()?;
-    let name = name_of(first.text())?;
-    picked(name, arguments_of(rest, Arguments::new())?)
+    let Some(name) = first_name(words) else {
+        return Ok(None);
+    };
+    if !are_known(words) {
+        return Ok(None);
+    }
+    match arguments_of(alloc, words)? {
+        Some(arguments) => Ok(picked(name, arguments)),
+        None => Ok(None),
+    }
+}
+
+/// The command whose own word is the first one.
+fn first_name(words: &[Word]) -> Option<Name>
+    ensures { result ≡ first_name words.now }
+{
+    name_of(words.first()?.text())
 }
 
 /// The command whose own word this is.

@@ -3,7 +3,7 @@
 //! This module holds `main` alone, the trusted edge: it gathers the words of the command line, hands the process's streams to
 //! [`run::run`], says a fault on standard error, and ends with the outcome's status. All that is promised of the program stands
 //! on the contract of `run`; the modules below it read the command's words (`word`, `words`, `command`), make the text of an input's
-//! replies (`text`, `replay`, `ask`) or the summary of a generated load (`load`, `generate`, `summary`), and say how a run ended
+//! replies (`text`, `printed`, `replay`, `ask`) or the summary of a generated load (`load`, `generate`, `summary`), and say how a run ended
 //! (`outcome`, `fault`).
 #![tactic(auto)]
 
@@ -13,6 +13,7 @@ mod fault;
 mod generate;
 mod load;
 mod outcome;
+mod printed;
 mod replay;
 mod run;
 mod summary;
@@ -27,6 +28,7 @@ use crate::outcome::{Outcome, Status};
 use crate::run::run;
 use crate::word::Word;
 use kw_io::{ErrSink, StdSink, StdSource};
+use kw_run::working::NoGate;
 use std::alloc::AllocError;
 use std::process::ExitCode;
 use std::{env, io};
@@ -36,7 +38,7 @@ fn main(rt: HostRuntime) -> ExitCode {
         Ok(words) => {
             let mut source = StdSource::new(&rt);
             let mut sink = StdSink::new(&rt);
-            run(rt.alloc(), &words, &mut source, &mut sink)
+            run(&rt, rt.alloc(), &words, &mut source, &mut sink, &NoGate)
         }
         Err(status) => Outcome::of(status),
     };

@@ -1,9 +1,11 @@
 //! How a run of the program ends.
-ghost use Rattle.std.specs.Prelude.{◌≡◌};
+ghost use Rattle.std.specs.Prelude.{◌≡◌, None};
 ghost use Rattle.kw_app.specs.Status.{status_code};
 
+use kw_table::Pass;
+
 /// How a run ended. The causes are tested in this order: bad words, a read fault, bad input, a write fault; want of memory may
-/// come at any place before the first byte is written.
+/// come at any place before the first byte is written. Refused calls are told last, since they are no fault of the run.
 #[derive(Clone, Copy, Debug, PartialEq, Eq)]
 pub enum Status {
     /// The whole text was written.
@@ -18,6 +20,8 @@ pub enum Status {
     WriteFault = 5,
     /// Memory was wanted and not found. Nothing was written.
     OutOfMemory = 6,
+    /// The whole text was written, and a call was refused.
+    Refused = 8,
 }
 
 impl Status {
@@ -31,29 +35,38 @@ impl Status {
 
 /// The end of a run: its status, and for bad input the first bad line, counted from 1, or 0 for an input that is too long. The
 /// line is 0 at every other status.
-#[derive(Clone, Copy, Debug, PartialEq, Eq)]
+#[derive(Drop)]
 pub struct Outcome {
     pub status: Status,
     pub line: u32,
+    /// The pass that has seen all events of the run, where the replies came from the concurrent map. No bytes of the text depend on it.
+    pub front: Option<Pass>,
 }
 
 impl Outcome {
-    /// The end with this status and no line.
+    /// The end with this status, no line and no pass.
     pub fn of(status: Status) -> Outcome
         ensures status { result.status ≡ status }
         ensures line { result.line ≡ 0 }
+        ensures front { result.front ≡ None }
     {
-        Outcome { status, line: 0 }
+        Outcome {
+            status,
+            line: 0,
+            front: None,
+        }
     }
 
     /// The end with bad input, whose first bad line is this one, or 0 where it is too long.
     pub fn bad_input(line: u32) -> Outcome
         ensures status { result.status ≡ Status.BadInput }
         ensures line { result.line ≡ line }
+        ensures front { result.front ≡ None }
     {
         Outcome {
             status: Status::BadInput,
             line,
+            front: None,
         }
     }
 }

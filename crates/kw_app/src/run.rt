@@ -2,7 +2,7 @@
 //!
 //! Everything the program promises is a clause of [`run`]. It is generic in the source and the sink, so the same clauses hold of
 //! the process's streams, of whose bytes nothing is known, and of streams in memory, whose bytes the clauses name.
-ghost use Rattle.std.specs.Prelude.{◌≡◌, ◌≢◌, ◌≤◌, ◌↔◌, ◌⊎◌, length, IfSome};
+ghost use Rattle.std.specs.Prelude.{◌≡◌, ◌≢◌, ◌≤◌, ◌⊎◌, Bool, true, false, None, length, IfSome};
 ghost use Rattle.std.specs.Io.KnownBytes.{Appends};
 ghost use Rattle.kw_io.specs.Bytes.{AppendsPrefix};
 ghost use Rattle.kw_io.specs.Counts.{CountRose};
@@ -14,36 +14,47 @@ ghost use Rattle.kw_app.specs.Ends.{IsBadInput, IsToldBad, Prints, Reads, Tells}
 use crate::command::{Command, command_of};
 use crate::load::load;
 use crate::outcome::{Outcome, Status};
+use crate::printed::Printed;
 use crate::text::{InputError, text_of};
 use crate::word::Word;
 use kw_io::{ReadError, Sink, Source, read_all, write_all};
 use kw_line::parse::MOST_BYTES;
+use kw_run::working::Gate;
 use std::alloc::Global;
+use std::thread::Threads;
 
 /// How many bytes an input may have, as a limit of reading.
 const READ_LIMIT: u32 = MOST_BYTES as u32;
 
-/// Runs the command of these words. One that has an input reads the source to its end and, where each line is in the command's
+/// Runs the command of these words, `replay` by as many workers beside each other as it asks for; the gate is told of their lines. A
+/// command that has an input reads the source to its end and, where each line is in the command's
 /// grammar, writes the text that it prints to the sink after the last call; `gen` reads nothing and writes its summary.
 ///
 /// The statuses are tested in the order of [`Status`]'s description. Want of memory is free, and leaves the sink as it was.
-pub fn run<S: Source, K: Sink>(
+pub fn run<R: Threads + Sync, S: Source, K: Sink, G: Gate + Sync>(
+    rt: &R,
     alloc: Global,
     words: &[Word],
     source: &mut S,
     sink: &mut K,
+    gate: &G,
 ) -> Outcome
-    // The text of the command was written, whole or up to a fault: for `replay` the replies of the ordered map of one thread to
-    // the lines in order, for `simulate` the output of the script, for `gen` the summary of that map's replies to the lines it made.
+    // The text of the command was written, whole or up to a fault: for `replay` the replies to the lines in order, for `simulate` the
+    // output of the script, for `gen` the summary of the ordered map's replies to the lines it made. The replies of `replay` come from
+    // the concurrent map where the lines that set a value or take a key away fit one row. The pass in `front` then shows the run, for
+    // any number of workers, and the replies are those of one thread in an order of the lines that keeps what came before what.
     ensures done { result.status ≡ Status.Done → (command : AnyCommand) → Means words.now command →
-        Tells command (S.left source.old) (Appends (K.written sink.old) (K.written sink.new)) }
+        Tells command (S.left source.old) result.front false (Appends (K.written sink.old) (K.written sink.new)) }
+    ensures refused { result.status ≡ Status.Refused → (command : AnyCommand) → Means words.now command →
+        Tells command (S.left source.old) result.front true (Appends (K.written sink.old) (K.written sink.new)) }
     ensures cut_short { result.status ≡ Status.WriteFault → (command : AnyCommand) → Means words.now command →
-        Tells command (S.left source.old) (AppendsPrefix (K.written sink.old) (K.written sink.new)) }
+        (refused : Bool) × Tells command (S.left source.old) result.front refused (AppendsPrefix (K.written sink.old) (K.written sink.new)) }
     ensures write_fault { result.status ≡ Status.WriteFault → CountRose (K.faults sink.old) (K.faults sink.new) }
 
-    // Nothing was written at every other status, and each has its cause.
-    ensures unwritten { result.status ≢ Status.Done → result.status ≢ Status.WriteFault → sink.new ≡ sink.old }
-    ensures bad_words { (result.status ≡ Status.BadWords) ↔ ((command : AnyCommand) → Means words.now command → ⊥) }
+    // Nothing was written at every other status, and none of the run is shown; each has its cause.
+    ensures unwritten { result.status ≢ Status.Done → result.status ≢ Status.Refused → result.status ≢ Status.WriteFault → sink.new ≡ sink.old }
+    ensures no_front { result.status ≢ Status.Done → result.status ≢ Status.Refused → result.status ≢ Status.WriteFault → result.front ≡ None }
+    ensures bad_words { result.status ≡ Status.BadWords → (command : AnyCommand) → Means words.now command → ⊥ }
     ensures unread { result.status ≡ Status.BadWords → source.new ≡ source.old }
     ensures read_fault { result.status ≡ Status.ReadFault → CountRose (S.faults source.old) (S.faults source.new) }
     ensures bad_input { result.status ≡ Status.BadInput → (command : AnyCommand) → Means words.now command →
@@ -51,37 +62,79 @@ pub fn run<S: Source, K: Sink>(
     ensures reads_nothing { (command : AnyCommand) → Means words.now command → (Reads command → ⊥) →
         (source.new ≡ source.old) × (result.status ≢ Status.ReadFault) × (result.status ≢ Status.BadInput) }
 
+    // Bad words are told before anything is read, unless memory was wanted.
+    ensures told_words { ((command : AnyCommand) → Means words.now command → ⊥) →
+        (source.new ≡ source.old) × ((result.status ≡ Status.BadWords) ⊎ (result.status ≡ Status.OutOfMemory)) }
+
     // Bad input is told, and its first bad line, unless a read failed before or memory was wanted.
     ensures told { (command : AnyCommand) → Means words.now command → IfSome (S.left source.old) (IsToldBad command result) }
     ensures no_line { result.status ≢ Status.BadInput → result.line ≡ 0 }
     ensures source_count { S.faults source.old ≤ S.faults source.new }
     ensures sink_count { K.faults sink.old ≤ K.faults sink.new }
 {
-    let Some(command) = command_of(words) else {
-        return Outcome::of(Status::BadWords);
-    };
+    match command_of(alloc, words) {
+        Ok(Some(command)) => run_command(rt, alloc, command, source, sink, gate),
+        Ok(None) => Outcome::of(Status::BadWords),
+        Err(_) => Outcome::of(Status::OutOfMemory),
+    }
+}
+
+/// Runs a command.
+fn run_command<R: Threads + Sync, S: Source, K: Sink, G: Gate + Sync>(
+    rt: &R,
+    alloc: Global,
+    command: Command,
+    source: &mut S,
+    sink: &mut K,
+    gate: &G,
+) -> Outcome
+    requires { AreInRange command }
+    ensures done { result.status ≡ Status.Done →
+        Tells command (S.left source.old) result.front false (Appends (K.written sink.old) (K.written sink.new)) }
+    ensures refused { result.status ≡ Status.Refused →
+        Tells command (S.left source.old) result.front true (Appends (K.written sink.old) (K.written sink.new)) }
+    ensures cut_short { result.status ≡ Status.WriteFault →
+        (refused : Bool) × Tells command (S.left source.old) result.front refused (AppendsPrefix (K.written sink.old) (K.written sink.new)) }
+    ensures write_fault { result.status ≡ Status.WriteFault → CountRose (K.faults sink.old) (K.faults sink.new) }
+    ensures unwritten { result.status ≢ Status.Done → result.status ≢ Status.Refused → result.status ≢ Status.WriteFault → sink.new ≡ sink.old }
+    ensures no_front { result.status ≢ Status.Done → result.status ≢ Status.Refused → result.status ≢ Status.WriteFault → result.front ≡ None }
+    ensures words { result.status ≢ Status.BadWords }
+    ensures read_fault { result.status ≡ Status.ReadFault → CountRose (S.faults source.old) (S.faults source.new) }
+    ensures bad_input { result.status ≡ Status.BadInput → IfSome (S.left source.old) (IsBadInput command result.line) }
+    ensures reads_nothing { (Reads command → ⊥) →
+        (source.new ≡ source.old) × (result.status ≢ Status.ReadFault) × (result.status ≢ Status.BadInput) }
+    ensures told { IfSome (S.left source.old) (IsToldBad command result) }
+    ensures no_line { result.status ≢ Status.BadInput → result.line ≡ 0 }
+    ensures source_count { S.faults source.old ≤ S.faults source.new }
+    ensures sink_count { K.faults sink.old ≤ K.faults sink.new }
+{
     match command {
-        Command::Replay { .. } => read_and_answer(alloc, command, source, sink),
-        Command::Simulate { .. } => read_and_answer(alloc, command, source, sink),
+        Command::Replay { .. } => read_and_answer(rt, alloc, command, source, sink, gate),
+        Command::Simulate { .. } => read_and_answer(rt, alloc, command, source, sink, gate),
         Command::Gen { start, count, .. } => answer_load(alloc, start, count, sink),
     }
 }
 
 /// Runs a command that reads an input.
-fn read_and_answer<S: Source, K: Sink>(
+fn read_and_answer<R: Threads + Sync, S: Source, K: Sink, G: Gate + Sync>(
+    rt: &R,
     alloc: Global,
     command: Command,
     source: &mut S,
     sink: &mut K,
+    gate: &G,
 ) -> Outcome
     requires reads { Reads command }
     requires range { AreInRange command }
     ensures done { result.status ≡ Status.Done →
-        IfSome (S.left source.old) (Prints command (Appends (K.written sink.old) (K.written sink.new))) }
+        IfSome (S.left source.old) (Prints command result.front false (Appends (K.written sink.old) (K.written sink.new))) }
+    ensures refused { result.status ≡ Status.Refused →
+        IfSome (S.left source.old) (Prints command result.front true (Appends (K.written sink.old) (K.written sink.new))) }
     ensures cut_short { result.status ≡ Status.WriteFault →
-        IfSome (S.left source.old) (Prints command (AppendsPrefix (K.written sink.old) (K.written sink.new))) }
+        (refused : Bool) × IfSome (S.left source.old) (Prints command result.front refused (AppendsPrefix (K.written sink.old) (K.written sink.new))) }
     ensures write_fault { result.status ≡ Status.WriteFault → CountRose (K.faults sink.old) (K.faults sink.new) }
-    ensures unwritten { result.status ≢ Status.Done → result.status ≢ Status.WriteFault → sink.new ≡ sink.old }
+    ensures unwritten { result.status ≢ Status.Done → result.status ≢ Status.Refused → result.status ≢ Status.WriteFault → sink.new ≡ sink.old }
+    ensures no_front { result.status ≢ Status.Done → result.status ≢ Status.Refused → result.status ≢ Status.WriteFault → result.front ≡ None }
     ensures words { result.status ≢ Status.BadWords }
     ensures read_fault { result.status ≡ Status.ReadFault → CountRose (S.faults source.old) (S.faults source.new) }
     ensures bad_input { result.status ≡ Status.BadInput → IfSome (S.left source.old) (IsBadInput command result.line) }
@@ -91,7 +144,7 @@ fn read_and_answer<S: Source, K: Sink>(
     ensures sink_count { K.faults sink.old ≤ K.faults sink.new }
 {
     match read_all(alloc, source, READ_LIMIT) {
-        Ok(bytes) => answer(alloc, command, &bytes, sink),
+        Ok(bytes) => answer(rt, alloc, command, &bytes, sink, gate),
         Err(ReadError::Fault) => Outcome::of(Status::ReadFault),
         Err(ReadError::Long) => Outcome::bad_input(0),
         Err(ReadError::Memory) => Outcome::of(Status::OutOfMemory),
@@ -99,15 +152,26 @@ fn read_and_answer<S: Source, K: Sink>(
 }
 
 /// Answers an input that was read to its end.
-fn answer<K: Sink>(alloc: Global, command: Command, bytes: &[u8], sink: &mut K) -> Outcome
+fn answer<R: Threads + Sync, K: Sink, G: Gate + Sync>(
+    rt: &R,
+    alloc: Global,
+    command: Command,
+    bytes: &[u8],
+    sink: &mut K,
+    gate: &G,
+) -> Outcome
     requires reads { Reads command }
     requires range { AreInRange command }
     requires short { length bytes.now ≤ MOST_BYTES }
-    ensures done { result.status ≡ Status.Done → Prints command (Appends (K.written sink.old) (K.written sink.new)) bytes.now }
+    ensures done { result.status ≡ Status.Done →
+        Prints command result.front false (Appends (K.written sink.old) (K.written sink.new)) bytes.now }
+    ensures refused { result.status ≡ Status.Refused →
+        Prints command result.front true (Appends (K.written sink.old) (K.written sink.new)) bytes.now }
     ensures cut_short { result.status ≡ Status.WriteFault →
-        Prints command (AppendsPrefix (K.written sink.old) (K.written sink.new)) bytes.now }
+        (refused : Bool) × Prints command result.front refused (AppendsPrefix (K.written sink.old) (K.written sink.new)) bytes.now }
     ensures write_fault { result.status ≡ Status.WriteFault → CountRose (K.faults sink.old) (K.faults sink.new) }
-    ensures unwritten { result.status ≢ Status.Done → result.status ≢ Status.WriteFault → sink.new ≡ sink.old }
+    ensures unwritten { result.status ≢ Status.Done → result.status ≢ Status.Refused → result.status ≢ Status.WriteFault → sink.new ≡ sink.old }
+    ensures no_front { result.status ≢ Status.Done → result.status ≢ Status.Refused → result.status ≢ Status.WriteFault → result.front ≡ None }
     ensures words { result.status ≢ Status.BadWords }
     ensures read { result.status ≢ Status.ReadFault }
     ensures bad_input { result.status ≡ Status.BadInput → IsBadInput command result.line bytes.now }
@@ -115,8 +179,8 @@ fn answer<K: Sink>(alloc: Global, command: Command, bytes: &[u8], sink: &mut K) 
     ensures no_line { result.status ≢ Status.BadInput → result.line ≡ 0 }
     ensures sink_count { K.faults sink.old ≤ K.faults sink.new }
 {
-    match text_of(alloc, command, bytes) {
-        Ok(text) => written(&text, sink),
+    match text_of(rt, alloc, command, bytes, gate) {
+        Ok(printed) => written(printed, sink),
         Err(InputError::Bad { line }) => Outcome::bad_input(line),
         Err(InputError::Memory) => Outcome::of(Status::OutOfMemory),
     }
@@ -129,6 +193,8 @@ fn answer_load<K: Sink>(alloc: Global, start: u32, count: u32, sink: &mut K) -> 
         AppendsPrefix (K.written sink.old) (K.written sink.new) (load_text start count) }
     ensures write_fault { result.status ≡ Status.WriteFault → CountRose (K.faults sink.old) (K.faults sink.new) }
     ensures unwritten { result.status ≢ Status.Done → result.status ≢ Status.WriteFault → sink.new ≡ sink.old }
+    ensures front { result.front ≡ None }
+    ensures served { result.status ≢ Status.Refused }
     ensures words { result.status ≢ Status.BadWords }
     ensures read { result.status ≢ Status.ReadFault }
     ensures input { result.status ≢ Status.BadInput }
@@ -136,22 +202,38 @@ fn answer_load<K: Sink>(alloc: Global, start: u32, count: u32, sink: &mut K) -> 
     ensures sink_count { K.faults sink.old ≤ K.faults sink.new }
 {
     match load(alloc, start, count) {
-        Ok(text) => written(&text, sink),
+        Ok(text) => written(Printed::of(text), sink),
         Err(_) => Outcome::of(Status::OutOfMemory),
     }
 }
 
 /// Writes the text of a command, and says how that ended.
-fn written<K: Sink>(text: &[u8], sink: &mut K) -> Outcome
-    ensures done { result.status ≡ Status.Done → Appends (K.written sink.old) (K.written sink.new) text.now }
-    ensures cut_short { result.status ≡ Status.WriteFault → AppendsPrefix (K.written sink.old) (K.written sink.new) text.now }
+fn written<K: Sink>(printed: Printed, sink: &mut K) -> Outcome
+    ensures done { result.status ≡ Status.Done →
+        (printed.refused ≡ false) × Appends (K.written sink.old) (K.written sink.new) printed.text.items }
+    ensures refused { result.status ≡ Status.Refused →
+        (printed.refused ≡ true) × Appends (K.written sink.old) (K.written sink.new) printed.text.items }
+    ensures cut_short { result.status ≡ Status.WriteFault →
+        AppendsPrefix (K.written sink.old) (K.written sink.new) printed.text.items }
     ensures write_fault { result.status ≡ Status.WriteFault → CountRose (K.faults sink.old) (K.faults sink.new) }
-    ensures status { (result.status ≡ Status.Done) ⊎ (result.status ≡ Status.WriteFault) }
+    ensures status { (result.status ≡ Status.Done) ⊎ ((result.status ≡ Status.Refused) ⊎ (result.status ≡ Status.WriteFault)) }
+    ensures front { result.front ≡ printed.front }
     ensures no_line { result.line ≡ 0 }
     ensures sink_count { K.faults sink.old ≤ K.faults sink.new }
 {
-    match write_all(sink, text) {
-        Ok(()) => Outcome::of(Status::Done),
-        Err(_) => Outcome::of(Status::WriteFault),
+    let Printed {
+        text,
+        refused,
+        front,
+    } = printed;
+    let status = match write_all(sink, &text) {
+        Ok(()) if refused => Status::Refused,
+        Ok(()) => Status::Done,
+        Err(_) => Status::WriteFault,
+    };
+    Outcome {
+        status,
+        line: 0,
+        front,
     }
 }

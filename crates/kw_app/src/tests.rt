@@ -4,9 +4,11 @@ use crate::outcome::{Outcome, Status};
 use crate::run::run;
 use crate::word::Word;
 use kw_io::{MemSink, MemSource};
+use kw_run::working::NoGate;
 use std::alloc::{AllocError, Global};
 use std::process::Abort;
 use std::test::Fail;
+use std::thread::Threads;
 
 const ROOM: u32 = 65_536;
 
@@ -26,7 +28,8 @@ fn words(alloc: Global, texts: &[&str]) -> Result<Vec<Word>, AllocError> {
 }
 
 /// Runs these words on an input of which the reads with these numbers fail, and a sink with this room.
-fn ran(
+fn ran<R: Threads + Sync>(
+    rt: &R,
     alloc: Global,
     texts: &[&str],
     input: Vec<u8>,
@@ -36,24 +39,37 @@ fn ran(
     let words = words(alloc, texts)?;
     let mut source = MemSource::new(input, Vec::from_slice(alloc, fails)?);
     let mut sink = MemSink::new(alloc, room, Vec::new(alloc))?;
-    let outcome = run(alloc, &words, &mut source, &mut sink);
+    let outcome = run(rt, alloc, &words, &mut source, &mut sink, &NoGate);
     let written = Vec::from_slice(alloc, sink.written())?;
     Ok(Ended { outcome, written })
 }
 
-/// Replays the lines and expects this end and this text.
-fn expect_replay(
+/// Expects that the run ended so, and wrote this text.
+fn expect_end(
     rt: &impl Abort,
+    ended: &Ended,
+    status: Status,
+    line: u32,
+    text: &[u8],
+) -> Result<(), Fail> {
+    assert_eq!(rt; ended.outcome.status, status);
+    assert_eq!(rt; ended.outcome.line, line);
+    assert_eq!(rt; ended.written.as_slice(), text);
+    Ok(())
+}
+
+/// Replays the lines and expects this status, this line and this text.
+fn expect_replay<R: Threads + Sync + Abort>(
+    rt: &R,
     alloc: Global,
     input: &str,
-    ended: Outcome,
+    status: Status,
+    line: u32,
     text: &str,
 ) -> Result<(), Fail> {
     let bytes = Vec::from_slice(alloc, input.as_bytes())?;
-    let run = ran(alloc, &["replay"], bytes, &[], ROOM)?;
-    assert_eq!(rt; run.outcome, ended, "of {input:?}");
-    assert_eq!(rt; run.written.as_slice(), text.as_bytes(), "of {input:?}");
-    Ok(())
+    let ended = ran(rt, alloc, &["replay"], bytes, &[], ROOM)?;
+    expect_end(rt, &ended, status, line, text.as_bytes())
 }
 
 #[test]
@@ -80,7 +96,7 @@ fn replies_come_in_line_order(rt: HostRuntime) -> Result<(), Fail> {
         ),
     ];
     for (input, text) in good {
-        expect_replay(&rt, rt.alloc(), input, Outcome::of(Status::Done), text)?;
+        expect_replay(&rt, rt.alloc(), input, Status::Done, 0, text)?;
     }
     Ok(())
 }
@@ -105,7 +121,7 @@ fn the_first_bad_line_is_named_and_nothing_is_written(rt: HostRuntime) -> Result
         ("get 1\nwait 2\n", 2),
     ];
     for (input, line) in bad {
-        expect_replay(&rt, rt.alloc(), input, Outcome::bad_input(line), "")?;
+        expect_replay(&rt, rt.alloc(), input, Status::BadInput, line, "")?;
     }
     Ok(())
 }
@@ -113,8 +129,8 @@ fn the_first_bad_line_is_named_and_nothing_is_written(rt: HostRuntime) -> Result
 #[test]
 fn a_sink_that_fills_up_holds_a_prefix(rt: HostRuntime) -> Result<(), Fail> {
     let input = Vec::from_slice(rt.alloc(), b"put 5 50\nget 5\nsum 0 9\n")?;
-    let ended = ran(rt.alloc(), &["replay"], input, &[], 4)?;
-    assert_eq!(rt; ended.outcome, Outcome::of(Status::WriteFault));
+    let ended = ran(&rt, rt.alloc(), &["replay"], input, &[], 4)?;
+    assert_eq!(rt; ended.outcome.status, Status::WriteFault);
     assert_eq!(rt; ended.written.as_slice(), b"ok\n5".as_slice());
     Ok(())
 }
@@ -123,8 +139,8 @@ fn a_sink_that_fills_up_holds_a_prefix(rt: HostRuntime) -> Result<(), Fail> {
 fn a_read_that_fails_ends_the_run_with_nothing_written(rt: HostRuntime) -> Result<(), Fail> {
     for read in [0, 1] {
         let input = Vec::from_slice(rt.alloc(), b"put 5 50\nget 5\nsum 0 9\n")?;
-        let ended = ran(rt.alloc(), &["replay"], input, &[read], ROOM)?;
-        assert_eq!(rt; ended.outcome, Outcome::of(Status::ReadFault));
+        let ended = ran(&rt, rt.alloc(), &["replay"], input, &[read], ROOM)?;
+        assert_eq!(rt; ended.outcome.status, Status::ReadFault);
         assert!(rt; ended.written.is_empty());
     }
     Ok(())
@@ -140,8 +156,8 @@ fn bad_words_are_told_before_anything_is_read(rt: HostRuntime) -> Result<(), Fai
     ];
     for list in lists {
         let input = Vec::from_slice(rt.alloc(), b"get 1\n")?;
-        let ended = ran(rt.alloc(), list, input, &[0], ROOM)?;
-        assert_eq!(rt; ended.outcome, Outcome::of(Status::BadWords));
+        let ended = ran(&rt, rt.alloc(), list, input, &[0], ROOM)?;
+        assert_eq!(rt; ended.outcome.status, Status::BadWords);
         assert!(rt; ended.written.is_empty());
     }
     Ok(())
@@ -150,12 +166,14 @@ fn bad_words_are_told_before_anything_is_read(rt: HostRuntime) -> Result<(), Fai
 #[test]
 fn an_input_of_a_byte_too_many_is_too_long(rt: HostRuntime) -> Result<(), Fail> {
     let input = vec![in rt.alloc(); b'9'; 16_777_217]?;
-    let ended = ran(rt.alloc(), &["replay"], input, &[], ROOM)?;
-    assert_eq!(rt; ended.outcome, Outcome::bad_input(0));
+    let ended = ran(&rt, rt.alloc(), &["replay"], input, &[], ROOM)?;
+    assert_eq!(rt; ended.outcome.status, Status::BadInput);
+    assert_eq!(rt; ended.outcome.line, 0);
     assert!(rt; ended.written.is_empty());
     let input = vec![in rt.alloc(); b'9'; 16_777_216]?;
-    let ended = ran(rt.alloc(), &["replay"], input, &[], ROOM)?;
-    assert_eq!(rt; ended.outcome, Outcome::bad_input(1));
+    let ended = ran(&rt, rt.alloc(), &["replay"], input, &[], ROOM)?;
+    assert_eq!(rt; ended.outcome.status, Status::BadInput);
+    assert_eq!(rt; ended.outcome.line, 1);
     Ok(())
 }
 
@@ -173,7 +191,8 @@ fn a_key_shows_its_last_put_of_many(rt: HostRuntime) -> Result<(), Fail> {
         &rt,
         rt.alloc(),
         input.as_str(),
-        Outcome::of(Status::Done),
+        Status::Done,
+        0,
         text.as_str(),
     )
 }
@@ -196,7 +215,8 @@ fn a_range_of_many_keys_is_summed_and_listed_in_key_order(rt: HostRuntime) -> Re
         &rt,
         rt.alloc(),
         input.as_str(),
-        Outcome::of(Status::Done),
+        Status::Done,
+        0,
         text.as_str(),
     )
 }
@@ -211,10 +231,18 @@ fn each_status_but_the_first_has_its_fault_line(rt: HostRuntime) -> Result<(), F
         (Status::ReadFault, 0, "read fault\n"),
         (Status::WriteFault, 0, "write fault\n"),
         (Status::OutOfMemory, 0, "out of memory\n"),
+        (Status::Refused, 0, "some calls were refused\n"),
     ];
     for (status, line, text) in lines {
         let mut sink = MemSink::new(rt.alloc(), ROOM, Vec::new(rt.alloc()))?;
-        let written = write_fault(&Outcome { status, line }, &mut sink);
+        let written = write_fault(
+            &Outcome {
+                status,
+                line,
+                front: None,
+            },
+            &mut sink,
+        );
         assert!(rt; written.is_ok());
         assert_eq!(rt; sink.written(), text.as_bytes());
     }
@@ -226,36 +254,49 @@ fn a_script_is_run_and_its_first_bad_line_is_named(rt: HostRuntime) -> Result<()
     let script =
         b"call 0 put 5 10\ncall 1 scan 0 9\nuntil 0 load_clock\nuntil 1 draw\nuntil 0 stamp\ngo 1 100\ngo 0 100\n";
     let ended = ran(
+        &rt,
         rt.alloc(),
         &["simulate"],
         Vec::from_slice(rt.alloc(), script)?,
         &[],
         ROOM,
     )?;
-    assert_eq!(rt; ended.outcome, Outcome::of(Status::Done));
+    assert_eq!(rt; ended.outcome.status, Status::Done);
     assert_eq!(rt;
         ended.written.as_slice(),
         b"1.1 scan 0 9: 5=10\n0.1 put 5 10: ok\norder 0.1 1.1\n".as_slice()
     );
-    let empty = ran(rt.alloc(), &["simulate"], Vec::new(rt.alloc()), &[], ROOM)?;
-    assert_eq!(rt; empty.outcome, Outcome::of(Status::Done));
+    let empty = ran(
+        &rt,
+        rt.alloc(),
+        &["simulate"],
+        Vec::new(rt.alloc()),
+        &[],
+        ROOM,
+    )?;
+    assert_eq!(rt; empty.outcome.status, Status::Done);
     assert_eq!(rt; empty.written.as_slice(), b"order none\n".as_slice());
-    let empty = ran(rt.alloc(), &["simulate"], Vec::new(rt.alloc()), &[], 7)?;
-    assert_eq!(rt; empty.outcome, Outcome::of(Status::WriteFault));
+    let empty = ran(&rt, rt.alloc(), &["simulate"], Vec::new(rt.alloc()), &[], 7)?;
+    assert_eq!(rt; empty.outcome.status, Status::WriteFault);
     assert_eq!(rt; empty.written.as_slice(), b"order n".as_slice());
     let script = Vec::from_slice(rt.alloc(), b"call 0 put 5 10\ngo 0 0\n")?;
-    let ended = ran(rt.alloc(), &["simulate"], script, &[], ROOM)?;
-    assert_eq!(rt; ended.outcome, Outcome::bad_input(2));
+    let ended = ran(&rt, rt.alloc(), &["simulate"], script, &[], ROOM)?;
+    assert_eq!(rt; ended.outcome.status, Status::BadInput);
+    assert_eq!(rt; ended.outcome.line, 2);
     assert!(rt; ended.written.is_empty());
     Ok(())
 }
 
 /// The summary of a load, which is asked of a source whose first read would fail.
-fn expect_summary(rt: &impl Abort, alloc: Global, texts: &[&str], text: &str) -> Result<(), Fail> {
-    let ended = ran(alloc, texts, Vec::new(alloc), &[0], ROOM)?;
-    assert_eq!(rt; ended.outcome, Outcome::of(Status::Done), "of {texts:?}");
-    assert_eq!(rt; ended.written.as_slice(), text.as_bytes(), "of {texts:?}");
-    Ok(())
+fn expect_summary<R: Threads + Sync + Abort>(
+    rt: &R,
+    alloc: Global,
+    texts: &[&str],
+    text: &str,
+) -> Result<(), Fail> {
+    let ended = ran(rt, alloc, texts, Vec::new(alloc), &[0], ROOM)?;
+    assert!(rt; ended.outcome.front.is_none());
+    expect_end(rt, &ended, Status::Done, 0, text.as_bytes())
 }
 
 #[test]
@@ -287,27 +328,88 @@ fn a_load_is_summarised_and_nothing_is_read(rt: HostRuntime) -> Result<(), Fail>
 #[test]
 fn a_sink_that_fills_up_holds_a_prefix_of_the_summary(rt: HostRuntime) -> Result<(), Fail> {
     let ended = ran(
+        &rt,
         rt.alloc(),
         &["gen", "1", "3"],
         Vec::new(rt.alloc()),
         &[],
         10,
     )?;
-    assert_eq!(rt; ended.outcome, Outcome::of(Status::WriteFault));
+    assert_eq!(rt; ended.outcome.status, Status::WriteFault);
     assert_eq!(rt; ended.written.as_slice(), b"puts 2\ndel".as_slice());
     Ok(())
 }
 
 #[test]
 fn a_script_names_rows_of_as_many_as_asked(rt: HostRuntime) -> Result<(), Fail> {
-    let lists: [(&[&str], Outcome); 2] = [
-        (&["simulate", "--rows", "70"], Outcome::of(Status::Done)),
-        (&["simulate"], Outcome::bad_input(1)),
+    let lists: [(&[&str], Status, u32); 2] = [
+        (&["simulate", "--rows", "70"], Status::Done, 0),
+        (&["simulate"], Status::BadInput, 1),
     ];
-    for (list, outcome) in lists {
+    for (list, status, line) in lists {
         let script = Vec::from_slice(rt.alloc(), b"guess 0 69\n")?;
-        let ended = ran(rt.alloc(), list, script, &[], ROOM)?;
-        assert_eq!(rt; ended.outcome, outcome, "of {list:?}");
+        let ended = ran(&rt, rt.alloc(), list, script, &[], ROOM)?;
+        assert_eq!(rt; ended.outcome.status, status, "of {list:?}");
+        assert_eq!(rt; ended.outcome.line, line, "of {list:?}");
     }
+    Ok(())
+}
+
+#[test]
+fn quiet_lines_have_one_answer_for_every_number_of_workers(rt: HostRuntime) -> Result<(), Fail> {
+    let mut input = String::new(rt.alloc());
+    let mut text = String::new(rt.alloc());
+    for key in 1..=16 {
+        write!(input, "put {key} {key}0\n")?;
+        text.push_str("ok\n")?;
+    }
+    input.push_str("wait\n")?;
+    for key in 1..=8 {
+        write!(input, "del {key}\n")?;
+        text.push_str("ok\n")?;
+    }
+    input.push_str("wait\nget 1\nget 9\nsum 0 99\ncount 0 99\n")?;
+    input.push_str("least 0 99\ngreatest 0 99\nlist 15 16\n")?;
+    text.push_str("none\n90\n1000\n8\n90\n160\n15=150 16=160\n")?;
+    for workers in ["1", "2", "4"] {
+        let bytes = Vec::from_slice(rt.alloc(), input.as_str().as_bytes())?;
+        let ended = ran(
+            &rt,
+            rt.alloc(),
+            &["replay", "--workers", workers],
+            bytes,
+            &[],
+            ROOM,
+        )?;
+        expect_end(&rt, &ended, Status::Done, 0, text.as_str().as_bytes())?;
+        assert!(rt; ended.outcome.front.is_some(), "of {workers} workers");
+    }
+    Ok(())
+}
+
+/// Whether so many updates were run on the map; each of them is answered.
+fn ran_on_the_map<R: Threads + Sync + Abort>(
+    rt: &R,
+    alloc: Global,
+    updates: u32,
+) -> Result<bool, Fail> {
+    let mut input = String::new(alloc);
+    let mut text = String::new(alloc);
+    for key in 1..updates {
+        write!(input, "put {key} {key}\n")?;
+        text.push_str("ok\n")?;
+    }
+    input.push_str("del 1\n")?;
+    text.push_str("ok\n")?;
+    let bytes = Vec::from_slice(alloc, input.as_str().as_bytes())?;
+    let ended = ran(rt, alloc, &["replay", "--workers", "2"], bytes, &[], ROOM)?;
+    expect_end(rt, &ended, Status::Done, 0, text.as_str().as_bytes())?;
+    Ok(ended.outcome.front.is_some())
+}
+
+#[test]
+fn no_more_updates_than_a_row_has_cells_run_on_the_map(rt: HostRuntime) -> Result<(), Fail> {
+    assert!(rt; ran_on_the_map(&rt, rt.alloc(), 64)?);
+    assert!(rt; !ran_on_the_map(&rt, rt.alloc(), 65)?);
     Ok(())
 }

@@ -7,12 +7,15 @@ ghost use Rattle.kw_app.specs.Words.{AreInRange};
 ghost use Rattle.kw_app.specs.Ends.{IfBad, IsPrinted, Reads};
 
 use crate::command::Command;
+use crate::printed::Printed;
 use crate::replay::replay;
 use kw_line::item::LineError;
 use kw_line::parse::MOST_BYTES;
+use kw_run::working::Gate;
 use kw_sim::command::ScriptError;
 use kw_sim::script::run_script;
 use std::alloc::Global;
+use std::thread::Threads;
 
 /// Why an input has no text.
 #[derive(Clone, Copy, Debug, PartialEq, Eq)]
@@ -24,21 +27,27 @@ pub enum InputError {
 }
 
 /// The text that the command prints of these bytes. `Bad` names the first line that is not in its grammar.
-pub fn text_of(alloc: Global, command: Command, bytes: &[u8]) -> Result<Vec<u8>, InputError>
+pub fn text_of<R: Threads + Sync, G: Gate + Sync>(
+    rt: &R,
+    alloc: Global,
+    command: Command,
+    bytes: &[u8],
+    gate: &G,
+) -> Result<Printed, InputError>
     requires reads { Reads command }
     requires range { AreInRange command }
     requires short { length bytes.now ≤ MOST_BYTES }
-    ensures printed { IfOk result (λ text. IsPrinted command bytes.now text.items) }
+    ensures printed { IfOk result (λ printed. IsPrinted command printed.front printed.refused bytes.now printed.text.items) }
     ensures bad { IfBad command bytes.now result }
 {
     match command {
-        Command::Replay { .. } => match replay(alloc, bytes) {
-            Ok(text) => Ok(text),
+        Command::Replay { workers, rows } => match replay(rt, alloc, workers, rows, bytes, gate) {
+            Ok(printed) => Ok(printed),
             Err(LineError::Bad { line }) => Err(InputError::Bad { line }),
             Err(LineError::Memory) => Err(InputError::Memory),
         },
         Command::Simulate { rows } => match run_script(alloc, rows, bytes) {
-            Ok(text) => Ok(text),
+            Ok(text) => Ok(Printed::of(text)),
             Err(ScriptError::Bad { line }) => Err(InputError::Bad { line }),
             Err(ScriptError::Memory) => Err(InputError::Memory),
         },

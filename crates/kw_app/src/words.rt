@@ -1,15 +1,24 @@
-//! What stands after a command's own word: numbers and options.
+//! What stands after a command's own word: numbers and options, as `clap` reads them.
 //!
-//! All commands share one set of arguments, and `command` picks what each takes.
-ghost use Rattle.std.specs.Prelude.{◌≡◌, Some, None, is_some, if◌then◌else◌};
+//! All commands share one set of arguments, and `command` picks what each takes. The words are tested one by one before `clap`
+//! sees them, so that none of the other forms that it would read (`--workers=2`, `--`, a sign) reaches it: such a word is bad
+//! words. What `clap` promises of such a parse is exact in both outcomes, and `proofs/Walk.antt` to `proofs/Tokens.antt` compute
+//! it for this one set of arguments.
+ghost use Rattle.std.specs.Prelude.{◌≡◌, Some, IfOk, IsTrue, drop};
 ghost use Rattle.std.specs.Char.{is_ascii_digit};
 ghost use Rattle.std.specs.List.{list_all};
-ghost use Rattle.kw_app.specs.Words.{is_digits, number_in};
-ghost use Rattle.kw_app.specs.Reading.{no_arguments, reads, with_number, with_rows, with_workers};
+ghost use Rattle.clap.specs.Words.{app_of};
+ghost use Rattle.kw_app.specs.Words.{is_digits, is_known};
+ghost use Rattle.kw_app.specs.Clap.{kiwi};
+ghost use Rattle.kw_app.specs.Reading.{no_arguments, reads};
 
-use crate::command::{FEWEST_ROWS, MOST_LINES, MOST_START, MOST_WORKERS};
+use crate::command::{FEWEST_ROWS, MOST_LINES, MOST_WORKERS};
 use crate::word::Word;
+use clap::error::ErrorKind;
+use clap::{Arg, Command, value_parser};
+use kw_model::memory::Memory;
 use kw_words::sizes::MOST_ROWS;
+use std::alloc::{AllocError, Global};
 
 /// The most digits that a number may have.
 pub const MOST_DIGITS: usize = 10;
@@ -23,97 +32,18 @@ pub struct Arguments {
     pub rows: Option<u32>,
 }
 
-impl Arguments {
-    /// No argument.
-    pub fn new() -> Arguments
-        ensures { result ≡ no_arguments }
-    {
-        Arguments {
-            start: None,
-            count: None,
-            workers: None,
-            rows: None,
-        }
-    }
-
-    /// With the number of workers that this word writes, where there was none yet.
-    fn with_workers(self, word: &str) -> Option<Arguments>
-        ensures { result ≡ with_workers self word.now }
-    {
-        let workers = once(self.workers, number(word, 1, MOST_WORKERS)?)?;
-        Some(Arguments {
-            workers: Some(workers),
-            ..self
-        })
-    }
-}
-
-impl Arguments {
-    /// With the number of rows that this word writes, where there was none yet.
-    fn with_rows(self, word: &str) -> Option<Arguments>
-        ensures { result ≡ with_rows self word.now }
-    {
-        let rows = once(self.rows, number(word, FEWEST_ROWS, MOST_ROWS)?)?;
-        Some(Arguments {
-            rows: Some(rows),
-            ..self
-        })
-    }
-
-    /// With the next of the two numbers, which this word writes.
-    fn with_number(self, word: &str) -> Option<Arguments>
-        ensures { result ≡ with_number self word.now }
-    {
-        if self.start.is_none() {
-            let start = number(word, 0, MOST_START)?;
-            Some(Arguments {
-                start: Some(start),
-                ..self
-            })
-        } else {
-            let count = once(self.count, number(word, 1, MOST_LINES)?)?;
-            Some(Arguments {
-                count: Some(count),
-                ..self
-            })
-        }
-    }
-}
-
-/// The arguments with those that these words add, or none where the words are no arguments, or one of them stands twice.
-pub fn arguments_of(words: &[Word], arguments: Arguments) -> Option<Arguments>
-    ensures { result ≡ reads (Some arguments) words.now }
+/// Whether each word is a command's own, the name of an option, or digits.
+pub fn are_known(words: &[Word]) -> bool
+    ensures { result ≡ list_all is_known words.now }
 {
-    match words {
-        [] => Some(arguments),
-        [word] => arguments.with_number(word.text()),
-        [word, next, rest @ ..] => match word.text() {
-            "--workers" => arguments_of(rest, arguments.with_workers(next.text())?),
-            "--rows" => arguments_of(rest, arguments.with_rows(next.text())?),
-            number => arguments_of(&words[1..], arguments.with_number(number)?),
-        },
-    }
+    words.iter().all(|word| is_known(word.text()))
 }
 
-/// A number for which there was none yet.
-fn once(before: Option<u32>, number: u32) -> Option<u32>
-    ensures { result ≡ if is_some before then None else Some number }
+/// Whether the word is a command's own, the name of an option, or digits.
+fn is_known(word: &str) -> bool
+    ensures { result ≡ is_known word.now }
 {
-    match before {
-        None => Some(number),
-        Some(_) => None,
-    }
-}
-
-/// The number that a word of digits writes, where it is in range.
-fn number(word: &str, least: u32, most: u32) -> Option<u32>
-    ensures { result ≡ number_in least most word.now }
-{
-    if !is_digits(word) {
-        return None;
-    }
-    let number = word.parse::<u32>().ok()?;
-    (least..=most).contains(&number).then_some(number)
+    matches!(word, "replay" | "simulate" | "gen" | "--workers" | "--rows") || is_digits(word)
 }
 
 /// Whether the word is one digit to ten, of which the first may be 0.
@@ -129,4 +59,46 @@ fn are_digits(bytes: &[u8]) -> bool
     ensures { result ≡ list_all is_ascii_digit bytes.now }
 {
     bytes.iter().all(|byte| byte.is_ascii_digit())
+}
+
+/// The arguments that stand after the first word, or none where the words are no arguments.
+pub fn arguments_of(alloc: Global, words: &[Word]) -> Result<Option<Arguments>, Memory>
+    requires { IsTrue (list_all is_known words.now) }
+    ensures { IfOk result (λ found. found ≡ reads (Some no_arguments) (drop 1 words.now)) }
+{
+    let parser = parser(alloc)?;
+    match parser.try_get_matches_from(words) {
+        Ok(matches) => Ok(Some(Arguments {
+            start: matches.get_one::<u32>("start"),
+            count: matches.get_one::<u32>("count"),
+            workers: matches.get_one::<u32>("workers"),
+            rows: matches.get_one::<u32>("rows"),
+        })),
+        Err(error) => match error.kind() {
+            ErrorKind::OutOfMemory => Err(Memory),
+            _ => Ok(None),
+        },
+    }
+}
+
+/// The arguments of all commands, for `clap`. It passes over the first word, where it expects the program's name.
+fn parser<'a>(alloc: Global) -> Result<Command<'a>, AllocError>
+    ensures { IfOk result (λ parser. app_of parser ≡ kiwi) }
+{
+    let start = Arg::new(alloc, "start").value_parser(value_parser!(u32));
+    let count = Arg::new(alloc, "count").value_parser(value_parser!(u32).range(
+        1..=i64::from(MOST_LINES),
+    ));
+    let workers = Arg::new(alloc, "workers")
+        .long("workers")
+        .value_parser(value_parser!(u32).range(1..=i64::from(MOST_WORKERS)));
+    let rows = Arg::new(alloc, "rows").long("rows").value_parser(value_parser!(u32).range(
+        i64::from(FEWEST_ROWS)..=i64::from(MOST_ROWS),
+    ));
+    Command::new(alloc, "kiwi")
+        .disable_help_flag(true)
+        .arg(start)?
+        .arg(count)?
+        .arg(workers)?
+        .arg(rows)
 }

@@ -51,7 +51,11 @@ fn options_that_do_not_stand_have_their_defaults(rt: HostRuntime) -> Result<(), 
     ];
     for (list, command) in lists {
         let words = words(rt.alloc(), list)?;
-        assert_eq!(rt; command_of(&words), Some(command), "of {list:?}");
+        assert_eq!(rt;
+            command_of(rt.alloc(), &words)?,
+            Some(command),
+            "of {list:?}"
+        );
     }
     Ok(())
 }
@@ -90,7 +94,11 @@ fn options_stand_in_any_order(rt: HostRuntime) -> Result<(), Fail> {
     ];
     for (list, command) in lists {
         let words = words(rt.alloc(), list)?;
-        assert_eq!(rt; command_of(&words), Some(command), "of {list:?}");
+        assert_eq!(rt;
+            command_of(rt.alloc(), &words)?,
+            Some(command),
+            "of {list:?}"
+        );
     }
     Ok(())
 }
@@ -110,7 +118,7 @@ fn numbers_reach_to_the_ends_of_their_ranges(rt: HostRuntime) -> Result<(), Fail
         ],
     )?;
     assert_eq!(rt;
-        command_of(&words),
+        command_of(rt.alloc(), &words)?,
         Some(load(4_294_967_295, 1_000_000, 8, 65_536))
     );
     Ok(())
@@ -171,7 +179,7 @@ fn other_words_are_bad(rt: HostRuntime) -> Result<(), Fail> {
     ];
     for list in lists {
         let words = words(rt.alloc(), list)?;
-        assert_eq!(rt; command_of(&words), None, "of {list:?}");
+        assert_eq!(rt; command_of(rt.alloc(), &words)?, None, "of {list:?}");
     }
     Ok(())
 }

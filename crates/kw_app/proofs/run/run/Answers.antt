@@ -1,48 +1,50 @@
 -- Words mean one command, so what is said of it holds of each command that they mean.
-use Rattle.std.proofs.Common.{◌≡◌, ℕ, List, Option, sym, subst}
-use Rattle.std.specs.Prelude.{IfSome}
+use Rattle.std.proofs.Common.{◌≡◌, ℕ, Bool, true, false, List, Option, Some, None, subst}
+use Rattle.std.specs.Prelude.{IfSome, MatchOption}
 use Rattle.std.specs.Io.KnownBytes.{Appends}
 use Rattle.kw_io.specs.Bytes.{AppendsPrefix}
 use Rattle.kw_app.specs.declared.command.Command.{Command}
-use Rattle.kw_app.specs.Ends.{IsBadInput, IsToldBad, Reads, Tells}
+use Rattle.kw_app.specs.Ends.{IsBadInput, IsToldBad, Tells}
+use Rattle.kw_app.specs.Words.{Means}
 use Rattle.kw_app.proofs.Commands.{at_command}
-use Rattle.kw_app.proofs.Ended.{tells_of}
 use Rattle.kw_app.proofs.run.run.Goals as goal
 
-pub returns-in_default-clause-told : goal.returns-in_default-clause-told
-returns-in_default-clause-told g c = λ other words. absurd (c.in_default.ensures.meant other words)
+-- the command that was found is one that the words mean
+meant_of : (ws : List (List ℕ)) (o : Option Command) (c : Command) → o ≡ Some c → MatchOption o ((d : Command) → Means ws d → ⊥) (Means ws) → Means ws c
+meant_of ws None c e h = absurd cc
+meant_of ws (Some d) c e h =
+    let same : d ≡ c = cc in
+    subst (Means ws) same h
 
-pub returns-in-Replay-clause-told : goal.returns-in-Replay-clause-told
-returns-in-Replay-clause-told g c = λ other words.
-    at_command (λ (d : Command). IfSome (g.S.Source.left c.args.source.now) (IsToldBad d c.read_and_answer.result)) c.args.words.now c.in-Some.command other c.in-Some.ensures.meant words c.read_and_answer.ensures.told
+-- where none was found the words mean none
+none_of : (ws : List (List ℕ)) (o : Option Command) → o ≡ None → MatchOption o ((d : Command) → Means ws d → ⊥) (Means ws) → (c : Command) → Means ws c → ⊥
+none_of ws None e h = h
+none_of ws (Some d) e h = absurd cc
 
-pub returns-in-Simulate-clause-done : goal.returns-in-Simulate-clause-done
-returns-in-Simulate-clause-done g c = λ done other words.
-    let reads : Reads c.in-Some.command = subst Reads (sym c.in-Simulate.is) tt in
-    let tells = tells_of c.in-Some.command (g.S.Source.left c.args.source.now) (Appends (g.K.Sink.written c.args.sink.now) (g.K.Sink.written c.read_and_answer-in-Simulate.new.sink)) reads (c.read_and_answer-in-Simulate.ensures.done done) in
-    at_command (λ (d : Command). Tells d (g.S.Source.left c.args.source.now) (Appends (g.K.Sink.written c.args.sink.now) (g.K.Sink.written c.read_and_answer-in-Simulate.new.sink))) c.args.words.now c.in-Some.command other c.in-Some.ensures.meant words tells
+pub returns-in-Ok-Some-clause-done : goal.returns-in-Ok-Some-clause-done
+returns-in-Ok-Some-clause-done g c = λ is other means.
+    at_command (λ (d : Command). Tells d (g.S.Source.left c.args.source.now) c.run_command.result.front false (Appends (g.K.Sink.written c.args.sink.now) (g.K.Sink.written c.run_command.new.sink))) c.args.words.now c.in-Ok-Some.command other
+    (meant_of c.args.words.now c.in-Ok-Some.field-0 c.in-Ok-Some.command c.in-Ok-Some.field-0-is c.in-Ok-Some.ensures.meant) means (c.run_command.ensures.done is)
 
-pub returns-in-Simulate-clause-cut_short : goal.returns-in-Simulate-clause-cut_short
-returns-in-Simulate-clause-cut_short g c = λ short other words.
-    let reads : Reads c.in-Some.command = subst Reads (sym c.in-Simulate.is) tt in
-    let tells = tells_of c.in-Some.command (g.S.Source.left c.args.source.now) (AppendsPrefix (g.K.Sink.written c.args.sink.now) (g.K.Sink.written c.read_and_answer-in-Simulate.new.sink)) reads (c.read_and_answer-in-Simulate.ensures.cut_short short) in
-    at_command (λ (d : Command). Tells d (g.S.Source.left c.args.source.now) (AppendsPrefix (g.K.Sink.written c.args.sink.now) (g.K.Sink.written c.read_and_answer-in-Simulate.new.sink))) c.args.words.now c.in-Some.command other c.in-Some.ensures.meant words tells
+pub returns-in-Ok-Some-clause-refused : goal.returns-in-Ok-Some-clause-refused
+returns-in-Ok-Some-clause-refused g c = λ is other means.
+    at_command (λ (d : Command). Tells d (g.S.Source.left c.args.source.now) c.run_command.result.front true (Appends (g.K.Sink.written c.args.sink.now) (g.K.Sink.written c.run_command.new.sink))) c.args.words.now c.in-Ok-Some.command other
+    (meant_of c.args.words.now c.in-Ok-Some.field-0 c.in-Ok-Some.command c.in-Ok-Some.field-0-is c.in-Ok-Some.ensures.meant) means (c.run_command.ensures.refused is)
 
-pub returns-in-Simulate-clause-bad_input : goal.returns-in-Simulate-clause-bad_input
-returns-in-Simulate-clause-bad_input g c = λ bad other words.
-    at_command (λ (d : Command). IfSome (g.S.Source.left c.args.source.now) (IsBadInput d c.read_and_answer-in-Simulate.result.line)) c.args.words.now c.in-Some.command other c.in-Some.ensures.meant words
-    (c.read_and_answer-in-Simulate.ensures.bad_input bad)
+pub returns-in-Ok-Some-clause-cut_short : goal.returns-in-Ok-Some-clause-cut_short
+returns-in-Ok-Some-clause-cut_short g c = λ short other means.
+    at_command (λ (d : Command). (refused : Bool) × Tells d (g.S.Source.left c.args.source.now) c.run_command.result.front refused (AppendsPrefix (g.K.Sink.written c.args.sink.now) (g.K.Sink.written c.run_command.new.sink))) c.args.words.now c.in-Ok-Some.command other
+    (meant_of c.args.words.now c.in-Ok-Some.field-0 c.in-Ok-Some.command c.in-Ok-Some.field-0-is c.in-Ok-Some.ensures.meant) means (c.run_command.ensures.cut_short short)
 
-pub returns-in-Simulate-clause-told : goal.returns-in-Simulate-clause-told
-returns-in-Simulate-clause-told g c = λ other words.
-    at_command (λ (d : Command). IfSome (g.S.Source.left c.args.source.now) (IsToldBad d c.read_and_answer-in-Simulate.result)) c.args.words.now c.in-Some.command other c.in-Some.ensures.meant words c.read_and_answer-in-Simulate.ensures.told
+pub returns-in-Ok-Some-clause-bad_input : goal.returns-in-Ok-Some-clause-bad_input
+returns-in-Ok-Some-clause-bad_input g c = λ bad other means.
+    at_command (λ (d : Command). IfSome (g.S.Source.left c.args.source.now) (IsBadInput d c.run_command.result.line)) c.args.words.now c.in-Ok-Some.command other
+    (meant_of c.args.words.now c.in-Ok-Some.field-0 c.in-Ok-Some.command c.in-Ok-Some.field-0-is c.in-Ok-Some.ensures.meant) means (c.run_command.ensures.bad_input bad)
 
-pub returns-in-Gen-clause-done : goal.returns-in-Gen-clause-done
-returns-in-Gen-clause-done g c = λ done other words.
-    let tells = subst (λ (d : Command). Tells d (g.S.Source.left c.args.source.now) (Appends (g.K.Sink.written c.args.sink.now) (g.K.Sink.written c.answer_load.new.sink))) (sym c.in-Gen.is) (c.answer_load.ensures.done done) in
-    at_command (λ (d : Command). Tells d (g.S.Source.left c.args.source.now) (Appends (g.K.Sink.written c.args.sink.now) (g.K.Sink.written c.answer_load.new.sink))) c.args.words.now c.in-Some.command other c.in-Some.ensures.meant words tells
+pub returns-in-Ok-Some-clause-told : goal.returns-in-Ok-Some-clause-told
+returns-in-Ok-Some-clause-told g c = λ other means.
+    at_command (λ (d : Command). IfSome (g.S.Source.left c.args.source.now) (IsToldBad d c.run_command.result)) c.args.words.now c.in-Ok-Some.command other
+    (meant_of c.args.words.now c.in-Ok-Some.field-0 c.in-Ok-Some.command c.in-Ok-Some.field-0-is c.in-Ok-Some.ensures.meant) means c.run_command.ensures.told
 
-pub returns-in-Gen-clause-cut_short : goal.returns-in-Gen-clause-cut_short
-returns-in-Gen-clause-cut_short g c = λ short other words.
-    let tells = subst (λ (d : Command). Tells d (g.S.Source.left c.args.source.now) (AppendsPrefix (g.K.Sink.written c.args.sink.now) (g.K.Sink.written c.answer_load.new.sink))) (sym c.in-Gen.is) (c.answer_load.ensures.cut_short short) in
-    at_command (λ (d : Command). Tells d (g.S.Source.left c.args.source.now) (AppendsPrefix (g.K.Sink.written c.args.sink.now) (g.K.Sink.written c.answer_load.new.sink))) c.args.words.now c.in-Some.command other c.in-Some.ensures.meant words tells
+pub returns-in-Ok-None-clause-told : goal.returns-in-Ok-None-clause-told
+returns-in-Ok-None-clause-told g c = λ other means. absurd (none_of c.args.words.now c.in-Ok-None.field-0 c.in-Ok-None.field-0-is c.in-Ok-None.ensures.meant other means)

@@ -1,0 +1,67 @@
+-- Words that mean a command are known, each by itself.
+use Rattle.std.proofs.Common.{◌≡◌, ℕ, Bool, true, false, ◌&&◌, ◌||◌, cond, Option, Some, None, List, [], ◌∷◌, ◌++◌, codes, refl, sym, ◌∙◌, ap, subst}
+use Rattle.std.specs.Prelude.{nat_le}
+use Rattle.std.specs.List.{flat_map, list_all, AllByRecursion}
+use Rattle.std.specs.Str.{bytes_eq}
+use Rattle.std.specs.Str.Parse.{digits_value}
+use Rattle.kw_words.specs.declared.sizes.TheConstants.{MOST_ROWS}
+use Rattle.kw_app.specs.declared.command.Command.{Command}
+use Rattle.kw_app.specs.declared.command.Command.TheVariants as command
+use Rattle.kw_app.specs.declared.command.TheConstants.{MOST_WORKERS, DEFAULT_WORKERS, FEWEST_ROWS, DEFAULT_ROWS, SIMULATED_ROWS, MOST_START, MOST_LINES}
+use Rattle.kw_app.specs.Words.{Part, number, workers, rows, part_words, numbers, all_workers, all_rows, is_digits, is_known, number_in, IsOption, AreNumbers, Makes, Means, command_word}
+use Rattle.kw_app.proofs.Getters.{number_parts}
+
+abbrev IsKnown : List ℕ → Type 0
+IsKnown w = is_known w ≡ true
+
+number_known : (least most n : ℕ) (w : List ℕ) → number_in least most w ≡ Some n → IsKnown w
+number_known least most n w e =
+    ap (λ (b : Bool). bytes_eq w (codes "replay") || (bytes_eq w (codes "simulate") || (bytes_eq w (codes "gen") || (bytes_eq w (codes "--workers") || (bytes_eq w (codes "--rows") || b))))) (number_parts least most n w e).0
+    ∙ at (bytes_eq w (codes "replay")) (bytes_eq w (codes "simulate")) (bytes_eq w (codes "gen")) (bytes_eq w (codes "--workers")) (bytes_eq w (codes "--rows"))
+  where
+    or_true : (b : Bool) → (b || true) ≡ true
+    or_true true = refl
+    or_true false = refl
+
+    at : (a b c d r : Bool) → (a || (b || (c || (d || (r || true))))) ≡ true
+    at true b c d r = refl
+    at false true c d r = refl
+    at false false true d r = refl
+    at false false false true r = refl
+    at false false false false r = or_true r
+
+option_known : (least most default n : ℕ) (ws : List (List ℕ)) → IsOption least most default ws n → AllByRecursion IsKnown ws
+option_known least most default n [] h = tt
+option_known least most default n (w ∷ []) h = (number_known least most n w h, tt)
+option_known least most default n (w ∷ x ∷ ws) h = absurd h
+
+both_known : (s n : ℕ) (ws : List (List ℕ)) → AreNumbers ws s n → AllByRecursion IsKnown ws
+both_known s n [] h = absurd h
+both_known s n (w ∷ []) h = absurd h
+both_known s n (w ∷ x ∷ []) h = (number_known 0 MOST_START s w h.0, (number_known 1 MOST_LINES n x h.1, tt))
+both_known s n (w ∷ x ∷ y ∷ ws) h = absurd h
+
+none_known : (ws : List (List ℕ)) → ws ≡ [] → AllByRecursion IsKnown ws
+none_known ws e = subst (AllByRecursion IsKnown) (sym e) tt
+
+both : (a b : Bool) → a ≡ true → b ≡ true → (a && b) ≡ true
+both a b e f = rw (e, f)
+
+parts_known : (parts : List Part) → AllByRecursion IsKnown (numbers parts) → AllByRecursion IsKnown (all_workers parts) → AllByRecursion IsKnown (all_rows parts) → list_all is_known (flat_map part_words parts) ≡ true
+parts_known [] n w r = refl
+parts_known (number x ∷ parts) n w r = both (is_known x) (list_all is_known (flat_map part_words parts)) n.0 (parts_known parts n.1 w r)
+parts_known (workers x ∷ parts) n w r = both (is_known x) (list_all is_known (flat_map part_words parts)) w.0 (parts_known parts n w.1 r)
+parts_known (rows x ∷ parts) n w r = both (is_known x) (list_all is_known (flat_map part_words parts)) r.0 (parts_known parts n w r.1)
+
+makes_known : (parts : List Part) (c : Command) → Makes parts c → list_all is_known (flat_map part_words parts) ≡ true
+makes_known parts (command.Replay w r) h = parts_known parts (none_known (numbers parts) h.0) (option_known 1 MOST_WORKERS DEFAULT_WORKERS w (all_workers parts) h.1) (option_known FEWEST_ROWS MOST_ROWS DEFAULT_ROWS r (all_rows parts) h.2)
+makes_known parts (command.Simulate r) h = parts_known parts (none_known (numbers parts) h.0) (none_known (all_workers parts) h.1) (option_known FEWEST_ROWS MOST_ROWS SIMULATED_ROWS r (all_rows parts) h.2)
+makes_known parts (command.Gen s n w r) h = parts_known parts (both_known s n (numbers parts) h.0) (option_known 1 MOST_WORKERS DEFAULT_WORKERS w (all_workers parts) h.1) (option_known FEWEST_ROWS MOST_ROWS DEFAULT_ROWS r (all_rows parts) h.2)
+
+word_known : (c : Command) → is_known (command_word c) ≡ true
+word_known (command.Replay w r) = refl
+word_known (command.Simulate r) = refl
+word_known (command.Gen s n w r) = refl
+
+pub means_known : (ws : List (List ℕ)) (c : Command) → Means ws c → list_all is_known ws ≡ true
+means_known ws c m = ap (list_all is_known) m.cut ∙ both (is_known (command_word c)) (list_all is_known (flat_map part_words m.parts)) (word_known c) (makes_known m.parts c m.makes)
