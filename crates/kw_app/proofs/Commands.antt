@@ -1,6 +1,6 @@
 -- Which command words mean, as a function of them: it gives just the command that the definition gives, and so words mean one command
 -- at most.
-use Rattle.std.proofs.Common.{◌≡◌, ℕ, Bool, true, false, cond, Option, Some, None, List, [], ◌∷◌, ◌++◌, codes, drop, refl, sym, ◌∙◌, ap, subst}
+use Rattle.std.proofs.Common.{◌≡◌, ℕ, Bool, true, false, cond, Option, Some, None, List, [], ◌∷◌, codes, drop, refl, sym, ◌∙◌, ap, subst}
 use Rattle.std.specs.Prelude.{MatchOption}
 use Rattle.std.specs.List.{flat_map, AllByRecursion}
 use Rattle.std.specs.Str.{bytes_eq}
@@ -14,7 +14,7 @@ use Rattle.kw_app.specs.declared.words.Arguments.{Arguments}
 use Rattle.kw_app.specs.Words.{Part, number, workers, rows, part_words, numbers, number_in, AreNumbers, Makes, Means, command_word}
 use Rattle.kw_app.specs.Reading.{with_number, then_with, reads, no_arguments, first_name, name_of, picked}
 use Rattle.kw_app.proofs.Meaning.{adds, cut_of}
-use Rattle.kw_app.proofs.Options.{IsPicked, picks, makes, command_name}
+use Rattle.kw_app.proofs.Options.{picks, makes, command_name}
 
 -- ---- a number is no option's name
 

@@ -1,5 +1,5 @@
 -- Which inputs are bad: a good one has no bad line, and a bad one has one line that is told.
-use Rattle.std.proofs.Common.{◌≡◌, ℕ, Bool, ◌≤◌, ◌<◌, List, length, inl, inr, sym, ◌∙◌, subst, arith, Option, Some, None}
+use Rattle.std.proofs.Common.{◌≡◌, ℕ, Bool, ◌≤◌, ◌<◌, List, length, inl, sym, ◌∙◌, subst, arith, Option, Some, None}
 use mathlib.Core.Logic.{⊎_elim}
 use Rattle.std.specs.Prelude.{IfSome}
 use Rattle.kw_line.specs.declared.parse.TheConstants.{MOST_BYTES}
@@ -9,7 +9,7 @@ use Rattle.kw_app.specs.declared.command.Command.{Command}
 use Rattle.kw_app.specs.declared.command.Command.TheVariants as command
 use Rattle.kw_app.specs.declared.outcome.Outcome.{Outcome}
 use Rattle.kw_app.specs.declared.outcome.Status.TheVariants as status
-use Rattle.kw_app.specs.Ends.{IsPrinted, IsFirstBad, IsBadInput, IsToldBad, Prints, Reads, Tells}
+use Rattle.kw_app.specs.Ends.{IsPrinted, IsFirstBad, IsToldBad, Prints, Reads, Tells}
 use Rattle.kw_app.proofs.Scripts.{commands_or_bad, same_bad_line}
 
 -- what has a text has no bad line

@@ -1,5 +1,5 @@
 -- What the program reads of `clap`'s parse.
-use Rattle.std.proofs.Common.{◌≡◌, ℕ, ◌<◌, ◌≤◌, ◌^◌, Bool, true, false, ◌&&◌, ◌⊎◌, inl, inr, cond, Option, Some, None, is_some, List, [], ◌∷◌, map, length, drop, refl, sym, ◌∙◌, ap, ap₂, subst, arith}
+use Rattle.std.proofs.Common.{◌≡◌, ℕ, ◌<◌, ◌≤◌, ◌^◌, Bool, true, false, ◌&&◌, ◌⊎◌, cond, Option, Some, None, List, [], ◌∷◌, map, length, drop, refl, sym, ◌∙◌, ap, ap₂, subst, arith}
 use mathlib.Core.Logic.{⊎_elim}
 use Rattle.std.specs.Prelude.{nat_le, option_map, Result, Ok, Err}
 use Rattle.std.specs.List.{list_all}
@@ -12,13 +12,13 @@ use Rattle.kw_app.specs.Words.{is_digits, is_known, number_in}
 use Rattle.kw_app.specs.Reading.{no_arguments, reads}
 use Rattle.kw_app.specs.Clap.{Field, start, count, workers, rows, id_of, least_of, most_of, kiwi}
 use Rattle.kw_app.proofs.Numbers.{all_digits, own}
-use Rattle.kw_app.proofs.Walk.{Use, row_for, value_in, one_of-uses, rules, stands, kinds_from, fault_of-kiwi}
+use Rattle.kw_app.proofs.Walk.{Use, row_for, value_in, one_of-uses, stands, kinds_from, fault_of-kiwi}
 use Rattle.kw_app.proofs.Parsed.{field_of, Fits, Holds}
-use Rattle.kw_app.proofs.Tokens.{first, words_of, read_all, IsRead, IsRefused}
-use Rattle.kw_app.proofs.Known.{AreDigits, are_digits, first_digit, no_minus, first_known, tokens_of}
+use Rattle.kw_app.proofs.Tokens.{first, read_all, IsRead, IsRefused}
+use Rattle.kw_app.proofs.Known.{are_digits, first_digit, no_minus, first_known, tokens_of}
 use Rattle.clap.specs.Lexer.{without_minus}
 use Rattle.clap.specs.Matches.{found_of, one_text, ReadsOne}
-use Rattle.clap.specs.Walk.{Row, one_of, rows_of}
+use Rattle.clap.specs.Walk.{one_of, rows_of}
 use Rattle.clap.specs.Simple.{App, is_simple, matches_of}
 use Rattle.clap.specs.Faults.{fault_of, is_simple_and_free}
 use Rattle.clap.specs.Kinds.{Kinds, HasKind, IsAmong}

@@ -15,7 +15,7 @@ use Rattle.kw_line.specs.declared.item.Item.TheVariants as item
 use Rattle.kw_line.specs.declared.answer.Answer.{Answer}
 use Rattle.kw_line.specs.Line.{IsItem, IsCallOf, calls, forms}
 use Rattle.kw_line.specs.Answered.{IsReplyOf, answer_for, answers_for}
-use Rattle.kw_app.specs.Replay.{answers_to}
+use Rattle.kw_app.specs.OneThread.{answers_to}
 
 -- the answers of this map to the calls of items
 abbrev pub answers_from : Pairs → List Item → List Answer

@@ -1,5 +1,5 @@
 -- Words that are tested one by one: each is the name of an option, or a word that `clap` takes for a number just where it is one.
-use Rattle.std.proofs.Common.{◌≡◌, ◌==◌, ℕ, ◌<◌, ◌≤◌, ◌^◌, Bool, true, false, ◌&&◌, ◌||◌, ◌⊎◌, inl, inr, cond, Option, Some, None, is_some, List, [], ◌∷◌, map, length, codes, refl, sym, ◌∙◌, ap, subst, arith}
+use Rattle.std.proofs.Common.{◌≡◌, ◌==◌, ℕ, ◌<◌, ◌≤◌, ◌^◌, Bool, true, false, ◌&&◌, ◌||◌, cond, Some, None, is_some, List, [], ◌∷◌, length, codes, refl, sym, ◌∙◌, ap, arith}
 use Rattle.std.specs.Prelude.{nat_le, nat_lt, ℤ, pos, neg_ℤ, int_le}
 use Rattle.std.specs.Char.{is_ascii_digit, digit_value}
 use Rattle.std.specs.List.{list_all, AllByRecursion}
@@ -10,11 +10,10 @@ use Rattle.std.proofs.lemmas.Slice.Eq.{bytes_eq-Decides}
 use Rattle.std.proofs.lemmas.Str.Parse.{digits_value_short}
 use Rattle.kw_app.specs.declared.words.TheConstants.{MOST_DIGITS}
 use Rattle.kw_app.specs.Words.{is_digits, is_known, number_in}
-use Rattle.kw_app.specs.Clap.{Field, least_of, most_of, parser_of}
+use Rattle.kw_app.specs.Clap.{least_of, most_of}
 use Rattle.kw_app.proofs.Numbers.{all_digits, own}
-use Rattle.kw_app.proofs.Parsed.{Agrees}
 use Rattle.kw_app.proofs.Tokens.{Token, workers_name, rows_name, plain, token_word, words_of, IsToken}
-use Rattle.clap.specs.ValueTests.{accepts, is_numeral, is_signed_in, fits_i64}
+use Rattle.clap.specs.ValueTests.{is_numeral, is_signed_in, fits_i64}
 
 -- the parts of the test for digits
 pub record AreDigits (w : List ℕ) : Type 0 where

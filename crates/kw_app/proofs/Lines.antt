@@ -1,5 +1,5 @@
 -- The lines of a generated load, one after the other.
-use Rattle.std.proofs.Common.{◌≡◌, ℕ, zero, suc, ◌+◌, ◌<◌, ◌^◌, ◌%◌, ◌/◌, Bool, true, false, cond, List, [], ◌∷◌, ◌++◌, refl, sym, ◌∙◌, ap, append_assoc, arith}
+use Rattle.std.proofs.Common.{◌≡◌, ℕ, zero, suc, ◌+◌, ◌<◌, ◌^◌, ◌%◌, Bool, true, false, cond, List, [], ◌∷◌, ◌++◌, refl, sym, ◌∙◌, ap, arith}
 use Rattle.std.specs.Prelude.{nat_lt, nat_eq}
 use Rattle.std.specs.List.{AllByRecursion}
 use Rattle.kw_model.specs.declared.call.Call.TheVariants as call
@@ -7,7 +7,7 @@ use Rattle.kw_line.specs.declared.item.Form.TheVariants as form
 use Rattle.kw_line.specs.declared.item.Item.{Item}
 use Rattle.kw_line.specs.declared.item.Item.TheVariants as item
 use Rattle.kw_line.specs.Line.{IsItem}
-use Rattle.kw_app.specs.declared.generate.TheConstants.{MODULUS, KEYS, DRAW_UNIT}
+use Rattle.kw_app.specs.declared.generate.TheConstants.{MODULUS, KEYS}
 use Rattle.kw_app.specs.Generated.{next, drawn, line_of, line_after, lines_after, last_lines, generated}
 
 -- the number after so many lines

@@ -1,18 +1,11 @@
 -- What words mean, as a function of them: it gives just the command that the definition gives.
-use Rattle.std.proofs.Common.{◌≡◌, ℕ, Bool, true, false, cond, Option, Some, None, is_some, List, [], ◌∷◌, codes, refl, sym, ◌∙◌, ap, subst, ◌≤◌, length, get_or, drop, arith}
-use Rattle.std.specs.Prelude.{option_map, unwrap_or}
+use Rattle.std.proofs.Common.{◌≡◌, ℕ, Bool, true, false, cond, Option, None, List, [], ◌∷◌, codes, refl, ◌∙◌, ap}
 use Rattle.std.specs.List.{flat_map}
 use Rattle.std.specs.Str.{bytes_eq}
 use Rattle.std.proofs.lemmas.Slice.Eq.{bytes_eq-Decides}
-use Rattle.kw_words.specs.declared.sizes.TheConstants.{MOST_ROWS}
-use Rattle.kw_app.specs.declared.command.Command.{Command}
-use Rattle.kw_app.specs.declared.command.Command.TheVariants as command
-use Rattle.kw_app.specs.declared.command.Name.{Name}
-use Rattle.kw_app.specs.declared.command.Name.TheVariants as name
-use Rattle.kw_app.specs.declared.command.TheConstants.{MOST_WORKERS, DEFAULT_WORKERS, FEWEST_ROWS, DEFAULT_ROWS, SIMULATED_ROWS, MOST_START, MOST_LINES}
 use Rattle.kw_app.specs.declared.words.Arguments.{Arguments}
-use Rattle.kw_app.specs.Words.{Part, number, workers, rows, part_words, numbers, all_workers, all_rows, number_in, IsOption, AreNumbers, Makes, Means, command_word}
-use Rattle.kw_app.specs.Reading.{once, with_workers, with_rows, with_second, with_number, then_with, reads, no_arguments, name_of, picked, picked_from}
+use Rattle.kw_app.specs.Words.{Part, number, workers, rows, part_words}
+use Rattle.kw_app.specs.Reading.{with_workers, with_rows, with_number, then_with, reads}
 
 -- ---- the words read one after the other, and the parts that they are
 

@@ -1,14 +1,12 @@
 -- Words that mean a command are known, each by itself.
-use Rattle.std.proofs.Common.{◌≡◌, ℕ, Bool, true, false, ◌&&◌, ◌||◌, cond, Option, Some, None, List, [], ◌∷◌, ◌++◌, codes, refl, sym, ◌∙◌, ap, subst}
-use Rattle.std.specs.Prelude.{nat_le}
+use Rattle.std.proofs.Common.{◌≡◌, ℕ, Bool, true, false, ◌&&◌, ◌||◌, Some, List, [], ◌∷◌, codes, refl, sym, ◌∙◌, ap, subst}
 use Rattle.std.specs.List.{flat_map, list_all, AllByRecursion}
 use Rattle.std.specs.Str.{bytes_eq}
-use Rattle.std.specs.Str.Parse.{digits_value}
 use Rattle.kw_words.specs.declared.sizes.TheConstants.{MOST_ROWS}
 use Rattle.kw_app.specs.declared.command.Command.{Command}
 use Rattle.kw_app.specs.declared.command.Command.TheVariants as command
 use Rattle.kw_app.specs.declared.command.TheConstants.{MOST_WORKERS, DEFAULT_WORKERS, FEWEST_ROWS, DEFAULT_ROWS, SIMULATED_ROWS, MOST_START, MOST_LINES}
-use Rattle.kw_app.specs.Words.{Part, number, workers, rows, part_words, numbers, all_workers, all_rows, is_digits, is_known, number_in, IsOption, AreNumbers, Makes, Means, command_word}
+use Rattle.kw_app.specs.Words.{Part, number, workers, rows, part_words, numbers, all_workers, all_rows, is_known, number_in, IsOption, AreNumbers, Makes, Means, command_word}
 use Rattle.kw_app.proofs.Getters.{number_parts}
 
 abbrev IsKnown : List ℕ → Type 0

@@ -1,19 +1,18 @@
 -- What the walk over the words leaves is what reading them adds: each word that `clap` takes adds what the definition says, and where
 -- it finds a fault the words are no arguments.
-use Rattle.std.proofs.Common.{◌≡◌, ◌==◌, ℕ, Bool, true, false, ◌&&◌, ◌||◌, ◌⊎◌, inl, inr, cond, Option, Some, None, is_some, List, [], ◌∷◌, ◌++◌, map, codes, refl, sym, ◌∙◌, ap, subst}
+use Rattle.std.proofs.Common.{◌≡◌, ℕ, Bool, true, false, ◌&&◌, ◌||◌, ◌⊎◌, inl, inr, cond, Option, Some, None, is_some, List, [], ◌∷◌, ◌++◌, map, refl, sym, ◌∙◌, ap, subst}
 use Rattle.std.specs.Prelude.{option_map, fold}
 use Rattle.std.specs.List.{AllByRecursion}
 use Rattle.std.proofs.lemmas.List.{append-nil, map-append}
 use Rattle.kw_app.specs.declared.words.Arguments.{Arguments}
 use Rattle.kw_app.specs.Words.{number_in}
-use Rattle.kw_app.specs.Reading.{once, with_workers, with_rows, with_number, then_with, reads, no_arguments}
-use Rattle.kw_app.proofs.Meaning.{reads_none}
+use Rattle.kw_app.specs.Reading.{once}
 use Rattle.kw_app.specs.Clap.{Field, start, count, workers, rows, id_of, least_of, most_of, parser_of}
-use Rattle.kw_app.proofs.Walk.{shape, rules, Use, row_for, same, ids, value_in, has_row-uses, value_in-snoc, row_added, open_use, stands, waits, open_kinds, workers_met, rows_met, workers_kinds, rows_kinds, workers_value, rows_value, workers_value_kinds, rows_value_kinds, workers_then_name, rows_then_name, first_number, second_number, first_kinds, second_kinds, third_kinds, end_kinds, kinds_from}
+use Rattle.kw_app.proofs.Walk.{rules, Use, row_for, same, value_in, has_row-uses, value_in-snoc, row_added, open_use, stands, waits, open_kinds, end_kinds}
 use Rattle.clap.specs.ValueTests.{accepts}
 use Rattle.clap.specs.Kinds.{Kinds, or_else}
-use Rattle.clap.specs.Walk.{Row, Rule, Text, Walk, finished, has_row, settled_rows, walked, default_rows, is_empty, more_values, reading_by, with_default, with_values, without}
-use Rattle.clap.specs.Faults.{check_fault, default_fault, defaults_fault, given_default_fault}
+use Rattle.clap.specs.Walk.{Row, Rule, Text, finished, has_row, settled_rows, default_rows, is_empty, more_values, reading_by, with_default, with_values, without}
+use Rattle.clap.specs.Faults.{defaults_fault, given_default_fault}
 use Rattle.clap.specs.declared.builder.value_parser.Reading.TheVariants as reading
 use Rattle.clap.specs.declared.error.kind.ErrorKind.TheVariants as kind
 use Rattle.clap.specs.declared.parser.matches.ValueSource.TheVariants.{CommandLine}

@@ -1,28 +1,17 @@
 -- What `clap` makes of the words after a command's own word: its own definitions, computed at the one set of arguments that the
 -- program has. A walk over the words stands between two of them with the uses that are settled, and one that is still open, which
 -- the next word or the end settles.
-use Rattle.std.proofs.Common.{◌≡◌, ◌≢◌, ◌==◌, ℕ, ◌+◌, Bool, true, false, not, ◌&&◌, ◌||◌, cond, Option, Some, None, is_some, List, [], ◌∷◌, ◌++◌, map, drop, codes, refl, sym, ◌∙◌, ap, subst}
-use Rattle.std.specs.Prelude.{option_map, option_and_then, find, fold, pos}
-use Rattle.std.specs.List.{list_any, AllByRecursion}
+use Rattle.std.proofs.Common.{◌≡◌, ◌==◌, ℕ, Bool, true, false, ◌||◌, cond, Option, Some, None, is_some, List, [], ◌∷◌, ◌++◌, map, drop, codes, refl, ◌∙◌, ap}
+use Rattle.std.specs.Prelude.{option_map, option_and_then, find, fold}
 use Rattle.std.specs.Str.{bytes_eq}
-use Rattle.kw_words.specs.declared.sizes.TheConstants.{MOST_ROWS}
-use Rattle.kw_app.specs.declared.command.TheConstants.{MOST_WORKERS, FEWEST_ROWS, MOST_START, MOST_LINES}
-use Rattle.kw_app.specs.declared.words.Arguments.{Arguments}
-use Rattle.kw_app.specs.Words.{number_in}
-use Rattle.kw_app.specs.Clap.{Field, start, count, workers, rows, id_of, parser_of, kiwi}
-use Rattle.kw_app.specs.Reading.{once, with_workers, with_rows, with_number, then_with, reads, no_arguments}
-use Rattle.kw_app.proofs.Meaning.{reads_none}
+use Rattle.kw_app.specs.Clap.{Field, start, count, workers, rows, id_of, kiwi}
 use Rattle.clap.specs.Lexer.{without_minus}
-use Rattle.clap.specs.Values.{Accepts}
-use Rattle.clap.specs.ValueTests.{accepts}
 use Rattle.clap.specs.Kinds.{Kinds, or_else}
-use Rattle.clap.specs.Walk.{Held, Row, Rule, Text, Walk, at_row, finished, has_row, idle, nothing_held, one_of, option, row_text, settled, settled_rows, walk, walk_from, walked}
-use Rattle.clap.specs.Simple.{App, Shape, built, new_app, new_rule, on_top, with_rule}
+use Rattle.clap.specs.Walk.{Row, Rule, Text, Walk, at_row, finished, has_row, idle, one_of, option, row_text, settled, settled_rows, walked}
+use Rattle.clap.specs.Simple.{Shape, built}
 use Rattle.clap.specs.Simple.{entered}
-use Rattle.clap.specs.Faults.{built_fault, check_fault, defaults_fault, entered_fault, fault_of, settle_fault, turn_fault, walk_fault}
+use Rattle.clap.specs.Faults.{check_fault, defaults_fault, entered_fault, fault_of, settle_fault, turn_fault, walk_fault}
 use Rattle.clap.specs.declared.error.kind.ErrorKind.TheVariants as kind
-use Rattle.clap.specs.declared.builder.value_parser.ValueParser.{ValueParser}
-use Rattle.clap.specs.declared.builder.value_parser.ValueParser.TheVariants as vp
 use Rattle.clap.specs.declared.builder.value_parser.Reading.TheVariants as reading
 use Rattle.clap.specs.declared.parser.matches.ValueSource.TheVariants.{CommandLine}
 use Rattle.clap.proofs.OnLiterals.{clap_on_literals}

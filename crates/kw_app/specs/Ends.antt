@@ -12,7 +12,7 @@ use Rattle.kw_app.specs.declared.outcome.Outcome.{Outcome}
 use Rattle.kw_app.specs.declared.outcome.Status.TheVariants as status
 use Rattle.kw_table.specs.declared.pass.Pass.{Pass}
 use Rattle.kw_app.specs.Replay.{IsReplayed}
-use Rattle.kw_app.specs.Load.{load_text}
+use Rattle.kw_app.specs.Load.{Loads}
 
 -- the command reads an input
 abbrev pub Reads : Command → Type 0
@@ -54,7 +54,7 @@ pub record Prints (command : Command) (front : Option Pass) (refused : Bool) (Wr
 abbrev pub Tells : Command → Option (List ℕ) → Option Pass → Bool → (List ℕ → Type 0) → Type 0
 Tells (command.Replay w r) left front refused Writes = IfSome left (Prints (command.Replay w r) front refused Writes)
 Tells (command.Simulate r) left front refused Writes = IfSome left (Prints (command.Simulate r) front refused Writes)
-Tells (command.Gen s n w r) left front refused Writes = (front ≡ None) × (refused ≡ false) × Writes (load_text s n)
+Tells (command.Gen s n w r) left front refused Writes = Loads s n w r front refused Writes
 
 -- the outcome names this line of bad input, or a read failed before, or memory was wanted
 abbrev pub TellsBad : Outcome → ℕ → Type 0

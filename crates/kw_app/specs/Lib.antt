@@ -3,6 +3,13 @@ pub mod Reading
 pub mod Clap
 pub mod Status
 pub mod Shown
+pub mod OneThread
+pub mod Recorded
+pub mod Working
+pub mod Rounds
+pub mod Running
+pub mod Headline
+pub mod Answering
 pub mod Replay
 pub mod Generated
 pub mod Summary

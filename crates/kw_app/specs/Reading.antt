@@ -1,5 +1,5 @@
 -- What stands after a command's own word, read from the first word on.
-use Rattle.std.specs.Prelude.{ℕ, Bool, ◌≡◌, if◌then◌else◌, List, [], ◌∷◌, Option, Some, None, codes, option_map, unwrap_or, is_some}
+use Rattle.std.specs.Prelude.{ℕ, if◌then◌else◌, List, [], ◌∷◌, Option, Some, None, codes, option_map, unwrap_or, is_some}
 use Rattle.std.specs.Str.{bytes_eq}
 use Rattle.kw_words.specs.declared.sizes.TheConstants.{MOST_ROWS}
 use Rattle.kw_app.specs.declared.command.Command.{Command}

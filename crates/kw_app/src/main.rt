@@ -2,33 +2,44 @@
 //!
 //! This module holds `main` alone, the trusted edge: it gathers the words of the command line, hands the process's streams to
 //! [`run::run`], says a fault on standard error, and ends with the outcome's status. All that is promised of the program stands
-//! on the contract of `run`; the modules below it read the command's words (`word`, `words`, `command`), make the text of an input's
-//! replies (`text`, `printed`, `replay`, `ask`) or the summary of a generated load (`load`, `generate`, `summary`), and say how a run ended
-//! (`outcome`, `fault`).
+//! on the contract of `run`. The modules below it:
+//!
+//! - `word`, `words` and `command` read the words of the command line.
+//! - `text`, `printed` and `replay` make the text of an input's replies; `load`, `generate` and `summary` the summary of a generated load.
+//! - `answering` asks the lines, of the concurrent map or of the plain list (`plain`).
+//! - `running`, `rounds`, `working` and `asking` run lines on the concurrent map: all blocks, one block, one worker, one line. Block after
+//!   block, each worker answers in a thread of its own the lines that are dealt to it; then all passes meet, so that all have seen one list
+//!   of events, and the next block begins. That workers run beside each other is no clause: a test shows it.
+//! - `outcome` and `fault` say how a run ended.
 #![tactic(auto)]
 
-mod ask;
+mod answering;
+mod asking;
 mod command;
 mod fault;
 mod generate;
 mod load;
 mod outcome;
+mod plain;
 mod printed;
 mod replay;
+mod rounds;
 mod run;
+mod running;
 mod summary;
 #[cfg(test)]
 mod tests;
 mod text;
 mod word;
 mod words;
+mod working;
 
 use crate::fault::write_fault;
 use crate::outcome::{Outcome, Status};
 use crate::run::run;
 use crate::word::Word;
+use crate::working::NoGate;
 use kw_io::{ErrSink, StdSink, StdSource};
-use kw_run::working::NoGate;
 use std::alloc::AllocError;
 use std::process::ExitCode;
 use std::{env, io};

@@ -8,7 +8,6 @@ ghost use Rattle.kw_io.specs.Bytes.{AppendsPrefix};
 ghost use Rattle.kw_io.specs.Counts.{CountRose};
 ghost use Rattle.kw_app.specs.declared.command.Command.{Command as AnyCommand};
 ghost use Rattle.kw_app.specs.Words.{AreInRange, Means};
-ghost use Rattle.kw_app.specs.Load.{load_text};
 ghost use Rattle.kw_app.specs.Ends.{IsBadInput, IsToldBad, Prints, Reads, Tells};
 
 use crate::command::{Command, command_of};
@@ -17,18 +16,18 @@ use crate::outcome::{Outcome, Status};
 use crate::printed::Printed;
 use crate::text::{InputError, text_of};
 use crate::word::Word;
+use crate::working::Gate;
 use kw_io::{ReadError, Sink, Source, read_all, write_all};
 use kw_line::parse::MOST_BYTES;
-use kw_run::working::Gate;
 use std::alloc::Global;
 use std::thread::Threads;
 
 /// How many bytes an input may have, as a limit of reading.
 const READ_LIMIT: u32 = MOST_BYTES as u32;
 
-/// Runs the command of these words, `replay` by as many workers beside each other as it asks for; the gate is told of their lines. A
-/// command that has an input reads the source to its end and, where each line is in the command's
-/// grammar, writes the text that it prints to the sink after the last call; `gen` reads nothing and writes its summary.
+/// Runs the command of these words, `replay` and `gen` by as many workers beside each other as they ask for; the gate is told of their
+/// lines. A command that has an input reads the source to its end and, where each line is in the command's grammar, writes the text that it
+/// prints to the sink after the last call; `gen` reads nothing and writes its summary.
 ///
 /// The statuses are tested in the order of [`Status`]'s description. Want of memory is free, and leaves the sink as it was.
 pub fn run<R: Threads + Sync, S: Source, K: Sink, G: Gate + Sync>(
@@ -40,9 +39,9 @@ pub fn run<R: Threads + Sync, S: Source, K: Sink, G: Gate + Sync>(
     gate: &G,
 ) -> Outcome
     // The text of the command was written, whole or up to a fault: for `replay` the replies to the lines in order, for `simulate` the
-    // output of the script, for `gen` the summary of the ordered map's replies to the lines it made. The replies of `replay` come from
-    // the concurrent map where the lines that set a value or take a key away fit one row. The pass in `front` then shows the run, for
-    // any number of workers, and the replies are those of one thread in an order of the lines that keeps what came before what.
+    // output of the script, for `gen` the summary of the replies to the lines it made. The replies come from the concurrent map where the
+    // lines that set a value or take a key away fit one row. The pass in `front` then shows the run, for any number of workers, and the
+    // replies are those of one thread in an order of the lines that keeps what came before what.
     ensures done { result.status ≡ Status.Done → (command : AnyCommand) → Means words.now command →
         Tells command (S.left source.old) result.front false (Appends (K.written sink.old) (K.written sink.new)) }
     ensures refused { result.status ≡ Status.Refused → (command : AnyCommand) → Means words.now command →
@@ -111,7 +110,15 @@ fn run_command<R: Threads + Sync, S: Source, K: Sink, G: Gate + Sync>(
     match command {
         Command::Replay { .. } => read_and_answer(rt, alloc, command, source, sink, gate),
         Command::Simulate { .. } => read_and_answer(rt, alloc, command, source, sink, gate),
-        Command::Gen { start, count, .. } => answer_load(alloc, start, count, sink),
+        Command::Gen {
+            start,
+            count,
+            workers,
+            rows,
+        } => match load(rt, alloc, start, count, workers, rows, gate) {
+            Ok(printed) => written(printed, sink),
+            Err(_) => Outcome::of(Status::OutOfMemory),
+        },
     }
 }
 
@@ -183,27 +190,6 @@ fn answer<R: Threads + Sync, K: Sink, G: Gate + Sync>(
         Ok(printed) => written(printed, sink),
         Err(InputError::Bad { line }) => Outcome::bad_input(line),
         Err(InputError::Memory) => Outcome::of(Status::OutOfMemory),
-    }
-}
-
-/// Runs `gen`: the load that begins with this number and has this many generated lines.
-fn answer_load<K: Sink>(alloc: Global, start: u32, count: u32, sink: &mut K) -> Outcome
-    ensures done { result.status ≡ Status.Done → Appends (K.written sink.old) (K.written sink.new) (load_text start count) }
-    ensures cut_short { result.status ≡ Status.WriteFault →
-        AppendsPrefix (K.written sink.old) (K.written sink.new) (load_text start count) }
-    ensures write_fault { result.status ≡ Status.WriteFault → CountRose (K.faults sink.old) (K.faults sink.new) }
-    ensures unwritten { result.status ≢ Status.Done → result.status ≢ Status.WriteFault → sink.new ≡ sink.old }
-    ensures front { result.front ≡ None }
-    ensures served { result.status ≢ Status.Refused }
-    ensures words { result.status ≢ Status.BadWords }
-    ensures read { result.status ≢ Status.ReadFault }
-    ensures input { result.status ≢ Status.BadInput }
-    ensures no_line { result.line ≡ 0 }
-    ensures sink_count { K.faults sink.old ≤ K.faults sink.new }
-{
-    match load(alloc, start, count) {
-        Ok(text) => written(Printed::of(text), sink),
-        Err(_) => Outcome::of(Status::OutOfMemory),
     }
 }
 

@@ -29,7 +29,7 @@ or_false true b e = absurd (false≢true (sym e))
 or_false false b e = (refl, e)
 
 -- where no element passes a test, this one does not
-none_passes : {X : Type 0} (f : X → Bool) (xs : List X) (j : ℕ) (x : X) → list_any f xs ≡ false → slice_get xs j ≡ Some x → f x ≡ false
+pub none_passes : {X : Type 0} (f : X → Bool) (xs : List X) (j : ℕ) (x : X) → list_any f xs ≡ false → slice_get xs j ≡ Some x → f x ≡ false
 none_passes f [] j x n e = absurd (cc)
 none_passes f (y ∷ xs) zero x n e = ap f (sym (same_Some y x e)) ∙ (or_false (f y) (list_any f xs) n).0
 none_passes f (y ∷ xs) (suc j) x n e = none_passes f xs j x (or_false (f y) (list_any f xs) n).1 e

@@ -1,10 +1,8 @@
 -- The first word, and what is read of the rest.
-use Rattle.std.proofs.Common.{◌≡◌, Bool, false, true, Option, Some, None, List, ℕ, drop, sym, ◌∙◌, ap}
-use Rattle.std.specs.Prelude.{IfSome, MatchOption}
-use Rattle.std.specs.List.{list_all}
+use Rattle.std.proofs.Common.{◌≡◌, Bool, false, true, Option, Some, None, List, ℕ, sym, ◌∙◌}
+use Rattle.std.specs.Prelude.{IfSome}
 use Rattle.kw_app.specs.declared.command.Command.{Command}
-use Rattle.kw_app.specs.Words.{AreInRange, Means, is_known}
-use Rattle.kw_app.specs.Reading.{reads, no_arguments, first_name}
+use Rattle.kw_app.specs.Words.{AreInRange}
 use Rattle.kw_app.proofs.Commands.{told, meaning, meaning_by, no_meaning_by}
 use Rattle.kw_app.proofs.Means.{means_known}
 use Rattle.kw_app.proofs.Ranges.{meant_in_range}

@@ -1,10 +1,12 @@
 -- What is written of an input, or of no input, is what the command tells.
-use Rattle.std.proofs.Common.{◌≡◌, ℕ, Bool, List, Option, refl, sym, subst}
+use Rattle.std.proofs.Common.{Option, sym, subst}
 use Rattle.std.specs.Prelude.{true, false}
 use Rattle.std.specs.Io.KnownBytes.{Appends}
 use Rattle.kw_io.specs.Bytes.{AppendsPrefix}
 use Rattle.kw_app.specs.declared.command.Command.{Command}
+use Rattle.kw_table.specs.declared.pass.Pass.{Pass}
 use Rattle.kw_app.specs.Ends.{Reads, Tells}
+use Rattle.kw_app.specs.Load.{IsLoaded}
 use Rattle.kw_app.proofs.Ended.{tells_of}
 use Rattle.kw_app.proofs.run.run_command.Goals as goal
 
@@ -40,13 +42,13 @@ returns-in-Simulate-clause-cut_short g c = λ short.
     let p = c.read_and_answer-in-Simulate.ensures.cut_short short in
     (p.0, tells_of c.args.command (g.S.Source.left c.args.source.now) c.read_and_answer-in-Simulate.result.front p.0 (AppendsPrefix (g.K.Sink.written c.args.sink.now) (g.K.Sink.written c.read_and_answer-in-Simulate.new.sink)) reads p.1)
 
-pub returns-in-Gen-clause-done : goal.returns-in-Gen-clause-done
-returns-in-Gen-clause-done g c = λ done.
-    subst (λ (d : Command). Tells d (g.S.Source.left c.args.source.now) c.answer_load.result.front false (Appends (g.K.Sink.written c.args.sink.now) (g.K.Sink.written c.answer_load.new.sink))) (sym c.in-Gen.is) (c.answer_load.ensures.front, refl, c.answer_load.ensures.done done)
-
-pub returns-in-Gen-clause-refused : goal.returns-in-Gen-clause-refused
-returns-in-Gen-clause-refused g c = λ refused. absurd (c.answer_load.ensures.served refused)
-
-pub returns-in-Gen-clause-cut_short : goal.returns-in-Gen-clause-cut_short
-returns-in-Gen-clause-cut_short g c = λ short.
-    (false, subst (λ (d : Command). Tells d (g.S.Source.left c.args.source.now) c.answer_load.result.front false (AppendsPrefix (g.K.Sink.written c.args.sink.now) (g.K.Sink.written c.answer_load.new.sink))) (sym c.in-Gen.is) (c.answer_load.ensures.front, refl, c.answer_load.ensures.cut_short short))
+pub returns-in-Ok-clause-cut_short : goal.returns-in-Ok-clause-cut_short
+returns-in-Ok-clause-cut_short g c = λ short. (
+  c.in-Ok.printed.refused,
+  subst (λ (d : Command). Tells d (g.S.Source.left c.args.source.now) c.written.result.front c.in-Ok.printed.refused (AppendsPrefix (g.K.Sink.written c.args.sink.now) (g.K.Sink.written c.written.new.sink))) (sym c.in-Gen.is)
+      (record {
+        printed = c.in-Ok.printed.text.items;
+        is_loaded = subst (λ (front : Option Pass). IsLoaded c.in-Gen.start c.in-Gen.count c.in-Gen.workers c.in-Gen.rows c.in-Ok.printed.text.items front c.in-Ok.printed.refused) (sym c.written.ensures.front) c.in-Ok.ensures;
+        writes = c.written.ensures.cut_short short;
+      }),
+)

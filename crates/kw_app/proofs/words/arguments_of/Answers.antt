@@ -1,5 +1,5 @@
 -- What `clap` finds, or that it finds a fault.
-use Rattle.std.proofs.Common.{◌≡◌, ℕ, Option, Some, List, drop, refl, sym, ◌∙◌, ap}
+use Rattle.std.proofs.Common.{◌≡◌, ℕ, Option, Some, sym, ◌∙◌}
 use Rattle.std.proofs.lemmas.List.{map-id}
 use Rattle.std.specs.Str.Parse.{ParsesUnsigned, ExplainsUnsignedError, HasUnsignedDigitsIfOk}
 use Rattle.kw_app.specs.declared.words.Arguments.{Arguments}

@@ -1,13 +1,11 @@
 -- Each argument, and the command that has them.
-use Rattle.std.proofs.Common.{◌≡◌, ℕ, Option, Some, List, true, false, codes, refl, sym, ◌∙◌, ap, ap₂}
+use Rattle.std.proofs.Common.{◌≡◌, Option, Some, true, false, codes, ◌∙◌, ap, ap₂}
 use Rattle.std.proofs.lemmas.Result.{IfOk-weaker}
-use Rattle.std.specs.Prelude.{pos}
-use Rattle.clap.specs.Words.{App, Rule, app_of, new_app, new_rule, rule_of, with_rule}
+use Rattle.clap.specs.Words.{Rule, app_of, new_app, new_rule, rule_of, with_rule}
 use Rattle.clap.specs.Simple.{app_of_fields, on_top}
 use Rattle.clap.specs.declared.builder.arg.Arg.{Arg}
 use Rattle.clap.specs.declared.builder.value_parser.ValueParser.{ValueParser}
-use Rattle.clap.specs.declared.builder.value_parser.ValueParser.TheVariants as vp
-use Rattle.kw_app.specs.Clap.{start, count, workers, rows, rule_for, parser_of, kiwi}
+use Rattle.kw_app.specs.Clap.{start, count, workers, rows, rule_for, parser_of}
 use Rattle.kw_app.proofs.words.parser.Goals as goal
 
 -- an argument with a parser

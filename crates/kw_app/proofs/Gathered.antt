@@ -1,0 +1,60 @@
+-- The answer to a range line, from what its scan says; and the forms of lines, from their calls.
+use Rattle.std.proofs.Common.{◌≡◌, ℕ, [], Option, Ok, refl, sym, ap, ◌∙◌, subst}
+use Rattle.kw_model.specs.declared.call.Call.{Call}
+use Rattle.kw_model.specs.declared.call.Call.TheVariants.{Put, Del, Get, Scan}
+use Rattle.kw_model.specs.Map.{Pairs}
+use Rattle.kw_line.specs.declared.answer.Answer.{Answer}
+use Rattle.kw_line.specs.declared.item.Form.{Form}
+use Rattle.kw_line.specs.declared.item.Form.TheVariants as form
+use Rattle.kw_line.specs.Answered.{answer_for, answer_of_pairs}
+use Rattle.kw_line.specs.Line.{IsCallOf}
+use Rattle.kw_table.specs.declared.pass.Pass.{Pass}
+use Rattle.kw_map.specs.Kiwi.{Answers as Scans}
+use Rattle.kw_app.specs.Working.{Answers}
+
+-- a scan whose gatherer was new answers what the gatherer says of the lists for which it stands
+pub gathered : {S : Type 0} (last : S → Option ℕ) (stands : S → Pairs → Type 0) (stops : S → ℕ) (p q : Pass) (from upto : ℕ) (old new : S) (f : Form) (answer : Answer)
+    → Scans last stands stops p q from upto old new (Ok tt) → stands old [] → ((list : Pairs) → stands new list → answer ≡ answer_of_pairs f list) → Answers p q (Scan from upto) f answer
+gathered last stands stops p q from upto old new f answer scan start gives = record {
+  reply = scan.reply;
+  calls = scan.calls;
+  answer_is = gives scan.took.0 (scan.took.2.follows [] start) ∙ sym (ap (answer_for f) scan.took.1);
+}
+
+-- the form of a put's line
+pub form_of_put : (f : Form) (k v : ℕ) → IsCallOf f (Put k v) → f ≡ form.Put
+form_of_put form.Put k v h = refl
+form_of_put form.Del k v h = absurd h
+form_of_put form.Get k v h = absurd h
+form_of_put form.Sum k v h = absurd h
+form_of_put form.Count k v h = absurd h
+form_of_put form.Least k v h = absurd h
+form_of_put form.Greatest k v h = absurd h
+form_of_put form.List k v h = absurd h
+
+-- the form of a delete's line
+pub form_of_del : (f : Form) (k : ℕ) → IsCallOf f (Del k) → f ≡ form.Del
+form_of_del form.Put k h = absurd h
+form_of_del form.Del k h = refl
+form_of_del form.Get k h = absurd h
+form_of_del form.Sum k h = absurd h
+form_of_del form.Count k h = absurd h
+form_of_del form.Least k h = absurd h
+form_of_del form.Greatest k h = absurd h
+form_of_del form.List k h = absurd h
+
+-- the form of a get's line
+pub form_of_get : (f : Form) (k : ℕ) → IsCallOf f (Get k) → f ≡ form.Get
+form_of_get form.Put k h = absurd h
+form_of_get form.Del k h = absurd h
+form_of_get form.Get k h = refl
+form_of_get form.Sum k h = absurd h
+form_of_get form.Count k h = absurd h
+form_of_get form.Least k h = absurd h
+form_of_get form.Greatest k h = absurd h
+form_of_get form.List k h = absurd h
+
+-- the same answer, of the line's own call and form
+pub answers_as : (p q : Pass) (c d : Call) (f g : Form) (answer : Answer) → c ≡ d → f ≡ g → Answers p q d g answer → Answers p q c f answer
+answers_as p q c d f g answer call_is form_is h =
+    subst (λ (x : Form). Answers p q c x answer) (sym form_is) (subst (λ (x : Call). Answers p q x g answer) (sym call_is) h)

@@ -1,0 +1,91 @@
+-- What a worker has done, line by line.
+use Rattle.std.proofs.Common.{◌≡◌, ℕ, ◌+◌, ◌<◌, ◌≤◌, take, get_or, subst, List, [], ◌∷◌, ◌++◌, length, map, refl, ap, sym, ◌∙◌, arith, append-nil, append_assoc, length-append, Option, Some, None}
+use Rattle.std.proofs.lemmas.List.{map-append, length-map, take_more}
+use mathlib.Core.List.{IsPrefix}
+use Rattle.std.proofs.lemmas.List.Elements.{All-nil, All-cons, All-append, All-weaker}
+use Rattle.kw_model.specs.declared.call.Reply.{Reply}
+use Rattle.kw_core.specs.declared.history.End.{End}
+use Rattle.kw_core.specs.SeatCalls.{CallSeen, begun_at, ended_at}
+use Rattle.kw_line.specs.declared.answer.Answer.{Answer}
+use Rattle.kw_line.specs.Answered.{answer_for, answers_for}
+use Rattle.kw_table.specs.declared.pass.Pass.{Pass}
+use Rattle.kw_table.specs.declared.shared.Shared.{Shared}
+use Rattle.kw_table.specs.Passes.{view}
+use Rattle.kw_table.proofs.Prefixes.{prefix_trans}
+use Rattle.kw_live.specs.Following.{GoesTo}
+use Rattle.kw_live.specs.Calling.{calls_in, now_in, Calls}
+use Rattle.kw_work.specs.declared.line.Line.{Line}
+use Rattle.kw_work.specs.declared.line.Answered.{Answered}
+use Rattle.kw_app.specs.Recorded.{asked, asks, line_forms, reply_of, EndsBefore, IsWithin}
+use Rattle.kw_app.specs.Working.{Answers, Works, answered, answered_by}
+
+-- one line more, and its call
+pub answered_by-push : (ls : List Line) (cs : List CallSeen) (l : Line) (c : CallSeen) → length ls ≡ length cs → answered_by (ls ++ l ∷ []) (cs ++ c ∷ []) ≡ answered_by ls cs ++ answered l c ∷ []
+unfolding answered_by
+answered_by-push [] [] l c same = refl
+answered_by-push [] (d ∷ cs) l c same = absurd (omega arith)
+answered_by-push (k ∷ ls) [] l c same = absurd (omega arith)
+answered_by-push (k ∷ ls) (d ∷ cs) l c same = ap (λ x. answered k d ∷ x) (answered_by-push ls cs l c (omega arith))
+
+-- what is printed is what the replies give
+pub answers-answered_by : (ls : List Line) (cs : List CallSeen) → map (λ (a : Answered). a.answer) (answered_by ls cs) ≡ answers_for (line_forms ls) (map reply_of cs)
+unfolding answered_by
+answers-answered_by [] cs = refl
+answers-answered_by (l ∷ ls) [] = refl
+answers-answered_by (l ∷ ls) (c ∷ cs) = ap (λ x. answer_for l.form (reply_of c) ∷ x) (answers-answered_by ls cs)
+
+-- calls that ask what lines ask are as many
+pub as_many : (cs : List CallSeen) (ls : List Line) → asked cs ≡ asks ls → length cs ≡ length ls
+as_many cs ls same = sym (length-map cs (λ (c : CallSeen). c.call)) ∙ (ap length same ∙ length-map ls (λ (l : Line). l.call))
+
+-- what has ended before a place has ended before a later one
+pub ends_later : (a b : ℕ) (e : Option End) → a ≤ b → EndsBefore a e → EndsBefore b e
+ends_later a b None le h = h
+ends_later a b (Some x) le h = omega arith
+
+-- a call within some places is within wider ones
+pub within_wider : (a b c d : ℕ) → c ≤ a → b ≤ d → (x : CallSeen) → IsWithin a b x → IsWithin c d x
+within_wider a b c d p q x h = record { begins = let k = h.begins in omega arith; ends = ends_later b d x.end q h.ends }
+
+-- a longer list is not shorter
+pub prefix_length : {A : Type 0} (xs ys : List A) → IsPrefix xs ys → length xs ≤ length ys
+prefix_length xs ys p = let e : length xs + length p.0 ≡ length ys = sym (length-append xs p.0) ∙ ap length p.1 in omega arith
+
+-- no line is answered yet
+pub works_none : (p : Pass) → Works p p [] []
+unfolding answered_by
+works_none p = record { made = []; calls = sym (append-nil (calls_in p)); asks_are = refl; within = All-nil (IsWithin (now_in p) (now_in p)); answers_are = refl }
+
+-- one line more is answered
+pub works_more : (p q r : Pass) (ls : List Line) (l : Line) (done : List Answered) (reply : Reply) → now_in p ≤ now_in q → now_in q ≤ now_in r → Works p q ls done → Calls q r l.call reply
+    → Works p r (ls ++ l ∷ []) (done ++ record { line = l.number; answer = answer_for l.form reply } ∷ [])
+works_more p q r ls l done reply before later w c =
+    let one : CallSeen = ended_at c.last reply (begun_at c.first c.number l.call) in
+    record {
+      made = w.made ++ one ∷ [];
+      calls = c.calls ∙ (ap (λ x. x ++ one ∷ []) w.calls ∙ append_assoc (calls_in p) w.made (one ∷ []));
+      asks_are = map-append (λ (x : CallSeen). x.call) w.made (one ∷ []) ∙ (ap (λ x. x ++ l.call ∷ []) w.asks_are ∙ sym (map-append (λ (x : Line). x.call) ls (l ∷ [])));
+      within = All-append (IsWithin (now_in p) (now_in r)) w.made (one ∷ [])
+          (All-weaker (IsWithin (now_in p) (now_in q)) (IsWithin (now_in p) (now_in r)) (λ x h. within_wider (now_in p) (now_in q) (now_in p) (now_in r) (omega arith) later x h) w.made w.within)
+          (All-cons (IsWithin (now_in p) (now_in r)) one [] record { begins = let k = c.begins in omega arith; ends = c.ends } (All-nil (IsWithin (now_in p) (now_in r))));
+      answers_are = ap (λ x. x ++ record { line = l.number; answer = answer_for l.form reply } ∷ []) w.answers_are ∙ sym (answered_by-push ls w.made l one (sym (as_many w.made ls w.asks_are)));
+    }
+
+-- so goes the loop over the lines
+pub works_step : (p q r : Pass) (lines : List Line) (i : ℕ) (d : Line) (done more : List Answered) (a : Answer) → i < length lines → now_in p ≤ now_in q → now_in q ≤ now_in r
+    → Works p q (take i lines) done → Answers q r (get_or lines i d).call (get_or lines i d).form a → more ≡ done ++ record { line = (get_or lines i d).number; answer = a } ∷ []
+    → Works p r (take (i + 1) lines) more
+works_step p q r lines i d done more a lt before later w c push =
+    let l : Line = get_or lines i d in
+    subst (λ x. Works p r x more) (sym (take_more lines i d lt))
+    (subst (λ x. Works p r (take i lines ++ l ∷ []) x) (sym (push ∙ ap (λ (y : Answer). done ++ record { line = l.number; answer = y } ∷ []) c.answer_is))
+    (works_more p q r (take i lines) l done c.reply before later w c.calls))
+
+-- a pass that went on twice went on
+pub goes_trans : (s : Shared) (p q r : Pass) → GoesTo s p q → GoesTo s q r → GoesTo s p r
+goes_trans s p q r a b = record {
+  of_table = b.of_table;
+  number = b.number ∙ a.number;
+  opening = b.opening ∙ a.opening;
+  seen = prefix_trans (view p).seen (view q).seen (view r).seen a.seen b.seen;
+}

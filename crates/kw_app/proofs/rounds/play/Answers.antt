@@ -1,0 +1,31 @@
+use Rattle.std.proofs.Common.{arith}
+use Rattle.kw_app.proofs.Blocks.{grew, together_again, answers_each}
+use Rattle.kw_app.proofs.Each.{element_at}
+use Rattle.kw_app.proofs.rounds.play.Goals as goal
+
+pub gathered-passes-requires : goal.gathered-passes-requires
+gathered-passes-requires g c = λ k d lt.
+    let a = c.args.passes in
+    let e = c.in_ok-passes.passes in
+    let p = element_at c.args.passes.items k (omega (arith, c.in_ok-passes.ensures.len.0)) in
+    (c.in_ok-passes.ensures.each k p.0 d (omega (arith, c.in_ok-passes.ensures.len.0))).idle.of_map
+
+pub collect-requires-clause-each : goal.collect-requires-clause-each
+collect-requires-clause-each g c =
+    let a = c.args.passes in
+    let e = c.in_ok-passes.passes in
+    answers_each c.args.kiwi.now c.args.block.now c.args.passes.items c.in_ok-passes.passes.items c.in_ok-passes.parts.items _ c.requires.together (omega (arith, c.in_ok-passes.ensures.len.0)) c.in_ok-passes.ensures.each
+
+pub returns-clause-together : goal.returns-clause-together
+returns-clause-together g c =
+    let a = c.args.passes in
+    let e = c.in_ok-passes.passes in
+    let r = c.gathered-passes.result in
+    together_again c.args.kiwi.now c.args.block.now c.args.passes.items c.in_ok-passes.passes.items c.gathered-passes.result.items c.in_ok-passes.parts.items _ _ c.requires.together (omega (arith, c.in_ok-passes.ensures.len.0)) (omega (arith, c.gathered-passes.ensures.len))
+    c.in_ok-passes.ensures.each c.gathered-passes.ensures.each
+
+pub returns-clause-grew : goal.returns-clause-grew
+returns-clause-grew g c =
+    let a = c.args.passes in
+    let e = c.in_ok-passes.passes in
+    grew c.args.kiwi.now c.args.block.now c.args.passes.items c.in_ok-passes.passes.items c.gathered-passes.result.items c.in_ok-passes.parts.items _ _ _ c.requires.together (omega (arith, c.in_ok-passes.ensures.len.0)) c.in_ok-passes.ensures.each c.gathered-passes.ensures.each c.in_ok-answers.ensures

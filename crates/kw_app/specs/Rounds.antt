@@ -1,0 +1,67 @@
+-- One block, answered by its workers.
+use Rattle.std.specs.Prelude.{◌≡◌, ℕ, ◌<◌, List, ◌++◌, length, drop, All, IfOk, Vec, slice_index_or}
+use Rattle.std.specs.declared.alloc.Global.{Global}
+use mathlib.Core.List.{IsPrefix}
+use Rattle.kw_core.specs.SeatCalls.{CallSeen}
+use Rattle.kw_world.specs.declared.event.Event.{Event}
+use Rattle.kw_world.specs.declared.opening.Opening.{Opening}
+use Rattle.kw_line.specs.declared.answer.Answer.{Answer}
+use Rattle.kw_table.specs.declared.pass.Pass.{Pass}
+use Rattle.kw_table.specs.Passes.{view}
+use Rattle.kw_live.specs.Following.{GoesTo}
+use Rattle.kw_map.specs.declared.kiwi.Kiwi.{Kiwi}
+use Rattle.kw_map.specs.Kiwi.{IsIdle}
+use Rattle.kw_work.specs.declared.line.Line.{Line}
+use Rattle.kw_work.specs.declared.line.Answered.{Answered}
+use Rattle.kw_work.specs.Dealing.{Dealt, part}
+use Rattle.kw_work.specs.Collecting.{answers_of}
+use Rattle.kw_app.specs.declared.rounds.Job.{Job}
+use Rattle.kw_app.specs.declared.rounds.Done.{Done}
+use Rattle.kw_app.specs.Recorded.{asked, asks, IsWithin, printed, seat_calls}
+use Rattle.kw_app.specs.Working.{Works}
+
+-- the job of a pass: the lines of the block that are dealt to it
+pub record IsJob (b : Dealt) (p : Pass) (j : Job) : Type 0 where
+  pub pass : j.pass ≡ p
+  pub lines : j.lines.items ≡ part b.workers (view p).number b.lines
+
+-- what becomes of a job
+pub record IsDone (m : Kiwi) (j : Job) (d : Done) : Type 0 where
+  pub idle : IsIdle m d.pass
+  pub goes : GoesTo m.shared j.pass d.pass
+  pub works : IfOk d.answers (λ v. Works j.pass d.pass j.lines.items v.items)
+
+-- p became q by the lines of the block that are dealt to it, and has these answers
+pub record Worked (m : Kiwi) (b : Dealt) (p q : Pass) (answers : List Answered) : Type 0 where
+  pub idle : IsIdle m q
+  pub goes : GoesTo m.shared p q
+  pub works : Works p q (part b.workers (view p).number b.lines) answers
+
+-- so did each of the passes
+abbrev pub WorkedEach : Kiwi → Dealt → List Pass → List Pass → List (Vec Answered Global) → Type 0
+WorkedEach m b ps qs parts = (i : ℕ) (d e : Pass) → i < length ps → Worked m b (slice_index_or ps i d) (slice_index_or qs i e) (answers_of parts i)
+
+-- the idle pass numbered i, which has seen E
+pub record IsSeated (m : Kiwi) (E : List Event) (i : ℕ) (p : Pass) : Type 0 where
+  pub idle : IsIdle m p
+  pub number : (view p).number ≡ i
+  pub seen : (view p).seen ≡ E
+
+-- n idle passes, numbered from 0, which have all seen E
+pub record AreTogether (m : Kiwi) (n : ℕ) (E : List Event) (ps : List Pass) : Type 0 where
+  pub some : 0 < n
+  pub len : length ps ≡ n
+  pub each : (i : ℕ) (d : Pass) → i < n → IsSeated m E i (slice_index_or ps i d)
+
+-- the calls of each seat that a longer list has more
+abbrev pub more_calls : Opening → List Event → List Event → ℕ → List CallSeen
+more_calls o E E' seat = drop (length (seat_calls o E seat)) (seat_calls o E' seat)
+
+-- the list E' goes on after E by the calls of the lines and no others, each made whole by the worker of its line, in line order; the answers
+-- are those of the recorded replies
+pub record Grew (o : Opening) (n : ℕ) (lines : List Line) (E E' : List Event) (answers : List Answer) : Type 0 where
+  pub longer : IsPrefix E E'
+  pub calls : (w : ℕ) → w < n → seat_calls o E' w ≡ seat_calls o E w ++ more_calls o E E' w
+  pub asks_are : (w : ℕ) → w < n → asked (more_calls o E E' w) ≡ asks (part n w lines)
+  pub within : (w : ℕ) → w < n → All (IsWithin (length E) (length E')) (more_calls o E E' w)
+  pub prints : answers ≡ printed n (more_calls o E E') lines

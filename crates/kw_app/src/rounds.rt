@@ -1,0 +1,156 @@
+//! One block, answered by all workers beside each other.
+//!
+//! Each pass gets a job, the lines of the block that are dealt to it, and a thread. When all have ended, the passes meet: all have then seen
+//! one list of events. Only after that are the answers collected, so a block's calls have all ended before anything of a later one.
+ghost use Rattle.std.specs.Prelude.{◌≡◌, All, IfOk, Ok, vec_len};
+ghost use Rattle.kw_table.specs.Meetings.{AtEach, Gathers, front_seen};
+ghost use Rattle.kw_table.specs.Passes.{IsPassOf};
+ghost use Rattle.kw_map.specs.Kiwi.{IsIdle};
+ghost use Rattle.kw_work.specs.Dealing.{IsLine};
+ghost use Rattle.kw_app.specs.Rounds.{AreTogether, Grew, IsDone, IsJob, WorkedEach};
+
+use crate::working::{Gate, work};
+use kw_line::answer::Answer;
+use kw_map::kiwi::Kiwi;
+use kw_model::memory::Memory;
+use kw_table::Pass;
+use kw_work::block::Block;
+use kw_work::collect::collect;
+use kw_work::line::{Answered, Line};
+use std::alloc::{AllocError, Global};
+use std::thread;
+use std::thread::Threads;
+
+/// What one worker is given.
+#[derive(Drop)]
+pub(crate) struct Job {
+    pub(crate) pass: Pass,
+    pub(crate) lines: Vec<Line>,
+}
+
+/// What one worker hands back.
+#[derive(Drop)]
+pub(crate) struct Done {
+    pub(crate) pass: Pass,
+    pub(crate) answers: Result<Vec<Answered>, Memory>,
+}
+
+/// Does one job.
+fn finish<G: Gate>(alloc: Global, kiwi: &Kiwi, job: Job, gate: &G) -> Done
+    requires idle { IsIdle kiwi.now job.pass }
+    requires lines { All IsLine job.lines.items }
+    ensures { IsDone kiwi.now job result }
+{
+    let Job { mut pass, lines } = job;
+    let worker = pass.number();
+    let answers = work(alloc, kiwi, &mut pass, worker, lines.as_slice(), gate);
+    Done { pass, answers }
+}
+
+/// A job for each pass.
+fn jobs(alloc: Global, kiwi: &Kiwi, block: &Block, passes: Vec<Pass>) -> Result<Vec<Job>, Memory>
+    requires idle { All (IsIdle kiwi.now) passes.items }
+    requires lines { All IsLine block.now.lines }
+    ensures each { IfOk result (λ jobs. AtEach (IsJob block.now) passes.items jobs.items) }
+    ensures len { IfOk result (λ jobs. vec_len jobs ≡ vec_len passes) }
+    ensures ready { IfOk result (λ jobs. All (λ job. IsIdle kiwi.now job.pass × All IsLine job.lines.items) jobs.items) }
+{
+    let mut jobs = Vec::new(alloc);
+    for pass in passes {
+        let lines = block.part(alloc, pass.number())?;
+        jobs.push(Job { pass, lines })?;
+    }
+    Ok(jobs)
+}
+
+/// Does all jobs, each in a thread of its own.
+fn finish_all<R: Threads + Sync, G: Gate + Sync>(
+    rt: &R,
+    alloc: Global,
+    kiwi: &Kiwi,
+    jobs: Vec<Job>,
+    gate: &G,
+) -> Result<Vec<Done>, AllocError>
+    requires { All (λ job. IsIdle kiwi.now job.pass × All IsLine job.lines.items) jobs.items }
+    ensures len { IfOk result (λ dones. vec_len dones ≡ vec_len jobs) }
+    ensures each { IfOk result (λ dones. AtEach (IsDone kiwi.now) jobs.items dones.items) }
+{
+    thread::map_vec(
+        rt,
+        jobs,
+        &|job: Job|
+            requires idle { IsIdle kiwi.now job.pass }
+            requires lines { All IsLine job.lines.items }
+        { finish(alloc, kiwi, job, gate) },
+    )
+}
+
+/// The passes and the answers, where no worker wanted memory.
+fn parted(alloc: Global, dones: Vec<Done>) -> Result<(Vec<Pass>, Vec<Vec<Answered>>), Memory>
+    ensures len { IfOk result (λ both. (vec_len both.0 ≡ vec_len dones) × (vec_len both.1 ≡ vec_len dones)) }
+    ensures passes { IfOk result (λ both. AtEach (λ done pass. done.pass ≡ pass) dones.items both.0.items) }
+    ensures parts { IfOk result (λ both. AtEach (λ done part. done.answers ≡ Ok part) dones.items both.1.items) }
+{
+    let mut passes = Vec::new(alloc);
+    let mut parts = Vec::new(alloc);
+    for done in dones {
+        let Done { pass, answers } = done;
+        let part = answers?;
+        passes.push(pass)?;
+        parts.push(part)?;
+    }
+    Ok((passes, parts))
+}
+
+/// All workers answer their lines of the block.
+fn hand_out<R: Threads + Sync, G: Gate + Sync>(
+    rt: &R,
+    alloc: Global,
+    kiwi: &Kiwi,
+    block: &Block,
+    passes: Vec<Pass>,
+    gate: &G,
+) -> Result<(Vec<Pass>, Vec<Vec<Answered>>), Memory>
+    requires idle { All (IsIdle kiwi.now) passes.items }
+    requires lines { All IsLine block.now.lines }
+    ensures len { IfOk result (λ both. (vec_len both.0 ≡ vec_len passes) × (vec_len both.1 ≡ vec_len passes)) }
+    ensures each { IfOk result (λ both. WorkedEach kiwi.now block.now passes.items both.0.items both.1.items) }
+{
+    let jobs = jobs(alloc, kiwi, block, passes)?;
+    let dones = finish_all(rt, alloc, kiwi, jobs, gate)?;
+    parted(alloc, dones)
+}
+
+/// The passes, which have then all seen one list of events.
+fn gathered(kiwi: &Kiwi, passes: Vec<Pass>) -> Vec<Pass>
+    requires { All (IsPassOf kiwi.now.shared) passes.items }
+    ensures len { vec_len result ≡ vec_len passes }
+    ensures each { AtEach (Gathers kiwi.now.shared (front_seen result.items)) passes.items result.items }
+{
+    let mut passes = passes;
+    kiwi.gather_all(passes.as_mut_slice());
+    passes
+}
+
+/// Answers one block: the passes, which then have all seen one list of events, and the answers in line order.
+///
+/// There is a pass for each worker of the block, numbered from 0, and all are idle and have seen one list, as they are and have afterwards.
+/// The only error is the want of memory.
+pub(crate) fn play<R: Threads + Sync, G: Gate + Sync>(
+    rt: &R,
+    alloc: Global,
+    kiwi: &Kiwi,
+    block: &Block,
+    passes: Vec<Pass>,
+    gate: &G,
+) -> Result<(Vec<Pass>, Vec<Answer>), Memory>
+    requires together { AreTogether kiwi.now block.now.workers (front_seen passes.items) passes.items }
+    requires lines { All IsLine block.now.lines }
+    ensures together { IfOk result (λ both. AreTogether kiwi.now block.now.workers (front_seen both.0.items) both.0.items) }
+    ensures grew { IfOk result (λ both. Grew kiwi.now.shared.opening block.now.workers block.now.lines (front_seen passes.items) (front_seen both.0.items) both.1.items) }
+{
+    let (passes, parts) = hand_out(rt, alloc, kiwi, block, passes, gate)?;
+    let passes = gathered(kiwi, passes);
+    let answers = collect(alloc, block, parts)?;
+    Ok((passes, answers))
+}

@@ -1,0 +1,57 @@
+//! Scripts of `simulate`.
+use super::{ROOM, ran};
+use crate::outcome::Status;
+use std::test::Fail;
+
+#[test]
+fn a_script_is_run_and_its_first_bad_line_is_named(rt: HostRuntime) -> Result<(), Fail> {
+    let script =
+        b"call 0 put 5 10\ncall 1 scan 0 9\nuntil 0 load_clock\nuntil 1 draw\nuntil 0 stamp\ngo 1 100\ngo 0 100\n";
+    let ended = ran(
+        &rt,
+        rt.alloc(),
+        &["simulate"],
+        Vec::from_slice(rt.alloc(), script)?,
+        &[],
+        ROOM,
+    )?;
+    assert_eq!(rt; ended.outcome.status, Status::Done);
+    assert_eq!(rt;
+        ended.written.as_slice(),
+        b"1.1 scan 0 9: 5=10\n0.1 put 5 10: ok\norder 0.1 1.1\n".as_slice()
+    );
+    let empty = ran(
+        &rt,
+        rt.alloc(),
+        &["simulate"],
+        Vec::new(rt.alloc()),
+        &[],
+        ROOM,
+    )?;
+    assert_eq!(rt; empty.outcome.status, Status::Done);
+    assert_eq!(rt; empty.written.as_slice(), b"order none\n".as_slice());
+    let empty = ran(&rt, rt.alloc(), &["simulate"], Vec::new(rt.alloc()), &[], 7)?;
+    assert_eq!(rt; empty.outcome.status, Status::WriteFault);
+    assert_eq!(rt; empty.written.as_slice(), b"order n".as_slice());
+    let script = Vec::from_slice(rt.alloc(), b"call 0 put 5 10\ngo 0 0\n")?;
+    let ended = ran(&rt, rt.alloc(), &["simulate"], script, &[], ROOM)?;
+    assert_eq!(rt; ended.outcome.status, Status::BadInput);
+    assert_eq!(rt; ended.outcome.line, 2);
+    assert!(rt; ended.written.is_empty());
+    Ok(())
+}
+
+#[test]
+fn a_script_names_rows_of_as_many_as_asked(rt: HostRuntime) -> Result<(), Fail> {
+    let lists: [(&[&str], Status, u32); 2] = [
+        (&["simulate", "--rows", "70"], Status::Done, 0),
+        (&["simulate"], Status::BadInput, 1),
+    ];
+    for (list, status, line) in lists {
+        let script = Vec::from_slice(rt.alloc(), b"guess 0 69\n")?;
+        let ended = ran(&rt, rt.alloc(), list, script, &[], ROOM)?;
+        assert_eq!(rt; ended.outcome.status, status, "of {list:?}");
+        assert_eq!(rt; ended.outcome.line, line, "of {list:?}");
+    }
+    Ok(())
+}

@@ -1,0 +1,66 @@
+//! One worker, and whoever is told of its lines.
+//!
+//! A worker answers its lines one after the other, with one pass. The gate is told of each line before and after; it has no answers, so
+//! it changes nothing of what a worker does.
+ghost use Rattle.std.specs.Prelude.{All, IfOk};
+ghost use Rattle.kw_live.specs.Following.{GoesTo};
+ghost use Rattle.kw_map.specs.Kiwi.{IsIdle};
+ghost use Rattle.kw_work.specs.Dealing.{IsLine};
+ghost use Rattle.kw_app.specs.Working.{Works};
+
+use crate::asking::ask;
+use kw_map::kiwi::Kiwi;
+use kw_model::memory::Memory;
+use kw_table::Pass;
+use kw_work::line::{Answered, Line};
+use std::alloc::Global;
+
+/// Told of each line by its worker, with the numbers of both. It answers nothing and has no meaning; a test may hold a worker up by it.
+pub trait Gate {
+    /// The worker is about to begin the line.
+    fn before(&self, worker: u32, line: u32);
+
+    /// The worker has answered the line.
+    fn after(&self, worker: u32, line: u32);
+}
+
+/// A gate that does nothing.
+#[derive(Clone, Copy, Debug, PartialEq, Eq)]
+pub struct NoGate;
+
+impl Gate for NoGate {
+    fn before(&self, _worker: u32, _line: u32) {}
+
+    fn after(&self, _worker: u32, _line: u32) {}
+}
+
+/// Makes the calls of one worker's lines, in order, and gives their answers.
+///
+/// The pass is one of this map and idle, as it is afterwards. The only error is the want of memory; the pass has then made the calls
+/// of the first lines.
+pub fn work<G: Gate>(
+    alloc: Global,
+    kiwi: &Kiwi,
+    pass: &mut Pass,
+    worker: u32,
+    lines: &[Line],
+    gate: &G,
+) -> Result<Vec<Answered>, Memory>
+    requires idle { IsIdle kiwi.now pass.old }
+    requires lines { All IsLine lines.now }
+    ensures idle { IsIdle kiwi.now pass.new }
+    ensures goes { GoesTo kiwi.now.shared pass.old pass.new }
+    ensures works { IfOk result (λ answers. Works pass.old pass.new lines.now answers.items) }
+{
+    let mut answers = Vec::new(alloc);
+    for line in lines {
+        gate.before(worker, line.number);
+        let answer = ask(alloc, kiwi, pass, *line)?;
+        answers.push(Answered {
+            line: line.number,
+            answer,
+        })?;
+        gate.after(worker, line.number);
+    }
+    Ok(answers)
+}
