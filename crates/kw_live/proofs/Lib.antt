@@ -1,3 +1,4 @@
+pub mod Asking
 pub mod CellEvent
 pub mod CellStages
 pub mod Fronts

@@ -30,8 +30,9 @@ use Rattle.kw_table.specs.Passes.{view}
 use Rattle.kw_table.proofs.Prefixes.{prefix_trans}
 use Rattle.kw_live.specs.Calling.{Keeps}
 use Rattle.kw_live.specs.Following.{Follows, GoesTo, held}
-use Rattle.kw_live.specs.Meeting.{MetIn, Met, MetAs, MetCount, MetFull, MetRoom}
+use Rattle.kw_live.specs.Meeting.{AsksBelow, AsksNone, IsAsking, MetIn, Met, MetAs, MetCount, MetFull, MetOnly, MetRoom}
 use Rattle.kw_live.specs.Putting.{is_putting}
+use Rattle.kw_live.proofs.Asking.{below_trans, none_at, none_below, once_below}
 use Rattle.kw_live.proofs.Fronts.{met_laws, met_local, met_told, met_row_below, local_at}
 
 -- What a put has found.
@@ -41,10 +42,11 @@ pub record HasAsked (p q : Pass) : Type 0 where
   pub given : ℕ
   pub asked : MetCount p q PutCount given
   pub less : given < CELLS
+  pub every : AsksBelow CELLS p q
 
 -- what it has found where it stands
 abbrev pub HasFound : Pass → Pass → Activity → Type 0
-HasFound p q PutCount = Unit {0}
+HasFound p q PutCount = AsksNone p q
 HasFound p q PutAdd = HasAsked p q
 HasFound p q PutKey = MetRoom CELLS p q
 HasFound p q PutValue = MetRoom CELLS p q
@@ -78,8 +80,16 @@ met_on s p q r a told goes m = record { front = m.front; later = m.later; here =
 count_on : (s : Shared) (p q r : Pass) (a : Activity) (given : ℕ) → GoesTo s q r → MetCount p q a given → MetCount p r a given
 count_on s p q r a given goes m = record { told = m.told; met = met_on s p q r a m.told goes m.met; gives = m.gives }
 
-room_on : (s : Shared) (p q r : Pass) → GoesTo s q r → MetRoom CELLS p q → MetRoom CELLS p r
-room_on s p q r goes m = record { given = m.given; asked = count_on s p q r PutCount m.given goes m.asked; less = m.less; added = m.added; adds = count_on s p q r PutAdd m.added goes m.adds; fewer = m.fewer }
+room_on : (s : Shared) (p q r : Pass) → GoesTo s p q → GoesTo s q r → AsksNone q r → MetRoom CELLS p q → MetRoom CELLS p r
+room_on s p q r was goes none m = record {
+  given = m.given;
+  asked = count_on s p q r PutCount m.given goes m.asked;
+  less = m.less;
+  added = m.added;
+  adds = count_on s p q r PutAdd m.added goes m.adds;
+  fewer = m.fewer;
+  every = below_trans was goes m.every (none_below goes none);
+}
 
 -- What a pass meets it has met since it was at an earlier place.
 
@@ -145,14 +155,23 @@ next_is : (a : Activity) (l m : Local) (told : ℕ) → l.activity ≡ a → out
 unfolding row_of
 next_is a l m told is line = ap (λ (x : Outcome). x.local.activity) (line ∙ ap (λ b. (row product b 0 Go l).next told) is)
 
-module _ (s : Shared) (o p q : Pass) (l m : Local) (told : ℕ) (was : GoesTo s o p) (goes : GoesTo s p q) (met : MetAs p q l Go told) (line : outcome m Moved ≡ next_of product Go l told) where
+module _ (s : Shared) (o p q : Pass) (l m : Local) (told : ℕ) (was : GoesTo s o p) (goes : GoesTo s p q) (met : MetAs p q l Go told) (only : MetOnly p q l.activity told) (line : outcome m Moved ≡ next_of product Go l told) where
+  -- the event asks for no cell
+  none : (a : Activity) → l.activity ≡ a → (IsAsking a → ⊥) → AsksNone p q
+  none a is = none_at goes is only
+
   -- the event, by its activity
   here : (a : Activity) → l.activity ≡ a → Met p q a Go told
   here a is = record { front = met.met.front; later = met.met.later; here = met.met.here; activity = met.met.activity ∙ is; tells = met.met.tells }
 
-  asks : (b : Bool) → has_room product (count_of told) ≡ b → l.activity ≡ PutCount → m.activity ≡ (let x : Outcome = if b then to PutAdd l else full l in x).local.activity → GoesOn o q m.activity 9
-  asks true h is next = goes_on o q m.activity PutAdd 9 next (record { given = given_of (count_of told); asked = count_from s o p q PutCount told was (here PutCount is); less = room_less (count_of told) h }) (omega arith)
-  asks false h is next = goes_on o q m.activity (Leave NoRows) 9 next (record {
+  asks : (b : Bool) → has_room product (count_of told) ≡ b → l.activity ≡ PutCount → AsksNone o p → m.activity ≡ (let x : Outcome = if b then to PutAdd l else full l in x).local.activity → GoesOn o q m.activity 9
+  asks true h is before next = goes_on o q m.activity PutAdd 9 next (record {
+    given = given_of (count_of told);
+    asked = count_from s o p q PutCount told was (here PutCount is);
+    less = room_less (count_of told) h;
+    every = below_trans was goes (none_below was before) (once_below goes only (room_less (count_of told) h));
+  }) (omega arith)
+  asks false h is before next = goes_on o q m.activity (Leave NoRows) 9 next (record {
     activity = PutCount;
     at = inl refl;
     given = given_of (count_of told);
@@ -168,6 +187,7 @@ module _ (s : Shared) (o p q : Pass) (l m : Local) (told : ℕ) (was : GoesTo s 
     added = given_of (count_of told);
     adds = count_from s o p q PutAdd told was (here PutAdd is);
     fewer = room_less (count_of told) h;
+    every = below_trans was goes asked.every (once_below goes only (room_less (count_of told) h));
   }) (omega arith)
   adds false h is asked next = goes_on o q m.activity (Leave NoRows) 8 next (record {
     activity = PutAdd;
@@ -180,19 +200,19 @@ module _ (s : Shared) (o p q : Pass) (l m : Local) (told : ℕ) (was : GoesTo s 
   -- an event of a put takes it on
   event : (a : Activity) → l.activity ≡ a → is_putting a ≡ true → HasFound o p a → GoesOn o q m.activity (put_ahead a)
   unfolding here
-  event PutCount is put found = asks (has_room product (count_of told)) refl is (next_is PutCount l m told is line)
+  event PutCount is put found = asks (has_room product (count_of told)) refl is found (next_is PutCount l m told is line)
   event PutAdd is put found = adds (has_room product (count_of told)) refl is found (next_is PutAdd l m told is line)
-  event PutKey is put found = goes_on o q m.activity PutValue 7 (next_is PutKey l m told is line) (room_on s o p q goes found) (omega arith)
-  event PutValue is put found = goes_on o q m.activity Announce 6 (next_is PutValue l m told is line) (room_on s o p q goes found) (omega arith)
+  event PutKey is put found = goes_on o q m.activity PutValue 7 (next_is PutKey l m told is line) (room_on s o p q was goes (none PutKey is (λ h. h)) found) (omega arith)
+  event PutValue is put found = goes_on o q m.activity Announce 6 (next_is PutValue l m told is line) (room_on s o p q was goes (none PutValue is (λ h. h)) found) (omega arith)
   event Announce is put found =
       let idle : (told == pend_word Idle) ≡ true = eq-eqb told (pend_word Idle) (finds_idle s p q told goes (here Announce is)) in
-      goes_on o q m.activity PutClock 5 (next_is Announce l m told is line ∙ ap (λ b. (let x : Outcome = if b then to PutClock l else full l in x).local.activity) idle) (room_on s o p q goes found) (omega arith)
-  event PutClock is put found = goes_on o q m.activity Stamp 4 (next_is PutClock l m told is line) (room_on s o p q goes found) (omega arith)
+      goes_on o q m.activity PutClock 5 (next_is Announce l m told is line ∙ ap (λ b. (let x : Outcome = if b then to PutClock l else full l in x).local.activity) idle) (room_on s o p q was goes (none Announce is (λ h. h)) found) (omega arith)
+  event PutClock is put found = goes_on o q m.activity Stamp 4 (next_is PutClock l m told is line) (room_on s o p q was goes (none PutClock is (λ h. h)) found) (omega arith)
   event Stamp is put found =
       let own = stamps_own l (local_at p met.met.front).cell (pend_of told) (ap (λ (k : Local). k.cell) met.knew) (finds_own s p q told goes (here Stamp is)) in
-      goes_on o q m.activity PutVersion 3 (next_is Stamp l m told is line ∙ own) (room_on s o p q goes found) (omega arith)
-  event PutVersion is put found = goes_on o q m.activity PutClear 2 (next_is PutVersion l m told is line) (room_on s o p q goes found) (omega arith)
-  event PutClear is put found = goes_on o q m.activity (Leave Done) 1 (next_is PutClear l m told is line) (room_on s o p q goes found) (omega arith)
+      goes_on o q m.activity PutVersion 3 (next_is Stamp l m told is line ∙ own) (room_on s o p q was goes (none Stamp is (λ h. h)) found) (omega arith)
+  event PutVersion is put found = goes_on o q m.activity PutClear 2 (next_is PutVersion l m told is line) (room_on s o p q was goes (none PutVersion is (λ h. h)) found) (omega arith)
+  event PutClear is put found = goes_on o q m.activity (Leave Done) 1 (next_is PutClear l m told is line) (room_on s o p q was goes (none PutClear is (λ h. h)) found) (omega arith)
   event _ is put found = true_false put refl
 
   -- the same, at the activity where it is

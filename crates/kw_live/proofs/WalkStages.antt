@@ -29,7 +29,7 @@ use Rattle.kw_table.specs.Passes.{view}
 use Rattle.kw_table.proofs.Prefixes.{prefix_trans}
 use Rattle.kw_live.specs.Calling.{Keeps}
 use Rattle.kw_live.specs.Following.{Follows, GoesTo, held}
-use Rattle.kw_live.specs.Meeting.{Met, MetAs, BeginsWith}
+use Rattle.kw_live.specs.Meeting.{AsksNone, Met, MetAs, BeginsWith}
 use Rattle.kw_live.specs.Stages.{arrived, guessing}
 use Rattle.kw_live.specs.Walking.{IsUnderWay, WalksOn}
 use Rattle.kw_live.proofs.Fronts.{met_laws, met_local, met_told, local_at}
@@ -146,6 +146,7 @@ pub record IsWalkingOn (s : Shared) (o : Pass) (l : Local) (p : Pass) (m : Local
   pub calls : Keeps o p
   pub held : held p ≡ held o
   pub walks : WalksOn l m
+  pub none : AsksNone o p
 
 -- what a pass began with it has begun with later too
 pub begins_on : (s : Shared) (p q r : Pass) (c : Choice) → GoesTo s q r → BeginsWith p q c → BeginsWith p r c

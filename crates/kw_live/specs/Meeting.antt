@@ -43,6 +43,24 @@ pub record MetAs (p q : Pass) (l : Local) (c : Choice) (told : ℕ) : Type 0 whe
   pub knew : known (local_of (world product (view p).opening met.front) (view p).number) ≡ known l
   pub first : of_seat (view p).number met.front ≡ of_seat (view p).number (view p).seen
 
+-- the pass made just one event since, at this activity, and it was told this
+abbrev pub MetOnly : Pass → Pass → Activity → ℕ → Type 0
+MetOnly p q a told = (b : Activity) (c : Choice) (n : ℕ) → Met p q b c n → (b ≡ a) × (n ≡ told)
+
+-- a put or a delete asks its row for a cell: it loads the count, or adds to it
+abbrev pub IsAsking : Activity → Type 0
+IsAsking PutCount = Unit {0}
+IsAsking PutAdd = Unit {0}
+IsAsking _ = ⊥
+
+-- the pass has asked no row for a cell since
+abbrev pub AsksNone : Pass → Pass → Type 0
+AsksNone p q = (a : Activity) (c : Choice) (told : ℕ) → IsAsking a → Met p q a c told → ⊥
+
+-- each time that it has asked since, the count that it was told was below this number
+abbrev pub AsksBelow : ℕ → Pass → Pass → Type 0
+AsksBelow cells p q = (a : Activity) (c : Choice) (told : ℕ) → IsAsking a → Met p q a c told → given_of (count_of told) < cells
+
 -- a count of cells that the pass was told at this activity
 pub record MetCount (p q : Pass) (a : Activity) (given : ℕ) : Type 0 where
   pub told : ℕ
@@ -57,7 +75,7 @@ pub record MetFull (cells : ℕ) (p q : Pass) : Type 0 where
   pub met : MetCount p q activity given
   pub full : cells ≤ given
 
--- the pass found room in its row both times that it asked
+-- the pass found room in its row both times that it asked, and asked no other time
 pub record MetRoom (cells : ℕ) (p q : Pass) : Type 0 where
   pub given : ℕ
   pub asked : MetCount p q PutCount given
@@ -65,6 +83,7 @@ pub record MetRoom (cells : ℕ) (p q : Pass) : Type 0 where
   pub added : ℕ
   pub adds : MetCount p q PutAdd added
   pub fewer : added < cells
+  pub every : AsksBelow cells p q
 
 -- the clock that a scan loads first
 pub record MetClock (p q : Pass) (clock : ℕ) : Type 0 where

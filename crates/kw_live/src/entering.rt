@@ -6,7 +6,7 @@ ghost use Rattle.kw_core.specs.Events.{is_call_in_range};
 ghost use Rattle.kw_table.specs.Passes.{view, IsPassOf};
 ghost use Rattle.kw_live.specs.Calling.{Keeps, Opens, Closes};
 ghost use Rattle.kw_live.specs.Following.{Follows, GoesTo, activity_in, held, bare_reply};
-ghost use Rattle.kw_live.specs.Meeting.{MetClock};
+ghost use Rattle.kw_live.specs.Meeting.{AsksNone, MetClock};
 ghost use Rattle.kw_live.specs.Stages.{HasEntered};
 
 use crate::going::{begin, clear, end, go};
@@ -33,6 +33,7 @@ pub fn enter(shared: &Shared, pass: &mut Pass, alloc: Global, call: Call) -> Loc
     ensures unread { result.has_read ≡ false }
     ensures opens { Opens pass.old pass.new call }
     ensures held { held pass.new ≡ [] }
+    ensures none { AsksNone pass.old pass.new }
     ensures spent { is_scan (Some call) ≡ true → (clock : _) × MetClock pass.old pass.new clock × ((result.activity ≡ Activity.Leave Reply.Spent) ↔ (SPENT ≤ clock)) }
 {
     let mut local = begin(shared, pass, alloc, call);
@@ -55,6 +56,7 @@ fn draw(shared: &Shared, pass: &mut Pass, local: &mut Local)
     ensures unread { local.new.has_read ≡ local.old.has_read }
     ensures calls { Keeps pass.old pass.new }
     ensures held { held pass.new ≡ held pass.old }
+    ensures none { AsksNone pass.old pass.new }
     ensures spent { (clock : _) × MetClock pass.old pass.new clock × ((local.new.activity ≡ Activity.Leave Reply.Spent) ↔ (SPENT ≤ clock)) }
 {
     go(shared, pass, local, Choice::Go);
@@ -106,6 +108,7 @@ pub fn leave(shared: &Shared, pass: &mut Pass, local: Local) -> Reply
     ensures goes { GoesTo shared.now pass.old pass.new }
     ensures idle { activity_in pass.new ≡ Activity.Idle }
     ensures closes { (reply : Reply) → activity_in pass.old ≡ Activity.Leave reply → Closes pass.old pass.new reply × (result ≡ bare_reply reply) }
+    ensures none { AsksNone pass.old pass.new }
 {
     end(shared, pass, local)
 }

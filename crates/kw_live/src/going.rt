@@ -13,7 +13,7 @@ ghost use Rattle.kw_core.specs.Events.{may_begin};
 ghost use Rattle.kw_table.specs.Passes.{view, IsPassOf};
 ghost use Rattle.kw_live.specs.Calling.{Keeps, Opens, Closes};
 ghost use Rattle.kw_live.specs.Following.{Follows, GoesTo, activity_in, held, bare_reply};
-ghost use Rattle.kw_live.specs.Meeting.{MetAs};
+ghost use Rattle.kw_live.specs.Meeting.{AsksNone, MetAs, MetOnly};
 ghost use Rattle.kw_live.specs.Stages.{IsWithinCall};
 
 use kw_core::step::{operation, resume};
@@ -36,6 +36,7 @@ pub(crate) fn begin(shared: &Shared, pass: &mut Pass, alloc: Global, call: Call)
     ensures unread { result.has_read ≡ false }
     ensures opens { Opens pass.old pass.new call }
     ensures held { held pass.new ≡ [] }
+    ensures none { AsksNone pass.old pass.new }
 {
     let mut local = Local::idle(alloc);
     let choice = Choice::Begin(call);
@@ -60,6 +61,7 @@ pub(crate) fn go(shared: &Shared, pass: &mut Pass, local: &mut Local, choice: Ch
     ensures follows { Follows shared.now pass.new local.new }
     ensures line { outcome local.new StepDone.Moved ≡ next_of product (offered (view pass.old).opening.rows choice) local.old result }
     ensures met { MetAs pass.old pass.new local.old choice result }
+    ensures only { MetOnly pass.old pass.new local.old.activity result }
     ensures calls { Keeps pass.old pass.new }
     ensures held { is_stop choice ≡ false → held pass.new ≡ held pass.old }
 {
@@ -108,6 +110,7 @@ pub(crate) fn end(shared: &Shared, pass: &mut Pass, local: Local) -> Reply
     ensures goes { GoesTo shared.now pass.old pass.new }
     ensures idle { activity_in pass.new ≡ Activity.Idle }
     ensures closes { (reply : Reply) → activity_in pass.old ≡ Activity.Leave reply → Closes pass.old pass.new reply × (result ≡ bare_reply reply) }
+    ensures none { AsksNone pass.old pass.new }
 {
     let mut local = local;
     let told = make(

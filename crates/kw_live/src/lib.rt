@@ -23,3 +23,5 @@ pub use walking::locate;
 
 #[cfg(test)]
 mod tests;
+#[cfg(test)]
+mod tests_guess;

@@ -43,8 +43,15 @@ fn begin_put(
     local
 }
 
-// The reply of a whole put.
-fn put(alloc: Global, shared: &Shared, pass: &mut Pass, key: u32, value: u64) -> Reply
+// The reply of a whole put, whose walk has this guess.
+pub(crate) fn put(
+    alloc: Global,
+    shared: &Shared,
+    pass: &mut Pass,
+    key: u32,
+    value: u64,
+    guess: Option<u32>,
+) -> Reply
     requires table { IsPassOf shared.now pass.old }
     requires idle { activity_in pass.old ≡ Activity.Idle }
     requires range { is_call_in_range (Call.Put key value) ≡ true }
@@ -52,19 +59,27 @@ fn put(alloc: Global, shared: &Shared, pass: &mut Pass, key: u32, value: u64) ->
     ensures idle { activity_in pass.new ≡ Activity.Idle }
 {
     let mut local = enter(shared, pass, alloc, Call::Put(key, value));
-    locate(shared, pass, &mut local, None);
+    locate(shared, pass, &mut local, guess);
     try_put(shared, pass, &mut local);
     leave(shared, pass, local)
 }
 
-// The reply of a whole get.
-fn get(alloc: Global, shared: &Shared, pass: &mut Pass, key: u32) -> Reply
+// The reply of a whole get, whose walk has this guess.
+pub(crate) fn get(
+    alloc: Global,
+    shared: &Shared,
+    pass: &mut Pass,
+    key: u32,
+    guess: Option<u32>,
+) -> Reply
     requires table { IsPassOf shared.now pass.old }
     requires idle { activity_in pass.old ≡ Activity.Idle }
     requires range { is_call_in_range (Call.Get key) ≡ true }
+    ensures table { IsPassOf shared.now pass.new }
+    ensures idle { activity_in pass.new ≡ Activity.Idle }
 {
     let mut local = enter(shared, pass, alloc, Call::Get(key));
-    locate(shared, pass, &mut local, None);
+    locate(shared, pass, &mut local, guess);
     read_row(shared, pass, &mut local);
     leave(shared, pass, local)
 }
@@ -76,11 +91,18 @@ fn get_within_a_put(alloc: Global, events: u32) -> Result<Option<Reply>, Memory>
         return Ok(None);
     };
     begin_put(alloc, &shared, &mut putter, 5, 50, events);
-    Ok(Some(get(alloc, &shared, &mut reader, 5)))
+    Ok(Some(get(alloc, &shared, &mut reader, 5, None)))
 }
 
-// What a scan knows that has read its first row. None where it has none to read.
-fn scan_row(alloc: Global, shared: &Shared, pass: &mut Pass, from: u32, upto: u32) -> Option<Local>
+// What a scan knows that has read its first row, to which it walked with this guess. None where it has none to read.
+pub(crate) fn scan_row(
+    alloc: Global,
+    shared: &Shared,
+    pass: &mut Pass,
+    from: u32,
+    upto: u32,
+    guess: Option<u32>,
+) -> Option<Local>
     requires table { IsPassOf shared.now pass.old }
     requires idle { activity_in pass.old ≡ Activity.Idle }
     requires range { is_call_in_range (Call.Scan from upto) ≡ true }
@@ -90,13 +112,13 @@ fn scan_row(alloc: Global, shared: &Shared, pass: &mut Pass, from: u32, upto: u3
     let Activity::Start = local.activity else {
         return None;
     };
-    locate(shared, pass, &mut local, None);
+    locate(shared, pass, &mut local, guess);
     read_row(shared, pass, &mut local);
     Some(local)
 }
 
 // The reply of a scan that is at its end.
-fn finish(shared: &Shared, pass: &mut Pass, local: Local) -> Option<Reply>
+pub(crate) fn finish(shared: &Shared, pass: &mut Pass, local: Local) -> Option<Reply>
     requires follows { Follows shared.now pass.old local }
 {
     let mut local = local;
@@ -128,10 +150,19 @@ fn a_scan_gathers_the_cells_of_its_row(rt: HostRuntime) -> Result<(), Fail> {
     let (Some(mut reader), Some(mut putter)) = (passes.pop(), passes.pop()) else {
         panic!(rt; "two passes");
     };
-    assert_eq!(rt; put(rt.alloc(), &shared, &mut putter, 5, 50), Reply::Done);
-    assert_eq!(rt; put(rt.alloc(), &shared, &mut putter, 7, 70), Reply::Done);
-    assert_eq!(rt; put(rt.alloc(), &shared, &mut putter, 5, 51), Reply::Done);
-    let Some(local) = scan_row(rt.alloc(), &shared, &mut reader, 0, 200) else {
+    assert_eq!(rt;
+        put(rt.alloc(), &shared, &mut putter, 5, 50, None),
+        Reply::Done
+    );
+    assert_eq!(rt;
+        put(rt.alloc(), &shared, &mut putter, 7, 70, None),
+        Reply::Done
+    );
+    assert_eq!(rt;
+        put(rt.alloc(), &shared, &mut putter, 5, 51, None),
+        Reply::Done
+    );
+    let Some(local) = scan_row(rt.alloc(), &shared, &mut reader, 0, 200, None) else {
         panic!(rt; "a row to read");
     };
     let cells = local.gathered.as_slice();

@@ -4,7 +4,7 @@ ghost use Rattle.kw_core.specs.Stages.{IsGoing};
 ghost use Rattle.kw_table.specs.Passes.{view};
 ghost use Rattle.kw_live.specs.Calling.{Keeps};
 ghost use Rattle.kw_live.specs.Following.{Follows, GoesTo, held};
-ghost use Rattle.kw_live.specs.Meeting.{BeginsWith};
+ghost use Rattle.kw_live.specs.Meeting.{AsksNone, BeginsWith};
 ghost use Rattle.kw_live.specs.Stages.{arrived, guessing};
 ghost use Rattle.kw_live.specs.Walking.{IsUnderWay, WalksOn};
 
@@ -33,6 +33,7 @@ pub fn locate(shared: &Shared, pass: &mut Pass, local: &mut Local, guess: Option
     ensures guess { local.old.activity ≡ Activity.Start → BeginsWith pass.old pass.new (guessing guess) }
     ensures calls { Keeps pass.old pass.new }
     ensures held { held pass.new ≡ held pass.old }
+    ensures none { AsksNone pass.old pass.new }
 {
     if let Activity::Start = local.activity {
         set_out(shared, pass, local, guess);
@@ -41,7 +42,7 @@ pub fn locate(shared: &Shared, pass: &mut Pass, local: &mut Local, guess: Option
 }
 
 // The first event of a walk.
-fn set_out(shared: &Shared, pass: &mut Pass, local: &mut Local, guess: Option<u32>)
+pub(crate) fn set_out(shared: &Shared, pass: &mut Pass, local: &mut Local, guess: Option<u32>)
     requires follows { Follows shared.now pass.old local.old }
     requires start { local.old.activity ≡ Activity.Start }
     ensures goes { GoesTo shared.now pass.old pass.new }
@@ -50,6 +51,7 @@ fn set_out(shared: &Shared, pass: &mut Pass, local: &mut Local, guess: Option<u3
     ensures guess { BeginsWith pass.old pass.new (guessing guess) }
     ensures calls { Keeps pass.old pass.new }
     ensures held { held pass.new ≡ held pass.old }
+    ensures none { AsksNone pass.old pass.new }
 {
     go(shared, pass, local, choice_of(guess));
 }
@@ -74,6 +76,7 @@ fn walk(shared: &Shared, pass: &mut Pass, local: &mut Local)
     ensures arrived { local.new.activity ≡ arrived local.old.call }
     ensures calls { Keeps pass.old pass.new }
     ensures held { held pass.new ≡ held pass.old }
+    ensures none { AsksNone pass.old pass.new }
 {
     while local.activity.is_walking() {
         go(shared, pass, local, Choice::Go);

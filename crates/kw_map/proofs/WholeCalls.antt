@@ -12,9 +12,11 @@ use Rattle.kw_table.specs.declared.pass.Pass.{Pass}
 use Rattle.kw_table.specs.declared.shared.Shared.{Shared}
 use Rattle.kw_live.specs.Calling.{Opens, Keeps, Closes, Calls, calls_in}
 use Rattle.kw_live.specs.Following.{Follows, GoesTo, activity_in, bare_reply}
-use Rattle.kw_live.specs.Meeting.{Met, MetClock, MetCount, MetFull, MetRoom}
+use Rattle.kw_live.specs.Meeting.{AsksNone, Met, MetClock, MetCount, MetFull, MetRoom}
+use Rattle.kw_live.proofs.Asking.{below_trans, none_below}
 use Rattle.kw_live.proofs.Drawing.{met_earlier, met_later}
 use Rattle.kw_live.proofs.Ends.{leaves_in, same_reply}
+use Rattle.kw_live.proofs.PutStages.{goes_trans}
 
 -- The call.
 
@@ -44,15 +46,16 @@ module _ {s : Shared} {p q r t : Pass} where
   pub full_within : {cells : ℕ} → GoesTo s p q → GoesTo s r t → MetFull cells q r → MetFull cells p t
   full_within before after m = record { activity = m.activity; at = m.at; given = m.given; met = count_within before after m.met; full = m.full }
 
-  -- or has room
-  pub room_within : {cells : ℕ} → GoesTo s p q → GoesTo s r t → MetRoom cells q r → MetRoom cells p t
-  room_within before after m = record {
+  -- or has room, where it asked at no other time
+  pub room_within : {cells : ℕ} → GoesTo s p q → GoesTo s q r → GoesTo s r t → AsksNone p q → AsksNone r t → MetRoom cells q r → MetRoom cells p t
+  room_within before middle after early late m = record {
     given = m.given;
     asked = count_within before after m.asked;
     less = m.less;
     added = m.added;
     adds = count_within before after m.adds;
     fewer = m.fewer;
+    every = below_trans before (goes_trans s q r t middle after) (none_below before early) (below_trans middle after m.every (none_below after late));
   }
 
 -- and a clock that a scan loaded before was its clock

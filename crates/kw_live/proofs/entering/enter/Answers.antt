@@ -2,7 +2,9 @@ use Rattle.std.proofs.Common.{◌≡◌, ◌∙◌, ap, subst, sym, false, true,
 use Rattle.std.specs.Prelude.{IfSome}
 use Rattle.kw_world.specs.Calls.{is_scan}
 use Rattle.kw_live.specs.Stages.{HasEntered}
+use Rattle.kw_live.proofs.Asking.{none_at, none_trans}
 use Rattle.kw_live.proofs.Drawing.{enters, met_clock_earlier}
+use Rattle.kw_live.proofs.PutStages.{goes_trans}
 use Rattle.kw_live.proofs.entering.enter.Goals as goal
 
 pub draw-requires-clause-scan : goal.draw-requires-clause-scan
@@ -47,3 +49,11 @@ returns-in_default-clause-spent c = λ scan.
     let no : is_scan (Some c.args.call) ≡ false = (e.starts c.in_default.not-ScanClock).0 in
     let x : true ≡ false = sym scan ∙ no in
     absurd (cc)
+
+pub returns-in-ScanClock-clause-none : goal.returns-in-ScanClock-clause-none
+returns-in-ScanClock-clause-none c =
+    let announces = none_at c.go.ensures.goes c.begin-local.ensures.activity c.go.ensures.only (λ h. h) in
+    none_trans c.begin-local.ensures.goes (goes_trans _ _ _ _ c.go.ensures.goes c.draw.ensures.goes) c.begin-local.ensures.none (none_trans c.go.ensures.goes c.draw.ensures.goes announces c.draw.ensures.none)
+
+pub returns-in_default-clause-none : goal.returns-in_default-clause-none
+returns-in_default-clause-none c = none_trans c.begin-local.ensures.goes c.go.ensures.goes c.begin-local.ensures.none (none_at c.go.ensures.goes c.begin-local.ensures.activity c.go.ensures.only (λ h. h))

@@ -1,7 +1,9 @@
-use Rattle.std.proofs.Common.{ap}
+use Rattle.std.proofs.Common.{ap, subst}
 use Rattle.kw_world.specs.declared.local.Local.{Local}
 use Rattle.kw_live.proofs.Ends.{begin_asks, begin_is, begin_follows, begin_holds}
 use Rattle.kw_live.proofs.Growing.{opens}
+use Rattle.kw_live.proofs.Asking.{asks_no}
+use Rattle.kw_live.specs.Meeting.{IsAsking}
 use Rattle.kw_live.proofs.going.begin.Goals as goal
 
 pub make-told-requires : goal.make-told-requires
@@ -24,3 +26,6 @@ returns-clause-held c = begin_holds c.requires.idle c.make-told.ensures
 
 pub returns-clause-opens : goal.returns-clause-opens
 returns-clause-opens c = opens c.make-told.ensures c.requires.idle
+
+pub returns-clause-none : goal.returns-clause-none
+returns-clause-none c = asks_no c.make-told.ensures (λ asking. subst IsAsking c.requires.idle asking)

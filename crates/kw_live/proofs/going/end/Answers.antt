@@ -3,9 +3,11 @@ use Rattle.kw_world.specs.declared.event.Choice.TheVariants.{Go}
 use Rattle.kw_world.specs.declared.event.StepDone.TheVariants.{Ended, Moved, Skipped}
 use Rattle.kw_core.specs.Stages.{IsBusy}
 use Rattle.kw_live.specs.Following.{bare_reply}
-use Rattle.kw_live.proofs.Ends.{end_idles, end_replies, ends}
+use Rattle.kw_live.proofs.Ends.{end_idles, end_replies, ends, leaves_in}
 use Rattle.kw_live.proofs.Growing.{closes}
 use Rattle.kw_live.proofs.OneEvent.{went, follows_ranges, follows_room, asks, moves_in}
+use Rattle.kw_live.proofs.Asking.{asks_no}
+use Rattle.kw_live.specs.Meeting.{IsAsking}
 use Rattle.kw_live.proofs.going.end.Goals as goal
 
 pub operation-requires : goal.operation-requires
@@ -40,3 +42,6 @@ unreachable-requires-in-Ok-Skipped c =
     let done : c.in-Ok-Skipped.field-0 ≡ Ended c.requires.leaving.0 = ends _ _ _ _ _ c.requires.leaving.1 c.in-Ok-Skipped.ensures.ok in
     let was : c.in-Ok-Skipped.field-0 ≡ Skipped = c.in-Ok-Skipped.field-0-is in
     cc
+
+pub returns-clause-none : goal.returns-clause-none
+returns-clause-none c = asks_no c.make-told.ensures (λ asking. subst IsAsking (leaves_in _ _ _ c.requires.leaving.0 c.requires.follows c.requires.leaving.1).1 asking)

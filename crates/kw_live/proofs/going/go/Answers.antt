@@ -1,5 +1,9 @@
-use Rattle.kw_live.proofs.OneEvent.{went, follows_ranges, follows_room, asks, moves_in, within_busy, within_goes, goes_in, goes_stay, went_follows, went_line, went_held, went_met}
+use Rattle.kw_live.proofs.OneEvent.{went, follows_ranges, follows_room, asks, moves_in, within_busy, within_goes, goes_in, goes_stay, went_follows, went_line, went_held, went_met, same_activity}
 use Rattle.kw_live.proofs.Growing.{keeps}
+use Rattle.kw_live.proofs.Asking.{only_event}
+use Rattle.kw_live.specs.Meeting.{MetOnly}
+use Rattle.kw_world.specs.declared.activity.Activity.{Activity}
+use Rattle.std.proofs.Common.{subst}
 use Rattle.kw_live.proofs.going.go.Goals as goal
 
 pub operation-requires : goal.operation-requires
@@ -28,3 +32,6 @@ returns-clause-held c = went_held (went _ _ _ _ _ _ _ _ _ _ c.requires.follows c
 
 pub returns-clause-calls : goal.returns-clause-calls
 returns-clause-calls c = keeps c.make-told.ensures (goes_stay _ (goes_in _ _ _ c.requires.follows (within_goes _ c.requires.within)))
+
+pub returns-clause-only : goal.returns-clause-only
+returns-clause-only c = subst (λ (a : Activity). MetOnly c.args.pass.now c.make-told.new.pass a c.make-told.result) (same_activity _ _ _ c.requires.follows c.requires.within) (only_event c.make-told.ensures)

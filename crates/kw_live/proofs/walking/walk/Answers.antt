@@ -1,4 +1,5 @@
 use Rattle.std.proofs.Common.{◌∙◌, refl, sym}
+use Rattle.kw_live.proofs.Asking.{none_trans, walks_asking_none}
 use Rattle.kw_live.proofs.PutStages.{goes_trans}
 use Rattle.kw_live.proofs.WalkStages.{walk_goes, walks_trans}
 use Rattle.kw_live.proofs.walking.walk.Goals as goal
@@ -13,4 +14,5 @@ loop-pass-preserved c = record {
   calls = c.go.ensures.calls ∙ c.loop-pass.invariant.calls;
   held = c.go.ensures.held refl ∙ c.loop-pass.invariant.held;
   walks = walks_trans _ _ _ c.loop-pass.invariant.walks (walk_goes _ _ _ _ _ _ c.go.ensures.goes c.go.ensures.met c.go.ensures.line (sym c.is_walking.ensures ∙ c.loop-pass-test.true)).walks;
+  none = none_trans c.loop-pass.invariant.goes c.go.ensures.goes c.loop-pass.invariant.none (walks_asking_none c.go.ensures.goes (sym c.is_walking.ensures ∙ c.loop-pass-test.true) c.go.ensures.only);
 }

@@ -1,5 +1,6 @@
 use Rattle.std.proofs.Common.{◌∙◌}
 use Rattle.kw_model.specs.declared.call.Reply.TheVariants.{Done, NoRows}
+use Rattle.kw_live.proofs.Asking.{none_trans}
 use Rattle.kw_live.proofs.PutStages.{goes_trans}
 use Rattle.kw_map.proofs.WholeCalls.{full_within, leaves_with, room_within, whole}
 use Rattle.kw_map.proofs.kiwi.Kiwi.update.Goals as goal
@@ -10,7 +11,9 @@ returns-in-Done-clause-calls c =
     whole c.enter-local.ensures.opens (c.in-Done.ensures.calls ∙ c.locate.ensures.calls) (c.leave.ensures.closes Done leaves).0
 
 pub returns-in-Done-clause-cause : goal.returns-in-Done-clause-cause
-returns-in-Done-clause-cause c = room_within (goes_trans _ _ _ _ c.enter-local.ensures.goes c.locate.ensures.goes) c.leave.ensures.goes c.in-Done.ensures.cause
+returns-in-Done-clause-cause c =
+    let early = none_trans c.enter-local.ensures.goes c.locate.ensures.goes c.enter-local.ensures.none c.locate.ensures.none in
+    room_within (goes_trans _ _ _ _ c.enter-local.ensures.goes c.locate.ensures.goes) c.in-Done.ensures.goes c.leave.ensures.goes early c.leave.ensures.none c.in-Done.ensures.cause
 
 pub returns-in-RowFull-clause-calls : goal.returns-in-RowFull-clause-calls
 returns-in-RowFull-clause-calls c =
