@@ -1,7 +1,7 @@
 #!/usr/bin/env python3
 """Compares `./kiwi replay` with another program on random inputs, good and bad.
 
-  tools/compare_replay.py                       1,000 inputs against the small map below
+  tools/compare_replay.py                       1,000 inputs against the small map of kiwi_map.py
   tools/compare_replay.py 200 --seed 7
   tools/compare_replay.py 1000 --with 'COMMAND' the command gets the input on standard input; its output and status are wanted
 
@@ -9,60 +9,10 @@ Each input has up to 200 lines. The last line says how many agreed; the status i
 
 import argparse
 import random
-import re
 import shlex
-import subprocess
 import sys
-from pathlib import Path
 
-KIWI = Path(__file__).resolve().parent.parent / "kiwi"
-KEY_MOST, VALUE_MOST = 2**32 - 1, 2**63 - 1
-NUMBER = re.compile(rb"0|[1-9][0-9]*")
-RANGES = {
-    b"sum": sum,
-    b"count": len,
-    b"least": lambda values: min(values, default="none"),
-    b"greatest": lambda values: max(values, default="none"),
-}
-LIMITS = {b"put": (KEY_MOST, VALUE_MOST), b"del": (KEY_MOST,), b"get": (KEY_MOST,), b"wait": ()}
-
-
-def parsed(line):
-    """The form and the numbers of a line, or None for a line outside the grammar."""
-    form, *words = line.split(b" ")
-    limits = LIMITS.get(form, (KEY_MOST, KEY_MOST) if form in RANGES or form == b"list" else None)
-    if limits is None or len(words) != len(limits) or not all(NUMBER.fullmatch(word) for word in words):
-        return None
-    numbers = [int(word) for word in words]
-    return (form, numbers) if all(number <= most for number, most in zip(numbers, limits)) else None
-
-
-def answered(pairs, form, numbers):
-    if form == b"put":
-        pairs[numbers[0]] = numbers[1]
-        return "ok"
-    if form == b"del":
-        pairs.pop(numbers[0], None)
-        return "ok"
-    if form == b"get":
-        return pairs.get(numbers[0], "none")
-    inside = sorted((key, value) for key, value in pairs.items() if numbers[0] <= key <= numbers[1])
-    if form == b"list":
-        return " ".join(f"{key}={value}" for key, value in inside) or "empty"
-    return RANGES[form]([value for _, value in inside])
-
-
-def expected(text):
-    """What the program must print, and its status."""
-    lines = text.split(b"\n")
-    if not lines[-1]:
-        lines.pop()
-    items = [parsed(line) for line in lines]
-    if None in items:
-        return b"", 3
-    pairs = {}
-    replies = [answered(pairs, form, numbers) for form, numbers in items if form != b"wait"]
-    return "".join(f"{reply}\n" for reply in replies).encode(), 0
+from kiwi_map import KEY_MOST, KIWI, VALUE_MOST, ended, expected, line_of
 
 
 def random_input(rng):
@@ -72,18 +22,12 @@ def random_input(rng):
         form = rng.choice(("put", "put", "put", "get", "del", "sum", "count", "least", "greatest", "list", "wait"))
         key, other = rng.choice(keys), rng.choice(keys)
         value = rng.choice((rng.randrange(100), rng.randrange(VALUE_MOST + 1)))
-        arguments = {"put": (key, value), "get": (key,), "del": (key,), "wait": ()}.get(form, (key, other))
-        lines.append(" ".join((form, *map(str, arguments))))
+        lines.append(line_of(form, key, other, value))
     text = "\n".join(lines) + rng.choice(("", "\n"))
     if text and rng.random() < 0.3:
         at = rng.randrange(len(text))
         text = text[:at] + rng.choice(" \n\t\rx0+-9") + text[at + rng.randrange(2):]
     return text.encode()
-
-
-def ended(command, text):
-    run = subprocess.run(command, input=text, capture_output=True, check=False)
-    return run.stdout, run.returncode
 
 
 def main():

@@ -20,13 +20,9 @@ import subprocess
 import sys
 from pathlib import Path
 
-KIWI = Path(__file__).resolve().parent.parent / "kiwi"
+from kiwi_map import KIWI, ended
+
 ORDER_LINE = re.compile(rb"(\A|(?<=\n))order( [^\n]*)?\n\Z")
-
-
-def ended(command, text):
-    run = subprocess.run(command, input=text, capture_output=True, check=False)
-    return run.stdout, run.returncode
 
 
 def generated(command, first, count):

@@ -1,0 +1,83 @@
+"""What the scripts of this folder share: the lines of `./kiwi replay`, an ordered map of one thread that answers them, and
+how a program is run."""
+
+import re
+import subprocess
+from pathlib import Path
+
+KIWI = Path(__file__).resolve().parent.parent / "kiwi"
+KEY_MOST, VALUE_MOST = 2**32 - 1, 2**63 - 1
+NUMBER = re.compile(rb"0|[1-9][0-9]*")
+RANGES = {
+    b"sum": sum,
+    b"count": len,
+    b"least": lambda values: min(values, default="none"),
+    b"greatest": lambda values: max(values, default="none"),
+}
+LIMITS = {b"put": (KEY_MOST, VALUE_MOST), b"del": (KEY_MOST,), b"get": (KEY_MOST,), b"wait": ()}
+
+
+def is_range(form):
+    return form in RANGES or form == b"list"
+
+
+def parsed(line):
+    """The form and the numbers of a line, or None for a line outside the grammar."""
+    form, *words = line.split(b" ")
+    limits = LIMITS.get(form, (KEY_MOST, KEY_MOST) if is_range(form) else None)
+    if limits is None or len(words) != len(limits) or not all(NUMBER.fullmatch(word) for word in words):
+        return None
+    numbers = [int(word) for word in words]
+    return (form, numbers) if all(number <= most for number, most in zip(numbers, limits)) else None
+
+
+def items_of(text):
+    """What each line of an input is, as `parsed` says."""
+    lines = text.split(b"\n")
+    if not lines[-1]:
+        lines.pop()
+    return [parsed(line) for line in lines]
+
+
+def inside(pairs, numbers):
+    """The pairs with a key in the range, by rising key."""
+    return sorted((key, value) for key, value in pairs.items() if numbers[0] <= key <= numbers[1])
+
+
+def listed(pairs):
+    return " ".join(f"{key}={value}" for key, value in pairs) or "empty"
+
+
+def answered(pairs, form, numbers):
+    if form == b"put":
+        pairs[numbers[0]] = numbers[1]
+        return "ok"
+    if form == b"del":
+        pairs.pop(numbers[0], None)
+        return "ok"
+    if form == b"get":
+        return pairs.get(numbers[0], "none")
+    found = inside(pairs, numbers)
+    return listed(found) if form == b"list" else RANGES[form]([value for _, value in found])
+
+
+def expected(text):
+    """What the program must print with one worker, and its status."""
+    items = items_of(text)
+    if None in items:
+        return b"", 3
+    pairs = {}
+    replies = [answered(pairs, form, numbers) for form, numbers in items if form != b"wait"]
+    return "".join(f"{reply}\n" for reply in replies).encode(), 0
+
+
+def line_of(form, key, other, value):
+    """A line of this form, with as many of the numbers as it takes."""
+    numbers = {"put": (key, value), "get": (key,), "del": (key,), "wait": ()}.get(form, (key, other))
+    return " ".join((form, *map(str, numbers)))
+
+
+def ended(command, text):
+    """What a command prints on this input, and its status."""
+    run = subprocess.run(command, input=text, capture_output=True, check=False)
+    return run.stdout, run.returncode
