@@ -3,6 +3,7 @@
 //! This is the trusted edge. Nothing is known of the bytes that these streams give or take; what is
 //! proved is that a failure is counted and that nothing else is.
 ghost use Rattle.std.specs.Prelude.{◌≡◌, ◌^◌, ◌<◌, ◌≤◌, length, IfOk, OnErr, is_err};
+ghost use Rattle.std.specs.Io.KnownBytes.{ReadConsumes, WriteAppends};
 ghost use Rattle.kw_io.specs.Counts.{CountRose, counted};
 
 use crate::errors::Failed;
@@ -159,13 +160,14 @@ impl Sink for ErrSink {
     }
 }
 
-/// One read from a device. An error of the device is counted.
+/// One read from a device. An error of the device is counted, and takes none of its bytes.
 pub(crate) fn read_counted<R: Read>(
     device: &mut R,
     into: &mut [u8],
     faults: &mut u64,
 ) -> Result<usize, Failed>
     ensures bound { IfOk result (λ n. n ≤ length into.new) }
+    ensures bytes { ReadConsumes (R.remaining device.old) (R.remaining device.new) result into.new }
     ensures faults { faults.new ≡ counted (is_err result) faults.old }
     ensures never_falls { faults.old ≤ faults.new }
     ensures count_fits { faults.new < 2 ^ 64 }
@@ -189,6 +191,7 @@ pub(crate) fn write_counted<W: Write>(
 ) -> Result<usize, Failed>
     ensures some { IfOk result (λ n. 0 < n) }
     ensures bound { IfOk result (λ n. n ≤ length bytes.now) }
+    ensures bytes { WriteAppends (W.contents device.old) (W.contents device.new) result bytes.now }
     ensures faults { faults.new ≡ counted (is_err result) faults.old }
     ensures never_falls { faults.old ≤ faults.new }
     ensures count_fits { faults.new < 2 ^ 64 }

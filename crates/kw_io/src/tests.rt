@@ -118,6 +118,22 @@ fn a_broken_device_is_counted(rt: HostRuntime) {
 }
 
 #[test]
+fn a_sound_device_moves_bytes_and_counts_nothing(rt: HostRuntime) -> Result<(), Fail> {
+    let mut faults = 7;
+    let mut device = b"get 5\n".as_slice();
+    let mut piece = [0u8; 4];
+    assert_eq!(rt; read_counted(&mut device, &mut piece, &mut faults), Ok(4));
+    assert_eq!(rt; piece.as_slice(), b"get ".as_slice());
+    assert_eq!(rt; read_counted(&mut device, &mut piece, &mut faults), Ok(2));
+    assert_eq!(rt; read_counted(&mut device, &mut piece, &mut faults), Ok(0));
+    let mut written = Vec::new(rt.alloc());
+    assert_eq!(rt; write_counted(&mut written, b"ok\n", &mut faults), Ok(3));
+    assert_eq!(rt; written.as_slice(), b"ok\n".as_slice());
+    assert_eq!(rt; faults, 7);
+    Ok(())
+}
+
+#[test]
 fn errors_have_texts(rt: HostRuntime) -> Result<(), Fail> {
     let texts = format!(in rt.alloc();
         "{}, {}, {}, {}, {}, {}",

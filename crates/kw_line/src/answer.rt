@@ -112,9 +112,20 @@ mod tests {
     }
 
     #[test]
+    fn answers_a_list_with_its_pairs(rt: HostRuntime) -> Result<(), Fail> {
+        let (some, none) = over_three_and_none(rt.alloc(), Form::List)?;
+        let pairs = Vec::from_slice(rt.alloc(), &[(1, 5), (2, 3), (3, 9)])?;
+        assert_eq!(rt; some, Answer::Pairs(PairList::from_vec(pairs)));
+        assert_eq!(rt; none, Answer::Pairs(PairList::new(rt.alloc())));
+        Ok(())
+    }
+
+    #[test]
     fn answers_one_key_and_refusals(rt: HostRuntime) -> Result<(), Fail> {
-        let done = answer_of(rt.alloc(), Form::Del, &Reply::Done)?;
-        assert_eq!(rt; done, Answer::Done);
+        for form in [Form::Put, Form::Del] {
+            let done = answer_of(rt.alloc(), form, &Reply::Done)?;
+            assert_eq!(rt; done, Answer::Done);
+        }
         let got = answer_of(rt.alloc(), Form::Get, &Reply::Value(u64::MAX))?;
         assert_eq!(rt; got, Answer::Number(18446744073709551615));
         let absent = answer_of(rt.alloc(), Form::Get, &Reply::Absent)?;

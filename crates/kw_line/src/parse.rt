@@ -142,6 +142,7 @@ mod tests {
             (b"wait 1\n".as_slice(), 1),
             (b"get 1\r\n".as_slice(), 1),
             (b"get \xc3\xa9\n".as_slice(), 1),
+            (b"get \xff\n".as_slice(), 1),
         ];
         for (text, line) in table {
             assert!(rt; text.len() <= MOST_BYTES);

@@ -106,4 +106,18 @@ mod tests {
         assert_eq!(rt; map.apply(&Call::Get(7)), Ok(Reply::Absent));
         Ok(())
     }
+
+    #[test]
+    fn a_key_may_be_deleted_twice(rt: HostRuntime) -> Result<(), Fail> {
+        let mut map = MapState::new(rt.alloc());
+        assert_eq!(rt; map.apply(&Call::Put(5, 1)), Ok(Reply::Done));
+        assert_eq!(rt; map.apply(&Call::Del(5)), Ok(Reply::Done));
+        assert_eq!(rt; map.apply(&Call::Del(5)), Ok(Reply::Done));
+        assert_eq!(rt; map.apply(&Call::Get(5)), Ok(Reply::Absent));
+        assert_eq!(rt;
+            map.apply(&Call::Scan(0, 9)),
+            Ok(Reply::Pairs(PairList::new(rt.alloc())))
+        );
+        Ok(())
+    }
 }

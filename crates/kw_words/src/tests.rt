@@ -107,6 +107,9 @@ fn words_of_nothing_are_refused(rt: HostRuntime) {
     for word in [8_589_934_592, u64::MAX] {
         assert_eq!(rt; Count::unpack(word), None, "count {word}");
     }
+    for word in [129, 4_294_967_297, u64::MAX] {
+        assert_eq!(rt; plain::unpack_cell_link(word), None, "cell {word}");
+    }
     for word in [
         1,
         2,
@@ -124,7 +127,32 @@ fn words_of_nothing_are_refused(rt: HostRuntime) {
 #[test]
 fn words_are_read_back(rt: HostRuntime) {
     assert_eq!(rt; Pend::unpack(294_934), Some(Pend::Stamped(5, 9)));
+    assert_eq!(rt; Pend::unpack(0), Some(Pend::Idle));
+    assert_eq!(rt; Pend::unpack(509), Some(Pend::Pending(127)));
+    assert_eq!(rt; Pend::unpack(3), Some(Pend::Frozen));
+    assert_eq!(rt; State::unpack(0), Some(State::Free));
+    assert_eq!(rt; State::unpack(121), Some(State::Infant(15)));
+    assert_eq!(rt; State::unpack(2), Some(State::Normal));
+    assert_eq!(rt; State::unpack(3), Some(State::Leader(0)));
+    assert_eq!(rt; State::unpack(524_284), Some(State::Follower(65_535)));
     assert_eq!(rt; State::unpack(61), Some(State::Retired(7)));
+    let end = Link {
+        row: None,
+        marked: true,
+    };
+    assert_eq!(rt; Link::unpack(4_294_967_296), Some(end));
+    let last = Link {
+        row: Some(65_535),
+        marked: false,
+    };
+    assert_eq!(rt; Link::unpack(65_536), Some(last));
+    let frozen = Count {
+        given: 4_294_967_295,
+        frozen: true,
+    };
+    assert_eq!(rt; Count::unpack(8_589_934_591), Some(frozen));
+    assert_eq!(rt; ScanWord::unpack(0), Some(ScanWord::Quiet));
+    assert_eq!(rt; ScanWord::unpack(14), Some(ScanWord::Drawn(3)));
     assert_eq!(rt; ScanWord::unpack(5), Some(ScanWord::Waiting(1)));
     assert_eq!(rt; plain::unpack_value(9_223_372_036_854_775_815), Some(7));
     assert_eq!(rt; plain::unpack_value(0), None);
