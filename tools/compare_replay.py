@@ -3,9 +3,10 @@
 
   tools/compare_replay.py                       1,000 inputs against the small map below
   tools/compare_replay.py 200 --seed 7
-  tools/compare_replay.py 1000 --with 'COMMAND' the command gets the input on standard input; its output and status are wanted
+  tools/compare_replay.py 1000 --with 'COMMAND' the command gets the input on standard input
 
-Each input has up to 200 lines. The last line says how many agreed; the status is 1 where one did not."""
+What the program writes to standard output and standard error and its status must all agree. Each input has up to 200 lines. The last line
+says how many agreed; the status is 1 where one did not."""
 
 import argparse
 import random
@@ -53,16 +54,16 @@ def answered(pairs, form, numbers):
 
 
 def expected(text):
-    """What the program must print, and its status."""
+    """What the program must print, its fault line, and its status."""
     lines = text.split(b"\n")
     if not lines[-1]:
         lines.pop()
     items = [parsed(line) for line in lines]
     if None in items:
-        return b"", 3
+        return b"", b"bad line %d\n" % (items.index(None) + 1), 3
     pairs = {}
     replies = [answered(pairs, form, numbers) for form, numbers in items if form != b"wait"]
-    return "".join(f"{reply}\n" for reply in replies).encode(), 0
+    return "".join(f"{reply}\n" for reply in replies).encode(), b"", 0
 
 
 def random_input(rng):
@@ -83,7 +84,7 @@ def random_input(rng):
 
 def ended(command, text):
     run = subprocess.run(command, input=text, capture_output=True, check=False)
-    return run.stdout, run.returncode
+    return run.stdout, run.stderr, run.returncode
 
 
 def main():
@@ -93,6 +94,7 @@ def main():
     options.add_argument("--with", dest="other", help="a command to compare with")
     options = options.parse_args()
     rng = random.Random(options.seed)
+    ended([KIWI, "replay"], b"")  # proves and builds the program, which the first run says on standard error
     differ = 0
     for number in range(options.inputs):
         text = random_input(rng)
