@@ -3,9 +3,10 @@
 
   tools/compare_replay.py                       1,000 inputs against the small map of kiwi_map.py
   tools/compare_replay.py 200 --seed 7
-  tools/compare_replay.py 1000 --with 'COMMAND' the command gets the input on standard input; its output and status are wanted
+  tools/compare_replay.py 1000 --with 'COMMAND' the command gets the input on standard input
 
-Each input has up to 200 lines. The last line says how many agreed; the status is 1 where one did not."""
+What the program writes to standard output and standard error and its status must all agree. Each input has up to 200 lines. The last line
+says how many agreed; the status is 1 where one did not."""
 
 import argparse
 import random
@@ -37,6 +38,7 @@ def main():
     options.add_argument("--with", dest="other", help="a command to compare with")
     options = options.parse_args()
     rng = random.Random(options.seed)
+    ended([KIWI, "replay"], b"")  # proves and builds the program, which the first run says on standard error
     differ = 0
     for number in range(options.inputs):
         text = random_input(rng)

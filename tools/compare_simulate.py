@@ -73,15 +73,15 @@ def main():
     for name, text in found:
         if left_out:
             text = without_lines(text, left_out)
-        wanted, status = ended(shlex.split(options.other), text)
+        wanted, _, status = ended(shlex.split(options.other), text)
         if options.drop_order:
             wanted = ORDER_LINE.sub(b"", wanted)
-        got = ended(program, text)
-        if got == (wanted, status):
+        got, _, ended_with = ended(program, text)
+        if (got, ended_with) == (wanted, status):
             passed += 1
         else:
             differ += 1
-            print(f"{name} differs: statuses {got[1]} and {status}; {first_difference(got[0], wanted)}")
+            print(f"{name} differs: statuses {ended_with} and {status}; {first_difference(got, wanted)}")
     print(f"{passed} passed, {differ} failed")
     return 1 if differ or not passed else 0
 

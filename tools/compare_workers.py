@@ -253,7 +253,7 @@ def main():
     for number in range(options.inputs):
         text = random_input(rng, options.crowded)
         for workers in every:
-            output, status = ended([*program, "--workers", str(workers)], text)
+            output, _, status = ended([*program, "--workers", str(workers)], text)
             apart[workers] += output != expected(text)[0]
             try:
                 beside[workers] += check(text, output, status, workers)

@@ -62,13 +62,13 @@ def answered(pairs, form, numbers):
 
 
 def expected(text):
-    """What the program must print with one worker, and its status."""
+    """What the program must print with one worker, its fault line, and its status."""
     items = items_of(text)
     if None in items:
-        return b"", 3
+        return b"", b"bad line %d\n" % (items.index(None) + 1), 3
     pairs = {}
     replies = [answered(pairs, form, numbers) for form, numbers in items if form != b"wait"]
-    return "".join(f"{reply}\n" for reply in replies).encode(), 0
+    return "".join(f"{reply}\n" for reply in replies).encode(), b"", 0
 
 
 def line_of(form, key, other, value):
@@ -78,6 +78,6 @@ def line_of(form, key, other, value):
 
 
 def ended(command, text):
-    """What a command prints on this input, and its status."""
+    """What a command prints on this input, what it writes to standard error, and its status."""
     run = subprocess.run(command, input=text, capture_output=True, check=False)
-    return run.stdout, run.returncode
+    return run.stdout, run.stderr, run.returncode

@@ -1,8 +1,10 @@
 //! Streams that fail, fill up or give too much, words that are no command, and the fault lines.
-use super::{ROOM, expect_end, ran};
+use super::{ROOM, ran};
 use crate::fault::write_fault;
 use crate::outcome::{Outcome, Status};
 use kw_io::MemSink;
+use std::alloc::Global;
+use std::process::Abort;
 use std::test::Fail;
 
 #[test]
@@ -56,6 +58,20 @@ fn an_input_of_a_byte_too_many_is_too_long(rt: HostRuntime) -> Result<(), Fail> 
     Ok(())
 }
 
+/// Expects that this is the fault line of a run that ended so.
+fn expect_fault_line(
+    rt: &impl Abort,
+    alloc: Global,
+    outcome: &Outcome,
+    text: &[u8],
+) -> Result<(), Fail> {
+    let mut sink = MemSink::new(alloc, ROOM, Vec::new(alloc))?;
+    let written = write_fault(outcome, &mut sink);
+    assert!(rt; written.is_ok());
+    assert_eq!(rt; sink.written(), text);
+    Ok(())
+}
+
 #[test]
 fn each_status_but_the_first_has_its_fault_line(rt: HostRuntime) -> Result<(), Fail> {
     let lines = [
@@ -69,17 +85,40 @@ fn each_status_but_the_first_has_its_fault_line(rt: HostRuntime) -> Result<(), F
         (Status::Refused, 0, "some calls were refused\n"),
     ];
     for (status, line, text) in lines {
-        let mut sink = MemSink::new(rt.alloc(), ROOM, Vec::new(rt.alloc()))?;
-        let written = write_fault(
-            &Outcome {
-                status,
-                line,
-                front: None,
-            },
-            &mut sink,
-        );
-        assert!(rt; written.is_ok());
-        assert_eq!(rt; sink.written(), text.as_bytes());
+        let outcome = Outcome {
+            status,
+            line,
+            front: None,
+        };
+        expect_fault_line(&rt, rt.alloc(), &outcome, text.as_bytes())?;
     }
     Ok(())
+}
+
+#[test]
+fn a_run_that_does_not_do_all_says_why(rt: HostRuntime) -> Result<(), Fail> {
+    let three = b"put 5 50\nget 5\nsum 0 9\n".as_slice();
+    let runs: [(&[&str], &[u8], &[u32], u32, &[u8]); 7] = [
+        (&["replay"], three, &[], ROOM, b""),
+        (
+            &["replay"],
+            b"put 1 9223372036854775808\n",
+            &[],
+            ROOM,
+            b"bad line 1\n",
+        ),
+        (&["replay"], b"put 1 1\nput 3", &[], ROOM, b"bad line 2\n"),
+        (&["replay"], three, &[0], ROOM, b"read fault\n"),
+        (&["replay"], three, &[], 4, b"write fault\n"),
+        (&["replays"], three, &[], ROOM, b"bad words\n"),
+        (&[], three, &[], ROOM, b"bad words\n"),
+    ];
+    for (texts, input, fails, room, line) in runs {
+        let input = Vec::from_slice(rt.alloc(), input)?;
+        let ended = ran(&rt, rt.alloc(), texts, input, fails, room)?;
+        expect_fault_line(&rt, rt.alloc(), &ended.outcome, line)?;
+    }
+    let input = vec![in rt.alloc(); b'9'; 16_777_217]?;
+    let ended = ran(&rt, rt.alloc(), &["replay"], input, &[], ROOM)?;
+    expect_fault_line(&rt, rt.alloc(), &ended.outcome, b"input too long\n")
 }
