@@ -1,4 +1,5 @@
 //! Words in, figures out.
+use crate::lines::LineFigure;
 use crate::timing::Figure;
 use std::{env, io};
 
@@ -13,7 +14,7 @@ pub fn given_calls(rt: &HostRuntime) -> io::Result<Option<u32>> {
 /// Says how the program is used.
 pub fn print_usage(rt: &HostRuntime) -> io::Result<()> {
     println!(rt;
-        "kw_bench N: makes N calls of each kind on maps of one row, and prints what a call took"
+        "kw_bench N: makes N calls of each kind on maps of one row, reads and prints N lines, and prints what each took"
     )
 }
 
@@ -23,5 +24,16 @@ pub fn print_figure(rt: &HostRuntime, name: &str, figure: Figure) -> io::Result<
     let by_two = figure.one.saturating_mul(200) / figure.two.max(1);
     println!(rt;
         "{name}: {a_call} ns a call by one thread; two threads make {by_two} calls where one makes 100"
+    )
+}
+
+/// Prints what an input took to be read, and its answers to be printed.
+pub fn print_lines(rt: &HostRuntime, figure: LineFigure) -> io::Result<()> {
+    let lines = figure.lines as u128;
+    let read = figure.reading / lines.max(1);
+    let printed = figure.printing / lines.max(1);
+    println!(rt;
+        "lines: {lines} of {} bytes; {read} ns a line to read, {printed} ns an answer to print",
+        figure.bytes
     )
 }

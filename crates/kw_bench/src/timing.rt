@@ -23,8 +23,8 @@ pub struct Figure {
     pub two: u128,
 }
 
-// Want of memory, as the program's own error.
-fn no_memory(_memory: Memory) -> io::Error {
+/// Want of memory, as the program's own error.
+pub(crate) fn no_memory<E: Drop>(_error: E) -> io::Error {
     io::Error::from(io::ErrorKind::OutOfMemory)
 }
 
