@@ -249,6 +249,48 @@ fn each_status_but_the_first_has_its_fault_line(rt: HostRuntime) -> Result<(), F
     Ok(())
 }
 
+/// Expects that this is the fault line of a run that ended so.
+fn expect_fault_line(
+    rt: &impl Abort,
+    alloc: Global,
+    outcome: &Outcome,
+    text: &[u8],
+) -> Result<(), Fail> {
+    let mut sink = MemSink::new(alloc, ROOM, Vec::new(alloc))?;
+    let written = write_fault(outcome, &mut sink);
+    assert!(rt; written.is_ok());
+    assert_eq!(rt; sink.written(), text);
+    Ok(())
+}
+
+#[test]
+fn a_run_that_does_not_do_all_says_why(rt: HostRuntime) -> Result<(), Fail> {
+    let three = b"put 5 50\nget 5\nsum 0 9\n".as_slice();
+    let runs: [(&[&str], &[u8], &[u32], u32, &[u8]); 7] = [
+        (&["replay"], three, &[], ROOM, b""),
+        (
+            &["replay"],
+            b"put 1 9223372036854775808\n",
+            &[],
+            ROOM,
+            b"bad line 1\n",
+        ),
+        (&["replay"], b"put 1 1\nput 3", &[], ROOM, b"bad line 2\n"),
+        (&["replay"], three, &[0], ROOM, b"read fault\n"),
+        (&["replay"], three, &[], 4, b"write fault\n"),
+        (&["replays"], three, &[], ROOM, b"bad words\n"),
+        (&[], three, &[], ROOM, b"bad words\n"),
+    ];
+    for (texts, input, fails, room, line) in runs {
+        let input = Vec::from_slice(rt.alloc(), input)?;
+        let ended = ran(&rt, rt.alloc(), texts, input, fails, room)?;
+        expect_fault_line(&rt, rt.alloc(), &ended.outcome, line)?;
+    }
+    let input = vec![in rt.alloc(); b'9'; 16_777_217]?;
+    let ended = ran(&rt, rt.alloc(), &["replay"], input, &[], ROOM)?;
+    expect_fault_line(&rt, rt.alloc(), &ended.outcome, b"input too long\n")
+}
+
 #[test]
 fn a_script_is_run_and_its_first_bad_line_is_named(rt: HostRuntime) -> Result<(), Fail> {
     let script =
