@@ -137,7 +137,8 @@ impl Trace {
 }
 
 /// The calls that ended, and those whose put or delete was stamped, each with the position at which it takes effect, in the one
-/// legal order. The clauses are those of `order`, which has the names alone.
+/// legal order. That there is one, that it is legal and that no later event changes it is said by the clauses of `order`, which
+/// has the names alone.
 pub fn points(alloc: Global, trace: &Trace) -> Result<Vec<Point>, Memory>
     ensures points { IfOk result (λ points. ArePoints (history_of trace.now) points.items) }
     ensures laws { (xs : List ℕ) → IsOrder (history_of trace.now) xs → OrderLaws (history_of trace.now) xs }
