@@ -2,7 +2,7 @@
 //!
 //! A line of a script may ask for a hundred thousand puts, so calls are kept in runs of the same call: a queue has no more
 //! runs than the script has lines. Contracts see the calls alone.
-ghost use Rattle.std.specs.Prelude.{◌≡◌, ◌≤◌, ◌∷◌, [], ◌++◌, ℕ, List, replicate, IfNone, IfSome, OnOk};
+ghost use Rattle.std.specs.Prelude.{◌≡◌, ◌≤◌, ◌∷◌, [], ◌++◌, ℕ, List, replicate, IfNone, IfSome, OnOk, OnErr};
 ghost use Rattle.kw_line.specs.Line.{FitsCall};
 
 use kw_model::call::Call;
@@ -57,11 +57,13 @@ impl Queue {
         }
     }
 
-    /// Adds this call at the end, so many times: at least once. The numbers of the call are in range.
+    /// Adds this call at the end, so many times: at least once. The numbers of the call are in range. Without memory the
+    /// queue is as it was.
     pub fn push(&mut self, call: Call, count: u32) -> Result<(), Memory>
         requires some { 1 ≤ count }
         requires fits { FitsCall call }
-        ensures { OnOk result (self.new ≡ self.old ++ replicate count call) }
+        ensures ok { OnOk result (self.new ≡ self.old ++ replicate count call) }
+        ensures err { OnErr result (self.new ≡ self.old) }
     {
         self.later.push_back(Run { call, count })?;
         Ok(())

@@ -76,7 +76,7 @@ impl Simulator {
         Ok(text)
     }
 
-    /// Runs one line.
+    /// Runs one line. Without memory a part of it may have been run and printed.
     pub fn run(&mut self, command: Command) -> Result<(), Memory>
         requires command { IsCommand self.old.trace.opening.rows command }
         requires room { length self.old.trace.events + MOST_STEPS ≤ MOST_CALLS }
