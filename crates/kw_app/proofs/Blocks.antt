@@ -1,14 +1,19 @@
 -- One block: from the workers' jobs to what the list of events then shows.
-use Rattle.std.proofs.Common.{◌≡◌, ℕ, ◌<◌, List, [], ◌∷◌, ◌++◌, length, map, drop, take, slice_index_or, IfOk, Ok, Err, Vec, sym, ap, ◌∙◌, subst, arith, vec_len}
+use Rattle.std.proofs.Common.{◌≡◌, ℕ, ◌<◌, List, [], ◌∷◌, ◌++◌, length, map, drop, take, slice_index_or, IfOk, Ok, Err, Vec, refl, sym, ap, ◌∙◌, subst, arith, vec_len}
 use Rattle.std.specs.declared.alloc.Global.{Global}
 use Rattle.std.specs.declared.result.Result.{Result}
+use Rattle.std.proofs.Math.Seq.{drop-length}
 use Rattle.std.proofs.lemmas.List.{drop_all, take_all, append-nil}
+use Rattle.std.proofs.lemmas.List.Elements.{All-nil, All-same}
 use Rattle.kw_model.specs.declared.memory.Memory.{Memory}
 use Rattle.kw_line.specs.declared.answer.Answer.{Answer}
+use Rattle.kw_core.specs.SeatCalls.{CallSeen}
 use Rattle.kw_world.specs.declared.event.Event.{Event}
+use Rattle.kw_world.specs.declared.opening.Opening.{Opening}
 use Rattle.kw_table.specs.declared.pass.Pass.{Pass}
 use Rattle.kw_table.specs.Passes.{view}
 use Rattle.kw_table.specs.Meetings.{AtEach, Gathers, front_seen}
+use Rattle.kw_table.proofs.Prefixes.{prefix_self}
 use Rattle.kw_live.specs.Following.{GoesTo}
 use Rattle.kw_map.specs.declared.kiwi.Kiwi.{Kiwi}
 use Rattle.kw_map.specs.Kiwi.{IsIdle}
@@ -17,8 +22,10 @@ use Rattle.kw_work.specs.declared.line.Answered.{Answered}
 use Rattle.kw_work.specs.Dealing.{Dealt, part}
 use Rattle.kw_work.specs.Collecting.{answers_of, merge, no_answer, AnswersEach}
 use Rattle.kw_work.proofs.Merges.{answers_of_is}
+use Rattle.kw_work.proofs.Shares.{part-nil}
 use Rattle.kw_app.specs.declared.rounds.Job.{Job}
 use Rattle.kw_app.specs.declared.rounds.Done.{Done}
+use Rattle.kw_app.specs.Recorded.{IsWithin, asked, asks, seat_calls}
 use Rattle.kw_app.specs.Working.{Works}
 use Rattle.kw_app.specs.Rounds.{IsJob, IsDone, IsSeated, AreTogether, Worked, WorkedEach, Grew, more_calls}
 use Rattle.kw_app.proofs.Each.{element_at}
@@ -113,3 +120,15 @@ front_is m n E (p ∷ ps) together = (together.each 0 p together.some).seen
 -- what is written over a list of the same length takes its place
 pub written_over : {A : Type 0} (xs ys : List A) (n : ℕ) → length xs ≡ n → length ys ≡ n → take n (xs ++ drop (length xs) ys) ≡ xs
 written_over xs ys n a b = ap (λ x. take n (xs ++ x)) (drop_all (length xs) ys (omega arith)) ∙ (ap (take n) (append-nil xs) ∙ take_all n xs (omega arith))
+
+-- no lines are answered by no events
+pub grew_by_none : (o : Opening) (n : ℕ) (lines : List Line) (E : List Event) (answers : List Answer) → lines ≡ [] → answers ≡ [] → Grew o n lines E E answers
+grew_by_none o n lines E answers none nothing =
+    let drops : (w : ℕ) → more_calls o E E w ≡ [] = λ w. drop-length (seat_calls o E w) in
+    subst (λ (ls : List Line). Grew o n ls E E answers) (sym none) (subst (Grew o n [] E E) (sym nothing) (record {
+      longer = prefix_self E;
+      calls = λ w lt. sym (append-nil (seat_calls o E w)) ∙ ap (λ (x : List CallSeen). seat_calls o E w ++ x) (sym (drops w));
+      asks_are = λ w lt. ap asked (drops w) ∙ ap asks (sym (part-nil n w));
+      within = λ w lt. All-same (IsWithin (length E) (length E)) (more_calls o E E w) [] (drops w) (All-nil (IsWithin (length E) (length E)));
+      prints = refl;
+    }))

@@ -132,7 +132,8 @@ fn gathered(kiwi: &Kiwi, passes: Vec<Pass>) -> Vec<Pass>
     passes
 }
 
-/// Answers one block: the passes, which then have all seen one list of events, and the answers in line order.
+/// Answers one block: the passes, which then have all seen one list of events, and the answers in line order. A block without lines starts
+/// no thread.
 ///
 /// There is a pass for each worker of the block, numbered from 0, and all are idle and have seen one list, as they are and have afterwards.
 /// The only error is the want of memory.
@@ -149,6 +150,9 @@ pub(crate) fn play<R: Threads + Sync, G: Gate + Sync>(
     ensures together { IfOk result (λ both. AreTogether kiwi.now block.now.workers (front_seen both.0.items) both.0.items) }
     ensures grew { IfOk result (λ both. Grew kiwi.now.shared.opening block.now.workers block.now.lines (front_seen passes.items) (front_seen both.0.items) both.1.items) }
 {
+    if block.lines().is_empty() {
+        return Ok((passes, Vec::new(alloc)));
+    }
     let (passes, parts) = hand_out(rt, alloc, kiwi, block, passes, gate)?;
     let passes = gathered(kiwi, passes);
     let answers = collect(alloc, block, parts)?;
