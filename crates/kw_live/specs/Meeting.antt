@@ -75,7 +75,7 @@ pub record MetFull (cells : ℕ) (p q : Pass) : Type 0 where
   pub met : MetCount p q activity given
   pub full : cells ≤ given
 
--- the pass found room in its row both times that it asked, and asked no other time
+-- the pass asked its row for a cell by loading the count and by adding to it, and found room each time that it asked
 pub record MetRoom (cells : ℕ) (p q : Pass) : Type 0 where
   pub given : ℕ
   pub asked : MetCount p q PutCount given
