@@ -2,8 +2,8 @@
 use Rattle.std.proofs.Common.{◌≡◌, ℕ, ◌+◌, ◌-◌, ◌<◌, ◌≤◌, List, [], ◌++◌, length, take, drop, get_or, All, ap, ◌∙◌, subst, arith, le_refl}
 use Rattle.std.proofs.lemmas.List.{take-append-le, drop-append-le, drop_all, get_or-take, get_or-drop, length-take, length-drop}
 use Rattle.std.proofs.lemmas.List.Elements.{All-nil, All-append, All-weaker, All-same, All-take, All-drop}
-use Rattle.kw_core.specs.SeatCalls.{CallSeen}
-use Rattle.kw_core.proofs.SeatCalls.{calls-none}
+use Rattle.kw_laws.specs.SeatCalls.{CallSeen}
+use Rattle.kw_laws.proofs.SeatCalls.{calls-none}
 use Rattle.kw_line.specs.declared.answer.Answer.{Answer}
 use Rattle.kw_world.specs.declared.event.Event.{Event}
 use Rattle.kw_world.specs.declared.opening.Opening.{Opening}

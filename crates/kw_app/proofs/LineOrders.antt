@@ -15,8 +15,8 @@ use Rattle.kw_core.specs.declared.history.End.{End}
 use Rattle.kw_core.specs.History.{History, called}
 use Rattle.kw_core.specs.Events.{is_valid}
 use Rattle.kw_core.specs.Run.{history}
-use Rattle.kw_core.specs.SeatCalls.{CallSeen, seen}
-use Rattle.kw_core.proofs.LawProofs.{laws_hold}
+use Rattle.kw_laws.specs.SeatCalls.{CallSeen, seen}
+use Rattle.kw_laws.proofs.LawProofs.{laws_hold}
 use Rattle.kw_order.specs.Order.{IsOrder}
 use Rattle.kw_order.specs.OrderLaws.{OrderLaws}
 use Rattle.kw_order.specs.Legal.{IsLegalOrder, call_of}

@@ -5,8 +5,8 @@ use Rattle.std.proofs.lemmas.List.{map-append, append-nil, take-append-le, take_
 use Rattle.std.proofs.lemmas.List.Concat.{flat_map-append}
 use Rattle.std.proofs.lemmas.List.Elements.{All-append, All-weaker, All-same}
 use mathlib.Core.Logic.{⊎_elim}
-use Rattle.kw_core.specs.SeatCalls.{CallSeen}
-use Rattle.kw_core.proofs.SeatCalls.{calls-none}
+use Rattle.kw_laws.specs.SeatCalls.{CallSeen}
+use Rattle.kw_laws.proofs.SeatCalls.{calls-none}
 use Rattle.kw_line.specs.declared.answer.Answer.{Answer}
 use Rattle.kw_line.specs.Answered.{answers_for}
 use Rattle.kw_world.specs.declared.event.Event.{Event}

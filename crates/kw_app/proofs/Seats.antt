@@ -8,8 +8,8 @@ use Rattle.kw_world.specs.declared.local.Local.{Local}
 use Rattle.kw_world.specs.declared.opening.Opening.{Opening}
 use Rattle.kw_world.specs.Sizes.{product}
 use Rattle.kw_core.specs.Events.{is_valid, of_seat}
-use Rattle.kw_core.specs.SeatCalls.{CallSeen, calls_seen}
-use Rattle.kw_core.proofs.SeatCalls.{calls_still}
+use Rattle.kw_laws.specs.SeatCalls.{CallSeen, calls_seen}
+use Rattle.kw_laws.proofs.SeatCalls.{calls_still}
 use Rattle.kw_table.specs.declared.pass.Pass.{Pass}
 use Rattle.kw_table.specs.Passes.{view}
 use Rattle.kw_table.specs.Views.{Meets}

@@ -5,7 +5,7 @@ use mathlib.Core.List.{IsPrefix}
 use Rattle.std.proofs.lemmas.List.Elements.{All-nil, All-cons, All-append, All-weaker}
 use Rattle.kw_model.specs.declared.call.Reply.{Reply}
 use Rattle.kw_core.specs.declared.history.End.{End}
-use Rattle.kw_core.specs.SeatCalls.{CallSeen, begun_at, ended_at}
+use Rattle.kw_laws.specs.SeatCalls.{CallSeen, begun_at, ended_at}
 use Rattle.kw_line.specs.declared.answer.Answer.{Answer}
 use Rattle.kw_line.specs.Answered.{answer_for, answers_for}
 use Rattle.kw_table.specs.declared.pass.Pass.{Pass}

@@ -1,6 +1,6 @@
 -- What the answers of a run are worth: they are those of an ordered map of one thread that the lines' calls ask one after the other.
 use Rattle.std.specs.Prelude.{ℕ, ◌≡◌, ◌⊎◌, true, false, not, IsTrue, All, List, [], length, slice_get, Some}
-use Rattle.kw_core.specs.SeatCalls.{CallSeen}
+use Rattle.kw_laws.specs.SeatCalls.{CallSeen}
 use Rattle.kw_world.specs.declared.event.Event.{Event}
 use Rattle.kw_world.specs.declared.opening.Opening.{Opening}
 use Rattle.kw_line.specs.declared.answer.Answer.{Answer}

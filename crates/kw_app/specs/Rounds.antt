@@ -2,7 +2,7 @@
 use Rattle.std.specs.Prelude.{◌≡◌, ℕ, ◌<◌, List, ◌++◌, length, drop, All, IfOk, Vec, slice_index_or}
 use Rattle.std.specs.declared.alloc.Global.{Global}
 use mathlib.Core.List.{IsPrefix}
-use Rattle.kw_core.specs.SeatCalls.{CallSeen}
+use Rattle.kw_laws.specs.SeatCalls.{CallSeen}
 use Rattle.kw_world.specs.declared.event.Event.{Event}
 use Rattle.kw_world.specs.declared.opening.Opening.{Opening}
 use Rattle.kw_line.specs.declared.answer.Answer.{Answer}

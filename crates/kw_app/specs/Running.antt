@@ -2,7 +2,7 @@
 use Rattle.std.specs.Prelude.{◌≡◌, ℕ, ◌<◌, ◌≤◌, Bool, true, false, List, length, take, drop, slice_index_or, All}
 use Rattle.std.specs.List.{flat_map}
 use Rattle.kw_core.specs.Events.{is_valid}
-use Rattle.kw_core.specs.SeatCalls.{CallSeen}
+use Rattle.kw_laws.specs.SeatCalls.{CallSeen}
 use Rattle.kw_world.specs.declared.event.Event.{Event}
 use Rattle.kw_world.specs.declared.opening.Opening.{Opening}
 use Rattle.kw_world.specs.Sizes.{product}

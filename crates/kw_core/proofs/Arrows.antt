@@ -39,7 +39,7 @@ use Rattle.kw_world.specs.RowRead.{to_look, look_met, help_met, remembering, cou
 use Rattle.kw_world.specs.RowPut.{full, has_room, given_of, stamp_met}
 use Rattle.kw_world.specs.Table.{row}
 use Rattle.kw_world.specs.Step.{followed, is_skipped}
-use Rattle.kw_core.specs.Shape.{Words, next_in, least_in}
+use Rattle.kw_core.specs.Words.{Words, next_in, least_in}
 use Rattle.kw_core.specs.Stages.{is_put}
 use Rattle.kw_core.proofs.Events.{IsBegun}
 

@@ -16,7 +16,7 @@ use Rattle.kw_world.specs.Calls.{first_key, put_value}
 use Rattle.kw_world.specs.RowPut.{has_room, given_of}
 use Rattle.kw_core.specs.Noted.{Change, Nothing, Begins, Adds, Announces, Stamps, Ends}
 use Rattle.kw_core.specs.Run.{SeatLog, Origins, change_of, beginning, helping, answering, drawing}
-use Rattle.kw_core.specs.Shape.{Words}
+use Rattle.kw_core.specs.Words.{Words}
 use Rattle.kw_core.proofs.Arrows.{eq_from}
 use Rattle.kw_core.proofs.Happens.{found_at}
 

@@ -22,7 +22,7 @@ use Rattle.kw_world.specs.Sane.{IsGiven}
 use Rattle.kw_world.specs.Step.{word}
 use Rattle.kw_core.specs.Run.{Run}
 use Rattle.kw_core.specs.Stages.{IsHelp, IsPutVersion}
-use Rattle.kw_core.specs.Shape.{Words, given_in}
+use Rattle.kw_core.specs.Words.{Words, given_in}
 use Rattle.kw_core.proofs.Happens.{Changed, Happens}
 
 -- What an event writes.

@@ -28,7 +28,7 @@ use Rattle.kw_world.proofs.Lists.{get-set_same, get-set_other}
 use Rattle.kw_world.proofs.Rows.{in_table, offered_below}
 use Rattle.kw_core.specs.Noted.{noted}
 use Rattle.kw_core.specs.Run.{Run, change_of, seat_after, origins_after, logged, noted_by}
-use Rattle.kw_core.specs.Shape.{Words}
+use Rattle.kw_core.specs.Words.{Words}
 use Rattle.kw_core.proofs.Events.{IsBegun}
 use Rattle.kw_core.proofs.Arrows.{Arrow, arrow}
 

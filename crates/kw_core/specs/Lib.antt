@@ -1,3 +1,5 @@
+pub mod Happenings
+pub mod Words
 pub mod History
 pub mod HistoryLaws
 pub mod Grows
@@ -8,17 +10,4 @@ pub mod Events
 pub mod Run
 pub mod Recording
 pub mod Remarks
-pub mod Recorder
 pub mod Stages
-pub mod Rooms
-pub mod Shape
-pub mod Puts
-pub mod Positions
-pub mod Readers
-pub mod Replies
-pub mod Inv
-pub mod Unfrozen
-pub mod Laws
-pub mod Example
-pub mod Mirror
-pub mod SeatCalls

@@ -14,7 +14,7 @@ ghost use Rattle.kw_world.specs.RowPut.{has_room, given_of};
 ghost use Rattle.kw_world.specs.Sane.{IsLocal, IsCall, CanBegin, IsSane};
 ghost use Rattle.kw_core.specs.Run.{change_of, beginning, helping, answering, drawing, best_id, id_at};
 ghost use Rattle.kw_core.specs.Recording.{origin_in};
-ghost use Rattle.kw_core.specs.Recorder.{happening_at, logged_of};
+ghost use Rattle.kw_core.specs.Happenings.{happening_at, logged_of};
 
 use crate::history::{Change, Drawn, Logged};
 use crate::seat_log::SeatLog;

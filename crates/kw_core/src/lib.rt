@@ -1,15 +1,13 @@
-//! The core: one event of the map, the record of what a list of events did, and the laws that every list keeps.
+//! The core: one event of the map, and the record of what a list of events did.
 //!
 //! `step` makes one event, by the step crates; `history` keeps the record beside it: calls, the attempts of puts, and when what
-//! happened. `recorder` makes events and keeps their record along, for which `change` and `seat_log` say what one event adds to
-//! the history and to what its seat did last. `laws` holds no code: its functions have the laws over all lists of events as their
-//! contracts, and what stands above cites them. The definitions are in `specs/`; `docs/PROOFS.md` says how the proof is cut.
+//! happened. `change`, `seat_log` and `attempt_ids` say what one event adds to the history and to what its seat did last.
+//! `proofs/` has what is known of one event, whatever held before it: where it leads, what it writes, what it adds to the record.
+//! The layers above rest on that: `kw_shape` on where each seat is, `kw_laws` on the laws over all lists of events.
 #![tactic(auto)]
 
-mod attempt_ids;
-mod change;
+pub mod attempt_ids;
+pub mod change;
 pub mod history;
-pub mod laws;
-pub mod recorder;
-mod seat_log;
+pub mod seat_log;
 pub mod step;

@@ -13,12 +13,12 @@ use Rattle.kw_world.specs.Step.{word, row_of}
 use Rattle.kw_world.specs.Table.{row}
 use Rattle.kw_world.specs.WorldView.{WorldView}
 use Rattle.kw_core.specs.Events.{local_of, world, is_valid, event}
-use Rattle.kw_core.specs.Laws.{KeepsLaws}
+use Rattle.kw_laws.specs.Laws.{KeepsLaws}
 use Rattle.kw_core.specs.Run.{history}
 use Rattle.kw_core.proofs.Events.{valid_front}
-use Rattle.kw_core.proofs.LawProofs.{laws_hold}
+use Rattle.kw_laws.proofs.LawProofs.{laws_hold}
 use Rattle.kw_core.proofs.Runs.{history-world}
-use Rattle.kw_core.proofs.Worlds.{world-local}
+use Rattle.kw_laws.proofs.Worlds.{world-local}
 use Rattle.kw_table.specs.declared.pass.Pass.{Pass}
 use Rattle.kw_table.specs.declared.shared.Shared.{Shared}
 use Rattle.kw_table.specs.Passes.{view}

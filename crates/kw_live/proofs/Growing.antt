@@ -11,10 +11,10 @@ use Rattle.kw_world.specs.declared.local.Local.{Local}
 use Rattle.kw_world.specs.declared.opening.Opening.{Opening}
 use Rattle.kw_world.specs.Sizes.{product}
 use Rattle.kw_core.specs.Events.{event, is_valid, of_seat}
-use Rattle.kw_core.specs.SeatCalls.{CallSeen, calls_seen, end_last, seen_after}
+use Rattle.kw_laws.specs.SeatCalls.{CallSeen, calls_seen, end_last, seen_after}
 use Rattle.kw_core.proofs.Events.{of_seat-append, of_seat-here, valid_front}
-use Rattle.kw_core.proofs.SeatCalls.{calls-own, calls_still}
-use Rattle.kw_core.proofs.SeatLists.{end_last-snoc}
+use Rattle.kw_laws.proofs.SeatCalls.{calls-own, calls_still}
+use Rattle.kw_laws.proofs.SeatLists.{end_last-snoc}
 use Rattle.kw_table.specs.declared.pass.Pass.{Pass}
 use Rattle.kw_table.specs.declared.shared.Shared.{Shared}
 use Rattle.kw_table.specs.Passes.{view, Makes}

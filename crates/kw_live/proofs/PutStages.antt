@@ -20,10 +20,10 @@ use Rattle.kw_world.specs.RowPut.{full, has_room, given_of, stamp_met}
 use Rattle.kw_world.specs.Sizes.{product}
 use Rattle.kw_world.specs.Step.{word, next_of, row_of}
 use Rattle.kw_world.specs.Table.{row}
-use Rattle.kw_core.specs.Unfrozen.{HasCellOfOwn}
+use Rattle.kw_laws.specs.Unfrozen.{HasCellOfOwn}
 use Rattle.kw_core.specs.Run.{history}
 use Rattle.kw_core.proofs.Arrows.{below}
-use Rattle.kw_core.proofs.Owners.{true_false}
+use Rattle.kw_laws.proofs.Owners.{true_false}
 use Rattle.kw_table.specs.declared.pass.Pass.{Pass}
 use Rattle.kw_table.specs.declared.shared.Shared.{Shared}
 use Rattle.kw_table.specs.Passes.{view}

@@ -3,7 +3,7 @@ use Rattle.std.specs.Prelude.{◌≡◌, ℕ, ◌<◌, ◌≤◌, List, [], ◌�
 use Rattle.kw_model.specs.declared.call.Call.{Call}
 use Rattle.kw_model.specs.declared.call.Reply.{Reply}
 use Rattle.kw_world.specs.Sizes.{product}
-use Rattle.kw_core.specs.SeatCalls.{CallSeen, calls_seen, begun_at, ended_at}
+use Rattle.kw_laws.specs.SeatCalls.{CallSeen, calls_seen, begun_at, ended_at}
 use Rattle.kw_table.specs.declared.pass.Pass.{Pass}
 use Rattle.kw_table.specs.Passes.{view}
 

@@ -2,7 +2,7 @@
 use Rattle.kw_world.specs.Sizes.{product}
 use Rattle.kw_core.specs.History.{History}
 use Rattle.kw_core.specs.HistoryLaws.{HistoryLaws}
-use Rattle.kw_core.proofs.LawProofs.{laws_hold}
+use Rattle.kw_laws.proofs.LawProofs.{laws_hold}
 use Rattle.kw_order.specs.Trace.{TraceView}
 use Rattle.kw_order.proofs.OneOrder.{order_exists, order_unique}
 use Rattle.kw_order.proofs.OrderProofs.{order_has_laws}

@@ -12,9 +12,9 @@ use Rattle.kw_world.specs.Sizes.{product}
 use Rattle.kw_world.specs.WorldView.{WorldView}
 use Rattle.kw_core.specs.Run.{history}
 use Rattle.kw_core.specs.Stages.{IsCovering, IsGoing}
-use Rattle.kw_core.proofs.LawProofs.{laws_hold}
+use Rattle.kw_laws.proofs.LawProofs.{laws_hold}
 use Rattle.kw_core.proofs.Runs.{history-world}
-use Rattle.kw_core.proofs.Worlds.{world-local}
+use Rattle.kw_laws.proofs.Worlds.{world-local}
 use Rattle.kw_table.specs.declared.pass.Pass.{Pass}
 use Rattle.kw_table.specs.declared.shared.Shared.{Shared}
 use Rattle.kw_table.specs.Passes.{view}

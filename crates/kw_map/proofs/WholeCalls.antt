@@ -7,7 +7,7 @@ use Rattle.kw_world.specs.declared.activity.Activity.{Activity}
 use Rattle.kw_world.specs.declared.activity.Activity.TheVariants.{Leave}
 use Rattle.kw_world.specs.declared.event.Choice.{Choice}
 use Rattle.kw_world.specs.declared.local.Local.{Local}
-use Rattle.kw_core.specs.SeatCalls.{begun_at}
+use Rattle.kw_laws.specs.SeatCalls.{begun_at}
 use Rattle.kw_table.specs.declared.pass.Pass.{Pass}
 use Rattle.kw_table.specs.declared.shared.Shared.{Shared}
 use Rattle.kw_live.specs.Calling.{Opens, Keeps, Closes, Calls, calls_in}

@@ -15,12 +15,12 @@ use Rattle.kw_core.specs.declared.history.CallLog.{CallLog}
 use Rattle.kw_core.specs.History.{History, called, no_call}
 use Rattle.kw_core.specs.Events.{is_valid}
 use Rattle.kw_core.specs.Run.{history}
-use Rattle.kw_core.specs.SeatCalls.{CallSeen, calls_by, calls_of, calls_seen, seen}
+use Rattle.kw_laws.specs.SeatCalls.{CallSeen, calls_by, calls_of, calls_seen, seen}
 use Rattle.kw_core.proofs.Events.{valid_front}
-use Rattle.kw_core.proofs.Records.{seats_kept}
-use Rattle.kw_core.proofs.MirrorKeeps.{mirrors_hold}
-use Rattle.kw_core.proofs.SeatCalls.{calls_apart}
-use Rattle.kw_core.proofs.LawProofs.{laws_hold}
+use Rattle.kw_laws.proofs.Records.{seats_kept}
+use Rattle.kw_laws.proofs.MirrorKeeps.{mirrors_hold}
+use Rattle.kw_laws.proofs.SeatCalls.{calls_apart}
+use Rattle.kw_laws.proofs.LawProofs.{laws_hold}
 use Rattle.kw_order.specs.Order.{IsOrder, IsPlaced}
 use Rattle.kw_order.specs.SeatOrder.{calls_before, IsTurn, AllEnded}
 use Rattle.kw_order.proofs.OrderProofs.{order_has_laws}

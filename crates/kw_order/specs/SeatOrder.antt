@@ -6,7 +6,7 @@ use Rattle.kw_world.specs.Sizes.{Sizes}
 use Rattle.kw_core.specs.declared.history.CallLog.{CallLog}
 use Rattle.kw_core.specs.declared.history.End.{End}
 use Rattle.kw_core.specs.History.{History, called}
-use Rattle.kw_core.specs.SeatCalls.{CallSeen, calls_seen}
+use Rattle.kw_laws.specs.SeatCalls.{CallSeen, calls_seen}
 
 -- how many of the first x calls of the record are of seat s
 abbrev pub calls_before : ℕ → History → ℕ → ℕ

@@ -13,7 +13,7 @@ use Rattle.kw_core.specs.History.{History, Scan, Pairs, called}
 use Rattle.kw_core.specs.declared.history.Drawn.{Drawn}
 use Rattle.kw_core.specs.HistoryLaws.{EndsWith, shows}
 use Rattle.kw_core.specs.Recording.{Recording}
-use Rattle.kw_core.specs.Recorder.{Records}
+use Rattle.kw_laws.specs.Recorder.{Records}
 use Rattle.kw_core.specs.Run.{Run, history}
 use Rattle.kw_order.specs.Order.{IsTop}
 

@@ -10,7 +10,7 @@ ghost use Rattle.kw_world.specs.Sizes.{Sizes};
 ghost use Rattle.kw_core.specs.History.{History, called};
 ghost use Rattle.kw_core.specs.Events.{is_valid};
 ghost use Rattle.kw_core.specs.Run.{history};
-ghost use Rattle.kw_core.specs.SeatCalls.{CallSeen, calls_seen, seen};
+ghost use Rattle.kw_laws.specs.SeatCalls.{CallSeen, calls_seen, seen};
 ghost use Rattle.kw_core.specs.HistoryLaws.{HistoryLaws};
 ghost use Rattle.kw_order.specs.Order.{IsOrder};
 ghost use Rattle.kw_order.specs.Legal.{IsLegalOrder};

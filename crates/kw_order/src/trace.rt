@@ -11,7 +11,7 @@ ghost use Rattle.kw_world.specs.Opening.{IsOpening};
 ghost use Rattle.kw_world.specs.Sane.{IsSane, CanStep};
 ghost use Rattle.kw_world.specs.Step.{step, is_skipped};
 ghost use Rattle.kw_core.specs.Events.{is_valid};
-ghost use Rattle.kw_core.specs.Laws.{KeepsLaws};
+ghost use Rattle.kw_laws.specs.Laws.{KeepsLaws};
 ghost use Rattle.kw_order.specs.Order.{IsOrder};
 ghost use Rattle.kw_order.specs.Legal.{IsLegalOrder};
 ghost use Rattle.kw_order.specs.OrderLaws.{OrderLaws};
@@ -20,7 +20,7 @@ ghost use Rattle.kw_order.specs.Trace.{TraceView, run_of, world_of, history_of, 
 
 use crate::points::{self, CallName, Point};
 use kw_core::history::History;
-use kw_core::recorder::{Recorder, step_recorded};
+use kw_laws::recorder::{Recorder, step_recorded};
 use kw_model::memory::Memory;
 use kw_world::event::{Event, StepDone};
 use kw_world::opening::Opening;

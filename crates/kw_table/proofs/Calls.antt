@@ -14,7 +14,7 @@ use Rattle.kw_world.specs.Step.{row_of}
 use Rattle.kw_world.specs.WorldView.{WorldView}
 use Rattle.kw_world.proofs.Rows.{in_table}
 use Rattle.kw_core.specs.Events.{world, is_valid, event}
-use Rattle.kw_core.proofs.Worlds.{world-rows, world-seats, world-local, world_sane}
+use Rattle.kw_laws.proofs.Worlds.{world-rows, world-seats, world-local, world_sane}
 use Rattle.kw_table.specs.declared.pass.Pass.{Pass}
 use Rattle.kw_table.specs.declared.pass.View.{View}
 use Rattle.kw_table.specs.declared.shared.Shared.{Shared}

@@ -10,7 +10,7 @@ use Rattle.kw_world.specs.Sane.{IsKnown}
 use Rattle.kw_world.specs.Sizes.{product}
 use Rattle.kw_world.specs.Step.{row_of, next_of}
 use Rattle.kw_world.proofs.Rows.{row_of-next}
-use Rattle.kw_core.proofs.Worlds.{world-rows, world-local, world_sane}
+use Rattle.kw_laws.proofs.Worlds.{world-rows, world-local, world_sane}
 use Rattle.kw_table.specs.declared.pass.Pass.{Pass}
 use Rattle.kw_table.specs.declared.pass.View.{View}
 use Rattle.kw_table.specs.declared.shared.Shared.{Shared}

@@ -29,7 +29,7 @@ use Rattle.kw_world.proofs.Rows.{event_can_happen}
 use Rattle.kw_world.proofs.Steps.{step-moved, kind_of-moved}
 use Rattle.kw_core.specs.Events.{local_of, world, may_begin, is_valid, of_seat, event}
 use Rattle.kw_core.proofs.Events.{world-append, world-snoc, valid-snoc, may_step_from, local_still, of_seat-append, of_seat-here, of_seat-else}
-use Rattle.kw_core.proofs.Worlds.{world-rows, world-seats, world-local, world_sane}
+use Rattle.kw_laws.proofs.Worlds.{world-rows, world-seats, world-local, world_sane}
 use Rattle.kw_table.specs.declared.pass.View.{View}
 use Rattle.kw_table.specs.Views.{local_in, mine_in, row_in, Steps, Mine, StepsFor}
 use Rattle.kw_table.specs.Rules.{Owns, Fits, Rule}

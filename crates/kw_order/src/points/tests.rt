@@ -1,6 +1,6 @@
 //! The order of a history that is made event by event.
 ghost use Rattle.std.specs.Prelude.{◌≡◌, IfOk, None};
-ghost use Rattle.kw_core.specs.Example.{example};
+ghost use Rattle.kw_laws.specs.Example.{example};
 ghost use Rattle.kw_core.specs.declared.history.Change.TheVariants as change;
 
 use super::*;

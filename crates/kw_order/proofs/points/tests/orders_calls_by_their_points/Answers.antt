@@ -1,5 +1,5 @@
 -- The example keeps the laws.
-use Rattle.kw_core.proofs.Example.{example_has_laws}
+use Rattle.kw_laws.proofs.Example.{example_has_laws}
 use Rattle.kw_order.proofs.points.tests.orders_calls_by_their_points.Goals as goal
 
 pub order-requires : goal.order-requires

@@ -1,6 +1,6 @@
 use Rattle.std.proofs.Common.{subst}
 use Rattle.kw_world.specs.Sizes.{product}
-use Rattle.kw_core.specs.Laws.{KeepsLaws}
+use Rattle.kw_laws.specs.Laws.{KeepsLaws}
 use Rattle.kw_order.specs.Trace.{TraceView, run_of}
 use Rattle.kw_order.proofs.Traces.{trace_laws}
 use Rattle.kw_order.proofs.trace.Trace.history.Goals as goal

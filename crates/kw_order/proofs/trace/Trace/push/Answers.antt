@@ -6,7 +6,7 @@ use Rattle.kw_world.specs.declared.local.Local.{Local}
 use Rattle.kw_world.specs.declared.event.Event.{Event}
 use Rattle.kw_world.specs.Step.{step, Stepped, is_skipped, IsMade}
 use Rattle.kw_world.proofs.Steps.{step-skipped}
-use Rattle.kw_core.specs.Laws.{KeepsLaws}
+use Rattle.kw_laws.specs.Laws.{KeepsLaws}
 use Rattle.kw_core.proofs.Skips.{made}
 use Rattle.std.proofs.lemmas.Option.{same_Some}
 use Rattle.std.proofs.Math.Seq.{take-append_seam}

@@ -1,6 +1,0 @@
-use Rattle.kw_core.proofs.LawProofs.{laws_hold}
-use Rattle.kw_core.proofs.Runs.{history-world}
-use Rattle.kw_core.proofs.laws.list_laws.Goals as goal
-
-pub returns : goal.returns
-returns c = record { laws = λ z o es i v. laws_hold z o i es v; world = history-world }

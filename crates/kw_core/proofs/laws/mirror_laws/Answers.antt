@@ -1,5 +1,0 @@
-use Rattle.kw_core.proofs.MirrorKeeps.{mirrors_hold}
-use Rattle.kw_core.proofs.laws.mirror_laws.Goals as goal
-
-pub returns : goal.returns
-returns c = λ z o es i v. mirrors_hold z o i es v

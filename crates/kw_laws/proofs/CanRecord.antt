@@ -1,0 +1,175 @@
+-- What an event adds to a record can be written there: all that it names is there.
+use Rattle.std.proofs.Common.{ℕ, suc, ◌≡◌, ◌+◌, ◌*◌, ◌<◌, ◌==◌, Bool, true, false, nat_lt, if◌then◌else◌, Option, Some, List, [], ◌∷◌, arith, refl, sym, ap, subst, length, length-append, slice_get}
+use Rattle.std.proofs.lemmas.Option.{slice_get_within}
+use Rattle.kw_words.specs.declared.pend.Pend.TheVariants as pend
+use Rattle.kw_words.specs.Pend.{pend_word}
+use Rattle.kw_words.specs.Count.{count_of}
+use Rattle.kw_cells.specs.declared.cell.Cell as kw_cell
+use Rattle.kw_model.specs.declared.call.Call.{Call}
+use Rattle.kw_world.specs.declared.activity.Activity.{Activity}
+use Rattle.kw_world.specs.declared.activity.Activity.TheVariants.{Idle, Look, LookHelp, CellValue, PutAdd, Announce, Stamp}
+use Rattle.kw_world.specs.declared.local.Local.{Local}
+use Rattle.kw_world.specs.declared.event.Event.{Event}
+use Rattle.kw_world.specs.declared.event.Choice.{Choice}
+use Rattle.kw_world.specs.declared.event.Choice.TheVariants.{Begin, Go, Guess, Stop}
+use Rattle.kw_world.specs.Sizes.{Sizes}
+use Rattle.kw_world.specs.RowPut.{has_room, given_of}
+use Rattle.kw_world.specs.RowWalk.{offered}
+use Rattle.kw_world.specs.Sane.{RisesBetween, IsKnown, CanBegin, copies_by}
+use Rattle.kw_world.specs.Step.{row_of, is_skipped}
+use Rattle.kw_world.proofs.Rooms.{length-rises}
+use Rattle.kw_core.specs.History.{History}
+use Rattle.kw_core.specs.declared.history.Logged.{Logged}
+use Rattle.kw_core.specs.declared.history.Change.{Change}
+use Rattle.kw_core.specs.declared.history.Change.TheVariants.{Nothing, Begins, Adds, Announces, Loses, Stamps, Ends}
+use Rattle.kw_core.specs.Noted.{IsWithin, MayNote}
+use Rattle.kw_core.specs.Step.{Keeps}
+use Rattle.kw_core.specs.Appended.{appended}
+use Rattle.kw_laws.specs.Inv.{Inv}
+use Rattle.kw_core.specs.Run.{Run, Origins, change_of, found_by, beginning, helping, noted_by}
+use Rattle.kw_core.specs.declared.seat_log.SeatLog.{SeatLog}
+use Rattle.kw_laws.specs.Readers.{AreCopies}
+use Rattle.kw_core.specs.Stages.{IsTaking}
+use Rattle.kw_core.specs.Recording.{Recording, origin_in}
+use Rattle.kw_core.specs.Remarks.{remark_of, HasRoomFor}
+use Rattle.kw_laws.specs.Recorder.{Records, CanSettle, IsInTable, log_of, happening_at, logged_of, entry_of}
+use Rattle.kw_core.proofs.Events.{IsBegun}
+use Rattle.kw_core.proofs.Happens.{happens}
+use Rattle.kw_laws.proofs.HistoryKeeps.{may_note}
+use Rattle.kw_core.proofs.Appended.{within_appended}
+use Rattle.kw_laws.proofs.Recorded.{GivesNone, none_of, none_helping, place_within, room_given, prepared, change_recorded}
+
+-- a change that may happen names calls and attempts that are there
+within_of : (h : History) (e : Logged) (c : Change) → Keeps h → MayNote h e c → IsWithin h c
+within_of h e Nothing k m = tt
+within_of h e (Begins seat number call) k m = tt
+within_of h e (Adds call seat key value row cell) k m = tt
+within_of h e (Announces p) k m = m.0
+within_of h e (Loses p) k m = m.0
+within_of h e (Stamps p version load) k m = (m.within, (k.laws.attempted p m.within).call)
+within_of h e (Ends x reply answer draw) k m = m.0
+
+-- Cells that are given.
+
+-- a cell that the change gives is one of so many
+abbrev pub IsGivenBelow : Sizes → ℕ → Change → Type 0
+IsGivenBelow z cells (Adds call seat key value row cell) = row * z.cells + cell < cells
+IsGivenBelow z cells _ = Unit {0}
+
+none_below : (z : Sizes) (cells : ℕ) (c : Change) → GivesNone c → IsGivenBelow z cells c
+none_below z cells (Adds call seat key value row cell) n = absurd n
+none_below z cells Nothing n = tt
+none_below z cells (Begins seat number call) n = tt
+none_below z cells (Announces p) n = tt
+none_below z cells (Loses p) n = tt
+none_below z cells (Stamps p version load) n = tt
+none_below z cells (Ends x reply answer draw) n = tt
+
+-- what an event gives is a cell of the table
+given_below : (z : Sizes) (a : Activity) (s : ℕ) (choice : Choice) (l : Local) (found : ℕ) (g : SeatLog) (o : Origins) (rows : ℕ) → l.row < rows → IsGivenBelow z (rows * z.cells) (change_of z a s choice l found g o)
+given_below z PutAdd s choice l found g o rows below = met (has_room z (count_of found)) refl
+  where
+    met : (b : Bool) → has_room z (count_of found) ≡ b → IsGivenBelow z (rows * z.cells) (change_of z PutAdd s choice l found g o)
+    met true e = rw e (place_within z.cells l.row (given_of (count_of found)) rows below (room_given z (count_of found) e))
+    met false e = rw e tt
+given_below z Idle s choice l found g o rows below = begins choice
+  where
+    begins : (x : Choice) → IsGivenBelow z (rows * z.cells) (beginning x s l)
+    begins (Begin call) = tt
+    begins Go = tt
+    begins (Guess r) = tt
+    begins Stop = tt
+given_below z LookHelp s choice l found g o rows below = none_below z (rows * z.cells) _ (none_of (found == pend_word (pend.Pending l.met)) (helping (o l.row l.met) l.helping g.loaded) Nothing (none_helping (o l.row l.met) l.helping g.loaded) tt)
+given_below z Announce s choice l found g o rows below = none_below z (rows * z.cells) _ (none_of (found == pend_word pend.Idle) (Announces g.own) Nothing tt tt)
+given_below z Stamp s choice l found g o rows below = none_below z (rows * z.cells) _ (none_of (found == pend_word (pend.Pending l.cell)) (Stamps g.own l.version g.loaded) Nothing tt tt)
+given_below z _ s choice l found g o rows below = tt
+
+-- a cell of the table that is given has its attempt at the end of the history
+in_table : (z : Sizes) (k : Recording) (e : Logged) (c : Change) → IsGivenBelow z (length k.origins) c → IsInTable z (record k { history = appended k.history e c }) c
+in_table z k e (Adds call seat key value row cell) b = (b, omega (arith, length-append k.history.attempts (record { call = call; seat = seat; key = key; value = value; row = row; cell = cell; add = length k.history.log; is_announced = false; announced = 0; is_stamped = false; version = 0; load = 0; at = 0; is_lost = false } ∷ [])))
+in_table z k e Nothing b = tt
+in_table z k e (Begins seat number call) b = tt
+in_table z k e (Announces p) b = tt
+in_table z k e (Loses p) b = tt
+in_table z k e (Stamps p version load) b = tt
+in_table z k e (Ends x reply answer draw) b = tt
+
+-- Cells that are gathered.
+
+-- there are as many attempts as gathered cells
+as_many : (h : History) (q : ℕ) (call : Option Call) (cells : List kw_cell.Cell) (ids : List ℕ) → AreCopies h q call cells ids → length cells ≡ length ids
+as_many h q call [] [] a = refl
+as_many h q call [] (p ∷ ids) a = absurd a
+as_many h q call (c ∷ cells) [] a = absurd a
+as_many h q call (c ∷ cells) (p ∷ ids) a = ap suc (as_many h q call cells ids a.1)
+
+-- only the load of a value gathers a cell
+room_for : (z : Sizes) (a : Activity) (choice : Choice) (l : Local) (found : ℕ) (o : Origins) (h : History) (g : SeatLog) → (a ≡ CellValue → length g.ids < z.cells) → HasRoomFor z.cells (remark_of z a choice l found o h) g
+room_for z CellValue choice l found o h g f = f refl
+room_for z Idle (Begin call) l found o h g f = tt
+room_for z Idle Go l found o h g f = tt
+room_for z Idle (Guess r) l found o h g f = tt
+room_for z Idle Stop l found o h g f = tt
+room_for z (Look i) choice l found o h g f = met (i == 0) refl
+  where
+    met : (b : Bool) → (i == 0) ≡ b → HasRoomFor z.cells (remark_of z (Look i) choice l found o h) g
+    met true e = rw e tt
+    met false e = rw e tt
+room_for z PutAdd choice l found o h g f = met (has_room z (count_of found)) refl
+  where
+    met : (b : Bool) → has_room z (count_of found) ≡ b → HasRoomFor z.cells (remark_of z PutAdd choice l found o h) g
+    met true e = rw e tt
+    met false e = rw e tt
+room_for z _ choice l found o h g f = tt
+
+-- All of it.
+
+-- all that the event's entry names is there
+pub can_settle : (z : Sizes) (k : Recording) (r : Run) (e : Event) (l : Local) → Records z k r → Inv z r → IsBegun e.choice → slice_get r.world.locals e.seat ≡ Some l → is_skipped l.activity e.choice ≡ false →
+    CanSettle z (prepared z k r e l) (entry_of z k l (happening_at z r.world e l))
+unfolding row_of
+can_settle z k r e l i inv begins knows moves = record {
+  some = omega (arith, length-append k.history.log (at ∷ []));
+  within = within_appended k.history at _ (subst (λ (h : History). IsWithin h change) (sym i.history) (subst (IsWithin r.history) (sym (change_recorded z k r e l i inv.shape.sane knows)) (within_of r.history at _ inv.history may)));
+  seat = omega (arith, slice_get_within r.world.locals e.seat l knows, i.seats);
+  room = room_for z l.activity (offered r.world.rows e.choice) l (found_by z r.world e l) (origin_in z k.origins) k.history (log_of k e.seat) taken;
+  origin = in_table z k at _ (subst (λ (n : ℕ). IsGivenBelow z n change) (sym i.cells) (given_below z l.activity e.seat (offered r.world.rows e.choice) l (found_by z r.world e l) (log_of k e.seat) (origin_in z k.origins) r.world.rows known.below.row));
+}
+  where
+    at : Logged
+    at = logged_of (happening_at z r.world e l)
+
+    change : Change
+    change = (entry_of z k l (happening_at z r.world e l)).change
+
+    known : IsKnown z r.world.rows l
+    known = inv.shape.sane.locals e.seat l knows
+
+    may : MayNote r.history at (change_of z l.activity e.seat (offered r.world.rows e.choice) l (found_by z r.world e l) (r.seats e.seat) r.origin)
+    may = may_note z r (noted_by z r e l) e.seat (offered r.world.rows e.choice) l l.activity _ (happens z r e l inv.shape.sane begins knows moves) inv
+
+    taken : l.activity ≡ CellValue → length (log_of k e.seat).ids < z.cells
+    taken is =
+        let g = inv.readers.gathers e.seat l knows in
+        let copies = as_many r.history l.row l.call l.gathered (r.seats e.seat).ids (g.taking (subst IsTaking (sym is) tt)) in
+        let same = ap (λ (x : SeatLog). length x.ids) (i.logs e.seat (slice_get_within r.world.locals e.seat l knows)) in
+        let rises = length-rises 0 l.place l.gathered (subst (λ (n : ℕ). RisesBetween 0 n l.gathered) (ap (λ (a : Activity). copies_by z a l) is) known.room.gathered) in
+        omega (arith, copies, same, rises, known.ranges.place)
+
+-- a call that may begin does so whether or not the choice is offered
+pub can_offer : (rows : ℕ) (choice : Choice) (l : Local) → CanBegin choice l → CanBegin (offered rows choice) l
+can_offer rows (Begin call) l h = h
+can_offer rows Go l h = tt
+can_offer rows (Guess q) l h = met (nat_lt q rows)
+  where
+    met : (b : Bool) → CanBegin (if b then Guess q else Go) l
+    met true = tt
+    met false = tt
+can_offer rows Stop l h = tt
+
+-- the call that begins is in range
+pub begun_of : (choice : Choice) (l : Local) → CanBegin choice l → IsBegun choice
+begun_of (Begin call) l h = h.0
+begun_of Go l h = tt
+begun_of (Guess q) l h = tt
+begun_of Stop l h = tt

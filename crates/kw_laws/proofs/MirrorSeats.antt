@@ -1,0 +1,327 @@
+-- What is kept of each seat so that the record mirrors the events: its number, its running call, and its last load of the clock.
+use Rattle.std.proofs.Common.{ℕ, ◌≡◌, ◌≢◌, ◌⊎◌, inl, inr, ◌+◌, ◌<◌, ◌==◌, Bool, true, false, if◌then◌else◌, nat_lt, Some, None, List, [], ◌∷◌, ◌++◌, arith, refl, sym, ◌∙◌, ap, subst, length, slice_get, length-append, eq-eqb, ne_eqb}
+use Rattle.std.proofs.lemmas.Bool.{cases_eq}
+use Rattle.std.proofs.lemmas.Option.{same_Some, slice_get_within}
+use Rattle.kw_words.specs.Count.{count_of}
+use Rattle.kw_words.specs.declared.kind.Kind.TheVariants as kind
+use Rattle.kw_words.specs.declared.layout.Name.TheVariants as name
+use Rattle.kw_model.specs.declared.call.Call.{Call}
+use Rattle.kw_world.specs.declared.activity.Activity.{Activity}
+use Rattle.kw_world.specs.declared.activity.Activity.TheVariants.{Idle, ScanClock, Start, Walk, Look, LookClock, LookCount, Cell, CellKey, CellValue, PutAdd, PutClock, Leave}
+use Rattle.kw_world.specs.declared.local.Local.{Local}
+use Rattle.kw_world.specs.declared.event.Choice.{Choice}
+use Rattle.kw_world.specs.declared.event.Choice.TheVariants.{Begin, Go, Guess, Stop}
+use Rattle.kw_world.specs.declared.event.Event.{Event}
+use Rattle.kw_world.specs.declared.opening.Opening.{Opening}
+use Rattle.kw_world.specs.declared.operation.Action.TheVariants.{Load}
+use Rattle.kw_world.specs.Sizes.{Sizes}
+use Rattle.kw_world.specs.WorldView.{WorldView}
+use Rattle.kw_world.specs.Opening.{opened}
+use Rattle.kw_world.specs.RowPut.{has_room}
+use Rattle.kw_world.specs.RowWalk.{offered, start_row, walk_row, is_stopped}
+use Rattle.kw_world.specs.Table.{row}
+use Rattle.kw_world.specs.Step.{word, step, kind_of}
+use Rattle.kw_core.specs.Events.{world, walked, event}
+use Rattle.kw_core.specs.History.{History, called}
+use Rattle.kw_core.specs.declared.history.CallLog.{CallLog}
+use Rattle.kw_core.specs.Run.{Run, Origins, seat_after, log_begun, log_gathered, is_at_cell}
+use Rattle.kw_core.specs.declared.seat_log.SeatLog.{SeatLog}
+use Rattle.kw_core.specs.Stages.{IsBusy, IsStamp, IsHelp}
+use Rattle.kw_core.specs.Words.{Words}
+use Rattle.kw_laws.specs.Mirror.{Occurs, Acts, NoLoad, operation, is_begun, begins_by, begun_from, begun}
+use Rattle.kw_core.proofs.Happens.{Happens, each_seat, found_at, knows_next, knows_other}
+use Rattle.kw_core.proofs.Changes.{made}
+use Rattle.kw_core.proofs.Arrows.{Arrow, NextLook, looks, counts, NextCell, reads_cell, answers, ends_scan, scans_on}
+use Rattle.kw_core.proofs.Arrows.{begins, loads_to_help, loads_clock, meets_stamped, meets_neither, is_passed, helps, finds_stamped, finds_other, counts_cells, has_no_version, has_other_key, gathers, leaves}
+use Rattle.kw_shape.proofs.NextCalls.{cell_call}
+use Rattle.kw_core.proofs.Steps.{none_some}
+use Rattle.kw_core.proofs.SeatLogs.{IsUnderway, either, call_kept}
+use Rattle.kw_laws.proofs.Occurs.{acts_lasts, occurs_was}
+use Rattle.kw_core.proofs.Ends.{IsStaying}
+use Rattle.kw_laws.proofs.Over.{CallOver, goes_on, is_ended, call_over, IsCallNow, call_was}
+use Rattle.kw_laws.proofs.Mirroring.{Kept, acts_here, kind_here, ended_here}
+
+-- How many calls a seat has begun.
+
+begun_from-append : (z : Sizes) (w : WorldView) (s : ℕ) (xs ys : List Event) → begun_from z w s (xs ++ ys) ≡ begun_from z w s xs + begun_from z (walked z w xs) s ys
+unfolding begun_from walked
+begun_from-append z w s [] ys = omega arith
+begun_from-append z w s (x ∷ xs) ys = let e = begun_from-append z (step z w x).world s xs ys in omega (arith, e)
+
+-- one more event
+pub begun-snoc : (z : Sizes) (o : Opening) (s : ℕ) (es : List Event) (e : Event) → begun z o s (es ++ e ∷ []) ≡ begun z o s es + (if begins_by s e (slice_get (world z o es).locals e.seat) then 1 else 0)
+unfolding begun begun_from world
+begun-snoc z o s es e = let f = begun_from-append z (opened z o) s es (e ∷ []) in omega (arith, f)
+
+-- no event
+pub begun-nil : (z : Sizes) (o : Opening) (s : ℕ) → begun z o s [] ≡ 0
+unfolding begun begun_from
+begun-nil z o s = refl
+
+-- a guess that is not offered begins nothing either
+begun_offered : (a : Activity) (rows : ℕ) (choice : Choice) → is_begun a (offered rows choice) ≡ is_begun a choice
+begun_offered Idle rows (Begin call) = refl
+begun_offered Idle rows Go = refl
+begun_offered Idle rows (Guess q) = met (nat_lt q rows)
+  where
+    met : (b : Bool) → is_begun Idle (if b then Guess q else Go) ≡ false
+    met true = refl
+    met false = refl
+begun_offered Idle rows Stop = refl
+begun_offered _ rows choice = refl
+
+-- a seat counts the calls that it begins
+arrow_counts : (z : Sizes) (v : Words) (s : ℕ) (choice : Choice) (l : Local) (a : Activity) (k : Local) → Arrow z v s choice l a k → k.number ≡ l.number + (if is_begun a choice then 1 else 0)
+arrow_counts z v s choice l a k (begins call e b) = rw e refl
+arrow_counts z v s choice l a k (counts_cells next n) = let x = cell_call _ _ _ n in omega (arith, x.1)
+arrow_counts z v s choice l a k (has_no_version j next e n) = let x = cell_call _ _ _ n in omega (arith, x.1)
+arrow_counts z v s choice l a k (has_other_key next e n) = let x = cell_call _ _ _ n in omega (arith, x.1)
+arrow_counts z v s choice l a k (gathers next n) = let x = cell_call _ _ _ n in omega (arith, x.1)
+arrow_counts z v s choice l a k _ = omega arith
+
+-- What an arrow leads to.
+
+next_look : {A : Type 0} (P : Activity → Type 0) (z : Sizes) (j : ℕ) (next : Activity) → NextLook z j next → (P (Look j) → A) → (P LookCount → A) → P next → A
+next_look P z j next (looks w) f g p = f p
+next_look P z j next (counts w) f g p = g p
+
+next_cell_busy : (l : Local) (j : ℕ) (k : Local) → NextCell l j k → IsBusy k.activity
+next_cell_busy l j k (reads_cell w) = tt
+next_cell_busy l j k (answers w e) = tt
+next_cell_busy l j k (ends_scan w e f) = tt
+next_cell_busy l j k (scans_on q w e f g) = tt
+
+next_look_busy : (z : Sizes) (j : ℕ) (next : Activity) → NextLook z j next → IsBusy next
+next_look_busy z j next (looks w) = tt
+next_look_busy z j next (counts w) = tt
+
+-- a seat that does not leave is in a call afterwards
+pub arrow_busy : (z : Sizes) (v : Words) (s : ℕ) (choice : Choice) (l : Local) (a : Activity) (k : Local) → Arrow z v s choice l a k → IsStaying a → IsBusy k.activity
+arrow_busy z v s choice l a k (leaves reply) u = absurd u
+arrow_busy z v s choice l a k (meets_stamped i c version next e n) u = next_look_busy z _ next n
+arrow_busy z v s choice l a k (meets_neither i next e n) u = next_look_busy z _ next n
+arrow_busy z v s choice l a k (is_passed next e n) u = next_look_busy z _ next n
+arrow_busy z v s choice l a k (helps next e n) u = next_look_busy z _ next n
+arrow_busy z v s choice l a k (finds_stamped c version next e n) u = next_look_busy z _ next n
+arrow_busy z v s choice l a k (finds_other next e n) u = next_look_busy z _ next n
+arrow_busy z v s choice l a k (counts_cells next n) u = next_cell_busy _ _ _ n
+arrow_busy z v s choice l a k (has_no_version j next e n) u = next_cell_busy _ _ _ n
+arrow_busy z v s choice l a k (has_other_key next e n) u = next_cell_busy _ _ _ n
+arrow_busy z v s choice l a k (gathers next n) u = next_cell_busy _ _ _ n
+arrow_busy z v s choice l a k _ u = tt
+
+look_stamp : {A : Type 0} (z : Sizes) (j : ℕ) (next : Activity) → NextLook z j next → IsStamp next ⊎ IsHelp next → A
+look_stamp z j next (looks w) (inl x) = absurd x
+look_stamp z j next (looks w) (inr x) = absurd x
+look_stamp z j next (counts w) (inl x) = absurd x
+look_stamp z j next (counts w) (inr x) = absurd x
+
+cell_stamp : {A : Type 0} (l : Local) (j : ℕ) (k : Local) → NextCell l j k → IsStamp k.activity ⊎ IsHelp k.activity → A
+cell_stamp l j k (reads_cell w) (inl x) = absurd x
+cell_stamp l j k (reads_cell w) (inr x) = absurd x
+cell_stamp l j k (answers w e) (inl x) = absurd x
+cell_stamp l j k (answers w e) (inr x) = absurd x
+cell_stamp l j k (ends_scan w e f) (inl x) = absurd x
+cell_stamp l j k (ends_scan w e f) (inr x) = absurd x
+cell_stamp l j k (scans_on q w e f g) (inl x) = absurd x
+cell_stamp l j k (scans_on q w e f g) (inr x) = absurd x
+
+-- a seat that is to stamp has just loaded its version
+arrow_stamp : (z : Sizes) (v : Words) (s : ℕ) (choice : Choice) (l : Local) (a : Activity) (k : Local) → Arrow z v s choice l a k → IsStamp k.activity → (a ≡ PutClock) × (k.version ≡ v name.Clock)
+arrow_stamp z v s choice l a k loads_clock u = (refl, refl)
+arrow_stamp z v s choice l a k (meets_stamped i c version next e n) u = look_stamp z _ next n (inl u)
+arrow_stamp z v s choice l a k (meets_neither i next e n) u = look_stamp z _ next n (inl u)
+arrow_stamp z v s choice l a k (is_passed next e n) u = look_stamp z _ next n (inl u)
+arrow_stamp z v s choice l a k (helps next e n) u = look_stamp z _ next n (inl u)
+arrow_stamp z v s choice l a k (finds_stamped c version next e n) u = look_stamp z _ next n (inl u)
+arrow_stamp z v s choice l a k (finds_other next e n) u = look_stamp z _ next n (inl u)
+arrow_stamp z v s choice l a k (counts_cells next n) u = cell_stamp _ _ _ n (inl u)
+arrow_stamp z v s choice l a k (has_no_version j next e n) u = cell_stamp _ _ _ n (inl u)
+arrow_stamp z v s choice l a k (has_other_key next e n) u = cell_stamp _ _ _ n (inl u)
+arrow_stamp z v s choice l a k (gathers next n) u = cell_stamp _ _ _ n (inl u)
+arrow_stamp z v s choice l a k _ u = absurd u
+
+-- so has a seat that is to help
+arrow_help : (z : Sizes) (v : Words) (s : ℕ) (choice : Choice) (l : Local) (a : Activity) (k : Local) → Arrow z v s choice l a k → IsHelp k.activity → (a ≡ LookClock) × (k.helping ≡ v name.Clock)
+arrow_help z v s choice l a k loads_to_help u = (refl, refl)
+arrow_help z v s choice l a k (meets_stamped i c version next e n) u = look_stamp z _ next n (inr u)
+arrow_help z v s choice l a k (meets_neither i next e n) u = look_stamp z _ next n (inr u)
+arrow_help z v s choice l a k (is_passed next e n) u = look_stamp z _ next n (inr u)
+arrow_help z v s choice l a k (helps next e n) u = look_stamp z _ next n (inr u)
+arrow_help z v s choice l a k (finds_stamped c version next e n) u = look_stamp z _ next n (inr u)
+arrow_help z v s choice l a k (finds_other next e n) u = look_stamp z _ next n (inr u)
+arrow_help z v s choice l a k (counts_cells next n) u = cell_stamp _ _ _ n (inr u)
+arrow_help z v s choice l a k (has_no_version j next e n) u = cell_stamp _ _ _ n (inr u)
+arrow_help z v s choice l a k (has_other_key next e n) u = cell_stamp _ _ _ n (inr u)
+arrow_help z v s choice l a k (gathers next n) u = cell_stamp _ _ _ n (inr u)
+arrow_help z v s choice l a k _ u = absurd u
+
+-- Where a seat loaded the clock last.
+
+-- the event loads no clock and leaves this, or it is set to now
+abbrev LoadedOver : Sizes → ℕ → Choice → Local → ℕ → Activity → SeatLog → Origins → History → Activity → Type 0
+LoadedOver z s choice l found next g o h a = ((seat_after z a choice l found next g o h).loaded ≡ g.loaded) × ((row z a s choice l).operation.kind ≢ kind.LoadClock) ⊎ ((seat_after z a choice l found next g o h).loaded ≡ length h.log)
+
+loaded_over : (z : Sizes) (s : ℕ) (choice : Choice) (l : Local) (found : ℕ) (next : Activity) (g : SeatLog) (o : Origins) (h : History) (a : Activity) → LoadedOver z s choice l found next g o h a
+loaded_over z s choice l found next g o h Idle = inl (begun choice, λ e. cc)
+  where
+    begun : (c : Choice) → (log_begun c (length h.calls) g).loaded ≡ g.loaded
+    begun (Begin call) = refl
+    begun Go = refl
+    begun (Guess q) = refl
+    begun Stop = refl
+loaded_over z s choice l found next g o h ScanClock = inr refl
+loaded_over z s choice l found next g o h LookClock = inr refl
+loaded_over z s choice l found next g o h PutClock = inr refl
+loaded_over z s choice l found next g o h Start = inl (refl, starts choice)
+  where
+    starts : (c : Choice) → (start_row c l).operation.kind ≢ kind.LoadClock
+    starts (Begin call) e = cc
+    starts Go e = cc
+    starts (Guess q) e = cc
+    starts Stop e = cc
+loaded_over z s choice l found next g o h Walk = inl (refl, walks (is_stopped choice l))
+  where
+    walks : (b : Bool) → (walk_row b s l).operation.kind ≢ kind.LoadClock
+    walks true e = cc
+    walks false e = cc
+loaded_over z s choice l found next g o h (Look i) = inl (either (λ (q : SeatLog). q.loaded) (i == 0) (record g { looked = length h.log; ids = []; read = None }) g g.loaded refl refl, λ e. cc)
+loaded_over z s choice l found next g o h LookCount = inl (either (λ (q : SeatLog). q.loaded) (is_at_cell next) g (record g { read = Some l.row }) g.loaded refl refl, λ e. cc)
+loaded_over z s choice l found next g o h (Cell j) = inl (either (λ (q : SeatLog). q.loaded) (is_at_cell next) g (record g { read = Some l.row }) g.loaded refl refl, λ e. cc)
+loaded_over z s choice l found next g o h CellKey = inl (either (λ (q : SeatLog). q.loaded) (is_at_cell next) g (record g { read = Some l.row }) g.loaded refl refl, λ e. cc)
+loaded_over z s choice l found next g o h CellValue = let k = log_gathered (o l.row l.place) g in inl (either (λ (q : SeatLog). q.loaded) (is_at_cell next) k (record k { read = Some l.row }) g.loaded refl refl, λ e. cc)
+loaded_over z s choice l found next g o h PutAdd = inl (either (λ (q : SeatLog). q.loaded) (has_room z (count_of found)) (record g { own = length h.attempts }) g g.loaded refl refl, λ e. cc)
+loaded_over z s choice l found next g o h a = inl (refl, λ e. cc)
+
+-- One more event.
+
+module _ (z : Sizes) (o : Opening) (es : List Event) (e : Event) (r r' : Run) (l l' : Local) (a : Activity) (h : Happens z r r' e.seat (offered r.world.rows e.choice) l l' a) (k : Kept z o es r) where
+  knows_acting : slice_get (world z o es).locals e.seat ≡ Some l
+  knows_acting = subst (λ (w : WorldView). slice_get w.locals e.seat ≡ Some l) (sym k.world) h.knows
+
+  -- the acting seat's number
+  number_own : l'.number ≡ begun z o e.seat (es ++ e ∷ [])
+  number_own =
+      let x : is_begun a (offered r.world.rows e.choice) ≡ is_begun l.activity e.choice = begun_offered a r.world.rows e.choice ∙ ap (λ b. is_begun b e.choice) (sym h.activity) in
+      let y : l'.number ≡ l.number + (if is_begun l.activity e.choice then 1 else 0) = subst (λ b. l'.number ≡ l.number + (if b then 1 else 0)) x (arrow_counts z (word z r.world) e.seat (offered r.world.rows e.choice) l a l' h.arrow) in
+      let u : begins_by e.seat e (slice_get (world z o es).locals e.seat) ≡ is_begun l.activity e.choice = rw (knows_acting, eq-eqb e.seat e.seat refl) refl in
+      y ∙ ap (λ n. n + (if is_begun l.activity e.choice then 1 else 0)) (k.numbers e.seat l h.knows) ∙ sym (begun-snoc z o e.seat es e ∙ ap (λ b. begun z o e.seat es + (if b then 1 else 0)) u)
+
+  -- a seat that begins a call is one further
+  pub number_begun : (call : Call) → a ≡ Idle → offered r.world.rows e.choice ≡ Begin call → l.number + 1 ≡ begun z o e.seat (es ++ e ∷ [])
+  number_begun call is chosen =
+      let x : is_begun a (offered r.world.rows e.choice) ≡ true = rw (is, chosen) refl in
+      sym (subst (λ b. l'.number ≡ l.number + (if b then 1 else 0)) x (arrow_counts z (word z r.world) e.seat (offered r.world.rows e.choice) l a l' h.arrow)) ∙ number_own
+
+  -- another seat's
+  number_other : (t : ℕ) (m : Local) → t ≢ e.seat → slice_get r.world.locals t ≡ Some m → m.number ≡ begun z o t (es ++ e ∷ [])
+  number_other t m d g =
+      let u : begins_by t e (slice_get (world z o es).locals e.seat) ≡ false = rw (knows_acting, ne_eqb e.seat t (λ x. d (sym x))) refl in
+      let f : begun z o t (es ++ e ∷ []) ≡ begun z o t es + 0 = begun-snoc z o t es e ∙ ap (λ b. begun z o t es + (if b then 1 else 0)) u in
+      omega (arith, f, k.numbers t m g)
+
+  pub numbers_keep : (t : ℕ) (m : Local) → slice_get r'.world.locals t ≡ Some m → m.number ≡ begun z o t (es ++ e ∷ [])
+  numbers_keep = each_seat h (λ t m. m.number ≡ begun z o t (es ++ e ∷ [])) number_own number_other
+
+  -- Loads of the clock.
+
+  -- the acting seat's last load
+  loads_own : NoLoad z o (es ++ e ∷ []) e.seat (r'.seats e.seat).loaded (length (es ++ e ∷ []))
+  loads_own u w choice f g t c = which (loaded_over z e.seat (offered r.world.rows e.choice) l (found_at z (word z r.world) a e.seat (offered r.world.rows e.choice) l) l'.activity (r.seats e.seat) r.origin r.history a)
+    where
+      which : LoadedOver z e.seat (offered r.world.rows e.choice) l (found_at z (word z r.world) a e.seat (offered r.world.rows e.choice) l) l'.activity (r.seats e.seat) r.origin r.history a → ⊥
+      which (inl x) = was (occurs_was z o es e u w (event e.seat choice) t)
+        where
+          same : (r'.seats e.seat).loaded ≡ (r.seats e.seat).loaded
+          same = ap (λ (q : SeatLog). q.loaded) h.log ∙ x.0
+
+          was : Occurs z o es u w (event e.seat choice) ⊎ ((u ≡ length es) × (e ≡ event e.seat choice) × (world z o es ≡ w)) → ⊥
+          was (inl y) = k.loads e.seat u w choice (omega (arith, f, same)) (slice_get_within es u (event e.seat choice) y.stands) y c
+          was (inr y) = x.1 (same_Some _ _ (sym (kind_here z o es e r r' l l' a h k) ∙ subst (λ d. kind_of z r.world d ≡ Some kind.LoadClock) (sym y.1) (subst (λ d. kind_of z d (event e.seat choice) ≡ Some kind.LoadClock) (sym y.2 ∙ k.world) c)))
+      which (inr x) = omega (arith, f, g, ap (λ (q : SeatLog). q.loaded) h.log, x, k.mirrors.events, length-append es (e ∷ []))
+
+  -- another seat's
+  loads_other : (t : ℕ) → t ≢ e.seat → NoLoad z o (es ++ e ∷ []) t (r'.seats t).loaded (length (es ++ e ∷ []))
+  loads_other t d u w choice f g y c = was (occurs_was z o es e u w (event t choice) y)
+    where
+      was : Occurs z o es u w (event t choice) ⊎ ((u ≡ length es) × (e ≡ event t choice) × (world z o es ≡ w)) → ⊥
+      was (inl x) = k.loads t u w choice (omega (arith, f, ap (λ (q : SeatLog). q.loaded) (h.logs t d))) (slice_get_within es u (event t choice) x.stands) x c
+      was (inr x) = d (sym (ap (λ (q : Event). q.seat) x.1))
+
+  pub loads_keep : (t : ℕ) → NoLoad z o (es ++ e ∷ []) t (r'.seats t).loaded (length (es ++ e ∷ []))
+  loads_keep t = which (cases_eq t e.seat)
+    where
+      which : (t ≡ e.seat) ⊎ (t ≡ e.seat → ⊥) → NoLoad z o (es ++ e ∷ []) t (r'.seats t).loaded (length (es ++ e ∷ []))
+      which (inl i) = subst (λ q. NoLoad z o (es ++ e ∷ []) q (r'.seats q).loaded (length (es ++ e ∷ []))) (sym i) loads_own
+      which (inr d) = loads_other t d
+
+  -- a seat that is to stamp
+  stamp_own : IsStamp l'.activity → Acts z o (es ++ e ∷ []) (r'.seats e.seat).loaded e.seat PutClock (operation kind.LoadClock name.Clock Load) l'.version
+  stamp_own u =
+      let x = arrow_stamp z (word z r.world) e.seat (offered r.world.rows e.choice) l a l' h.arrow u in
+      let y : (r'.seats e.seat).loaded ≡ length r.history.log = ap (λ (q : SeatLog). q.loaded) (subst (λ b. r'.seats e.seat ≡ seat_after z b (offered r.world.rows e.choice) l (found_at z (word z r.world) a e.seat (offered r.world.rows e.choice) l) l'.activity (r.seats e.seat) r.origin r.history) x.0 h.log) in
+      subst (λ q. Acts z o (es ++ e ∷ []) q e.seat PutClock (operation kind.LoadClock name.Clock Load) l'.version) (sym y)
+      (acts_here z o es e r r' l l' a h k PutClock _ l'.version x.0 refl (sym x.1))
+
+  pub stamp_keeps : (t : ℕ) (m : Local) → slice_get r'.world.locals t ≡ Some m → IsStamp m.activity → Acts z o (es ++ e ∷ []) (r'.seats t).loaded t PutClock (operation kind.LoadClock name.Clock Load) m.version
+  stamp_keeps = each_seat h (λ t m. IsStamp m.activity → Acts z o (es ++ e ∷ []) (r'.seats t).loaded t PutClock (operation kind.LoadClock name.Clock Load) m.version) stamp_own
+      (λ t m d g u. subst (λ (q : SeatLog). Acts z o (es ++ e ∷ []) q.loaded t PutClock (operation kind.LoadClock name.Clock Load) m.version) (sym (h.logs t d)) (acts_lasts z o es e _ t PutClock _ m.version (k.stamp t m g u)))
+
+  -- a seat that is to help
+  help_own : IsHelp l'.activity → Acts z o (es ++ e ∷ []) (r'.seats e.seat).loaded e.seat LookClock (operation kind.LoadClock name.Clock Load) l'.helping
+  help_own u =
+      let x = arrow_help z (word z r.world) e.seat (offered r.world.rows e.choice) l a l' h.arrow u in
+      let y : (r'.seats e.seat).loaded ≡ length r.history.log = ap (λ (q : SeatLog). q.loaded) (subst (λ b. r'.seats e.seat ≡ seat_after z b (offered r.world.rows e.choice) l (found_at z (word z r.world) a e.seat (offered r.world.rows e.choice) l) l'.activity (r.seats e.seat) r.origin r.history) x.0 h.log) in
+      subst (λ q. Acts z o (es ++ e ∷ []) q e.seat LookClock (operation kind.LoadClock name.Clock Load) l'.helping) (sym y)
+      (acts_here z o es e r r' l l' a h k LookClock _ l'.helping x.0 refl (sym x.1))
+
+  pub help_keeps : (t : ℕ) (m : Local) → slice_get r'.world.locals t ≡ Some m → IsHelp m.activity → Acts z o (es ++ e ∷ []) (r'.seats t).loaded t LookClock (operation kind.LoadClock name.Clock Load) m.helping
+  help_keeps = each_seat h (λ t m. IsHelp m.activity → Acts z o (es ++ e ∷ []) (r'.seats t).loaded t LookClock (operation kind.LoadClock name.Clock Load) m.helping) help_own
+      (λ t m d g u. subst (λ (q : SeatLog). Acts z o (es ++ e ∷ []) q.loaded t LookClock (operation kind.LoadClock name.Clock Load) m.helping) (sym (h.logs t d)) (acts_lasts z o es e _ t LookClock _ m.helping (k.help t m g u)))
+
+  -- Calls that run.
+
+  -- the acting seat was in a call, and does not leave it, where the call runs on
+  stays : (x : ℕ) → x < length r.history.calls → (called r'.history x).end ≡ None → IsBusy l.activity → (r.seats e.seat).call ≡ x → IsUnderway a × IsStaying a
+  stays x w n b c = which a refl
+    where
+      which : (b : Activity) → a ≡ b → IsUnderway b × IsStaying b
+      which Idle i = absurd (subst IsBusy (h.activity ∙ i) b)
+      which (Leave reply) i =
+          let f = ended_here z o es e r r' l l' a h k reply i (subst (λ q. q < length r.history.calls) (sym c) w) in
+          absurd (none_some (called r'.history x).end _ n (subst (λ q. (called r'.history q).end ≡ Some (record { at = length r.history.log; reply = reply })) c f))
+      which b i = (tt, tt)
+
+  pub running_keeps : (x t : ℕ) (m : Local) → x < length r'.history.calls → (called r'.history x).end ≡ None → (called r'.history x).seat ≡ t → slice_get r'.world.locals t ≡ Some m → IsBusy m.activity × ((r'.seats t).call ≡ x)
+  running_keeps x t m w n s g = met (call_was r.history r'.history _ z (word z r.world) e.seat (offered r.world.rows e.choice) l (r.seats e.seat) r.origin a _ (made z (word z r.world) e.seat (offered r.world.rows e.choice) l (r.seats e.seat) r.origin a) h.history x w)
+    where
+      own : (x : ℕ) → IsBusy l'.activity → (r'.seats e.seat).call ≡ x → t ≡ e.seat → IsBusy m.activity × ((r'.seats t).call ≡ x)
+      own x b c i =
+          let f : Some l' ≡ Some m = sym (knows_next h) ∙ subst (λ q. slice_get r'.world.locals q ≡ Some m) i g in
+          (subst (λ (q : Local). IsBusy q.activity) (same_Some l' m f) b, ap (λ q. (r'.seats q).call) i ∙ c)
+
+      -- a call that was there
+      old : (v : x < length r.history.calls) → CallOver r.history r'.history l (r.seats e.seat) a x → IsBusy m.activity × ((r'.seats t).call ≡ x)
+      old v (is_ended reply i c f) = absurd (none_some (called r'.history x).end (record { at = length r.history.log; reply = reply }) n (ap (λ (q : CallLog). q.end) f))
+      old v (goes_on c) = which (cases_eq t e.seat)
+        where
+          which : (t ≡ e.seat) ⊎ (t ≡ e.seat → ⊥) → IsBusy m.activity × ((r'.seats t).call ≡ x)
+          which (inl i) =
+              let y = k.running x e.seat l v (sym c.end ∙ n) (sym c.seat ∙ s ∙ i) h.knows in
+              let u = stays x v n y.0 y.1 in
+              own x (arrow_busy z (word z r.world) e.seat (offered r.world.rows e.choice) l a l' h.arrow u.1)
+              (ap (λ (q : SeatLog). q.call) h.log ∙ call_kept z (offered r.world.rows e.choice) l (found_at z (word z r.world) a e.seat (offered r.world.rows e.choice) l) l'.activity (r.seats e.seat) r.origin r.history a u.0 ∙ y.1) i
+          which (inr d) =
+              let y = k.running x t m v (sym c.end ∙ n) (sym c.seat ∙ s) (sym (knows_other h t d) ∙ g) in
+              (y.0, ap (λ (q : SeatLog). q.call) (h.logs t d) ∙ y.1)
+
+      -- a call that begins
+      begun_now : IsCallNow r.history r'.history e.seat (offered r.world.rows e.choice) l a x → IsBusy m.activity × ((r'.seats t).call ≡ x)
+      begun_now y =
+          let f = subst (λ b. r'.seats e.seat ≡ seat_after z b (offered r.world.rows e.choice) l (found_at z (word z r.world) a e.seat (offered r.world.rows e.choice) l) l'.activity (r.seats e.seat) r.origin r.history) y.idle h.log in
+          let c = subst (λ b. r'.seats e.seat ≡ log_begun b (length r.history.calls) (r.seats e.seat)) y.begins f in
+          own x (arrow_busy z (word z r.world) e.seat (offered r.world.rows e.choice) l a l' h.arrow (subst IsStaying (sym y.idle) tt)) (ap (λ (q : SeatLog). q.call) c ∙ sym y.place) (sym s ∙ ap (λ (q : CallLog). q.seat) y.is)
+
+      met : (x < length r.history.calls) ⊎ IsCallNow r.history r'.history e.seat (offered r.world.rows e.choice) l a x → IsBusy m.activity × ((r'.seats t).call ≡ x)
+      met (inl v) = old v (call_over r.history r'.history _ z (word z r.world) e.seat (offered r.world.rows e.choice) l (r.seats e.seat) r.origin a _ (made z (word z r.world) e.seat (offered r.world.rows e.choice) l (r.seats e.seat) r.origin a) h.history x v)
+      met (inr y) = begun_now y

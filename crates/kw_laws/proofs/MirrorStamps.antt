@@ -1,0 +1,177 @@
+-- No announcement and no stamp is left out of the record, over one more event.
+use Rattle.std.proofs.Common.{ℕ, ◌≡◌, ◌⊎◌, inl, inr, ◌<◌, Bool, true, false, Option, List, [], ◌∷◌, ◌++◌, arith, refl, sym, ◌∙◌, ap, subst, length}
+use Rattle.kw_words.specs.declared.kind.Kind.{Kind}
+use Rattle.kw_words.specs.declared.layout.Name.TheVariants as name
+use Rattle.kw_words.specs.declared.pend.Pend.TheVariants as pend
+use Rattle.kw_words.specs.Pend.{pend_word}
+use Rattle.kw_world.specs.declared.activity.Activity.{Activity}
+use Rattle.kw_world.specs.declared.activity.Activity.TheVariants.{ScanSettle, Start, Walk, LookHelp, Announce, Stamp}
+use Rattle.kw_world.specs.declared.local.Local.{Local}
+use Rattle.kw_world.specs.declared.event.Choice.{Choice}
+use Rattle.kw_world.specs.declared.event.Choice.TheVariants.{Begin, Go, Guess, Stop}
+use Rattle.kw_world.specs.declared.event.Event.{Event}
+use Rattle.kw_world.specs.declared.opening.Opening.{Opening}
+use Rattle.kw_world.specs.declared.operation.Action.TheVariants.{Exchange}
+use Rattle.kw_world.specs.declared.operation.Operation.{Operation}
+use Rattle.kw_world.specs.Sizes.{Sizes}
+use Rattle.kw_world.specs.WorldView.{WorldView}
+use Rattle.kw_world.specs.Row.{Row}
+use Rattle.kw_world.specs.RowWalk.{offered, start_row, walk_row, is_stopped}
+use Rattle.kw_world.specs.Table.{row}
+use Rattle.kw_world.specs.Step.{word, row_at}
+use Rattle.kw_core.specs.Events.{world, event}
+use Rattle.kw_core.specs.History.{History}
+use Rattle.kw_core.specs.declared.history.Logged.{Logged}
+use Rattle.kw_core.specs.declared.history.Attempt.{Attempt}
+use Rattle.kw_core.specs.declared.history.Change.TheVariants.{Nothing, Announces, Stamps}
+use Rattle.kw_core.specs.Noted.{noted}
+use Rattle.kw_core.specs.Run.{Run, change_of, helping, logged}
+use Rattle.kw_core.specs.Stages.{IsPutting, HasMet}
+use Rattle.kw_core.specs.Words.{Words}
+use Rattle.kw_laws.specs.Inv.{Inv}
+use Rattle.kw_laws.specs.Mirror.{Occurs, Acts, IsAnnouncementOf, IsStampOf, announcing, stamping}
+use Rattle.kw_core.proofs.Happens.{Happens, found_at, chosen}
+use Rattle.kw_core.proofs.NotedLaws.{attempt_set_same}
+use Rattle.kw_laws.proofs.RelyProof.{goes_on_by}
+use Rattle.kw_laws.proofs.Rely.{GoesOn}
+use Rattle.kw_laws.proofs.Occurs.{occurs_was}
+use Rattle.kw_laws.proofs.Mirroring.{Kept, acting_local, row_here}
+
+-- Which lines exchange an entry.
+
+-- the same exchange
+same_exchange : (p w q u : ℕ) → Exchange p w ≡ Exchange q u → p ≡ q
+same_exchange p w q u e = cc
+
+-- an idle entry is not a pending one
+pending_apart : (c : ℕ) → pend_word pend.Idle ≡ pend_word (pend.Pending c) → ⊥
+pending_apart c e = omega (arith, e)
+
+-- only a put that stamps its cell, or a reader that helps, exchanges a pending entry
+stamp_line : (z : Sizes) (v : Words) (s : ℕ) (choice : Choice) (l : Local) (a : Activity) (q t c w : ℕ) → (row z a s choice l).operation.name ≡ name.Pend q t → (row z a s choice l).operation.action ≡ Exchange (pend_word (pend.Pending c)) w → v (name.Pend q t) ≡ pend_word (pend.Pending c) →
+    (a ≡ Stamp) × (v (name.Pend l.row s) ≡ pend_word (pend.Pending l.cell)) ⊎ (a ≡ LookHelp) × (v (name.Pend l.row l.looked) ≡ pend_word (pend.Pending l.met))
+stamp_line z v s choice l Stamp q t c w n x f = inl (refl, ap v n ∙ f ∙ sym (same_exchange _ _ _ _ x))
+stamp_line z v s choice l LookHelp q t c w n x f = inr (refl, ap v n ∙ f ∙ sym (same_exchange _ _ _ _ x))
+stamp_line z v s choice l Announce q t c w n x f = absurd (pending_apart c (same_exchange _ _ _ _ x))
+stamp_line z v s choice l ScanSettle q t c w n x f = let y : name.Scan s ≡ name.Pend q t = n in absurd (cc)
+stamp_line z v s choice l Start q t c w n x f = absurd (starts choice x)
+  where
+    starts : (d : Choice) → (start_row d l).operation.action ≡ Exchange (pend_word (pend.Pending c)) w → ⊥
+    starts (Begin call) y = cc
+    starts Go y = cc
+    starts (Guess u) y = cc
+    starts Stop y = cc
+stamp_line z v s choice l Walk q t c w n x f = absurd (walks (is_stopped choice l) x)
+  where
+    walks : (b : Bool) → (walk_row b s l).operation.action ≡ Exchange (pend_word (pend.Pending c)) w → ⊥
+    walks true y = cc
+    walks false y = cc
+stamp_line z v s choice l a q t c w n x f = absurd (cc)
+
+-- only a put that announces its cell exchanges an idle entry
+announce_line : (z : Sizes) (v : Words) (s : ℕ) (choice : Choice) (l : Local) (a : Activity) (q t w : ℕ) → (row z a s choice l).operation.name ≡ name.Pend q t → (row z a s choice l).operation.action ≡ Exchange (pend_word pend.Idle) w → v (name.Pend q t) ≡ pend_word pend.Idle →
+    (a ≡ Announce) × (v (name.Pend l.row s) ≡ pend_word pend.Idle)
+announce_line z v s choice l Announce q t w n x f = (refl, ap v n ∙ f)
+announce_line z v s choice l Stamp q t w n x f = absurd (pending_apart l.cell (sym (same_exchange _ _ _ _ x)))
+announce_line z v s choice l LookHelp q t w n x f = absurd (pending_apart l.met (sym (same_exchange _ _ _ _ x)))
+announce_line z v s choice l ScanSettle q t w n x f = let y : name.Scan s ≡ name.Pend q t = n in absurd (cc)
+announce_line z v s choice l Start q t w n x f = absurd (starts choice x)
+  where
+    starts : (d : Choice) → (start_row d l).operation.action ≡ Exchange (pend_word pend.Idle) w → ⊥
+    starts (Begin call) y = cc
+    starts Go y = cc
+    starts (Guess u) y = cc
+    starts Stop y = cc
+announce_line z v s choice l Walk q t w n x f = absurd (walks (is_stopped choice l) x)
+  where
+    walks : (b : Bool) → (walk_row b s l).operation.action ≡ Exchange (pend_word pend.Idle) w → ⊥
+    walks true y = cc
+    walks false y = cc
+announce_line z v s choice l a q t w n x f = absurd (cc)
+
+-- One more event.
+
+module _ (z : Sizes) (o : Opening) (es : List Event) (e : Event) (r r' : Run) (l l' : Local) (a : Activity) (h : Happens z r r' e.seat (offered r.world.rows e.choice) l l' a) (i : Inv z r) (k : Kept z o es r) where
+  goes : GoesOn r.history r'.history r.origin r'.origin
+  goes = goes_on_by z r r' e.seat (offered r.world.rows e.choice) l a l' h i
+
+  -- the entry of the event in the log
+  abbrev it : Logged
+  it = logged e.seat (row z a e.seat (offered r.world.rows e.choice) l).operation.kind (word z r.world name.Clock)
+
+  -- the record after it, by its activity
+  noted_here : (b : Activity) → a ≡ b → r'.history ≡ noted r.history it (change_of z b e.seat (offered r.world.rows e.choice) l (found_at z (word z r.world) b e.seat (offered r.world.rows e.choice) l) (r.seats e.seat) r.origin)
+  noted_here b is = h.history ∙ ap (λ c. noted r.history it (change_of z c e.seat (offered r.world.rows e.choice) l (found_at z (word z r.world) c e.seat (offered r.world.rows e.choice) l) (r.seats e.seat) r.origin)) is
+
+  -- an attempt that is announced now
+  announced_now : (x : ℕ) → x ≡ length r.history.log → a ≡ Announce → word z r.world (name.Pend l.row e.seat) ≡ pend_word pend.Idle → IsAnnouncementOf r'.history x
+  announced_now x at is idle =
+      let own = i.puts.owns e.seat l h.knows (subst IsPutting (sym (h.activity ∙ is)) tt) in
+      let f : r'.history ≡ noted r.history it (Announces (r.seats e.seat).own) = noted_here Announce is ∙ ap (noted r.history it) (chosen (word z r.world (name.Pend l.row e.seat)) (pend_word pend.Idle) (Announces (r.seats e.seat).own) Nothing idle) in
+      let g = attempt_set_same r.history r'.history (r.seats e.seat).own _ (ap (λ (q : History). q.attempts) f) own.within in
+      record {
+        place = (r.seats e.seat).own;
+        within = omega (arith, own.within, goes.more_attempts);
+        is_announced = ap (λ (q : Attempt). q.is_announced) g;
+        announced = ap (λ (q : Attempt). q.announced) g ∙ sym at;
+      }
+
+  -- an attempt that is stamped now
+  stamped_now : (x p version load : ℕ) → x ≡ length r.history.log → p < length r.history.attempts → r'.history ≡ noted r.history it (Stamps p version load) → IsStampOf r'.history x
+  stamped_now x p version load at w f =
+      let g = attempt_set_same r.history r'.history p _ (ap (λ (q : History). q.attempts) f) w in
+      record {
+        place = p;
+        within = omega (arith, w, goes.more_attempts);
+        is_put = ap (λ (q : Attempt). q.is_stamped) g;
+        at = ap (λ (q : Attempt). q.at) g ∙ sym at;
+      }
+
+  -- by its own seat, or by a reader that helps
+  stamps_now : (x : ℕ) → x ≡ length r.history.log → (a ≡ Stamp) × (word z r.world (name.Pend l.row e.seat) ≡ pend_word (pend.Pending l.cell)) ⊎ (a ≡ LookHelp) × (word z r.world (name.Pend l.row l.looked) ≡ pend_word (pend.Pending l.met)) → IsStampOf r'.history x
+  stamps_now x at (inl f) =
+      let own = i.puts.owns e.seat l h.knows (subst IsPutting (sym (h.activity ∙ f.0)) tt) in
+      stamped_now x (r.seats e.seat).own l.version (r.seats e.seat).loaded at own.within
+      (noted_here Stamp f.0 ∙ ap (noted r.history it) (chosen (word z r.world (name.Pend l.row e.seat)) (pend_word (pend.Pending l.cell)) (Stamps (r.seats e.seat).own l.version (r.seats e.seat).loaded) Nothing f.1))
+  stamps_now x at (inr f) =
+      let helped = i.puts.helps e.seat l h.knows (subst HasMet (sym (h.activity ∙ f.0)) tt) in
+      let place = i.puts.places.owner l.row l.met helped.put helped.origin in
+      stamped_now x helped.put l.helping (r.seats e.seat).loaded at place.within
+      (noted_here LookHelp f.0 ∙ ap (noted r.history it) (chosen (word z r.world (name.Pend l.row l.looked)) (pend_word (pend.Pending l.met)) (helping (r.origin l.row l.met) l.helping (r.seats e.seat).loaded) Nothing f.1 ∙ ap (λ (p : Option ℕ). helping p l.helping (r.seats e.seat).loaded) helped.origin))
+
+  -- an operation that stands at the end is that of the event's line, and the word is the one that it found
+  line_here : (s : ℕ) (b : Activity) (op : Operation) (found : ℕ) (t : Acts z o (es ++ e ∷ []) (length es) s b op found) → e ≡ event s t.choice → world z o es ≡ t.before → ((row z a e.seat (offered r.world.rows e.choice) l).operation ≡ op) × (word z r.world op.name ≡ found)
+  line_here s b op found t f g =
+      let same : l ≡ t.local = acting_local z o es e r r' l l' a h k t.before s t.choice t.local f g t.knows in
+      let before : r.world ≡ t.before = sym k.world ∙ g in (
+        sym (ap (λ (x : Row). x.operation) (row_here z o es e r r' l l' a h k)) ∙ subst (λ (d : Event). (row_at z r.world d l).operation ≡ op) (sym f) (rw (before, same) t.operates),
+        ap (λ (w : WorldView). word z w op.name) before ∙ t.finds,
+      )
+
+  -- Nothing is left out.
+
+  pub all_announced_keep : (x s q cell : ℕ) (b : Activity) → Acts z o (es ++ e ∷ []) x s b (announcing q s cell) (pend_word pend.Idle) → IsAnnouncementOf r'.history x
+  all_announced_keep x s q cell b t = which (occurs_was z o es e x t.before (event s t.choice) t.occurs)
+    where
+      which : Occurs z o es x t.before (event s t.choice) ⊎ ((x ≡ length es) × (e ≡ event s t.choice) × (world z o es ≡ t.before)) → IsAnnouncementOf r'.history x
+      which (inl f) =
+          let y = k.mirrors.all_announced x s q cell b (record { before = t.before; choice = t.choice; local = t.local; occurs = f; knows = t.knows; activity = t.activity; operates = t.operates; finds = t.finds }) in
+          let g = (goes.grows.old y.place y.within).announced y.is_announced in
+          record { place = y.place; within = omega (arith, y.within, goes.more_attempts); is_announced = g.0; announced = g.1 ∙ y.announced }
+      which (inr f) =
+          let u = line_here s b (announcing q s cell) (pend_word pend.Idle) (record { before = t.before; choice = t.choice; local = t.local; occurs = subst (λ y. Occurs z o (es ++ e ∷ []) y t.before (event s t.choice)) f.0 t.occurs; knows = t.knows; activity = t.activity; operates = t.operates; finds = t.finds }) f.1 f.2 in
+          let v = announce_line z (word z r.world) e.seat (offered r.world.rows e.choice) l a q s _ (ap (λ (p : Operation). p.name) u.0) (ap (λ (p : Operation). p.action) u.0) u.1 in
+          announced_now x (f.0 ∙ sym k.mirrors.events) v.0 v.1
+
+  pub all_stamped_keep : (x s q seat cell version : ℕ) (b : Activity) (kd : Kind) → Acts z o (es ++ e ∷ []) x s b (stamping kd q seat cell version) (pend_word (pend.Pending cell)) → IsStampOf r'.history x
+  all_stamped_keep x s q seat cell version b kd t = which (occurs_was z o es e x t.before (event s t.choice) t.occurs)
+    where
+      which : Occurs z o es x t.before (event s t.choice) ⊎ ((x ≡ length es) × (e ≡ event s t.choice) × (world z o es ≡ t.before)) → IsStampOf r'.history x
+      which (inl f) =
+          let y = k.mirrors.all_stamped x s q seat cell version b kd (record { before = t.before; choice = t.choice; local = t.local; occurs = f; knows = t.knows; activity = t.activity; operates = t.operates; finds = t.finds }) in
+          let g = (goes.grows.old y.place y.within).stamped y.is_put in
+          record { place = y.place; within = omega (arith, y.within, goes.more_attempts); is_put = g.0; at = g.3 ∙ y.at }
+      which (inr f) =
+          let u = line_here s b (stamping kd q seat cell version) (pend_word (pend.Pending cell)) (record { before = t.before; choice = t.choice; local = t.local; occurs = subst (λ y. Occurs z o (es ++ e ∷ []) y t.before (event s t.choice)) f.0 t.occurs; knows = t.knows; activity = t.activity; operates = t.operates; finds = t.finds }) f.1 f.2 in
+          let v = stamp_line z (word z r.world) e.seat (offered r.world.rows e.choice) l a q seat cell _ (ap (λ (p : Operation). p.name) u.0) (ap (λ (p : Operation). p.action) u.0) u.1 in
+          stamps_now x (f.0 ∙ sym k.mirrors.events) v

@@ -1,0 +1,249 @@
+-- What one event adds to a record that is kept along is what it adds to the run.
+use Rattle.std.proofs.Common.{ℕ, suc, ◌≡◌, ◌≢◌, ◌⊎◌, inl, inr, ◌+◌, ◌-◌, ◌*◌, ◌/◌, ◌%◌, ◌<◌, ◌≤◌, ◌==◌, Bool, true, false, if◌then◌else◌, Option, Some, None, List, get_or, set, slice_get, slice_set, length, arith, refl, sym, ◌∙◌, ap, subst, length-append, length-set, get_or-set_other, get_or-set_same, eq-eqb, ne_eqb}
+use Rattle.std.proofs.lemmas.Nat.{mod-mul-add, div-mul-add}
+use Rattle.std.proofs.Math.Nat.{mul-le-mul_left}
+use Rattle.std.proofs.lemmas.Bool.{cases_eq}
+use borrow.Author.Tests.{ltb-true}
+use Rattle.std.proofs.lemmas.Option.{slice_get_within, same_Some}
+use Rattle.kw_words.specs.declared.count.Count.{Count}
+use Rattle.kw_words.specs.declared.pend.Pend.TheVariants as pend
+use Rattle.kw_words.specs.Pend.{pend_word}
+use Rattle.kw_words.specs.Count.{count_of}
+use Rattle.kw_world.specs.declared.activity.Activity.{Activity}
+use Rattle.kw_world.specs.declared.activity.Activity.TheVariants.{Idle, Look, LookHelp, CellValue, PutAdd, Announce, Stamp}
+use Rattle.kw_world.specs.declared.local.Local.{Local}
+use Rattle.kw_world.specs.declared.event.Event.{Event}
+use Rattle.kw_world.specs.declared.event.Choice.{Choice}
+use Rattle.kw_world.specs.declared.event.Choice.TheVariants.{Begin, Go, Guess, Stop}
+use Rattle.kw_world.specs.Sizes.{Sizes}
+use Rattle.kw_world.specs.RowPut.{has_room, given_of}
+use Rattle.kw_world.specs.RowWalk.{offered}
+use Rattle.kw_world.specs.Sane.{IsSane, IsKnown}
+use Rattle.kw_world.specs.Step.{followed, row_at, is_skipped, step, Stepped, stepped, moved_of}
+use Rattle.kw_world.specs.declared.event.StepDone.{StepDone}
+use Rattle.kw_world.specs.WorldView.{WorldView}
+use Rattle.kw_world.proofs.Steps.{step-moved}
+use Rattle.kw_world.proofs.Lists.{get-set_same}
+use Rattle.kw_core.specs.History.{History}
+use Rattle.kw_core.specs.declared.history.Logged.{Logged}
+use Rattle.kw_core.specs.declared.history.Attempt.{Attempt}
+use Rattle.kw_core.specs.declared.history.Change.{Change}
+use Rattle.kw_core.specs.declared.history.Change.TheVariants.{Nothing, Begins, Adds, Announces, Loses, Stamps, Ends}
+use Rattle.kw_core.specs.Noted.{noted}
+use Rattle.kw_core.specs.Appended.{appended}
+use Rattle.kw_core.specs.Run.{Run, Origins, change_of, seat_after, origins_after, with_seat, with_origin, found_by, beginning, helping, noted_by, no_log, goes_on}
+use Rattle.kw_core.specs.declared.seat_log.SeatLog.{SeatLog}
+use Rattle.kw_core.specs.Recording.{Recording, origin_in}
+use Rattle.kw_core.specs.Remarks.{remark_of, remarked}
+use Rattle.kw_laws.specs.Recorder.{Records, log_of, happening_at, logged_of, entry_of, origins_with, settled_by}
+use Rattle.kw_core.proofs.Appended.{settled_noted}
+
+-- The log of the seat.
+
+-- a remark made before the event is what the event adds to the log
+remarked_after : (z : Sizes) (a : Activity) (choice : Choice) (l : Local) (found : ℕ) (next : Activity) (g : SeatLog) (o : Origins) (h : History) → remarked (remark_of z a choice l found o h) next g ≡ seat_after z a choice l found next g o h
+remarked_after z Idle (Begin call) l found next g o h = refl
+remarked_after z Idle Go l found next g o h = refl
+remarked_after z Idle (Guess r) l found next g o h = refl
+remarked_after z Idle Stop l found next g o h = refl
+remarked_after z (Look i) choice l found next g o h = met (i == 0) refl
+  where
+    met : (b : Bool) → (i == 0) ≡ b → remarked (remark_of z (Look i) choice l found o h) next g ≡ seat_after z (Look i) choice l found next g o h
+    met true e = rw e refl
+    met false e = rw e refl
+remarked_after z PutAdd choice l found next g o h = met (has_room z (count_of found)) refl
+  where
+    met : (b : Bool) → has_room z (count_of found) ≡ b → remarked (remark_of z PutAdd choice l found o h) next g ≡ seat_after z PutAdd choice l found next g o h
+    met true e = rw e refl
+    met false e = rw e refl
+remarked_after z _ choice l found next g o h = refl
+
+-- the log depends on the origin of the cell that is gathered alone
+seat_after_same : (z : Sizes) (a : Activity) (choice : Choice) (l : Local) (found : ℕ) (next : Activity) (g : SeatLog) (o p : Origins) (h : History) → o l.row l.place ≡ p l.row l.place → seat_after z a choice l found next g o h ≡ seat_after z a choice l found next g p h
+seat_after_same z CellValue choice l found next g o p h e = rw e refl
+seat_after_same z _ choice l found next g o p h e = refl
+
+-- The change.
+
+-- the change depends on the origin of the cell that was met alone
+change_same : (z : Sizes) (a : Activity) (s : ℕ) (choice : Choice) (l : Local) (found : ℕ) (g : SeatLog) (o p : Origins) → o l.row l.met ≡ p l.row l.met → change_of z a s choice l found g o ≡ change_of z a s choice l found g p
+change_same z LookHelp s choice l found g o p e = rw e refl
+change_same z _ s choice l found g o p e = refl
+
+-- The origins.
+
+-- the places of two cells differ
+one_place : (n q c r d : ℕ) → c < n → d < n → q * n + c ≡ r * n + d → (q ≡ r) × (c ≡ d)
+one_place n q c r d v w e =
+    (sym (div-mul-add q n c v) ∙ ap (λ (x : ℕ). x / n) e ∙ div-mul-add r n d w, sym (mod-mul-add q n c v) ∙ ap (λ (x : ℕ). x % n) e ∙ mod-mul-add r n d w)
+
+-- a place of a row is one of the table's
+pub place_within : (n q c rows : ℕ) → q < rows → c < n → q * n + c < rows * n
+place_within n q c rows v w =
+    let x : n * suc q ≤ n * rows = mul-le-mul_left n (omega (arith, v)) in
+    omega (arith, x, w)
+
+-- a row with room has given fewer cells than it has
+pub room_given : (z : Sizes) (count : Option Count) → has_room z count ≡ true → given_of count < z.cells
+room_given z None e = let x : false ≡ true = e in absurd (cc)
+room_given z (Some count) e = met count.frozen refl
+  where
+    met : (b : Bool) → count.frozen ≡ b → count.given < z.cells
+    met true f = let x : false ≡ true = rw f at e in absurd (cc)
+    met false f = ltb-true count.given z.cells (rw f at e)
+
+-- the change is one that gives no cell
+abbrev pub GivesNone : Change → Type 0
+GivesNone (Adds call seat key value row cell) = ⊥
+GivesNone _ = Unit {0}
+
+-- such a change leaves the origins
+none_given : (z : Sizes) (c : Change) (p : ℕ) (xs : List (Option ℕ)) → GivesNone c → origins_with z c p xs ≡ xs
+none_given z (Adds call seat key value row cell) p xs n = absurd n
+none_given z Nothing p xs n = refl
+none_given z (Begins seat number call) p xs n = refl
+none_given z (Announces q) p xs n = refl
+none_given z (Loses q) p xs n = refl
+none_given z (Stamps q version load) p xs n = refl
+none_given z (Ends x reply answer draw) p xs n = refl
+
+-- of two changes that give none, neither does
+pub none_of : (b : Bool) (c d : Change) → GivesNone c → GivesNone d → GivesNone (if b then c else d)
+none_of true c d e f = e
+none_of false c d e f = f
+
+pub none_helping : (o : Option ℕ) (version load : ℕ) → GivesNone (helping o version load)
+none_helping (Some p) version load = tt
+none_helping None version load = tt
+
+-- the origins with what the change adds, where the attempt p is the next one
+origins_noted : (z : Sizes) (a : Activity) (s : ℕ) (choice : Choice) (l : Local) (found : ℕ) (g : SeatLog) (o p : Origins) (h : History) (n : ℕ) (xs : List (Option ℕ)) (rows : ℕ) → n ≡ length h.attempts → length xs ≡ rows * z.cells → l.row < rows →
+    ((q c : ℕ) → q < rows → c < z.cells → origin_in z xs q c ≡ p q c) → (q c : ℕ) → q < rows → c < z.cells → origin_in z (origins_with z (change_of z a s choice l found g o) n xs) q c ≡ origins_after z a l found p h q c
+origins_noted z PutAdd s choice l found g o p h n xs rows is len below same q c v w = met (has_room z (count_of found)) refl
+  where
+    given : ℕ
+    given = given_of (count_of found)
+
+    where_at : (q * z.cells + c ≡ l.row * z.cells + given) ⊎ (q * z.cells + c ≢ l.row * z.cells + given) → given < z.cells → origin_in z (set xs (l.row * z.cells + given) (Some n)) q c ≡ with_origin p l.row given (length h.attempts) q c
+    where_at (inl e) u =
+        let t = one_place z.cells q c l.row given w u e in
+        let x : l.row * z.cells + given < length xs = omega (arith, len, place_within z.cells l.row given rows below u) in
+        rw (eq-eqb q l.row t.0, eq-eqb c given t.1, e, get_or-set_same xs (l.row * z.cells + given) (Some n) None x, is) refl
+    where_at (inr f) u = rw (get_or-set_other xs (l.row * z.cells + given) (q * z.cells + c) (Some n) None f) (same q c v w ∙ sym (elsewhere (cases_eq q l.row) (cases_eq c given)))
+      where
+        elsewhere : (q ≡ l.row) ⊎ (q ≢ l.row) → (c ≡ given) ⊎ (c ≢ given) → with_origin p l.row given (length h.attempts) q c ≡ p q c
+        elsewhere (inl a) (inl b) = absurd (f (rw (a, b) refl))
+        elsewhere (inl a) (inr b) = rw (eq-eqb q l.row a, ne_eqb c given b) refl
+        elsewhere (inr a) b = rw (ne_eqb q l.row a) refl
+
+    met : (b : Bool) → has_room z (count_of found) ≡ b → origin_in z (origins_with z (change_of z PutAdd s choice l found g o) n xs) q c ≡ origins_after z PutAdd l found p h q c
+    met true e = rw e (where_at (cases_eq (q * z.cells + c) (l.row * z.cells + given)) (room_given z (count_of found) e))
+    met false e = rw e (same q c v w)
+origins_noted z Idle s choice l found g o p h n xs rows is len below same q c v w = begins choice
+  where
+    begins : (x : Choice) → origin_in z (origins_with z (beginning x s l) n xs) q c ≡ p q c
+    begins (Begin call) = same q c v w
+    begins Go = same q c v w
+    begins (Guess r) = same q c v w
+    begins Stop = same q c v w
+origins_noted z LookHelp s choice l found g o p h n xs rows is len below same q c v w =
+    rw (none_given z (if found == pend_word (pend.Pending l.met) then helping (o l.row l.met) l.helping g.loaded else Nothing) n xs (none_of (found == pend_word (pend.Pending l.met)) _ Nothing (none_helping (o l.row l.met) l.helping g.loaded) tt)) (same q c v w)
+origins_noted z Announce s choice l found g o p h n xs rows is len below same q c v w =
+    rw (none_given z (if found == pend_word pend.Idle then Announces g.own else Nothing) n xs (none_of (found == pend_word pend.Idle) (Announces g.own) Nothing tt tt)) (same q c v w)
+origins_noted z Stamp s choice l found g o p h n xs rows is len below same q c v w =
+    rw (none_given z (if found == pend_word (pend.Pending l.cell) then Stamps g.own l.version g.loaded else Nothing) n xs (none_of (found == pend_word (pend.Pending l.cell)) (Stamps g.own l.version g.loaded) Nothing tt tt)) (same q c v w)
+origins_noted z _ s choice l found g o p h n xs rows is len below same q c v w = same q c v w
+
+-- The whole record.
+
+-- what the change leaves of the length of the origins
+origins_long : (z : Sizes) (c : Change) (p : ℕ) (xs : List (Option ℕ)) → length (origins_with z c p xs) ≡ length xs
+origins_long z (Adds call seat key value row cell) p xs = length-set xs (row * z.cells + cell) (Some p)
+origins_long z Nothing p xs = refl
+origins_long z (Begins seat number call) p xs = refl
+origins_long z (Announces q) p xs = refl
+origins_long z (Loses q) p xs = refl
+origins_long z (Stamps q version load) p xs = refl
+origins_long z (Ends x reply answer draw) p xs = refl
+
+-- the attempt that an add gives its cell to is the last one
+origins_last : (z : Sizes) (h : History) (e : Logged) (c : Change) (xs : List (Option ℕ)) → origins_with z c (length (appended h e c).attempts - 1) xs ≡ origins_with z c (length h.attempts) xs
+origins_last z h e (Adds call seat key value row cell) xs = ap (λ (n : ℕ). set xs (row * z.cells + cell) (Some n)) (omega (arith, length-append {A = Attempt}))
+origins_last z h e Nothing xs = refl
+origins_last z h e (Begins seat number call) xs = refl
+origins_last z h e (Announces q) xs = refl
+origins_last z h e (Loses q) xs = refl
+origins_last z h e (Stamps q version load) xs = refl
+origins_last z h e (Ends x reply answer draw) xs = refl
+
+-- the record before the event, with the event appended to its history
+abbrev pub prepared : Sizes → Recording → Run → Event → Local → Recording
+prepared z k r e l = record k { history = appended k.history (logged_of (happening_at z r.world e l)) (entry_of z k l (happening_at z r.world e l)).change }
+
+-- what the seat does next
+abbrev pub next_activity : Sizes → Run → Event → Local → Activity
+next_activity z r e l = (followed (row_at z r.world e l) (found_by z r.world e l)).local.activity
+
+-- the logs with one that was set
+logs_set : (logs : List SeatLog) (seats : ℕ → SeatLog) (t : ℕ) (g h : SeatLog) → t < length logs → g ≡ h → ((s : ℕ) → s < length logs → get_or logs s no_log ≡ seats s) → (s : ℕ) → s < length logs → get_or (set logs t g) s no_log ≡ with_seat seats t h s
+logs_set logs seats t g h w e same s v = which (cases_eq s t)
+  where
+    which : (s ≡ t) ⊎ (s ≢ t) → get_or (set logs t g) s no_log ≡ with_seat seats t h s
+    which (inl is) = rw (eq-eqb s t is, is, get_or-set_same logs t g no_log w) e
+    which (inr ne) = rw (ne_eqb s t ne, get_or-set_other logs t s g no_log ne) (same s v)
+
+-- what the record says that the event changes is what the run says
+pub change_recorded : (z : Sizes) (k : Recording) (r : Run) (e : Event) (l : Local) → Records z k r → IsSane z r.world → slice_get r.world.locals e.seat ≡ Some l →
+    (entry_of z k l (happening_at z r.world e l)).change ≡ change_of z l.activity e.seat (offered r.world.rows e.choice) l (found_by z r.world e l) (r.seats e.seat) r.origin
+change_recorded z k r e l i sane knows =
+    let known = sane.locals e.seat l knows in
+    ap (λ (g : SeatLog). change_of z l.activity e.seat (offered r.world.rows e.choice) l (found_by z r.world e l) g (origin_in z k.origins)) (i.logs e.seat (slice_get_within r.world.locals e.seat l knows)) ∙
+    change_same z l.activity e.seat (offered r.world.rows e.choice) l (found_by z r.world e l) (r.seats e.seat) (origin_in z k.origins) r.origin (i.origins l.row l.met known.below.row known.ranges.met)
+
+-- the record with what the event adds is that of the run with the event
+pub records_on : (z : Sizes) (k : Recording) (r : Run) (e : Event) (l : Local) → Records z k r → IsSane z r.world → slice_get r.world.locals e.seat ≡ Some l →
+    Records z (settled_by z (prepared z k r e l) (entry_of z k l (happening_at z r.world e l)) (next_activity z r e l)) (noted_by z r e l)
+records_on z k r e l i sane knows = record {
+  history = settled_noted k.history (appended k.history at change) _ at change refl refl refl refl ∙ ap (λ (h : History). noted h at change) i.history ∙ ap (λ (c : Change). noted r.history at c) (change_recorded z k r e l i sane knows);
+  seats = length-set k.logs e.seat _ ∙ i.seats ∙ sym (length-set r.world.locals e.seat _);
+  cells = origins_long z change _ k.origins ∙ i.cells;
+  logs = λ s w. logs_set k.logs r.seats e.seat _ _ (omega (arith, inside, i.seats)) log (λ t u. i.logs t (omega (arith, u, i.seats))) s (omega (arith, w, i.seats, length-set r.world.locals e.seat (followed (row_at z r.world e l) found).local));
+  origins = λ q c v w. ap (λ (xs : List (Option ℕ)). origin_in z xs q c) (origins_last z k.history at change k.origins) ∙
+      origins_noted z l.activity e.seat choice l found (log_of k e.seat) (origin_in z k.origins) r.origin r.history (length k.history.attempts) k.origins r.world.rows (ap (λ (h : History). length h.attempts) i.history) i.cells known.below.row i.origins q c v w;
+}
+  where
+    choice : Choice
+    choice = offered r.world.rows e.choice
+
+    found : ℕ
+    found = found_by z r.world e l
+
+    at : Logged
+    at = logged_of (happening_at z r.world e l)
+
+    change : Change
+    change = change_of z l.activity e.seat choice l found (log_of k e.seat) (origin_in z k.origins)
+
+    inside : e.seat < length r.world.locals
+    inside = slice_get_within r.world.locals e.seat l knows
+
+    known : IsKnown z r.world.rows l
+    known = sane.locals e.seat l knows
+
+    log : remarked (remark_of z l.activity choice l found (origin_in z k.origins) k.history) (next_activity z r e l) (log_of k e.seat) ≡ seat_after z l.activity choice l found (next_activity z r e l) (r.seats e.seat) r.origin r.history
+    log = remarked_after z l.activity choice l found (next_activity z r e l) (log_of k e.seat) (origin_in z k.origins) k.history ∙
+        seat_after_same z l.activity choice l found (next_activity z r e l) (log_of k e.seat) (origin_in z k.origins) r.origin k.history (i.origins l.row l.place known.below.row known.ranges.place) ∙
+        ap (λ (g : SeatLog). seat_after z l.activity choice l found (next_activity z r e l) g r.origin k.history) (i.logs e.seat inside) ∙
+        ap (λ (h : History). seat_after z l.activity choice l found (next_activity z r e l) (r.seats e.seat) r.origin h) i.history
+
+-- an event that is skipped leaves the run
+pub goes_on-skipped : (z : Sizes) (r : Run) (e : Event) (l : Local) → slice_get r.world.locals e.seat ≡ Some l → is_skipped l.activity e.choice ≡ true → goes_on z r e ≡ r
+unfolding goes_on
+goes_on-skipped z r e l knows skipped = rw (knows, skipped) refl
+
+-- what the seat does next is what it knows after the event
+pub next_known : (z : Sizes) (r : Run) (e : Event) (l m : Local) (w : WorldView) (done : StepDone) → slice_get r.world.locals e.seat ≡ Some l → is_skipped l.activity e.choice ≡ false → stepped w done ≡ step z r.world e → slice_get w.locals e.seat ≡ Some m → m.activity ≡ next_activity z r e l
+next_known z r e l m w done knows moves is after =
+    let world : w ≡ (moved_of z r.world e l).world = ap (λ (x : Stepped). x.world) (is ∙ step-moved z r.world e l knows moves) in
+    let set : slice_get (slice_set r.world.locals e.seat (followed (row_at z r.world e l) (found_by z r.world e l)).local) e.seat ≡ Some m = subst (λ (x : WorldView). slice_get x.locals e.seat ≡ Some m) world after in
+    ap (λ (x : Local). x.activity) (same_Some m _ (sym set ∙ get-set_same r.world.locals e.seat _ (slice_get_within r.world.locals e.seat l knows)))

@@ -1,0 +1,106 @@
+-- The laws over all valid lists of events.
+use Rattle.std.specs.Prelude.{ℕ, ◌≡◌, ◌<◌, ◌≤◌, true, Option, Some, None, [], Contains, slice_get}
+use Rattle.kw_words.specs.declared.layout.Name.TheVariants as name
+use Rattle.kw_words.specs.declared.pend.Pend.{Pend}
+use Rattle.kw_words.specs.declared.pend.Pend.TheVariants.{Idle, Pending, Stamped, Frozen}
+use Rattle.kw_words.specs.declared.scan.ScanWord.{ScanWord}
+use Rattle.kw_words.specs.declared.scan.ScanWord.TheVariants.{Quiet, Waiting, Drawn}
+use Rattle.kw_words.specs.Pend.{pend_of}
+use Rattle.kw_words.specs.Scan.{scan_of}
+use Rattle.kw_cells.specs.declared.cell.Cell as kw_cell
+use Rattle.kw_model.specs.Map.{IsRising}
+use Rattle.kw_world.specs.declared.activity.Activity.TheVariants.{WalkMin, Announce, Stamp, ScanSettle}
+use Rattle.kw_world.specs.declared.local.Local.{Local}
+use Rattle.kw_world.specs.Sizes.{Sizes}
+use Rattle.kw_world.specs.Calls.{first_key, last_key, is_scan}
+use Rattle.kw_world.specs.Sane.{IsSane}
+use Rattle.kw_world.specs.Step.{word}
+use Rattle.kw_core.specs.History.{History, LoadClock, attempt, Stands}
+use Rattle.kw_core.specs.HistoryLaws.{HistoryLaws, IsPut}
+use Rattle.kw_core.specs.Run.{Run}
+use Rattle.kw_core.specs.Stages.{IsAtRow, IsCovering, IsEarly, IsKeeping}
+use Rattle.kw_core.specs.Words.{next_in, least_in}
+use Rattle.kw_shape.specs.Shape.{IsLinked, HoldsKey, Walks}
+use Rattle.kw_laws.specs.Readers.{IsDue, IsCopyOf}
+use Rattle.kw_laws.specs.Replies.{RisesBelow}
+use Rattle.kw_laws.specs.Unfrozen.{IsUnfrozen}
+
+-- the entry is idle or frozen
+abbrev pub IsIdleOrFrozen : Option Pend → Type 0
+IsIdleOrFrozen (Some Idle) = Unit {0}
+IsIdleOrFrozen (Some (Pending cell)) = ⊥
+IsIdleOrFrozen (Some (Stamped cell version)) = ⊥
+IsIdleOrFrozen (Some Frozen) = Unit {0}
+IsIdleOrFrozen None = ⊥
+
+-- the entry is pending or stamped with this cell, or frozen
+abbrev pub HasCellOrFrozen : ℕ → Option Pend → Type 0
+HasCellOrFrozen own (Some Idle) = ⊥
+HasCellOrFrozen own (Some (Pending cell)) = cell ≡ own
+HasCellOrFrozen own (Some (Stamped cell version)) = cell ≡ own
+HasCellOrFrozen own (Some Frozen) = Unit {0}
+HasCellOrFrozen own None = ⊥
+
+-- the scan waits with this clock, or has a version
+abbrev pub IsWaitingOrDrawn : ℕ → Option ScanWord → Type 0
+IsWaitingOrDrawn own (Some Quiet) = ⊥
+IsWaitingOrDrawn own (Some (Waiting clock)) = clock ≡ own
+IsWaitingOrDrawn own (Some (Drawn version)) = Unit {0}
+IsWaitingOrDrawn own None = ⊥
+
+-- the clock load that gave a put its version found this version, and stands after the announcement of its cell and before the
+-- exchange that stamped it
+pub record IsStampedInOrder (h : History) (p : ℕ) : Type 0 where
+  pub announced : (attempt h p).announced < (attempt h p).load
+  pub load : (attempt h p).load < (attempt h p).at
+  pub found : Stands h (attempt h p).load LoadClock (attempt h p).version
+
+-- the attempt is stamped, and a cell that is gathered is a copy of its own
+pub record IsGathered (r : Run) (q : ℕ) (l : Local) (p : ℕ) : Type 0 where
+  pub stamped : (attempt r.history p).is_stamped ≡ true
+  pub cell : kw_cell.Cell
+  pub among : Contains l.gathered cell
+  pub copy : IsCopyOf r.history q l.call cell p
+
+-- the pairs that a scan has rise and lie below the key that it wants next, which is in its range
+pub record IsBelowWanted (l : Local) : Type 0 where
+  pub rises : RisesBelow (first_key l.call) l.want l.pairs
+  pub from : first_key l.call ≤ l.want
+  pub upto : l.want ≤ last_key l.call
+
+-- what every valid list keeps
+pub record KeepsLaws (z : Sizes) (r : Run) : Type 0 where
+  -- every word is one that may stand under its name, and all that a seat knows is in range
+  pub sane : IsSane z r.world
+  -- a row that is met along a link has a greater minimum than the row whose link it was
+  pub links : (q n : ℕ) → IsLinked r.world.rows (word z r.world) q → next_in (word z r.world) q ≡ Some n → least_in (word z r.world) q < least_in (word z r.world) n
+  -- each seat is where its call has it: on its walk at a row of the list whose minimum it knows, and at the row of its key with the
+  -- row after it
+  pub walks : (t : ℕ) (l : Local) → slice_get r.world.locals t ≡ Some l → Walks r.world.rows (word z r.world) l.activity l
+  -- a walk goes up: the row after the one that it is at has a greater minimum than the seat knows of its own, and so has the row
+  -- after that of its key
+  pub climbs : (t : ℕ) (l : Local) → slice_get r.world.locals t ≡ Some l → l.activity ≡ WalkMin → l.lower < least_in (word z r.world) l.candidate
+  pub climbs_on : (t : ℕ) (l : Local) → slice_get r.world.locals t ≡ Some l → IsAtRow l.activity → (n : ℕ) → l.next ≡ Some n → l.lower < l.upper
+  -- the pairs that a scan has added rise by key
+  pub pairs : (t : ℕ) (l : Local) → slice_get r.world.locals t ≡ Some l → is_scan l.call ≡ true → IsCovering l.activity → IsRising l.pairs
+  -- they are keys of its range below the one that it wants next
+  pub below : (t : ℕ) (l : Local) → slice_get r.world.locals t ≡ Some l → is_scan l.call ≡ true → IsCovering l.activity → IsBelowWanted l
+  -- a call that has read no row has no pairs
+  pub early : (t : ℕ) (l : Local) → slice_get r.world.locals t ≡ Some l → IsEarly l.activity → l.pairs ≡ []
+  -- no count is frozen and no entry, as long as no row is rebalanced
+  pub unfrozen : IsUnfrozen z r.world
+  -- a seat that is to announce a cell finds its entry idle or frozen
+  pub announces : (t : ℕ) (l : Local) → slice_get r.world.locals t ≡ Some l → l.activity ≡ Announce → IsIdleOrFrozen (pend_of (word z r.world (name.Pend l.row t)))
+  -- a seat that is to stamp its cell finds its entry pending or stamped with it, or frozen
+  pub stamps : (t : ℕ) (l : Local) → slice_get r.world.locals t ≡ Some l → l.activity ≡ Stamp → HasCellOrFrozen l.cell (pend_of (word z r.world (name.Pend l.row t)))
+  -- a scan that is to settle finds that it waits, or a version
+  pub settles : (t : ℕ) (l : Local) → slice_get r.world.locals t ≡ Some l → l.activity ≡ ScanSettle → IsWaitingOrDrawn l.waiting (scan_of (word z r.world (name.Scan t)))
+  -- each stamped put loaded its clock between its announcement and its stamp
+  pub stamped : (p : ℕ) → IsPut r.history p → IsStampedInOrder r.history p
+  -- of a row that a seat has read, each attempt that was announced before it looked, and whose key it reads, is stamped and gathered
+  pub seen : (t : ℕ) (l : Local) → slice_get r.world.locals t ≡ Some l → IsKeeping l.activity → (q : ℕ) → (r.seats t).read ≡ Some q → (p : ℕ) → IsDue r.history q l.call (r.seats t).looked p → IsGathered r q l p
+  -- a seat that is at the row of its key is at a row of the list, which may hold the key
+  pub live : (t : ℕ) (l : Local) → slice_get r.world.locals t ≡ Some l → IsAtRow l.activity → IsLinked r.world.rows (word z r.world) l.row
+  pub holds : (t : ℕ) (l : Local) → slice_get r.world.locals t ≡ Some l → IsAtRow l.activity → HoldsKey (word z r.world) l.row l.want
+  -- the record of what happened keeps its laws
+  pub history : HistoryLaws r.history

@@ -1,0 +1,142 @@
+-- What holds of the attempts, their cells and their entries.
+--
+-- An attempt is a put or a delete that was given a cell; it is named by its place in the record. An attempt is current while its
+-- seat is at work on it, and every other one is stamped and its version stored.
+use Rattle.std.specs.Prelude.{ℕ, ◌≡◌, ◌≢◌, ◌⊎◌, ◌<◌, ◌≤◌, true, false, if◌then◌else◌, Option, Some, None, length, slice_get}
+use Rattle.kw_words.specs.declared.layout.Name.TheVariants as name
+use Rattle.kw_words.specs.declared.pend.Pend.TheVariants.{Idle, Pending, Stamped}
+use Rattle.kw_words.specs.Pend.{pend_word}
+use Rattle.kw_words.specs.Count.{count_of}
+use Rattle.kw_words.specs.Plain.{key_of_word, value_of_word}
+use Rattle.kw_world.specs.declared.activity.Activity.{Activity}
+use Rattle.kw_world.specs.declared.local.Local.{Local}
+use Rattle.kw_world.specs.Sizes.{Sizes}
+use Rattle.kw_world.specs.Calls.{first_key, put_value, is_in_range}
+use Rattle.kw_world.specs.RowPut.{has_room}
+use Rattle.kw_world.specs.Step.{word}
+use Rattle.kw_core.specs.History.{History, LoadClock, attempt, Stands}
+use Rattle.kw_core.specs.declared.history.Attempt.{Attempt}
+use Rattle.kw_core.specs.declared.seat_log.SeatLog.{SeatLog}
+use Rattle.kw_core.specs.Run.{Origins, Run}
+use Rattle.kw_core.specs.Words.{Words, given_in}
+use Rattle.kw_shape.specs.Shape.{IsLinked, HoldsKey}
+use Rattle.kw_core.specs.Stages.{IsPutting, IsFresh, HasKey, IsAnnounce, IsPublished, IsStamp, IsStamped, IsPutVersion, IsPutClear, HasMet, IsToHelp, IsHelp}
+
+-- The cells of attempts.
+
+-- the cell of an attempt is one that its row has given, to this attempt; the row is linked and may hold the key
+pub record IsGivenCell (z : Sizes) (rows : ℕ) (v : Words) (h : History) (o : Origins) (p : ℕ) : Type 0 where
+  pub seat : (attempt h p).seat < z.seats
+  pub linked : IsLinked rows v (attempt h p).row
+  pub cell : (attempt h p).cell < z.cells
+  pub given : (attempt h p).cell < given_in v (attempt h p).row
+  pub origin : o (attempt h p).row (attempt h p).cell ≡ Some p
+  pub holds : HoldsKey v (attempt h p).row (attempt h p).key
+
+-- the attempt has this cell
+pub record HasCell (h : History) (r c p : ℕ) : Type 0 where
+  pub within : p < length h.attempts
+  pub row : (attempt h p).row ≡ r
+  pub cell : (attempt h p).cell ≡ c
+
+-- each cell that a row has given is that of an attempt, and a cell that it has not given is nobody's and has no version. A row that
+-- has not given all its cells has room: it is not frozen
+pub record Places (z : Sizes) (rows : ℕ) (v : Words) (h : History) (o : Origins) : Type 0 where
+  pub owner : (r c p : ℕ) → o r c ≡ Some p → HasCell h r c p
+  pub given : (r c : ℕ) → r < rows → c < z.cells → c < given_in v r → (p : ℕ) × (o r c ≡ Some p)
+  pub nobody : (r c : ℕ) → r < rows → c < z.cells → given_in v r ≤ c → o r c ≡ None
+  pub unstored : (r c : ℕ) → r < rows → c < z.cells → given_in v r ≤ c → v (name.Version r c) ≡ 0
+  pub room : (r : ℕ) → r < rows → given_in v r < z.cells → has_room z (count_of (v (name.Count r))) ≡ true
+
+-- of two attempts of one row the later one has the greater cell
+abbrev pub Rises : History → Type 0
+Rises h = (p q : ℕ) → p < q → q < length h.attempts → (attempt h p).row ≡ (attempt h q).row → (attempt h p).cell < (attempt h q).cell
+
+-- the key and the value that stand in a cell
+abbrev pub key_in : Words → ℕ → ℕ → ℕ
+key_in v r c = key_of_word (v (name.Key r c))
+
+abbrev pub value_in : Words → ℕ → ℕ → Option ℕ
+value_in v r c = value_of_word (v (name.Value r c))
+
+-- the words of an attempt's cell: once it is announced its key and its value stand there, and a version that stands there is its own
+pub record HasBody (v : Words) (h : History) (p : ℕ) : Type 0 where
+  pub key : (attempt h p).is_announced ≡ true → key_in v (attempt h p).row (attempt h p).cell ≡ (attempt h p).key
+  pub value : (attempt h p).is_announced ≡ true → value_in v (attempt h p).row (attempt h p).cell ≡ (attempt h p).value
+  pub stamped : v (name.Version (attempt h p).row (attempt h p).cell) ≢ 0 → (attempt h p).is_stamped ≡ true
+  pub version : v (name.Version (attempt h p).row (attempt h p).cell) ≢ 0 → v (name.Version (attempt h p).row (attempt h p).cell) ≡ (attempt h p).version
+
+-- The attempt of a seat that puts.
+
+-- the entry of an announced attempt: pending until it is stamped
+abbrev pub entry_of : Attempt → ℕ
+entry_of p = if p.is_stamped then pend_word (Stamped p.cell p.version) else pend_word (Pending p.cell)
+
+-- the seat's own attempt is one of this seat, this call, and the local's row, cell, key and value; it is not lost. Until it is
+-- announced what the seat has stored of it stands in the cell; then the seat's entry says how it is; a seat that is to stamp has
+-- loaded the clock after the announcement; then it is stamped with the seat's version, and at last this is stored
+pub record OwnsAttempt (v : Words) (h : History) (t : ℕ) (a : Activity) (l : Local) (g : SeatLog) : Type 0 where
+  pub within : g.own < length h.attempts
+  pub seat : (attempt h g.own).seat ≡ t
+  pub call : (attempt h g.own).call ≡ g.call
+  pub row : (attempt h g.own).row ≡ l.row
+  pub cell : (attempt h g.own).cell ≡ l.cell
+  pub key : (attempt h g.own).key ≡ first_key l.call
+  pub value : (attempt h g.own).value ≡ put_value l.call
+  pub kept : (attempt h g.own).is_lost ≡ false
+  pub unannounced : IsFresh a → (attempt h g.own).is_announced ≡ false
+  pub unstamped : IsFresh a → (attempt h g.own).is_stamped ≡ false
+  pub has_key : HasKey a → key_in v l.row l.cell ≡ (attempt h g.own).key
+  pub has_value : IsAnnounce a → value_in v l.row l.cell ≡ (attempt h g.own).value
+  pub announced : IsPublished a → (attempt h g.own).is_announced ≡ true
+  pub entry : IsPublished a → v (name.Pend l.row t) ≡ entry_of (attempt h g.own)
+  pub after : IsStamp a → (attempt h g.own).announced < g.loaded
+  pub loaded : IsStamp a → Stands h g.loaded LoadClock l.version
+  pub stamped : IsStamped a → (attempt h g.own).is_stamped ≡ true
+  pub version : IsPutVersion a → (attempt h g.own).version ≡ l.version
+  pub stored : IsPutClear a → v (name.Version l.row l.cell) ≡ (attempt h g.own).version
+
+-- the attempt is the one that its seat is at work on
+pub record IsCurrent (locals : ℕ → Option Local) (seats : ℕ → SeatLog) (h : History) (p : ℕ) : Type 0 where
+  pub local : Local
+  pub knows : locals (attempt h p).seat ≡ Some local
+  pub putting : IsPutting local.activity
+  pub own : (seats (attempt h p).seat).own ≡ p
+
+-- the attempt is stamped, and its version is stored
+pub record IsOld (v : Words) (h : History) (p : ℕ) : Type 0 where
+  pub stamped : (attempt h p).is_stamped ≡ true
+  pub version : v (name.Version (attempt h p).row (attempt h p).cell) ≡ (attempt h p).version
+
+-- the seat has announced a cell of this row
+pub record IsPublishedAt (locals : ℕ → Option Local) (r i : ℕ) : Type 0 where
+  pub local : Local
+  pub knows : locals i ≡ Some local
+  pub published : IsPublished local.activity
+  pub row : local.row ≡ r
+
+-- The attempt that a reader helps.
+
+-- the entry that the reader met is that of an announced attempt of the seat looked at; once the reader is to help it, its key is
+-- one that the reader reads, and the reader has loaded the clock after the announcement
+pub record Helps (h : History) (o : Origins) (a : Activity) (l : Local) (g : SeatLog) : Type 0 where
+  pub put : ℕ
+  pub origin : o l.row l.met ≡ Some put
+  pub seat : (attempt h put).seat ≡ l.looked
+  pub announced : (attempt h put).is_announced ≡ true
+  pub key : IsToHelp a → is_in_range l.call (attempt h put).key ≡ true
+  pub after : IsHelp a → (attempt h put).announced < g.loaded
+  pub loaded : IsHelp a → Stands h g.loaded LoadClock l.helping
+
+-- The group.
+
+-- what holds of the attempts, the cells, the entries, and the seats that put or help
+pub record Puts (z : Sizes) (r : Run) : Type 0 where
+  pub given : (p : ℕ) → p < length r.history.attempts → IsGivenCell z r.world.rows (word z r.world) r.history r.origin p
+  pub places : Places z r.world.rows (word z r.world) r.history r.origin
+  pub rises : Rises r.history
+  pub body : (p : ℕ) → p < length r.history.attempts → HasBody (word z r.world) r.history p
+  pub owns : (t : ℕ) (l : Local) → slice_get r.world.locals t ≡ Some l → IsPutting l.activity → OwnsAttempt (word z r.world) r.history t l.activity l (r.seats t)
+  pub old : (p : ℕ) → p < length r.history.attempts → IsCurrent (slice_get r.world.locals) r.seats r.history p ⊎ IsOld (word z r.world) r.history p
+  pub entry : (q i : ℕ) → q < r.world.rows → i < z.seats → (word z r.world (name.Pend q i) ≡ pend_word Idle) ⊎ IsPublishedAt (slice_get r.world.locals) q i
+  pub helps : (t : ℕ) (l : Local) → slice_get r.world.locals t ≡ Some l → HasMet l.activity → Helps r.history r.origin l.activity l (r.seats t)

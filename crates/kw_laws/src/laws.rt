@@ -1,0 +1,51 @@
+//! The laws of histories, and of all valid lists of events.
+//!
+//! Nothing runs here: the functions' clauses are the statements. Whoever folds a history along shows at each event that the log
+//! may take it and that the change may happen there; then the laws hold ever after.
+ghost use Rattle.std.specs.Prelude.{◌≡◌, ◌<◌, ◌++◌, ◌∷◌, [], true, List, ℕ, length};
+ghost use Rattle.kw_core.specs.History.{History};
+ghost use Rattle.kw_core.specs.declared.history.Logged.{Logged};
+ghost use Rattle.kw_core.specs.Step.{Keeps};
+ghost use Rattle.kw_core.specs.declared.history.Change.{Change};
+ghost use Rattle.kw_core.specs.Noted.{MayLog, MayNote, noted, nothing_yet};
+ghost use Rattle.kw_world.specs.declared.opening.Opening.{Opening};
+ghost use Rattle.kw_world.specs.declared.event.Event.{Event};
+ghost use Rattle.kw_world.specs.declared.event.Choice.{Choice};
+ghost use Rattle.kw_world.specs.Opening.{IsOpening};
+ghost use Rattle.kw_world.specs.Sizes.{Sizes};
+ghost use Rattle.kw_core.specs.Events.{is_valid, world, local_of, of_seat, event};
+ghost use Rattle.kw_core.specs.Run.{history};
+ghost use Rattle.kw_laws.specs.Laws.{KeepsLaws};
+ghost use Rattle.kw_laws.specs.Mirror.{Mirrors};
+ghost use Rattle.kw_laws.specs.SeatCalls.{calls_seen, seen_after, KeepsTurns, AreApart, AreStill};
+
+/// The empty history keeps the laws, and each event keeps them that may happen as it does.
+pub fn history_laws()
+    ensures start { Keeps nothing_yet }
+    ensures step { (h : History) (e : Logged) → Keeps h → MayLog h e → (c : Change) → MayNote h e c → Keeps (noted h e c) }
+{}
+
+/// After every valid list of events from an opening the laws hold, whatever the sizes of the table.
+pub fn list_laws()
+    ensures laws { (z : Sizes) (o : Opening) (events : List Event) → IsOpening z o → is_valid z o events ≡ true → KeepsLaws z (history z o events) }
+    ensures world { (z : Sizes) (o : Opening) (events : List Event) → (history z o events).world ≡ world z o events }
+{}
+
+/// The record of every valid list from an opening is what it claims to be: at each position that it names stands the event
+/// that it says, and it leaves no such event out.
+pub fn mirror_laws()
+    ensures { (z : Sizes) (o : Opening) (events : List Event) → IsOpening z o → is_valid z o events ≡ true → Mirrors z o events (history z o events).history }
+{}
+
+/// The calls of one seat in a valid list from an opening. No event makes no call, and events of other seats leave the
+/// seat's calls. An event of an idle seat begins a call, one of a seat that leaves ends its last call, and any other leaves
+/// them. The calls do not overlap, and only the last one may be without end, just where the seat is in a call. A longer
+/// list has the calls of a shorter one, of which the last may have ended since.
+pub fn seat_calls_laws()
+    ensures none { (z : Sizes) (o : Opening) (s : ℕ) → calls_seen z o s [] ≡ [] }
+    ensures still { (z : Sizes) (o : Opening) (s : ℕ) (xs ys : List Event) → IsOpening z o → is_valid z o (xs ++ ys) ≡ true → of_seat s ys ≡ [] → calls_seen z o s (xs ++ ys) ≡ calls_seen z o s xs }
+    ensures own { (z : Sizes) (o : Opening) (s : ℕ) (xs : List Event) (choice : Choice) → IsOpening z o → is_valid z o (xs ++ event s choice ∷ []) ≡ true → calls_seen z o s (xs ++ event s choice ∷ []) ≡ seen_after (local_of (world z o xs) s).activity choice (local_of (world z o xs) s).number (length xs) (calls_seen z o s xs) }
+    ensures turns { (z : Sizes) (o : Opening) (s : ℕ) (events : List Event) → IsOpening z o → is_valid z o events ≡ true → s < o.seats → KeepsTurns (length events) (local_of (world z o events) s) (calls_seen z o s events) }
+    ensures apart { (z : Sizes) (o : Opening) (s : ℕ) (events : List Event) → IsOpening z o → is_valid z o events ≡ true → s < o.seats → AreApart (length events) (calls_seen z o s events) }
+    ensures lasts { (z : Sizes) (o : Opening) (s : ℕ) (xs ys : List Event) → IsOpening z o → is_valid z o (xs ++ ys) ≡ true → AreStill (calls_seen z o s xs) (calls_seen z o s (xs ++ ys)) }
+{}

@@ -1,0 +1,105 @@
+-- The counts over all seats after an event: one seat's part is taken out, and its new part put in.
+use Rattle.std.proofs.Common.{ℕ, zero, suc, ◌≡◌, ◌+◌, ◌≤◌, ◌==◌, Bool, true, false, Some, None, List, [], ◌∷◌, arith, refl, ap, length, slice_get, slice_set, if◌then◌else◌}
+use Rattle.std.proofs.lemmas.Option.{same_Some}
+use Rattle.kw_world.specs.declared.activity.Activity.{Activity}
+use Rattle.kw_world.specs.declared.activity.Activity.TheVariants.{ScanClock, ScanWait, PutCount, PutAdd}
+use Rattle.kw_world.specs.declared.local.Local.{Local}
+use Rattle.kw_world.specs.declared.event.Choice.{Choice}
+use Rattle.kw_world.specs.Sizes.{Sizes}
+use Rattle.kw_shape.specs.Rooms.{adding, adders, drawing, drawers}
+use Rattle.kw_core.specs.Words.{Words}
+use Rattle.kw_core.proofs.Arrows.{Arrow, waits, stores_waiting, finds_room, meets_stamped, meets_neither, is_passed, helps, finds_stamped, finds_other, counts_cells, has_no_version, has_other_key, gathers, NextLook, looks, counts, NextCell, reads_cell, answers, ends_scan, scans_on}
+
+-- the seats that are about to ask a row for a cell, with one seat's local set
+pub adders-set : (q : ℕ) (ls : List Local) (s : ℕ) (l l' : Local) → slice_get ls s ≡ Some l → adders q (slice_set ls s l') + adding l.activity l.row q ≡ adders q ls + adding l'.activity l'.row q
+adders-set q [] s l l' e = let x : None ≡ Some l = e in absurd (cc)
+adders-set q (k ∷ ls) zero l l' e = let x = ap (λ (y : Local). adding y.activity y.row q) (same_Some k l e) in omega (arith, x)
+adders-set q (k ∷ ls) (suc s) l l' e = omega (arith, adders-set q ls s l l' e)
+
+pub adding_at_most : (a : Activity) (row q : ℕ) → adding a row q ≤ 1
+adding_at_most PutAdd row q = met (row == q)
+  where
+    met : (b : Bool) → (if b then 1 else 0) ≤ 1
+    met true = omega arith
+    met false = omega arith
+adding_at_most _ row q = omega arith
+
+-- there are no more of them than seats
+pub adders_at_most : (q : ℕ) (ls : List Local) → adders q ls ≤ length ls
+adders_at_most q [] = omega arith
+adders_at_most q (l ∷ ls) = omega (arith, adding_at_most l.activity l.row q, adders_at_most q ls)
+
+-- the seats that are about to draw, with one seat's local set
+pub drawers-set : (ls : List Local) (s : ℕ) (l l' : Local) → slice_get ls s ≡ Some l → drawers (slice_set ls s l') + drawing l.activity ≡ drawers ls + drawing l'.activity
+drawers-set [] s l l' e = let x : None ≡ Some l = e in absurd (cc)
+drawers-set (k ∷ ls) zero l l' e = let x = ap (λ (y : Local). drawing y.activity) (same_Some k l e) in omega (arith, x)
+drawers-set (k ∷ ls) (suc s) l l' e = omega (arith, drawers-set ls s l l' e)
+
+pub drawing_at_most : (a : Activity) → drawing a ≤ 1
+drawing_at_most ScanWait = omega arith
+drawing_at_most _ = omega arith
+
+pub drawers_at_most : (ls : List Local) → drawers ls ≤ length ls
+drawers_at_most [] = omega arith
+drawers_at_most (l ∷ ls) = omega (arith, drawing_at_most l.activity, drawers_at_most ls)
+
+-- which activities lead to asking for a cell, and to a draw
+abbrev pub IsCounting : Activity → Type 0
+IsCounting PutCount = Unit {0}
+IsCounting _ = ⊥
+
+abbrev pub IsToWait : Activity → Type 0
+IsToWait ScanClock = Unit {0}
+IsToWait ScanWait = Unit {0}
+IsToWait _ = ⊥
+
+look_adds : (z : Sizes) (j row q : ℕ) (next : Activity) → NextLook z j next → adding next row q ≡ 0
+look_adds z j row q next (looks o) = refl
+look_adds z j row q next (counts o) = refl
+
+cell_adds : (l : Local) (j q : ℕ) (next : Local) → NextCell l j next → adding next.activity next.row q ≡ 0
+cell_adds l j q next (reads_cell o) = refl
+cell_adds l j q next (answers o n) = refl
+cell_adds l j q next (ends_scan o y n) = refl
+cell_adds l j q next (scans_on r o y n w) = refl
+
+look_draws : (z : Sizes) (j : ℕ) (next : Activity) → NextLook z j next → drawing next ≡ 0
+look_draws z j next (looks o) = refl
+look_draws z j next (counts o) = refl
+
+cell_draws : (l : Local) (j : ℕ) (next : Local) → NextCell l j next → drawing next.activity ≡ 0
+cell_draws l j next (reads_cell o) = refl
+cell_draws l j next (answers o n) = refl
+cell_draws l j next (ends_scan o y n) = refl
+cell_draws l j next (scans_on r o y n w) = refl
+
+-- only a seat that found room goes on to ask for a cell
+pub adding_next : (z : Sizes) (v : Words) (s : ℕ) (choice : Choice) (l : Local) (a : Activity) (l' : Local) (q : ℕ) → Arrow z v s choice l a l' → (IsCounting a → ⊥) → adding l'.activity l'.row q ≡ 0
+adding_next z v s choice l a l' q (finds_room e) n = absurd (n tt)
+adding_next z v s choice l a l' q (meets_stamped j c version next y m) n = look_adds z _ l.row q next m
+adding_next z v s choice l a l' q (meets_neither j next y m) n = look_adds z _ l.row q next m
+adding_next z v s choice l a l' q (is_passed next y m) n = look_adds z _ l.row q next m
+adding_next z v s choice l a l' q (helps next y m) n = look_adds z _ l.row q next m
+adding_next z v s choice l a l' q (finds_stamped c version next y m) n = look_adds z _ l.row q next m
+adding_next z v s choice l a l' q (finds_other next y m) n = look_adds z _ l.row q next m
+adding_next z v s choice l a l' q (counts_cells next m) n = cell_adds _ _ q next m
+adding_next z v s choice l a l' q (has_no_version j next y m) n = cell_adds _ _ q next m
+adding_next z v s choice l a l' q (has_other_key next y m) n = cell_adds _ _ q next m
+adding_next z v s choice l a l' q (gathers next m) n = cell_adds _ _ q next m
+adding_next z v s choice l a l' q _ n = refl
+
+-- only a scan that found the clock below its end goes on to draw
+pub drawing_next : (z : Sizes) (v : Words) (s : ℕ) (choice : Choice) (l : Local) (a : Activity) (l' : Local) → Arrow z v s choice l a l' → (IsToWait a → ⊥) → drawing l'.activity ≡ 0
+drawing_next z v s choice l a l' (waits e) n = absurd (n tt)
+drawing_next z v s choice l a l' stores_waiting n = absurd (n tt)
+drawing_next z v s choice l a l' (meets_stamped j c version next y m) n = look_draws z _ next m
+drawing_next z v s choice l a l' (meets_neither j next y m) n = look_draws z _ next m
+drawing_next z v s choice l a l' (is_passed next y m) n = look_draws z _ next m
+drawing_next z v s choice l a l' (helps next y m) n = look_draws z _ next m
+drawing_next z v s choice l a l' (finds_stamped c version next y m) n = look_draws z _ next m
+drawing_next z v s choice l a l' (finds_other next y m) n = look_draws z _ next m
+drawing_next z v s choice l a l' (counts_cells next m) n = cell_draws _ _ next m
+drawing_next z v s choice l a l' (has_no_version j next y m) n = cell_draws _ _ next m
+drawing_next z v s choice l a l' (has_other_key next y m) n = cell_draws _ _ next m
+drawing_next z v s choice l a l' (gathers next m) n = cell_draws _ _ next m
+drawing_next z v s choice l a l' _ n = refl

@@ -1,0 +1,119 @@
+-- The words stay in range: the one that an event writes, and all others.
+use Rattle.std.proofs.Common.{ℕ, ◌≡◌, ◌⊎◌, inl, inr, ◌+◌, ◌<◌, ◌==◌, Bool, true, false, Option, Some, None, arith, refl, sym, ap, subst, if◌then◌else◌}
+use Rattle.std.proofs.lemmas.Bool.{cases_eq}
+use Rattle.kw_words.specs.declared.layout.Name.{Name}
+use Rattle.kw_words.specs.declared.layout.Name.TheVariants as name
+use Rattle.kw_words.specs.declared.count.Count.{Count as Counted}
+use Rattle.kw_words.specs.declared.pend.Pend.{Pend}
+use Rattle.kw_words.specs.declared.pend.Pend.TheVariants as pend
+use Rattle.kw_words.specs.declared.scan.ScanWord.{ScanWord}
+use Rattle.kw_words.specs.declared.scan.ScanWord.TheVariants.{Quiet, Waiting, Drawn}
+use Rattle.kw_words.specs.declared.sizes.TheConstants.{VERSION_END}
+use Rattle.kw_words.specs.Layout.{IsWithin, place_of}
+use Rattle.kw_words.specs.Count.{count_of}
+use Rattle.kw_words.specs.Pend.{IsPend, pend_of, pend_word}
+use Rattle.kw_words.specs.Plain.{IsValue, value_word}
+use Rattle.kw_words.specs.Scan.{IsScan, scan_of, scan_word}
+use Rattle.kw_words.proofs.CountWords.{count_of_next}
+use Rattle.kw_words.proofs.PendWords.{pend_of-pend_word}
+use Rattle.kw_words.proofs.ScanWords.{scan_of-scan_word}
+use Rattle.kw_words.proofs.Places.{same_name}
+use Rattle.kw_world.specs.declared.activity.Activity.{Activity}
+use Rattle.kw_world.specs.declared.activity.Activity.TheVariants.{Enter, ScanWait, ScanDraw, ScanSettle, Start, Walk, LookHelp, ClearScan, PutAdd, PutKey, PutValue, Announce, Stamp, PutVersion, PutClear, Leave}
+use Rattle.kw_world.specs.declared.limits.TheConstants.{GIVEN_END}
+use Rattle.kw_world.specs.declared.local.Local.{Local}
+use Rattle.kw_world.specs.declared.event.Choice.{Choice}
+use Rattle.kw_world.specs.declared.event.Choice.TheVariants.{Begin, Go, Guess, Stop}
+use Rattle.kw_world.specs.Sizes.{Sizes}
+use Rattle.kw_world.specs.Calls.{put_value}
+use Rattle.kw_world.specs.Operation.{word_after}
+use Rattle.kw_world.specs.Row.{Row}
+use Rattle.kw_world.specs.RowPut.{given_of}
+use Rattle.kw_world.specs.RowWalk.{start_row, walk_row, is_stopped}
+use Rattle.kw_world.specs.Table.{row}
+use Rattle.kw_world.specs.Sane.{IsGiven, IsEntry, IsKnownWord, IsValueWord, IsWord, IsLed}
+use Rattle.kw_core.specs.Words.{Words, given_in}
+use Rattle.kw_core.proofs.Happens.{Changed}
+use Rattle.kw_core.proofs.InRange.{first_in_range, put_in_range}
+use Rattle.kw_shape.proofs.Known.{AreSane, IsKnownAt}
+
+-- the word after an exchange
+exchanges : (P : ℕ → Type 0) (found x y : ℕ) → P found → P y → P (if found == x then y else found)
+exchanges P found x y p q = met (found == x)
+  where
+    met : (b : Bool) → P (if b then y else found)
+    met true = q
+    met false = p
+
+-- the word of a scan stands for it
+scan_known : (x : ScanWord) → IsScan x → IsKnownWord (scan_of (scan_word x))
+scan_known x i = subst IsKnownWord (sym (scan_of-scan_word x i)) tt
+
+-- the word of an entry stands for it
+entry_known : (z : Sizes) (x : Pend) → IsPend x → IsEntry z (Some x) → IsEntry z (pend_of (pend_word x))
+entry_known z x i e = subst (IsEntry z) (sym (pend_of-pend_word x i)) e
+
+-- a count that stays far from its end is one after one more
+given_known : (w : ℕ) (c : Option Counted) → count_of w ≡ c → IsGiven c → given_of c + 1 < GIVEN_END → IsGiven (count_of (w + 1))
+given_known w (Some c) e g o = subst IsGiven (sym (count_of_next w c e (omega (arith, o)))) o
+given_known w None e g o = absurd g
+
+-- the word of a value
+value_known : (x : Option ℕ) → IsValue x → IsValueWord (value_word x)
+value_known (Some v) i = inr (omega arith, omega (arith, i))
+value_known None i = inl refl
+
+module _ (z : Sizes) (rows : ℕ) (v : Words) (s : ℕ) (choice : Choice) (l : Local) (w : AreSane z rows v) where
+  -- the word after the event of this line is in range
+  abbrev Writes : Row → Type 0
+  Writes it = IsWord z it.operation.name (word_after it.operation.action (v it.operation.name)) × IsLed rows it.operation.name (word_after it.operation.action (v it.operation.name))
+
+  -- the word that is loaded
+  loaded : (m : Name) → IsWithin z.seats z.cells rows m → IsWord z m (v m) × IsLed rows m (v m)
+  loaded m n = (w.each m n, w.led m n)
+
+  starts : (c : Choice) → IsWithin z.seats z.cells rows (start_row c l).operation.name → Writes (start_row c l)
+  starts (Begin call) n = loaded name.Head n
+  starts Go n = loaded name.Head n
+  starts (Guess r) n = loaded (name.State r) n
+  starts Stop n = loaded name.Head n
+
+  walks : (b : Bool) → IsWithin z.seats z.cells rows (walk_row b s l).operation.name → Writes (walk_row b s l)
+  walks true n = (scan_known Quiet tt, tt)
+  walks false n = loaded (name.Next l.row) n
+
+  written : (a : Activity) → IsKnownAt z rows a l → IsWithin z.seats z.cells rows (row z a s choice l).operation.name → v name.Clock + 1 < VERSION_END → ((q : ℕ) → q < rows → given_in v q + 1 < GIVEN_END) → Writes (row z a s choice l)
+  written Enter k n c g = (k.ranges.epoch.1, tt)
+  written ScanWait k n c g = (scan_known (Waiting l.waiting) k.ranges.waiting, tt)
+  written ScanDraw k n c g = ((omega arith, c), tt)
+  written ScanSettle k n c g = (exchanges (λ x. IsKnownWord (scan_of x)) (v (name.Scan s)) _ _ (w.each (name.Scan s) n) (scan_known (Drawn l.drawn) k.ranges.drawn), tt)
+  written Start k n c g = starts choice n
+  written Walk k n c g = walks (is_stopped choice l) n
+  written LookHelp k n c g = (exchanges (λ x. IsEntry z (pend_of x)) (v (name.Pend l.row l.looked)) _ _ (w.each (name.Pend l.row l.looked) n) (entry_known z (pend.Stamped l.met l.helping) (omega (arith, k.ranges.met, w.sized.few_cells), k.ranges.helping.0, k.ranges.helping.1) (k.ranges.met, k.ranges.helping)), tt)
+  written (ClearScan reply) k n c g = (scan_known Quiet tt, tt)
+  written PutAdd k n c g = (given_known (v (name.Count l.row)) _ refl (w.each (name.Count l.row) n) (g l.row n), tt)
+  written PutKey k n c g = (first_in_range l.call k.ranges.call, tt)
+  written PutValue k n c g = (value_known (put_value l.call) (put_in_range l.call k.ranges.call), tt)
+  written Announce k n c g = (exchanges (λ x. IsEntry z (pend_of x)) (v (name.Pend l.row s)) _ _ (w.each (name.Pend l.row s) n) (entry_known z (pend.Pending l.cell) (omega (arith, k.ranges.cell, w.sized.few_cells)) k.ranges.cell), tt)
+  written Stamp k n c g = (exchanges (λ x. IsEntry z (pend_of x)) (v (name.Pend l.row s)) _ _ (w.each (name.Pend l.row s) n) (entry_known z (pend.Stamped l.cell l.version) (omega (arith, k.ranges.cell, w.sized.few_cells), k.ranges.version.0, k.ranges.version.1) (k.ranges.cell, k.ranges.version)), tt)
+  written PutVersion k n c g = (k.ranges.version.1, tt)
+  written PutClear k n c g = (entry_known z pend.Idle tt tt, tt)
+  written (Leave reply) k n c g = (omega arith, tt)
+  written a k n c g = loaded (row z a s choice l).operation.name n
+
+  -- a word after the event: the one that was written, or another
+  each_word : (v' : Words) (it : Row) → Writes it → IsWithin z.seats z.cells rows it.operation.name → Changed z rows v v' it → (m : Name) → IsWithin z.seats z.cells rows m → IsWord z m (v' m) × IsLed rows m (v' m)
+  each_word v' it x n h m i = which (cases_eq (place_of z.seats z.cells m) (place_of z.seats z.cells it.operation.name))
+    where
+      which : (place_of z.seats z.cells m ≡ place_of z.seats z.cells it.operation.name) ⊎ (place_of z.seats z.cells m ≡ place_of z.seats z.cells it.operation.name → ⊥) → IsWord z m (v' m) × IsLed rows m (v' m)
+      which (inl e) =
+          let f : IsWord z it.operation.name (v' it.operation.name) = subst (IsWord z it.operation.name) (sym h.same) x.0 in
+          let g : IsLed rows it.operation.name (v' it.operation.name) = subst (IsLed rows it.operation.name) (sym h.same) x.1 in
+          subst (λ y. IsWord z y (v' y) × IsLed rows y (v' y)) (sym (same_name z.seats z.cells rows it.operation.name m n i e)) (f, g)
+      which (inr d) = let f : v' m ≡ v m = h.other m i (λ e. d (ap (place_of z.seats z.cells) e)) in (subst (IsWord z m) (sym f) (w.each m i), subst (IsLed rows m) (sym f) (w.led m i))
+
+  -- all words after the event
+  pub words_sane : (a : Activity) (v' : Words) → IsKnownAt z rows a l → IsWithin z.seats z.cells rows (row z a s choice l).operation.name → v name.Clock + 1 < VERSION_END → ((q : ℕ) → q < rows → given_in v q + 1 < GIVEN_END) → Changed z rows v v' (row z a s choice l) → AreSane z rows v'
+  words_sane a v' k n c g h =
+      let each = each_word v' (row z a s choice l) (written a k n c g) n h in
+      record { sized = w.sized; each = λ m i. (each m i).0; led = λ m i. (each m i).1 }

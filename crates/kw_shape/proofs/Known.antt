@@ -1,0 +1,226 @@
+-- What the acting seat knows stays in range, by the arrow that it takes.
+use Rattle.std.proofs.Common.{ℕ, min, ◌≡◌, ◌+◌, ◌<◌, ◌≤◌, Option, Some, None, List, [], ◌∷◌, ◌++◌, arith, sym, subst, All, length, length-append}
+use Rattle.std.proofs.lemmas.List.Elements.{All-nil, All-append, All-cons}
+use Rattle.std.proofs.Math.Nat.{min-le_right}
+use Rattle.kw_words.specs.declared.layout.Name.{Name}
+use Rattle.kw_words.specs.declared.layout.Name.TheVariants as name
+use Rattle.kw_words.specs.declared.pend.Pend.{Pend}
+use Rattle.kw_words.specs.declared.pend.Pend.TheVariants as pend
+use Rattle.kw_words.specs.declared.sizes.TheConstants.{KEY_END}
+use Rattle.kw_words.specs.Layout.{IsSized, IsWithin}
+use Rattle.kw_words.specs.Pend.{pend_of}
+use Rattle.kw_words.specs.Count.{count_of}
+use Rattle.kw_words.specs.Link.{link_of}
+use Rattle.kw_words.specs.Plain.{IsValue, key_of_word}
+use Rattle.kw_words.proofs.PlainWords.{key_of_word-below}
+use Rattle.kw_cells.specs.declared.cell.Cell as kw_cell
+use Rattle.kw_cells.specs.Cells.{pairs_of}
+use Rattle.kw_model.specs.declared.call.Reply.{Reply}
+use Rattle.kw_world.specs.declared.activity.Activity.{Activity}
+use Rattle.kw_world.specs.declared.activity.Activity.TheVariants.{Walk, WalkMin, Look, PutCount}
+use Rattle.kw_world.specs.declared.limits.TheConstants.{NEWEST}
+use Rattle.kw_world.specs.declared.local.Local.{Local}
+use Rattle.kw_world.specs.declared.marks.Mark.{Mark}
+use Rattle.kw_world.specs.declared.event.Choice.{Choice}
+use Rattle.kw_world.specs.Sizes.{Sizes}
+use Rattle.kw_world.specs.Local.{resting}
+use Rattle.kw_world.specs.Marks.{mark_of}
+use Rattle.kw_world.specs.Calls.{first_key, last_key}
+use Rattle.kw_world.specs.Row.{row_linked, row_or_first, leave}
+use Rattle.kw_world.specs.RowRead.{with_pairs, gathering, remembering}
+use Rattle.kw_world.specs.Sane.{IsVersion, IsEntry, IsWord, IsLed, IsOffered, IsPair, IsReply, IsMark, IsCopy, IsActivity, IsRowBelow, IsLocal, IsLocalBelow, IsKnown, RisesBetween, marks_by, copies_by}
+use Rattle.kw_core.specs.Words.{Words}
+use Rattle.kw_shape.specs.Shape.{Chain}
+use Rattle.kw_core.proofs.Events.{IsBegun}
+use Rattle.kw_core.proofs.RoomBelow.{room_below}
+use Rattle.kw_core.proofs.InRange.{rises-wider, rises-snoc, version_at_hand, version_of_scan, answer_in_range, pairs_in_range, value_in_range, first_in_range, last_in_range, linked_in_range, reply_in_range}
+use Rattle.kw_core.proofs.Arrows.{Arrow, begins, enters, is_spent, waits, draws, settles_empty, settles, starts_at_head, guesses, takes_head, guess_serves, stops, puts_in_last, reads_last, meets_next, walks_on, puts_before, reads_before, meets_pending, meets_stamped, meets_neither, is_passed, loads_to_help, helps, finds_stamped, finds_other, counts_cells, has_version, has_no_version, has_key, has_other_key, gathers, clears_scan, finds_none, takes_cell, takes_none, is_refused, loads_clock, is_stamped, is_not_own, clears, leaves, NextLook, looks, counts, NextCell, reads_cell, answers, ends_scan, scans_on}
+
+-- all words of a table are in range
+pub record AreSane (z : Sizes) (rows : ℕ) (v : Words) : Type 0 where
+  pub sized : IsSized z.seats z.cells rows
+  pub each : (n : Name) → IsWithin z.seats z.cells rows n → IsWord z n (v n)
+  pub led : (n : Name) → IsWithin z.seats z.cells rows n → IsLed rows n (v n)
+
+-- what a seat at this activity knows is in range
+pub record IsKnownAt (z : Sizes) (rows : ℕ) (a : Activity) (l : Local) : Type 0 where
+  pub activity : IsActivity z a
+  pub ranges : IsLocal z l
+  pub below : IsLocalBelow rows l
+  pub remembered : length l.remembered ≤ marks_by z a l
+  pub gathered : RisesBetween 0 (copies_by z a l) l.gathered
+
+-- a seat at its activity
+pub at_activity : (z : Sizes) (rows : ℕ) (a : Activity) (l : Local) → l.activity ≡ a → IsKnown z rows l → IsKnownAt z rows a l
+at_activity z rows a l e k = record {
+  activity = subst (IsActivity z) e k.ranges.activity;
+  ranges = k.ranges;
+  below = k.below;
+  remembered = subst (λ q. length l.remembered ≤ marks_by z q l) e k.room.remembered;
+  gathered = subst (λ q. RisesBetween 0 (copies_by z q l) l.gathered) e k.room.gathered;
+}
+
+-- a seat at rest knows nothing out of range
+pub rests_known : (z : Sizes) (rows n : ℕ) → IsSized z.seats z.cells rows → IsKnown z rows (resting n)
+rests_known z rows n sized = record {
+  ranges = record {
+    activity = tt;
+    call = tt;
+    epoch = (omega arith, omega arith);
+    want = omega arith;
+    lower = omega arith;
+    upper = omega arith;
+    waiting = (omega arith, omega arith);
+    drawn = (omega arith, omega arith);
+    version = (omega arith, omega arith);
+    pairs = All-nil IsPair;
+    looked = omega (arith, sized.some_seats);
+    met = omega (arith, sized.some_cells);
+    helping = (omega arith, omega arith);
+    marks = All-nil (IsMark z);
+    count = omega arith;
+    place = omega (arith, sized.some_cells);
+    place_version = (omega arith, omega arith);
+    place_key = omega arith;
+    copies = All-nil IsCopy;
+    cell = omega (arith, sized.some_cells);
+  };
+  below = record { row = omega (arith, sized.some_rows); candidate = omega (arith, sized.some_rows); next = tt };
+  room = record { remembered = omega arith; gathered = omega arith };
+}
+
+-- the entry that was met
+entry : (z : Sizes) (rows : ℕ) (v : Words) (l : Local) → AreSane z rows v → (i : ℕ) (x : Pend) → l.row < rows → i < z.seats → pend_of (v (name.Pend l.row i)) ≡ Some x → IsEntry z (Some x)
+entry z rows v l w i x o u e = subst (IsEntry z) e (w.each (name.Pend l.row i) (o, u))
+
+-- a seat with this many cells to read, and with one more cell
+counted : (z : Sizes) (n : ℕ) (l : Local) → IsLocal z l → IsLocal z (record l { count = min n z.cells })
+counted z n l k = let o = min-le_right n z.cells in assumption (k, o)
+
+gathered_more : (z : Sizes) (value : Option ℕ) (l : Local) → IsValue value → IsLocal z l → IsLocal z (gathering value l)
+gathered_more z value l u k =
+    let c : kw_cell.Cell = record { key = l.place_key; version = l.place_version; place = l.place; value = value } in
+    let a : All IsCopy (l.gathered ++ c ∷ []) = All-append IsCopy l.gathered (c ∷ []) k.copies (All-cons IsCopy c [] (k.place_key, k.place_version, u) (All-nil IsCopy)) in
+    assumption (k, a)
+
+-- the marks with one more
+marked : (z : Sizes) (marks : List Mark) (c version : ℕ) → All (IsMark z) marks → c < z.cells → IsVersion version → All (IsMark z) (marks ++ mark_of c version ∷ [])
+marked z marks c version k o u = All-append (IsMark z) marks (mark_of c version ∷ []) k (All-cons (IsMark z) (mark_of c version) [] (o, u) (All-nil (IsMark z)))
+
+-- the pairs of the row come after those that there are
+more_pairs : (z : Sizes) (l : Local) → IsLocal z l → All IsPair (with_pairs (last_key l.call) l).pairs
+more_pairs z l k = All-append IsPair l.pairs (pairs_of l.gathered l.want (last_key l.call) l.version) k.pairs (pairs_in_range l.gathered l.want (last_key l.call) l.version k.copies k.want (last_in_range l.call k.call))
+
+module _ (z : Sizes) (rows : ℕ) (l : Local) (sized : IsSized z.seats z.cells rows) where
+  -- a seat that is about to leave
+  is_leaving : (reply : Reply) → IsReply reply → IsLocal z l → IsLocalBelow rows l → length l.remembered ≤ z.seats → RisesBetween 0 z.cells l.gathered → IsKnown z rows (leave reply l).local
+  is_leaving reply y k b m g =
+      let o : 0 < rows = omega (arith, sized.some_rows) in
+      let zero_key : 0 < KEY_END = omega arith in
+      assumption (k, b, y, m, g, o, zero_key)
+
+  -- a seat that takes the first row
+  takes_first : (v : Words) → Chain rows v → IsLocal z l → IsLocalBelow rows l → length l.remembered ≤ z.seats → RisesBetween 0 z.cells l.gathered → IsKnown z rows (record l { row = row_or_first (row_linked (link_of (v name.Head))); lower = 0; activity = Walk })
+  takes_first v c k b m g =
+      let o : row_or_first (row_linked (link_of (v name.Head))) < rows = subst (λ x. row_or_first x < rows) (sym c.leads) c.first_linked.below in
+      let zero_key : 0 < KEY_END = omega arith in
+      assumption (k, b, m, g, o, zero_key)
+
+  -- a put that comes to the last row, and a reader that comes there or to a row before another
+  puts_last : IsKnownAt z rows Walk l → IsKnown z rows (record l { next = None; upper = 0; activity = PutCount })
+  puts_last k = let zero_key : 0 < KEY_END = omega arith in assumption (k, zero_key)
+
+  comes_last : IsKnownAt z rows Walk l → IsKnown z rows (record l { next = None; upper = 0; remembered = []; gathered = []; activity = Look 0 })
+  comes_last k =
+      let zero_key : 0 < KEY_END = omega arith in
+      let o : 0 < z.seats = omega (arith, sized.some_seats) in
+      let none : 0 ≤ 0 = omega arith in
+      assumption (k, zero_key, o, none, All-nil (IsMark z), All-nil IsCopy)
+
+  comes_before : (upper : ℕ) → upper < KEY_END → IsKnownAt z rows WalkMin l → IsKnown z rows (record l { next = Some l.candidate; upper = upper; remembered = []; gathered = []; activity = Look 0 })
+  comes_before upper u k =
+      let o : 0 < z.seats = omega (arith, sized.some_seats) in
+      let none : 0 ≤ 0 = omega arith in
+      assumption (k, u, o, none, All-nil (IsMark z), All-nil IsCopy)
+
+  -- a reader that goes on to an entry or to the count
+  next_look : (j : ℕ) (next : Activity) → NextLook z j next → IsLocal z l → IsLocalBelow rows l → length l.remembered ≤ j → length l.remembered ≤ z.seats → RisesBetween 0 0 l.gathered → IsKnown z rows (record l { activity = next })
+  next_look j next (looks o) k b m n g = assumption (k, b, m, n, g, o)
+  next_look j next (counts o) k b m n g = assumption (k, b, m, n, g, o)
+
+  -- it remembers one more cell
+  look_marks : (j c version : ℕ) (next : Activity) → NextLook z (j + 1) next → IsLocal z l → IsLocalBelow rows l → length l.remembered ≤ j → j < z.seats → RisesBetween 0 0 l.gathered → c < z.cells → IsVersion version → IsKnown z rows (record (remembering c version l) { activity = next })
+  look_marks j c version next (looks o) k b m n g y u =
+      let a = marked z l.remembered c version k.marks y u in
+      let e : length (l.remembered ++ mark_of c version ∷ []) ≤ j + 1 = omega (arith, length-append l.remembered (mark_of c version ∷ []), m) in
+      assumption (k, b, a, e, g, o)
+  look_marks j c version next (counts o) k b m n g y u =
+      let a = marked z l.remembered c version k.marks y u in
+      let e : length (l.remembered ++ mark_of c version ∷ []) ≤ z.seats = omega (arith, length-append l.remembered (mark_of c version ∷ []), m, n) in
+      assumption (k, b, a, e, g)
+
+  -- it goes on to a cell, or is at the end of the row
+  next_cell : (j : ℕ) (next : Local) → NextCell l j next → IsLocal z l → IsLocalBelow rows l → length l.remembered ≤ z.seats → RisesBetween 0 j l.gathered → j ≤ z.cells → IsKnown z rows next
+  next_cell j next (reads_cell o) k b m g u =
+      let f : j < z.cells = omega (arith, o, k.count) in
+      assumption (k, b, m, g, f)
+  next_cell j next (answers o y) k b m g u = is_leaving _ (answer_in_range l.gathered NEWEST (first_key l.call) k.copies) k b m (rises-wider 0 j z.cells l.gathered u g)
+  next_cell j next (ends_scan o y n) k b m g u =
+      let f = rises-wider 0 j z.cells l.gathered u g in
+      let p = more_pairs z l k in
+      assumption (k, b, m, f, p, All-nil IsPair)
+  next_cell j next (scans_on q o y n e) k b m g u =
+      let f = rises-wider 0 j z.cells l.gathered u g in
+      let p = more_pairs z l k in
+      let t : q < rows = subst (IsRowBelow rows) n b.next in
+      let zero_key : 0 < KEY_END = omega arith in
+      assumption (k, b, m, f, p, t, zero_key)
+
+-- by the arrow that the seat takes
+pub known_by : (z : Sizes) (rows : ℕ) (v : Words) (s : ℕ) (choice : Choice) (l : Local) (a : Activity) (l' : Local) → Arrow z v s choice l a l' → AreSane z rows v → Chain rows v → s < z.seats → IsBegun choice → IsOffered rows choice → IsKnownAt z rows a l → IsKnown z rows l'
+known_by z rows v s choice l a l' (begins call e g) w c t b i k = let y = w.each name.Epoch tt in assumption (k, y, g)
+known_by z rows v s choice l a l' (enters y) w c t b i k = let f = first_in_range l.call k.ranges.call in assumption (k, f)
+known_by z rows v s choice l a l' (is_spent y) w c t b i k = is_leaving z rows l w.sized _ tt k.ranges k.below k.remembered k.gathered
+known_by z rows v s choice l a l' (waits y) w c t b i k = let u = w.each name.Clock tt in assumption (k, u)
+known_by z rows v s choice l a l' draws w c t b i k = let u = w.each name.Clock tt in assumption (k, u)
+known_by z rows v s choice l a l' (settles_empty y) w c t b i k = let u = version_of_scan (v (name.Scan s)) l.drawn k.ranges.drawn in assumption (k, u, All-nil IsPair)
+known_by z rows v s choice l a l' (settles y) w c t b i k = let u = version_of_scan (v (name.Scan s)) l.drawn k.ranges.drawn in let f = first_in_range l.call k.ranges.call in assumption (k, u, f)
+known_by z rows v s choice l a l' starts_at_head w c t b i k = takes_first z rows l w.sized v c k.ranges k.below k.remembered k.gathered
+known_by z rows v s choice l a l' (guesses q y n) w c t b i k = let o : q < rows = subst (IsOffered rows) y i in assumption (k, o)
+known_by z rows v s choice l a l' takes_head w c t b i k = takes_first z rows l w.sized v c k.ranges k.below k.remembered k.gathered
+known_by z rows v s choice l a l' (guess_serves o) w c t b i k = let u = key_of_word-below (v (name.Min l.row)) in assumption (k, u)
+known_by z rows v s choice l a l' (stops y) w c t b i k = is_leaving z rows l w.sized _ tt k.ranges k.below k.remembered k.gathered
+known_by z rows v s choice l a l' (puts_in_last y n) w c t b i k = puts_last z rows l w.sized k
+known_by z rows v s choice l a l' (reads_last y n) w c t b i k = comes_last z rows l w.sized k
+known_by z rows v s choice l a l' (meets_next q n) w c t b i k = let o = linked_in_range rows q (link_of (v (name.Next l.row))) (w.led (name.Next l.row) k.below.row) n in assumption (k, o)
+known_by z rows v s choice l a l' (walks_on o) w c t b i k = let u = key_of_word-below (v (name.Min l.candidate)) in assumption (k, u)
+known_by z rows v s choice l a l' (puts_before y o) w c t b i k = let u = key_of_word-below (v (name.Min l.candidate)) in assumption (k, u)
+known_by z rows v s choice l a l' (reads_before y o) w c t b i k = comes_before z rows l w.sized (key_of_word (v (name.Min l.candidate))) (key_of_word-below (v (name.Min l.candidate))) k
+known_by z rows v s choice l a l' (meets_pending j x y) w c t b i k = let u : x < z.cells = entry z rows v l w j (pend.Pending x) k.below.row k.activity y in assumption (k, u)
+known_by z rows v s choice l a l' (meets_stamped j x version next y n) w c t b i k = let u = entry z rows v l w j (pend.Stamped x version) k.below.row k.activity y in look_marks z rows l w.sized j x version next n k.ranges k.below k.remembered k.activity k.gathered u.0 u.1
+known_by z rows v s choice l a l' (meets_neither j next y n) w c t b i k = next_look z rows l w.sized (j + 1) next n k.ranges k.below (omega (arith, k.remembered)) (omega (arith, k.remembered, k.activity)) k.gathered
+known_by z rows v s choice l a l' (is_passed next y n) w c t b i k = next_look z rows l w.sized (l.looked + 1) next n k.ranges k.below (omega (arith, k.remembered)) (omega (arith, k.remembered, k.ranges.looked)) k.gathered
+known_by z rows v s choice l a l' loads_to_help w c t b i k = let u = w.each name.Clock tt in assumption (k, u)
+known_by z rows v s choice l a l' (helps next y n) w c t b i k = look_marks z rows l w.sized l.looked l.met l.helping next n k.ranges k.below k.remembered k.ranges.looked k.gathered k.ranges.met k.ranges.helping
+known_by z rows v s choice l a l' (finds_stamped x version next y n) w c t b i k = let u = entry z rows v l w l.looked (pend.Stamped x version) k.below.row k.ranges.looked y in look_marks z rows l w.sized l.looked x version next n k.ranges k.below k.remembered k.ranges.looked k.gathered u.0 u.1
+known_by z rows v s choice l a l' (finds_other next y n) w c t b i k = next_look z rows l w.sized (l.looked + 1) next n k.ranges k.below (omega (arith, k.remembered)) (omega (arith, k.remembered, k.ranges.looked)) k.gathered
+known_by z rows v s choice l a l' (counts_cells next n) w c t b i k = next_cell z rows _ w.sized 0 next n (counted z _ l k.ranges) (assumption k) k.remembered k.gathered (omega arith)
+known_by z rows v s choice l a l' (has_version j version y) w c t b i k = let u = version_at_hand z j (v (name.Version l.row j)) version l y (w.each (name.Version l.row j) (k.below.row, k.activity)) k.ranges.marks in assumption (k, u)
+known_by z rows v s choice l a l' (has_no_version j next y n) w c t b i k = next_cell z rows l w.sized (j + 1) next n k.ranges k.below k.remembered (rises-wider 0 j (j + 1) l.gathered (omega arith) k.gathered) (omega (arith, k.activity))
+known_by z rows v s choice l a l' (has_key y) w c t b i k = let u = key_of_word-below (v (name.Key l.row l.place)) in assumption (k, u)
+known_by z rows v s choice l a l' (has_other_key next y n) w c t b i k = next_cell z rows l w.sized (l.place + 1) next n k.ranges k.below k.remembered (rises-wider 0 l.place (l.place + 1) l.gathered (omega arith) k.gathered) (omega (arith, k.ranges.place))
+known_by z rows v s choice l a l' (gathers next n) w c t b i k =
+    let u = value_in_range (v (name.Value l.row l.place)) (w.each (name.Value l.row l.place) (k.below.row, k.ranges.place)) in
+    next_cell z rows _ w.sized (l.place + 1) next n (gathered_more z _ l u k.ranges) (assumption k) k.remembered
+    (rises-snoc 0 l.place (l.place + 1) l.gathered _ k.gathered (omega arith) (omega arith)) (omega (arith, k.ranges.place))
+known_by z rows v s choice l a l' (clears_scan reply) w c t b i k = is_leaving z rows l w.sized _ (reply_in_range reply choice k.activity) k.ranges k.below k.remembered k.gathered
+known_by z rows v s choice l a l' (finds_none y) w c t b i k = is_leaving z rows l w.sized _ tt k.ranges k.below k.remembered k.gathered
+known_by z rows v s choice l a l' (takes_cell y) w c t b i k = let u = room_below z (count_of (v (name.Count l.row))) y in assumption (k, u)
+known_by z rows v s choice l a l' (takes_none y) w c t b i k = is_leaving z rows l w.sized _ tt k.ranges k.below k.remembered k.gathered
+known_by z rows v s choice l a l' (is_refused y) w c t b i k = is_leaving z rows l w.sized _ tt k.ranges k.below k.remembered k.gathered
+known_by z rows v s choice l a l' loads_clock w c t b i k = let u = w.each name.Clock tt in assumption (k, u)
+known_by z rows v s choice l a l' (is_stamped version y) w c t b i k = let u = (entry z rows v l w s (pend.Stamped l.cell version) k.below.row t y).1 in assumption (k, u)
+known_by z rows v s choice l a l' (is_not_own y) w c t b i k = is_leaving z rows l w.sized _ tt k.ranges k.below k.remembered k.gathered
+known_by z rows v s choice l a l' clears w c t b i k = is_leaving z rows l w.sized _ tt k.ranges k.below k.remembered k.gathered
+known_by z rows v s choice l a l' (leaves reply) w c t b i k = rests_known z rows l.number w.sized
+known_by z rows v s choice l a l' _ w c t b i k = assumption k

@@ -1,0 +1,9 @@
+pub mod NextCalls
+pub mod Counts
+pub mod Walking
+pub mod Known
+pub mod InTable
+pub mod ShapeKeeps
+pub mod RowsStay
+pub mod ShapeOpens
+pub mod ShapeHolds

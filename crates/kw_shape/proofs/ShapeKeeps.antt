@@ -1,0 +1,364 @@
+-- Every event keeps the shape of the world.
+use Rattle.std.proofs.Common.{ℕ, ◌≡◌, ◌⊎◌, inl, inr, ◌+◌, ◌<◌, ◌≤◌, true, false, Option, Some, None, arith, refl, sym, ◌∙◌, ap, subst, length}
+use Rattle.kw_words.specs.declared.layout.Name.TheVariants as name
+use Rattle.kw_world.specs.declared.activity.Activity.{Activity}
+use Rattle.kw_world.specs.declared.activity.Activity.TheVariants.{ScanClock, ScanWait, GuessMin, Walk, WalkMin, PutCount, PutAdd}
+use Rattle.kw_world.specs.declared.local.Local.{Local}
+use Rattle.kw_world.specs.declared.event.Choice.{Choice}
+use Rattle.kw_world.specs.Sizes.{Sizes}
+use Rattle.kw_world.specs.WorldView.{WorldView}
+use Rattle.kw_words.specs.declared.sizes.TheConstants.{SPENT}
+use Rattle.kw_words.specs.Layout.{IsSized, IsWithin, words_of}
+use Rattle.kw_world.specs.Sane.{IsSane, IsKnown, IsLed}
+use Rattle.kw_world.specs.Step.{word}
+use Rattle.kw_core.specs.Run.{Run}
+use Rattle.std.proofs.Common.{length-set, slice_set}
+use Rattle.std.proofs.lemmas.Bool.{cases_eq}
+use Rattle.kw_words.specs.Count.{count_of}
+use Rattle.kw_world.specs.RowPut.{given_of}
+use Rattle.kw_shape.specs.Rooms.{adding, adders, drawing, drawers}
+use Rattle.kw_core.proofs.Frame.{count_kept, clock_kept, given-next}
+use Rattle.kw_core.proofs.RoomBelow.{room_below}
+use Rattle.kw_shape.proofs.Counts.{adders-set, adders_at_most, drawers-set, drawers_at_most, adding_next, drawing_next}
+use Rattle.kw_core.proofs.Happens.{chosen, not_chosen}
+use Rattle.kw_words.specs.Link.{link_of}
+use Rattle.kw_words.specs.Plain.{key_of_word}
+use Rattle.kw_world.specs.Calls.{first_key, is_scan}
+use Rattle.kw_world.specs.Row.{row_linked}
+use Rattle.kw_core.specs.Words.{Words, next_in, least_in, given_in}
+use Rattle.kw_shape.specs.Shape.{IsLinked, IsBefore, IsOnWalk, Chain, Walks, Kinds, Shape}
+use Rattle.kw_core.proofs.Happens.{Happens, each_seat}
+use Rattle.kw_core.proofs.Frame.{SameRows, same_rows}
+use Rattle.kw_shape.proofs.Walking.{walks_by}
+use Rattle.kw_shape.proofs.Known.{AreSane, at_activity, known_by}
+use Rattle.kw_shape.proofs.InTable.{words_sane}
+use Rattle.std.proofs.Common.{◌&&◌}
+use Rattle.std.proofs.lemmas.Bool.{and_parts}
+use Rattle.kw_model.specs.Map.{found}
+use Rattle.kw_model.specs.declared.call.Call.{Call}
+use Rattle.kw_model.specs.declared.call.Call.TheVariants.{Put, Del, Get, Scan}
+use Rattle.kw_model.specs.declared.call.Reply.{Reply}
+use Rattle.kw_model.specs.declared.call.Reply.TheVariants.{Done, Value, Absent, Pairs, NoRows, Spent, Stopped}
+use Rattle.kw_world.specs.declared.event.Choice.TheVariants.{Stop}
+use Rattle.kw_world.specs.Calls.{last_key}
+use Rattle.kw_world.specs.RowScan.{reply_or_stopped}
+use Rattle.kw_world.specs.RowWalk.{is_stop}
+use Rattle.kw_core.specs.Stages.{is_put}
+use Rattle.kw_shape.specs.Shape.{IsSomeCall, IsPutCall, IsReadCall, IsScanCall, IsReplyOf, IsPairs}
+use Rattle.kw_core.proofs.Arrows.{Arrow, begins, enters, enters_scan, is_spent, waits, stores_waiting, draws, settles_empty, settles, starts_at_head, guesses, guess_fails, takes_head, guess_serves, guess_is_above, stops, puts_in_last, reads_last, meets_next, walks_on, puts_before, reads_before, meets_pending, meets_stamped, meets_neither, is_wanted, is_passed, loads_to_help, helps, finds_stamped, finds_other, counts_cells, has_version, has_no_version, has_key, has_other_key, gathers, clears_scan, finds_room, finds_none, takes_cell, takes_none, stores_key, stores_value, announces, is_refused, loads_clock, stamps, is_stamped, is_not_own, stores_version, clears, leaves, NextLook, looks, counts, NextCell, reads_cell, answers, ends_scan, scans_on, not_below}
+
+-- Where a seat is survives every event of another one: no event changes the rows.
+
+-- the words of the rows read as they did
+pub next_same : (rows : ℕ) (v v' : Words) → SameRows rows v v' → (q : ℕ) → q < rows → next_in v' q ≡ next_in v q
+next_same rows v v' same q o = ap (λ w. row_linked (link_of w)) (same.next q o)
+
+pub least_same : (rows : ℕ) (v v' : Words) → SameRows rows v v' → (q : ℕ) → q < rows → least_in v' q ≡ least_in v q
+least_same rows v v' same q o = ap key_of_word (same.least q o)
+
+pub linked_now : (rows : ℕ) (v v' : Words) → SameRows rows v v' → (q : ℕ) → IsLinked rows v q → IsLinked rows v' q
+linked_now rows v v' same q a = record { below = a.below; normal = same.state q a.below ∙ a.normal }
+
+pub linked_was : (rows : ℕ) (v v' : Words) → SameRows rows v v' → (q : ℕ) → IsLinked rows v' q → IsLinked rows v q
+linked_was rows v v' same q a = record { below = a.below; normal = sym (same.state q a.below) ∙ a.normal }
+
+-- what depends on the rows alone
+pub chain_stable : (rows : ℕ) (v v' : Words) → SameRows rows v v' → Chain rows v → Chain rows v'
+chain_stable rows v v' same c = record {
+  first = c.first;
+  leads = ap (λ w. row_linked (link_of w)) same.head ∙ c.leads;
+  first_linked = linked_now rows v v' same c.first c.first_linked;
+  first_least = least_same rows v v' same c.first c.first_linked.below ∙ c.first_least;
+  linked = λ r q a e. let b = linked_was rows v v' same r a in linked_now rows v v' same q (c.linked r q b (sym (next_same rows v v' same r b.below) ∙ e));
+  rises = λ r q a e.
+      let b = linked_was rows v v' same r a in
+      let f = sym (next_same rows v v' same r b.below) ∙ e in
+      omega (arith, c.rises r q b f, least_same rows v v' same r b.below, least_same rows v v' same q (c.linked r q b f).below);
+  apart = λ r q a b. let x = linked_was rows v v' same r a in let y = linked_was rows v v' same q b in which r q x y (c.apart r q x y);
+}
+  where
+    before : (r q : ℕ) → IsLinked rows v r → IsLinked rows v q → IsBefore v r q → IsBefore v' r q
+    before r q x y b = record {
+      next = b.next;
+      follows = next_same rows v v' same r x.below ∙ b.follows;
+      above = omega (arith, b.above, least_same rows v v' same b.next (c.linked r b.next x b.follows).below, least_same rows v v' same q y.below);
+    }
+
+    which : (r q : ℕ) → IsLinked rows v r → IsLinked rows v q → (r ≡ q) ⊎ IsBefore v r q ⊎ IsBefore v q r → (r ≡ q) ⊎ IsBefore v' r q ⊎ IsBefore v' q r
+    which r q x y (inl e) = inl e
+    which r q x y (inr (inl b)) = inr (inl (before r q x y b))
+    which r q x y (inr (inr b)) = inr (inr (before q r y x b))
+
+pub walks_stable : (rows : ℕ) (v v' : Words) (a : Activity) (l : Local) → SameRows rows v v' → Chain rows v → l.row < rows → Walks rows v a l → Walks rows v' a l
+walks_stable rows v v' a l same c o w = record {
+  on = on_walk a w.on;
+  lower = λ y. w.lower y ∙ sym (least_same rows v v' same l.row o);
+  at = λ y. let x = w.at y in record {
+    linked = linked_now rows v v' same l.row x.linked;
+    from = omega (arith, x.from, least_same rows v v' same l.row o);
+    next = x.next ∙ sym (next_same rows v v' same l.row o);
+    upper = λ n e. x.upper n e ∙ sym (least_same rows v v' same n (c.linked l.row n x.linked (sym x.next ∙ e)).below);
+    below = x.below;
+  };
+  begins = w.begins;
+  wants = λ y. wanted (w.wants y);
+}
+  where
+    on_walk : (b : Activity) → IsOnWalk b rows v l → IsOnWalk b rows v' l
+    on_walk GuessMin x = linked_now rows v v' same l.row x
+    on_walk Walk x = (linked_now rows v v' same l.row x.0, omega (arith, x.1, least_same rows v v' same l.row o))
+    on_walk WalkMin x = (linked_now rows v v' same l.row x.0, omega (arith, x.1, least_same rows v v' same l.row o), next_same rows v v' same l.row o ∙ x.2)
+    on_walk _ x = tt
+
+    wanted : (l.want ≡ first_key l.call) ⊎ (is_scan l.call ≡ true) × (least_in v l.row ≡ l.want) → (l.want ≡ first_key l.call) ⊎ (is_scan l.call ≡ true) × (least_in v' l.row ≡ l.want)
+    wanted (inl e) = inl e
+    wanted (inr e) = inr (e.0, least_same rows v v' same l.row o ∙ e.1)
+
+-- The acting seat.
+
+-- the words of a sane world
+words_of_sane : (z : Sizes) (w : WorldView) → IsSane z w → AreSane z w.rows (word z w)
+words_of_sane z w i = record { sized = i.sized; each = i.each; led = i.led }
+
+-- what the acting seat knows is in range
+known_own : (z : Sizes) (r r' : Run) (s : ℕ) (choice : Choice) (l : Local) (a : Activity) (l' : Local) → Arrow z (word z r.world) s choice l a l' → Happens z r r' s choice l l' a → Shape z r.world → IsKnown z r.world.rows l'
+known_own z r r' s choice l a l' b h i = known_by z r.world.rows (word z r.world) s choice l a l' b (words_of_sane z r.world i.sane) i.chain h.seat h.begins h.offers (at_activity z r.world.rows a l h.activity (i.sane.locals s l h.knows))
+
+-- the words are in range
+words_keep : (z : Sizes) (r r' : Run) (s : ℕ) (choice : Choice) (l : Local) (a : Activity) (l' : Local) → Happens z r r' s choice l l' a → Shape z r.world → AreSane z r.world.rows (word z r'.world)
+words_keep z r r' s choice l a l' h i =
+    words_sane z r.world.rows (word z r.world) s choice l (words_of_sane z r.world i.sane) a (word z r'.world) (at_activity z r.world.rows a l h.activity (i.sane.locals s l h.knows)) h.named
+    (omega (arith, i.clock, i.sane.sized.few_seats)) (λ q o. omega (arith, i.room q o, i.sane.sized.few_seats, i.sane.sized.few_cells)) h.changed
+
+-- the world is sane
+pub sane_keeps : (z : Sizes) (r r' : Run) (s : ℕ) (choice : Choice) (l : Local) (a : Activity) (l' : Local) → Arrow z (word z r.world) s choice l a l' → Happens z r r' s choice l l' a → Shape z r.world → IsSane z r'.world
+sane_keeps z r r' s choice l a l' b h i =
+    let v = words_keep z r r' s choice l a l' h i in
+    record {
+      sized = subst (λ x. IsSized z.seats z.cells x) (sym h.rows) v.sized;
+      words = h.words ∙ i.sane.words ∙ ap (λ x. words_of z.seats z.cells x) (sym h.rows);
+      seats = omega (arith, ap length h.locals, length-set r.world.locals s l', i.sane.seats);
+      each = λ n o. v.each n (subst (λ x. IsWithin z.seats z.cells x n) h.rows o);
+      led = λ n o. subst (λ x. IsLed x n (word z r'.world n)) (sym h.rows) (v.led n (subst (λ x. IsWithin z.seats z.cells x n) h.rows o));
+      locals = each_seat h (λ t k. IsKnown z r'.world.rows k) (subst (λ x. IsKnown z x l') (sym h.rows) (known_own z r r' s choice l a l' b h i)) (λ t k d g. subst (λ x. IsKnown z x k) (sym h.rows) (i.sane.locals t k g));
+    }
+
+-- an event that asks for no cell, and after which the seat is not about to
+room_plain : (z : Sizes) (r r' : Run) (s : ℕ) (choice : Choice) (l : Local) (a : Activity) (l' : Local) → Happens z r r' s choice l l' a → Shape z r.world → (q : ℕ) → given_in (word z r'.world) q ≡ given_in (word z r.world) q → adding l'.activity l'.row q ≡ 0 → q < r.world.rows → given_in (word z r'.world) q + adders q r'.world.locals < z.cells + z.seats
+room_plain z r r' s choice l a l' h i q e f o = omega (arith, i.room q o, e, f, adders-set q r.world.locals s l l' h.knows, ap (adders q) h.locals)
+
+-- an event that asks for a cell
+room_add : (z : Sizes) (r r' : Run) (s : ℕ) (choice : Choice) (l : Local) (l' : Local) → Happens z r r' s choice l l' PutAdd → Shape z r.world → (q : ℕ) → adding l'.activity l'.row q ≡ 0 → q < r.world.rows → given_in (word z r'.world) q + adders q r'.world.locals < z.cells + z.seats
+room_add z r r' s choice l l' h i q f o = which (cases_eq q l.row)
+  where
+    part : adding l.activity l.row q ≡ adding PutAdd l.row q
+    part = ap (λ x. adding x l.row q) h.activity
+
+    which : (q ≡ l.row) ⊎ (q ≡ l.row → ⊥) → given_in (word z r'.world) q + adders q r'.world.locals < z.cells + z.seats
+    which (inl u) =
+        let x : given_in (word z r'.world) l.row ≡ given_in (word z r.world) l.row + 1 = ap (λ w. given_of (count_of w)) h.changed.same ∙ given-next (word z r.world (name.Count l.row)) _ refl (i.sane.each (name.Count l.row) (subst (λ y. y < r.world.rows) u o)) in
+        let y : given_in (word z r'.world) q ≡ given_in (word z r.world) q + 1 = subst (λ t. given_in (word z r'.world) t ≡ given_in (word z r.world) t + 1) (sym u) x in
+        omega (arith, i.room q o, y, f, part, chosen {A = ℕ} l.row q 1 0 (sym u), adders-set q r.world.locals s l l' h.knows, ap (adders q) h.locals)
+    which (inr d) = room_plain z r r' s choice l PutAdd l' h i q (ap (λ w. given_of (count_of w)) (count_kept PutAdd h q o (λ x u. d u))) f o
+
+-- each row has room for the cells that are asked for
+pub room_keeps : (z : Sizes) (r r' : Run) (s : ℕ) (choice : Choice) (l : Local) (a : Activity) (l' : Local) → Arrow z (word z r.world) s choice l a l' → Happens z r r' s choice l l' a → Shape z r.world → (q : ℕ) → q < r.world.rows → given_in (word z r'.world) q + adders q r'.world.locals < z.cells + z.seats
+room_keeps z r r' s choice l a l' (finds_room e) h i q o = which (cases_eq l.row q)
+  where
+    seats : length (slice_set r.world.locals s l') ≡ length r.world.locals
+    seats = length-set r.world.locals s l'
+
+    same : given_in (word z r'.world) q ≡ given_in (word z r.world) q
+    same = ap (λ w. given_of (count_of w)) (count_kept PutCount h q o (λ x u. x))
+
+    which : (l.row ≡ q) ⊎ (l.row ≡ q → ⊥) → given_in (word z r'.world) q + adders q r'.world.locals < z.cells + z.seats
+    which (inl u) =
+        let x : given_in (word z r.world) q < z.cells = subst (λ y. given_in (word z r.world) y < z.cells) u (room_below z (count_of (word z r.world (name.Count l.row))) e) in
+        omega (arith, same, x, adders_at_most q r'.world.locals, ap length h.locals, seats, i.sane.seats)
+    which (inr d) = room_plain z r r' s choice l PutCount _ h i q same (not_chosen {A = ℕ} l.row q 1 0 d) o
+room_keeps z r r' s choice l a l' (finds_none e) h i q o = room_plain z r r' s choice l PutCount _ h i q (ap (λ w. given_of (count_of w)) (count_kept PutCount h q o (λ x u. x))) refl o
+room_keeps z r r' s choice l a l' (takes_cell e) h i q o = room_add z r r' s choice l _ h i q refl o
+room_keeps z r r' s choice l a l' (takes_none e) h i q o = room_add z r r' s choice l _ h i q refl o
+room_keeps z r r' s choice l a l' b h i q o = room_plain z r r' s choice l _ l' h i q (ap (λ w. given_of (count_of w)) (count_kept _ h q o (λ x u. x))) (adding_next z (word z r.world) s choice l _ l' q b (λ x. x)) o
+
+-- the clock has room for the versions that are drawn
+pub clock_keeps : (z : Sizes) (r r' : Run) (s : ℕ) (choice : Choice) (l : Local) (a : Activity) (l' : Local) → Arrow z (word z r.world) s choice l a l' → Happens z r r' s choice l l' a → Shape z r.world → word z r'.world name.Clock + drawers r'.world.locals ≤ SPENT + z.seats
+clock_keeps z r r' s choice l a l' (waits e) h i = omega (arith, e, clock_kept ScanClock h (λ x. x), drawers_at_most r'.world.locals, ap length h.locals, length-set r.world.locals s l', i.sane.seats)
+clock_keeps z r r' s choice l a l' (is_spent e) h i = omega (arith, i.clock, clock_kept ScanClock h (λ x. x), drawers-set r.world.locals s l l' h.knows, ap drawers h.locals)
+clock_keeps z r r' s choice l a l' stores_waiting h i = omega (arith, i.clock, clock_kept ScanWait h (λ x. x), ap drawing h.activity, drawers-set r.world.locals s l l' h.knows, ap drawers h.locals)
+clock_keeps z r r' s choice l a l' draws h i = omega (arith, i.clock, h.changed.same, ap drawing h.activity, drawers-set r.world.locals s l l' h.knows, ap drawers h.locals)
+clock_keeps z r r' s choice l a l' b h i = omega (arith, i.clock, clock_kept _ h (λ x. x), drawing_next z (word z r.world) s choice l _ l' b (λ x. x), drawers-set r.world.locals s l l' h.knows, ap drawers h.locals)
+
+-- which call is put, read or scanned
+put_call : (c : Option Call) → is_put c ≡ true → IsPutCall c
+put_call (Some (Put key value)) e = tt
+put_call (Some (Del key)) e = tt
+put_call (Some (Get key)) e = let x : false ≡ true = e in absurd (cc)
+put_call (Some (Scan from upto)) e = let x : false ≡ true = e in absurd (cc)
+put_call None e = let x : false ≡ true = e in absurd (cc)
+
+read_call : (c : Option Call) → IsSomeCall c → is_put c ≡ false → IsReadCall c
+read_call (Some (Put key value)) k e = let x : true ≡ false = e in absurd (cc)
+read_call (Some (Del key)) k e = let x : true ≡ false = e in absurd (cc)
+read_call (Some (Get key)) k e = tt
+read_call (Some (Scan from upto)) k e = tt
+read_call None k e = absurd k
+
+scan_call : (c : Option Call) → is_scan c ≡ true → IsScanCall c
+scan_call (Some (Put key value)) e = let x : false ≡ true = e in absurd (cc)
+scan_call (Some (Del key)) e = let x : false ≡ true = e in absurd (cc)
+scan_call (Some (Get key)) e = let x : false ≡ true = e in absurd (cc)
+scan_call (Some (Scan from upto)) e = tt
+scan_call None e = let x : false ≡ true = e in absurd (cc)
+
+some_scan : (c : Option Call) → IsScanCall c → IsSomeCall c
+some_scan (Some c) k = tt
+some_scan None k = k
+
+some_read : (c : Option Call) → IsReadCall c → IsSomeCall c
+some_read (Some c) k = tt
+some_read None k = k
+
+-- a call that is no scan has one key
+one_key : (c : Option Call) → is_scan c ≡ false → first_key c ≤ last_key c
+one_key (Some (Put key value)) e = omega arith
+one_key (Some (Del key)) e = omega arith
+one_key (Some (Get key)) e = omega arith
+one_key (Some (Scan from upto)) e = let x : true ≡ false = e in absurd (cc)
+one_key None e = omega arith
+
+-- the replies of such calls
+no_rows : (c : Option Call) → IsPutCall c → IsReplyOf c NoRows
+no_rows (Some (Put key value)) k = tt
+no_rows (Some (Del key)) k = tt
+no_rows (Some (Get key)) k = k
+no_rows (Some (Scan from upto)) k = k
+no_rows None k = k
+
+put_done : (c : Option Call) → IsPutCall c → IsReplyOf c Done
+put_done (Some (Put key value)) k = tt
+put_done (Some (Del key)) k = tt
+put_done (Some (Get key)) k = k
+put_done (Some (Scan from upto)) k = k
+put_done None k = k
+
+scan_reply : (c : Option Call) (reply : Reply) → IsScanCall c → IsReplyOf (Some (Scan 0 0)) reply → IsReplyOf c reply
+scan_reply (Some (Scan from upto)) (Pairs pairs) k y = tt
+scan_reply (Some (Scan from upto)) Spent k y = tt
+scan_reply (Some (Scan from upto)) Stopped k y = tt
+scan_reply (Some (Scan from upto)) Done k y = y
+scan_reply (Some (Scan from upto)) (Value v) k y = y
+scan_reply (Some (Scan from upto)) Absent k y = y
+scan_reply (Some (Scan from upto)) NoRows k y = y
+scan_reply (Some (Put key value)) reply k y = absurd k
+scan_reply (Some (Del key)) reply k y = absurd k
+scan_reply (Some (Get key)) reply k y = absurd k
+scan_reply None reply k y = absurd k
+
+get_reply : (c : Option Call) (x : Option ℕ) → IsReadCall c → is_scan c ≡ false → IsReplyOf c (found x)
+get_reply (Some (Put key value)) x k e = absurd k
+get_reply (Some (Del key)) x k e = absurd k
+get_reply (Some (Get key)) (Some v) k e = tt
+get_reply (Some (Get key)) None k e = tt
+get_reply (Some (Scan from upto)) x k e = let y : true ≡ false = e in absurd (cc)
+get_reply None x k e = absurd k
+
+-- what a reader does next
+kinds_look : (z : Sizes) (j : ℕ) (l : Local) (next : Activity) → NextLook z j next → IsReadCall l.call → first_key l.call ≤ last_key l.call → Kinds next l
+kinds_look z j l next (looks o) k e = record { kind = k; range = λ x. e }
+kinds_look z j l next (counts o) k e = record { kind = k; range = λ x. e }
+
+kinds_cell : (l : Local) (j : ℕ) (next : Local) → NextCell l j next → IsReadCall l.call → first_key l.call ≤ last_key l.call → Kinds next.activity next
+kinds_cell l j next (reads_cell o) k e = record { kind = (k, o); range = λ x. e }
+kinds_cell l j next (answers o n) k e = record { kind = get_reply l.call _ k n; range = λ x. absurd x }
+kinds_cell l j next (ends_scan o y n) k e = record { kind = (scan_call l.call y, tt); range = λ x. absurd x }
+kinds_cell l j next (scans_on q o y n w) k e = record { kind = some_read l.call k; range = λ x. e }
+
+-- by the arrow that the seat takes
+kinds_by : (z : Sizes) (v : Words) (s : ℕ) (choice : Choice) (l : Local) (a : Activity) (l' : Local) → Arrow z v s choice l a l' → Kinds a l → Kinds l'.activity l'
+kinds_by z v s choice l a l' (begins call e y) k = record { kind = tt; range = λ x. absurd x }
+kinds_by z v s choice l a l' (enters y) k = record { kind = k.kind; range = λ x. one_key l.call y }
+kinds_by z v s choice l a l' (enters_scan y) k = record { kind = scan_call l.call y; range = λ x. absurd x }
+kinds_by z v s choice l a l' (is_spent y) k = record { kind = scan_reply l.call Spent k.kind tt; range = λ x. absurd x }
+kinds_by z v s choice l a l' (waits y) k = record { kind = k.kind; range = λ x. absurd x }
+kinds_by z v s choice l a l' stores_waiting k = record { kind = k.kind; range = λ x. absurd x }
+kinds_by z v s choice l a l' draws k = record { kind = k.kind; range = λ x. absurd x }
+kinds_by z v s choice l a l' (settles_empty y) k = record { kind = (k.kind, tt); range = λ x. absurd x }
+kinds_by z v s choice l a l' (settles y) k = record { kind = some_scan l.call k.kind; range = λ x. not_below (last_key l.call) (first_key l.call) y }
+kinds_by z v s choice l a l' starts_at_head k = record { kind = k.kind; range = λ x. k.range tt }
+kinds_by z v s choice l a l' (guesses q e y) k = record { kind = k.kind; range = λ x. k.range tt }
+kinds_by z v s choice l a l' guess_fails k = record { kind = k.kind; range = λ x. k.range tt }
+kinds_by z v s choice l a l' takes_head k = record { kind = k.kind; range = λ x. k.range tt }
+kinds_by z v s choice l a l' (guess_serves y) k = record { kind = k.kind; range = λ x. k.range tt }
+kinds_by z v s choice l a l' (guess_is_above y) k = record { kind = k.kind; range = λ x. k.range tt }
+kinds_by z v s choice l a l' (stops y) k = record { kind = stopped; range = λ x. absurd x }
+  where
+    stopped : IsReplyOf l.call Stopped
+    stopped = let t = and_parts (is_stop choice) (is_scan l.call && l.has_read) y in scan_reply l.call Stopped (scan_call l.call (and_parts (is_scan l.call) l.has_read t.1).0) tt
+kinds_by z v s choice l a l' (puts_in_last p y) k = record { kind = put_call l.call p; range = λ x. absurd x }
+kinds_by z v s choice l a l' (reads_last p y) k = record { kind = read_call l.call k.kind p; range = λ x. k.range tt }
+kinds_by z v s choice l a l' (meets_next q y) k = record { kind = k.kind; range = λ x. k.range tt }
+kinds_by z v s choice l a l' (walks_on y) k = record { kind = k.kind; range = λ x. k.range tt }
+kinds_by z v s choice l a l' (puts_before p y) k = record { kind = put_call l.call p; range = λ x. absurd x }
+kinds_by z v s choice l a l' (reads_before p y) k = record { kind = read_call l.call k.kind p; range = λ x. k.range tt }
+kinds_by z v s choice l a l' (meets_pending j c y) k = record { kind = k.kind; range = λ x. k.range tt }
+kinds_by z v s choice l a l' (meets_stamped j c version next y n) k = kinds_look z _ _ next n k.kind (k.range tt)
+kinds_by z v s choice l a l' (meets_neither j next y n) k = kinds_look z _ _ next n k.kind (k.range tt)
+kinds_by z v s choice l a l' (is_wanted y) k = record { kind = k.kind; range = λ x. k.range tt }
+kinds_by z v s choice l a l' (is_passed next y n) k = kinds_look z _ _ next n k.kind (k.range tt)
+kinds_by z v s choice l a l' loads_to_help k = record { kind = k.kind; range = λ x. k.range tt }
+kinds_by z v s choice l a l' (helps next y n) k = kinds_look z _ _ next n k.kind (k.range tt)
+kinds_by z v s choice l a l' (finds_stamped c version next y n) k = kinds_look z _ _ next n k.kind (k.range tt)
+kinds_by z v s choice l a l' (finds_other next y n) k = kinds_look z _ _ next n k.kind (k.range tt)
+kinds_by z v s choice l a l' (counts_cells next n) k = kinds_cell _ _ next n k.kind (k.range tt)
+kinds_by z v s choice l a l' (has_version j version y) k = record { kind = k.kind; range = λ x. k.range tt }
+kinds_by z v s choice l a l' (has_no_version j next y n) k = kinds_cell _ _ next n k.kind.0 (k.range tt)
+kinds_by z v s choice l a l' (has_key y) k = record { kind = k.kind; range = λ x. k.range tt }
+kinds_by z v s choice l a l' (has_other_key next y n) k = kinds_cell _ _ next n k.kind.0 (k.range tt)
+kinds_by z v s choice l a l' (gathers next n) k = kinds_cell _ _ next n k.kind.0 (k.range tt)
+kinds_by z v s choice l a l' (clears_scan reply) k = record { kind = cleared choice reply k.kind.1; range = λ x. absurd x }
+  where
+    cleared : (c : Choice) (y : Reply) → IsPairs y → IsReplyOf l.call (reply_or_stopped y c)
+    cleared Stop y p = scan_reply l.call Stopped k.kind.0 tt
+    cleared c (Pairs pairs) p = scan_reply l.call _ k.kind.0 tt
+    cleared c _ p = absurd p
+kinds_by z v s choice l a l' (finds_room y) k = record { kind = k.kind; range = λ x. absurd x }
+kinds_by z v s choice l a l' (finds_none y) k = record { kind = no_rows l.call k.kind; range = λ x. absurd x }
+kinds_by z v s choice l a l' (takes_cell y) k = record { kind = k.kind; range = λ x. absurd x }
+kinds_by z v s choice l a l' (takes_none y) k = record { kind = no_rows l.call k.kind; range = λ x. absurd x }
+kinds_by z v s choice l a l' stores_key k = record { kind = k.kind; range = λ x. absurd x }
+kinds_by z v s choice l a l' stores_value k = record { kind = k.kind; range = λ x. absurd x }
+kinds_by z v s choice l a l' (announces y) k = record { kind = k.kind; range = λ x. absurd x }
+kinds_by z v s choice l a l' (is_refused y) k = record { kind = no_rows l.call k.kind; range = λ x. absurd x }
+kinds_by z v s choice l a l' loads_clock k = record { kind = k.kind; range = λ x. absurd x }
+kinds_by z v s choice l a l' (stamps y) k = record { kind = k.kind; range = λ x. absurd x }
+kinds_by z v s choice l a l' (is_stamped version y) k = record { kind = k.kind; range = λ x. absurd x }
+kinds_by z v s choice l a l' (is_not_own y) k = record { kind = no_rows l.call k.kind; range = λ x. absurd x }
+kinds_by z v s choice l a l' stores_version k = record { kind = k.kind; range = λ x. absurd x }
+kinds_by z v s choice l a l' clears k = record { kind = put_done l.call k.kind; range = λ x. absurd x }
+kinds_by z v s choice l a l' (leaves reply) k = record { kind = tt; range = λ x. absurd x }
+
+-- the acting seat goes on to an activity of its call
+pub kinds_own : (z : Sizes) (r r' : Run) (s : ℕ) (choice : Choice) (l : Local) (a : Activity) (l' : Local) → Arrow z (word z r.world) s choice l a l' → Happens z r r' s choice l l' a → Shape z r.world → Kinds l'.activity l'
+kinds_own z r r' s choice l a l' b h i = kinds_by z (word z r.world) s choice l a l' b (subst (λ q. Kinds q l) h.activity (i.kinds s l h.knows))
+
+-- the acting seat is where its call has it
+pub walks_own : (z : Sizes) (r r' : Run) (s : ℕ) (choice : Choice) (l : Local) (a : Activity) (l' : Local) → Arrow z (word z r.world) s choice l a l' → Happens z r r' s choice l l' a → Shape z r.world → Walks r.world.rows (word z r'.world) l'.activity l'
+walks_own z r r' s choice l a l' b h i =
+    let w = subst (λ q. Walks r.world.rows (word z r.world) q l) h.activity (i.walks s l h.knows) in
+    walks_stable r.world.rows (word z r.world) (word z r'.world) l'.activity l' (same_rows a h) i.chain (known_own z r r' s choice l a l' b h i).below.row
+    (walks_by z r.world.rows (word z r.world) s choice l a l' b i.chain h.offers w)
+
+-- The group.
+
+pub shape_keeps : (z : Sizes) (r r' : Run) (s : ℕ) (choice : Choice) (l : Local) (a : Activity) (l' : Local) → Happens z r r' s choice l l' a → Shape z r.world → Shape z r'.world
+shape_keeps z r r' s choice l a l' h i = record {
+  sane = sane_keeps z r r' s choice l a l' h.arrow h i;
+  room = λ q o. room_keeps z r r' s choice l a l' h.arrow h i q (subst (λ x. q < x) h.rows o);
+  clock = clock_keeps z r r' s choice l a l' h.arrow h i;
+  chain = subst (λ x. Chain x (word z r'.world)) (sym h.rows) (chain_stable r.world.rows (word z r.world) (word z r'.world) (same_rows a h) i.chain);
+  kinds = each_seat h (λ t k. Kinds k.activity k) (kinds_own z r r' s choice l a l' h.arrow h i) (λ t k d g. i.kinds t k g);
+  walks = each_seat h (λ t k. Walks r'.world.rows (word z r'.world) k.activity k)
+      (subst (λ x. Walks x (word z r'.world) l'.activity l') (sym h.rows) (walks_own z r r' s choice l a l' h.arrow h i))
+      (λ t k d g. subst (λ x. Walks x (word z r'.world) k.activity k) (sym h.rows) (walks_stable r.world.rows (word z r.world) (word z r'.world) k.activity k (same_rows a h) i.chain (i.sane.locals t k g).below.row (i.walks t k g)));
+}
