@@ -8,7 +8,10 @@
   tools/compare_simulate.py .. --drop-order                                         the other's last line is left out
   tools/compare_simulate.py .. --program 'COMMAND'                                  in place of `./kiwi simulate`
 
-Both programs get a script on standard input. Their outputs must be the same byte for byte, and their statuses too. With
+The other program is a simulator of the same event table with the same sizes (8 seats, 64 cells a row), written apart from
+this one: it reads a script on standard input, prints a line as each call ends and then the order line, and ends with status 0,
+or with 3 at a bad script (docs/DEFINITIONS.md, "Scripts"). None is in the repository. Both programs get a script on standard
+input. Their outputs must be the same byte for byte, and their statuses too. With
 --drop-order the last line of the other's output is left out where it begins with the word `order`. A command of --scripts
 writes a script to standard output, and {seed} in it is the seed. The last line says how many agreed; the status is 1 where
 one did not, or where a script could not be had."""

@@ -5,8 +5,8 @@ use Rattle.std.specs.Prelude.{IfSome}
 use Rattle.kw_line.specs.declared.parse.TheConstants.{MOST_BYTES}
 use Rattle.kw_line.proofs.Unique.{items_or_bad, same_bad}
 use Rattle.kw_table.specs.declared.pass.Pass.{Pass}
-use Rattle.kw_app.specs.declared.command.Command.{Command}
-use Rattle.kw_app.specs.declared.command.Command.TheVariants as command
+use Rattle.kw_command.specs.declared.command.Command.{Command}
+use Rattle.kw_command.specs.declared.command.Command.TheVariants as command
 use Rattle.kw_app.specs.declared.outcome.Outcome.{Outcome}
 use Rattle.kw_app.specs.declared.outcome.Status.TheVariants as status
 use Rattle.kw_app.specs.Ends.{IsPrinted, IsFirstBad, IsToldBad, Prints, Reads, Tells}

@@ -1,15 +1,4 @@
 pub mod Asked
-pub mod Meaning
-pub mod Numbers
-pub mod Options
-pub mod Commands
-pub mod Ranges
-pub mod Walk
-pub mod Parsed
-pub mod Tokens
-pub mod Known
-pub mod Getters
-pub mod Means
 pub mod Lines
 pub mod Scripts
 pub mod Ended

@@ -18,7 +18,7 @@ use Rattle.kw_world.specs.Opening.{IsOpening}
 use Rattle.kw_world.specs.Sizes.{product}
 use Rattle.kw_table.specs.declared.pass.Pass.{Pass}
 use Rattle.kw_table.specs.Passes.{view}
-use Rattle.kw_app.specs.declared.command.TheConstants.{MOST_LINES}
+use Rattle.kw_command.specs.declared.command.TheConstants.{MOST_LINES}
 use Rattle.kw_app.specs.declared.generate.TheConstants.{MODULUS, KEYS}
 use Rattle.kw_app.specs.Answering.{IsAnswered, opening, some_refused}
 use Rattle.kw_app.specs.Generated.{next, drawn, line_of, line_after, lines_after, last_lines, generated}

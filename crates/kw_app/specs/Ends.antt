@@ -4,8 +4,8 @@ use Rattle.kw_line.specs.declared.parse.TheConstants.{MOST_BYTES}
 use Rattle.kw_line.specs.Line as line
 use Rattle.kw_sim.specs.Output.{IsOutputOf}
 use Rattle.kw_sim.specs.Script as script
-use Rattle.kw_app.specs.declared.command.Command.{Command}
-use Rattle.kw_app.specs.declared.command.Command.TheVariants as command
+use Rattle.kw_command.specs.declared.command.Command.{Command}
+use Rattle.kw_command.specs.declared.command.Command.TheVariants as command
 use Rattle.kw_app.specs.declared.text.InputError.{InputError}
 use Rattle.kw_app.specs.declared.text.InputError.TheVariants as error
 use Rattle.kw_app.specs.declared.outcome.Outcome.{Outcome}

@@ -1,6 +1,3 @@
-pub mod Words
-pub mod Reading
-pub mod Clap
 pub mod Status
 pub mod Shown
 pub mod OneThread

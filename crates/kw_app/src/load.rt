@@ -6,7 +6,7 @@ ghost use Rattle.kw_app.specs.Answering.{opening};
 ghost use Rattle.kw_app.specs.Load.{IsLoaded};
 
 use crate::answering::{answered, some_refused};
-use crate::command::MOST_LINES;
+use kw_command::command::MOST_LINES;
 use crate::generate::generate;
 use crate::printed::Printed;
 use crate::summary::summary;

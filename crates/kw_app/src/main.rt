@@ -4,7 +4,7 @@
 //! [`run::run`], says a fault on standard error, and ends with the outcome's status. All that is promised of the program stands
 //! on the contract of `run`. The modules below it:
 //!
-//! - `word`, `words` and `command` read the words of the command line.
+//! - `kw_command`, a crate of its own, reads the words of the command line.
 //! - `text`, `printed` and `replay` make the text of an input's replies; `load`, `generate` and `summary` the summary of a generated load.
 //! - `answering` asks the lines, of the concurrent map or of the plain list (`plain`).
 //! - `running`, `rounds`, `working` and `asking` run lines on the concurrent map: all blocks, one block, one worker, one line. Block after
@@ -15,7 +15,6 @@
 
 mod answering;
 mod asking;
-mod command;
 mod fault;
 mod generate;
 mod load;
@@ -30,14 +29,12 @@ mod summary;
 #[cfg(test)]
 mod tests;
 mod text;
-mod word;
-mod words;
 mod working;
 
 use crate::fault::write_fault;
 use crate::outcome::{Outcome, Status};
 use crate::run::run;
-use crate::word::Word;
+use kw_command::word::Word;
 use crate::working::NoGate;
 use kw_io::{ErrSink, StdSink, StdSource};
 use std::alloc::AllocError;

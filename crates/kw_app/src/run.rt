@@ -6,16 +6,16 @@ ghost use Rattle.std.specs.Prelude.{◌≡◌, ◌≢◌, ◌≤◌, ◌⊎◌, 
 ghost use Rattle.std.specs.Io.KnownBytes.{Appends};
 ghost use Rattle.kw_io.specs.Bytes.{AppendsPrefix};
 ghost use Rattle.kw_io.specs.Counts.{CountRose};
-ghost use Rattle.kw_app.specs.declared.command.Command.{Command as AnyCommand};
-ghost use Rattle.kw_app.specs.Words.{AreInRange, Means};
+ghost use Rattle.kw_command.specs.declared.command.Command.{Command as AnyCommand};
+ghost use Rattle.kw_command.specs.Words.{AreInRange, Means};
 ghost use Rattle.kw_app.specs.Ends.{IsBadInput, IsToldBad, Prints, Reads, Tells};
 
-use crate::command::{Command, command_of};
+use kw_command::command::{Command, command_of};
 use crate::load::load;
 use crate::outcome::{Outcome, Status};
 use crate::printed::Printed;
 use crate::text::{InputError, text_of};
-use crate::word::Word;
+use kw_command::word::Word;
 use crate::working::Gate;
 use kw_io::{ReadError, Sink, Source, read_all, write_all};
 use kw_line::parse::MOST_BYTES;

@@ -1,7 +1,7 @@
 //! Whole runs over streams in memory, by the public call alone. What is expected was worked out by hand or by a map in another language.
 use crate::outcome::{Outcome, Status};
 use crate::run::run;
-use crate::word::Word;
+use kw_command::word::Word;
 use crate::working::{Gate, NoGate};
 use kw_io::{MemSink, MemSource};
 use std::alloc::{AllocError, Global};

@@ -3,10 +3,10 @@
 //! Each command that reads has its own reader and its own errors; here they become one text or one [`InputError`], so that
 //! `run` need not know which command it was.
 ghost use Rattle.std.specs.Prelude.{◌≤◌, length, IfOk};
-ghost use Rattle.kw_app.specs.Words.{AreInRange};
+ghost use Rattle.kw_command.specs.Words.{AreInRange};
 ghost use Rattle.kw_app.specs.Ends.{IfBad, IsPrinted, Reads};
 
-use crate::command::Command;
+use kw_command::command::Command;
 use crate::printed::Printed;
 use crate::replay::replay;
 use crate::working::Gate;

@@ -3,10 +3,10 @@ use Rattle.std.proofs.Common.{◌≡◌, ℕ, Bool, true, false, List, Option, S
 use Rattle.std.specs.Prelude.{IfSome, MatchOption}
 use Rattle.std.specs.Io.KnownBytes.{Appends}
 use Rattle.kw_io.specs.Bytes.{AppendsPrefix}
-use Rattle.kw_app.specs.declared.command.Command.{Command}
+use Rattle.kw_command.specs.declared.command.Command.{Command}
 use Rattle.kw_app.specs.Ends.{IsBadInput, IsToldBad, Tells}
-use Rattle.kw_app.specs.Words.{Means}
-use Rattle.kw_app.proofs.Commands.{at_command}
+use Rattle.kw_command.specs.Words.{Means}
+use Rattle.kw_command.proofs.Commands.{at_command}
 use Rattle.kw_app.proofs.run.run.Goals as goal
 
 -- the command that was found is one that the words mean

@@ -3,7 +3,7 @@ use Rattle.std.proofs.Common.{Option, sym, subst}
 use Rattle.std.specs.Prelude.{true, false}
 use Rattle.std.specs.Io.KnownBytes.{Appends}
 use Rattle.kw_io.specs.Bytes.{AppendsPrefix}
-use Rattle.kw_app.specs.declared.command.Command.{Command}
+use Rattle.kw_command.specs.declared.command.Command.{Command}
 use Rattle.kw_table.specs.declared.pass.Pass.{Pass}
 use Rattle.kw_app.specs.Ends.{Reads, Tells}
 use Rattle.kw_app.specs.Load.{IsLoaded}

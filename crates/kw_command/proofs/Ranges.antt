@@ -4,10 +4,10 @@ use Rattle.std.specs.Prelude.{nat_le}
 use Rattle.std.specs.Str.Parse.{digits_value}
 use Rattle.std.proofs.lemmas.Bool.Decides.{nat_tests}
 use Rattle.kw_words.specs.declared.sizes.TheConstants.{MOST_ROWS}
-use Rattle.kw_app.specs.declared.command.Command.{Command}
-use Rattle.kw_app.specs.declared.command.Command.TheVariants as command
-use Rattle.kw_app.specs.declared.command.TheConstants.{MOST_WORKERS, DEFAULT_WORKERS, FEWEST_ROWS, DEFAULT_ROWS, SIMULATED_ROWS, MOST_START, MOST_LINES}
-use Rattle.kw_app.specs.Words.{Part, numbers, all_workers, all_rows, is_digits, number_in, IsOption, AreNumbers, Makes, Means, IsWithin, AreInRange}
+use Rattle.kw_command.specs.declared.command.Command.{Command}
+use Rattle.kw_command.specs.declared.command.Command.TheVariants as command
+use Rattle.kw_command.specs.declared.command.TheConstants.{MOST_WORKERS, DEFAULT_WORKERS, FEWEST_ROWS, DEFAULT_ROWS, SIMULATED_ROWS, MOST_START, MOST_LINES}
+use Rattle.kw_command.specs.Words.{Part, numbers, all_workers, all_rows, is_digits, number_in, IsOption, AreNumbers, Makes, Means, IsWithin, AreInRange}
 
 -- a number that is read is in range
 number_within : (least most n : ℕ) (w : List ℕ) → number_in least most w ≡ Some n → IsWithin least most n

@@ -3,9 +3,9 @@ use Rattle.std.proofs.Common.{◌≡◌, ℕ, Bool, true, false, cond, Option, N
 use Rattle.std.specs.List.{flat_map}
 use Rattle.std.specs.Str.{bytes_eq}
 use Rattle.std.proofs.lemmas.Slice.Eq.{bytes_eq-Decides}
-use Rattle.kw_app.specs.declared.words.Arguments.{Arguments}
-use Rattle.kw_app.specs.Words.{Part, number, workers, rows, part_words}
-use Rattle.kw_app.specs.Reading.{with_workers, with_rows, with_number, then_with, reads}
+use Rattle.kw_command.specs.declared.words.Arguments.{Arguments}
+use Rattle.kw_command.specs.Words.{Part, number, workers, rows, part_words}
+use Rattle.kw_command.specs.Reading.{with_workers, with_rows, with_number, then_with, reads}
 
 -- ---- the words read one after the other, and the parts that they are
 

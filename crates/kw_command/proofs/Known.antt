@@ -8,11 +8,11 @@ use Rattle.std.specs.Str.Parse.{digits_value, signed_digits_value, without_leadi
 use Rattle.std.proofs.lemmas.Bool.Decides.{nat_tests}
 use Rattle.std.proofs.lemmas.Slice.Eq.{bytes_eq-Decides}
 use Rattle.std.proofs.lemmas.Str.Parse.{digits_value_short}
-use Rattle.kw_app.specs.declared.words.TheConstants.{MOST_DIGITS}
-use Rattle.kw_app.specs.Words.{is_digits, is_known, number_in}
-use Rattle.kw_app.specs.Clap.{least_of, most_of}
-use Rattle.kw_app.proofs.Numbers.{all_digits, own}
-use Rattle.kw_app.proofs.Tokens.{Token, workers_name, rows_name, plain, token_word, words_of, IsToken}
+use Rattle.kw_command.specs.declared.words.TheConstants.{MOST_DIGITS}
+use Rattle.kw_command.specs.Words.{is_digits, is_known, number_in}
+use Rattle.kw_command.specs.Clap.{least_of, most_of}
+use Rattle.kw_command.proofs.Numbers.{all_digits, own}
+use Rattle.kw_command.proofs.Tokens.{Token, workers_name, rows_name, plain, token_word, words_of, IsToken}
 use Rattle.clap.specs.ValueTests.{is_numeral, is_signed_in, fits_i64}
 
 -- the parts of the test for digits

@@ -2,15 +2,15 @@
 use Rattle.std.proofs.Common.{◌≡◌, ℕ, Option, Some, None, List, [], ◌∷◌, refl, sym, ◌∙◌, ap, subst}
 use Rattle.std.specs.Prelude.{option_map, unwrap_or}
 use Rattle.kw_words.specs.declared.sizes.TheConstants.{MOST_ROWS}
-use Rattle.kw_app.specs.declared.command.Command.{Command}
-use Rattle.kw_app.specs.declared.command.Command.TheVariants as command
-use Rattle.kw_app.specs.declared.command.Name.{Name}
-use Rattle.kw_app.specs.declared.command.Name.TheVariants as name
-use Rattle.kw_app.specs.declared.command.TheConstants.{MOST_WORKERS, DEFAULT_WORKERS, FEWEST_ROWS, DEFAULT_ROWS, SIMULATED_ROWS, MOST_START, MOST_LINES}
-use Rattle.kw_app.specs.declared.words.Arguments.{Arguments}
-use Rattle.kw_app.specs.Words.{Part, number, workers, rows, numbers, all_workers, all_rows, number_in, IsOption, AreNumbers, Makes}
-use Rattle.kw_app.specs.Reading.{once, with_workers, with_rows, with_number, then_with, no_arguments, picked, picked_from}
-use Rattle.kw_app.proofs.Meaning.{adds}
+use Rattle.kw_command.specs.declared.command.Command.{Command}
+use Rattle.kw_command.specs.declared.command.Command.TheVariants as command
+use Rattle.kw_command.specs.declared.command.Name.{Name}
+use Rattle.kw_command.specs.declared.command.Name.TheVariants as name
+use Rattle.kw_command.specs.declared.command.TheConstants.{MOST_WORKERS, DEFAULT_WORKERS, FEWEST_ROWS, DEFAULT_ROWS, SIMULATED_ROWS, MOST_START, MOST_LINES}
+use Rattle.kw_command.specs.declared.words.Arguments.{Arguments}
+use Rattle.kw_command.specs.Words.{Part, number, workers, rows, numbers, all_workers, all_rows, number_in, IsOption, AreNumbers, Makes}
+use Rattle.kw_command.specs.Reading.{once, with_workers, with_rows, with_number, then_with, no_arguments, picked, picked_from}
+use Rattle.kw_command.proofs.Meaning.{adds}
 
 -- what is known of an option after one more word that it is given, or none where it is one too many or a bad one
 abbrev pub fill : Option (Option ℕ) → ℕ → ℕ → List ℕ → Option (Option ℕ)

@@ -7,15 +7,15 @@ use Rattle.std.specs.Str.{all_ascii_digits}
 use Rattle.std.specs.Str.Parse.{ParsesUnsigned, digits_value}
 use Rattle.std.proofs.lemmas.Bool.Decides.{nat_tests}
 use Rattle.std.proofs.lemmas.Str.Parse.{parse_digits}
-use Rattle.kw_app.specs.declared.words.Arguments.{Arguments}
-use Rattle.kw_app.specs.Words.{is_digits, is_known, number_in}
-use Rattle.kw_app.specs.Reading.{no_arguments, reads}
-use Rattle.kw_app.specs.Clap.{Field, start, count, workers, rows, id_of, least_of, most_of, kiwi}
-use Rattle.kw_app.proofs.Numbers.{all_digits, own}
-use Rattle.kw_app.proofs.Walk.{Use, row_for, value_in, one_of-uses, stands, kinds_from, fault_of-kiwi}
-use Rattle.kw_app.proofs.Parsed.{field_of, Fits, Holds}
-use Rattle.kw_app.proofs.Tokens.{first, read_all, IsRead, IsRefused}
-use Rattle.kw_app.proofs.Known.{are_digits, first_digit, no_minus, first_known, tokens_of}
+use Rattle.kw_command.specs.declared.words.Arguments.{Arguments}
+use Rattle.kw_command.specs.Words.{is_digits, is_known, number_in}
+use Rattle.kw_command.specs.Reading.{no_arguments, reads}
+use Rattle.kw_command.specs.Clap.{Field, start, count, workers, rows, id_of, least_of, most_of, kiwi}
+use Rattle.kw_command.proofs.Numbers.{all_digits, own}
+use Rattle.kw_command.proofs.Walk.{Use, row_for, value_in, one_of-uses, stands, kinds_from, fault_of-kiwi}
+use Rattle.kw_command.proofs.Parsed.{field_of, Fits, Holds}
+use Rattle.kw_command.proofs.Tokens.{first, read_all, IsRead, IsRefused}
+use Rattle.kw_command.proofs.Known.{are_digits, first_digit, no_minus, first_known, tokens_of}
 use Rattle.clap.specs.Lexer.{without_minus}
 use Rattle.clap.specs.Matches.{found_of, one_text, ReadsOne}
 use Rattle.clap.specs.Walk.{one_of, rows_of}

@@ -2,13 +2,13 @@
 use Rattle.std.specs.Prelude.{ℕ, if◌then◌else◌, List, [], ◌∷◌, Option, Some, None, codes, option_map, unwrap_or, is_some}
 use Rattle.std.specs.Str.{bytes_eq}
 use Rattle.kw_words.specs.declared.sizes.TheConstants.{MOST_ROWS}
-use Rattle.kw_app.specs.declared.command.Command.{Command}
-use Rattle.kw_app.specs.declared.command.Command.TheVariants as command
-use Rattle.kw_app.specs.declared.command.Name.{Name}
-use Rattle.kw_app.specs.declared.command.Name.TheVariants as name
-use Rattle.kw_app.specs.declared.command.TheConstants.{MOST_WORKERS, DEFAULT_WORKERS, FEWEST_ROWS, DEFAULT_ROWS, SIMULATED_ROWS, MOST_START, MOST_LINES}
-use Rattle.kw_app.specs.declared.words.Arguments.{Arguments}
-use Rattle.kw_app.specs.Words.{number_in}
+use Rattle.kw_command.specs.declared.command.Command.{Command}
+use Rattle.kw_command.specs.declared.command.Command.TheVariants as command
+use Rattle.kw_command.specs.declared.command.Name.{Name}
+use Rattle.kw_command.specs.declared.command.Name.TheVariants as name
+use Rattle.kw_command.specs.declared.command.TheConstants.{MOST_WORKERS, DEFAULT_WORKERS, FEWEST_ROWS, DEFAULT_ROWS, SIMULATED_ROWS, MOST_START, MOST_LINES}
+use Rattle.kw_command.specs.declared.words.Arguments.{Arguments}
+use Rattle.kw_command.specs.Words.{number_in}
 
 -- the number that this word writes, where there was none yet
 abbrev pub once : Option ℕ → ℕ → ℕ → List ℕ → Option ℕ

@@ -8,9 +8,9 @@ ghost use Rattle.std.specs.Prelude.{◌≡◌, Some, IfOk, IsTrue, drop};
 ghost use Rattle.std.specs.Char.{is_ascii_digit};
 ghost use Rattle.std.specs.List.{list_all};
 ghost use Rattle.clap.specs.Words.{app_of};
-ghost use Rattle.kw_app.specs.Words.{is_digits, is_known};
-ghost use Rattle.kw_app.specs.Clap.{kiwi};
-ghost use Rattle.kw_app.specs.Reading.{no_arguments, reads};
+ghost use Rattle.kw_command.specs.Words.{is_digits, is_known};
+ghost use Rattle.kw_command.specs.Clap.{kiwi};
+ghost use Rattle.kw_command.specs.Reading.{no_arguments, reads};
 
 use crate::command::{FEWEST_ROWS, MOST_LINES, MOST_WORKERS};
 use crate::word::Word;

@@ -5,10 +5,10 @@ use Rattle.std.specs.Char.{is_ascii_digit}
 use Rattle.std.specs.Str.{bytes_eq}
 use Rattle.std.specs.Str.Parse.{digits_value}
 use Rattle.kw_words.specs.declared.sizes.TheConstants.{MOST_ROWS}
-use Rattle.kw_app.specs.declared.command.Command.{Command}
-use Rattle.kw_app.specs.declared.command.Command.TheVariants as command
-use Rattle.kw_app.specs.declared.command.TheConstants.{MOST_WORKERS, DEFAULT_WORKERS, FEWEST_ROWS, DEFAULT_ROWS, SIMULATED_ROWS, MOST_START, MOST_LINES}
-use Rattle.kw_app.specs.declared.words.TheConstants.{MOST_DIGITS}
+use Rattle.kw_command.specs.declared.command.Command.{Command}
+use Rattle.kw_command.specs.declared.command.Command.TheVariants as command
+use Rattle.kw_command.specs.declared.command.TheConstants.{MOST_WORKERS, DEFAULT_WORKERS, FEWEST_ROWS, DEFAULT_ROWS, SIMULATED_ROWS, MOST_START, MOST_LINES}
+use Rattle.kw_command.specs.declared.words.TheConstants.{MOST_DIGITS}
 
 -- what may stand after a command's own word: a number by itself, or an option and its number
 pub data Part : Type 0 where

@@ -4,7 +4,7 @@
 use Rattle.std.proofs.Common.{◌≡◌, ◌==◌, ℕ, Bool, true, false, ◌||◌, cond, Option, Some, None, is_some, List, [], ◌∷◌, ◌++◌, map, drop, codes, refl, ◌∙◌, ap}
 use Rattle.std.specs.Prelude.{option_map, option_and_then, find, fold}
 use Rattle.std.specs.Str.{bytes_eq}
-use Rattle.kw_app.specs.Clap.{Field, start, count, workers, rows, id_of, kiwi}
+use Rattle.kw_command.specs.Clap.{Field, start, count, workers, rows, id_of, kiwi}
 use Rattle.clap.specs.Lexer.{without_minus}
 use Rattle.clap.specs.Kinds.{Kinds, or_else}
 use Rattle.clap.specs.Walk.{Row, Rule, Text, Walk, at_row, finished, has_row, idle, one_of, option, row_text, settled, settled_rows, walked}

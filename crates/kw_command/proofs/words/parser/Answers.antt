@@ -5,8 +5,8 @@ use Rattle.clap.specs.Words.{Rule, app_of, new_app, new_rule, rule_of, with_rule
 use Rattle.clap.specs.Simple.{app_of_fields, on_top}
 use Rattle.clap.specs.declared.builder.arg.Arg.{Arg}
 use Rattle.clap.specs.declared.builder.value_parser.ValueParser.{ValueParser}
-use Rattle.kw_app.specs.Clap.{start, count, workers, rows, rule_for, parser_of}
-use Rattle.kw_app.proofs.words.parser.Goals as goal
+use Rattle.kw_command.specs.Clap.{start, count, workers, rows, rule_for, parser_of}
+use Rattle.kw_command.proofs.words.parser.Goals as goal
 
 -- an argument with a parser
 with_parser : (a b : Arg) (r : Rule) (q : ValueParser) → b ≡ record a { value_parser = b.value_parser } → rule_of a ≡ r → b.value_parser ≡ Some q → rule_of b ≡ record r { parser = Some q }

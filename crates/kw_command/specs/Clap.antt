@@ -1,7 +1,7 @@
 -- The arguments of all commands, as `clap` is told them.
 use Rattle.std.specs.Prelude.{ℕ, List, Some, true, pos, codes}
 use Rattle.kw_words.specs.declared.sizes.TheConstants.{MOST_ROWS}
-use Rattle.kw_app.specs.declared.command.TheConstants.{MOST_WORKERS, FEWEST_ROWS, MOST_START, MOST_LINES}
+use Rattle.kw_command.specs.declared.command.TheConstants.{MOST_WORKERS, FEWEST_ROWS, MOST_START, MOST_LINES}
 use Rattle.clap.specs.Simple.{App, new_app, new_rule, on_top, with_rule}
 use Rattle.clap.specs.Walk.{Rule}
 use Rattle.clap.specs.declared.builder.value_parser.ValueParser.{ValueParser}

@@ -2,10 +2,10 @@
 use Rattle.std.proofs.Common.{◌≡◌, ℕ, Option, Some, sym, ◌∙◌}
 use Rattle.std.proofs.lemmas.List.{map-id}
 use Rattle.std.specs.Str.Parse.{ParsesUnsigned, ExplainsUnsignedError, HasUnsignedDigitsIfOk}
-use Rattle.kw_app.specs.declared.words.Arguments.{Arguments}
-use Rattle.kw_app.specs.Clap.{start, count, workers, rows}
-use Rattle.kw_app.proofs.Getters.{parse_is, refused_is, gets}
-use Rattle.kw_app.proofs.words.arguments_of.Goals as goal
+use Rattle.kw_command.specs.declared.words.Arguments.{Arguments}
+use Rattle.kw_command.specs.Clap.{start, count, workers, rows}
+use Rattle.kw_command.proofs.Getters.{parse_is, refused_is, gets}
+use Rattle.kw_command.proofs.words.arguments_of.Goals as goal
 use Rattle.clap.specs.Words.{app_of}
 
 all_same : (a : Arguments) (s n w r : Option ℕ) → s ≡ a.start → n ≡ a.count → w ≡ a.workers → r ≡ a.rows → Some (record { start = s; count = n; workers = w; rows = r }) ≡ Some a

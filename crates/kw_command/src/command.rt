@@ -1,12 +1,12 @@
 //! The commands of the program, and which lists of words they are.
 //!
 //! A command is the whole list of its words: its own word first, and then numbers and options, each option at most once.
-//! `specs/Words.antt` says which lists these are. Every other list is bad words, the empty one among them. What stands after
+//! `specs/Words.antt` says which lists these are; no list is two commands. Every other list is bad words, the empty one among them. What stands after
 //! the first word is read by `words`; here the first word is read, and what its command takes of the rest is picked.
-ghost use Rattle.std.specs.Prelude.{◌≡◌, IfOk, IfSome, MatchOption};
-ghost use Rattle.kw_app.specs.declared.command.Command.{Command as AnyCommand};
-ghost use Rattle.kw_app.specs.Words.{AreInRange, Means};
-ghost use Rattle.kw_app.specs.Reading.{first_name, name_of, picked};
+ghost use Rattle.std.specs.Prelude.{◌≡◌, ℕ, List, IfOk, IfSome, MatchOption};
+ghost use Rattle.kw_command.specs.declared.command.Command.{Command as AnyCommand};
+ghost use Rattle.kw_command.specs.Words.{AreInRange, Means};
+ghost use Rattle.kw_command.specs.Reading.{first_name, name_of, picked};
 
 use crate::word::Word;
 use crate::words::{Arguments, are_known, arguments_of};
@@ -80,6 +80,11 @@ pub fn command_of(alloc: Global, words: &[Word]) -> Result<Option<Command>, Memo
         None => Ok(None),
     }
 }
+
+/// Words mean one command at most. Nothing runs here: the clause is the statement.
+pub fn one_meaning()
+    ensures { (words : List (List ℕ)) (one other : AnyCommand) → Means words one → Means words other → one ≡ other }
+{}
 
 /// The command whose own word is the first one.
 fn first_name(words: &[Word]) -> Option<Name>

@@ -1,12 +1,12 @@
 -- The first word, and what is read of the rest.
 use Rattle.std.proofs.Common.{◌≡◌, Bool, false, true, Option, Some, None, List, ℕ, sym, ◌∙◌}
 use Rattle.std.specs.Prelude.{IfSome}
-use Rattle.kw_app.specs.declared.command.Command.{Command}
-use Rattle.kw_app.specs.Words.{AreInRange}
-use Rattle.kw_app.proofs.Commands.{told, meaning, meaning_by, no_meaning_by}
-use Rattle.kw_app.proofs.Means.{means_known}
-use Rattle.kw_app.proofs.Ranges.{meant_in_range}
-use Rattle.kw_app.proofs.command.command_of.Goals as goal
+use Rattle.kw_command.specs.declared.command.Command.{Command}
+use Rattle.kw_command.specs.Words.{AreInRange}
+use Rattle.kw_command.proofs.Commands.{told, meaning, meaning_by, no_meaning_by}
+use Rattle.kw_command.proofs.Means.{means_known}
+use Rattle.kw_command.proofs.Ranges.{meant_in_range}
+use Rattle.kw_command.proofs.command.command_of.Goals as goal
 
 not_both : (b : Bool) → b ≡ true → b ≡ false → ⊥
 not_both true e f = cc

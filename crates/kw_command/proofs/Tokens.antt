@@ -3,15 +3,15 @@ use Rattle.std.proofs.Common.{◌≡◌, ◌==◌, ℕ, true, false, ◌⊎◌, 
 use mathlib.Core.Logic.{⊎_elim}
 use Rattle.std.specs.Prelude.{option_map, fold}
 use Rattle.std.specs.List.{AllByRecursion}
-use Rattle.kw_app.specs.declared.words.Arguments.{Arguments}
-use Rattle.kw_app.specs.declared.command.TheConstants.{MOST_WORKERS, FEWEST_ROWS, MOST_START, MOST_LINES}
+use Rattle.kw_command.specs.declared.words.Arguments.{Arguments}
+use Rattle.kw_command.specs.declared.command.TheConstants.{MOST_WORKERS, FEWEST_ROWS, MOST_START, MOST_LINES}
 use Rattle.kw_words.specs.declared.sizes.TheConstants.{MOST_ROWS}
-use Rattle.kw_app.specs.Reading.{once, with_workers, with_rows, with_second, with_number, then_with, reads}
-use Rattle.kw_app.proofs.Meaning.{reads_none}
-use Rattle.kw_app.proofs.Commands.{IsPlain, reads-number}
-use Rattle.kw_app.specs.Clap.{start, count, workers, rows}
-use Rattle.kw_app.proofs.Walk.{shape, rules, Use, row_for, stands, waits, open_kinds, workers_met, rows_met, workers_kinds, rows_kinds, workers_value, rows_value, workers_value_kinds, rows_value_kinds, workers_then_name, rows_then_name, first_number, second_number, first_kinds, second_kinds, third_kinds, kinds_from}
-use Rattle.kw_app.proofs.Parsed.{with_value, add, Holds, Agrees, OpenAgrees, IsFine, IsBad, settle, end-stands, finished-stands, end-waits}
+use Rattle.kw_command.specs.Reading.{once, with_workers, with_rows, with_second, with_number, then_with, reads}
+use Rattle.kw_command.proofs.Meaning.{reads_none}
+use Rattle.kw_command.proofs.Commands.{IsPlain, reads-number}
+use Rattle.kw_command.specs.Clap.{start, count, workers, rows}
+use Rattle.kw_command.proofs.Walk.{shape, rules, Use, row_for, stands, waits, open_kinds, workers_met, rows_met, workers_kinds, rows_kinds, workers_value, rows_value, workers_value_kinds, rows_value_kinds, workers_then_name, rows_then_name, first_number, second_number, first_kinds, second_kinds, third_kinds, kinds_from}
+use Rattle.kw_command.proofs.Parsed.{with_value, add, Holds, Agrees, OpenAgrees, IsFine, IsBad, settle, end-stands, finished-stands, end-waits}
 use Rattle.clap.specs.Kinds.{Kinds, or_else}
 use Rattle.clap.specs.Walk.{Text, Walk, finished, walked}
 use Rattle.clap.specs.Faults.{turn_fault}

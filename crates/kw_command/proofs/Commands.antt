@@ -5,16 +5,16 @@ use Rattle.std.specs.Prelude.{MatchOption}
 use Rattle.std.specs.List.{flat_map, AllByRecursion}
 use Rattle.std.specs.Str.{bytes_eq}
 use Rattle.std.proofs.lemmas.Slice.Eq.{bytes_eq-Decides}
-use Rattle.kw_app.specs.declared.command.Command.{Command}
-use Rattle.kw_app.specs.declared.command.Command.TheVariants as command
-use Rattle.kw_app.specs.declared.command.Name.{Name}
-use Rattle.kw_app.specs.declared.command.Name.TheVariants as name
-use Rattle.kw_app.specs.declared.command.TheConstants.{MOST_START, MOST_LINES}
-use Rattle.kw_app.specs.declared.words.Arguments.{Arguments}
-use Rattle.kw_app.specs.Words.{Part, number, workers, rows, part_words, numbers, number_in, AreNumbers, Makes, Means, command_word}
-use Rattle.kw_app.specs.Reading.{with_number, then_with, reads, no_arguments, first_name, name_of, picked}
-use Rattle.kw_app.proofs.Meaning.{adds, cut_of}
-use Rattle.kw_app.proofs.Options.{picks, makes, command_name}
+use Rattle.kw_command.specs.declared.command.Command.{Command}
+use Rattle.kw_command.specs.declared.command.Command.TheVariants as command
+use Rattle.kw_command.specs.declared.command.Name.{Name}
+use Rattle.kw_command.specs.declared.command.Name.TheVariants as name
+use Rattle.kw_command.specs.declared.command.TheConstants.{MOST_START, MOST_LINES}
+use Rattle.kw_command.specs.declared.words.Arguments.{Arguments}
+use Rattle.kw_command.specs.Words.{Part, number, workers, rows, part_words, numbers, number_in, AreNumbers, Makes, Means, command_word}
+use Rattle.kw_command.specs.Reading.{with_number, then_with, reads, no_arguments, first_name, name_of, picked}
+use Rattle.kw_command.proofs.Meaning.{adds, cut_of}
+use Rattle.kw_command.proofs.Options.{picks, makes, command_name}
 
 -- ---- a number is no option's name
 

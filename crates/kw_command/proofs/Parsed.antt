@@ -4,11 +4,11 @@ use Rattle.std.proofs.Common.{◌≡◌, ℕ, Bool, true, false, ◌&&◌, ◌||
 use Rattle.std.specs.Prelude.{option_map, fold}
 use Rattle.std.specs.List.{AllByRecursion}
 use Rattle.std.proofs.lemmas.List.{append-nil, map-append}
-use Rattle.kw_app.specs.declared.words.Arguments.{Arguments}
-use Rattle.kw_app.specs.Words.{number_in}
-use Rattle.kw_app.specs.Reading.{once}
-use Rattle.kw_app.specs.Clap.{Field, start, count, workers, rows, id_of, least_of, most_of, parser_of}
-use Rattle.kw_app.proofs.Walk.{rules, Use, row_for, same, value_in, has_row-uses, value_in-snoc, row_added, open_use, stands, waits, open_kinds, end_kinds}
+use Rattle.kw_command.specs.declared.words.Arguments.{Arguments}
+use Rattle.kw_command.specs.Words.{number_in}
+use Rattle.kw_command.specs.Reading.{once}
+use Rattle.kw_command.specs.Clap.{Field, start, count, workers, rows, id_of, least_of, most_of, parser_of}
+use Rattle.kw_command.proofs.Walk.{rules, Use, row_for, same, value_in, has_row-uses, value_in-snoc, row_added, open_use, stands, waits, open_kinds, end_kinds}
 use Rattle.clap.specs.ValueTests.{accepts}
 use Rattle.clap.specs.Kinds.{Kinds, or_else}
 use Rattle.clap.specs.Walk.{Row, Rule, Text, finished, has_row, settled_rows, default_rows, is_empty, more_values, reading_by, with_default, with_values, without}

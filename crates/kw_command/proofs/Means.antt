@@ -3,11 +3,11 @@ use Rattle.std.proofs.Common.{◌≡◌, ℕ, Bool, true, false, ◌&&◌, ◌||
 use Rattle.std.specs.List.{flat_map, list_all, AllByRecursion}
 use Rattle.std.specs.Str.{bytes_eq}
 use Rattle.kw_words.specs.declared.sizes.TheConstants.{MOST_ROWS}
-use Rattle.kw_app.specs.declared.command.Command.{Command}
-use Rattle.kw_app.specs.declared.command.Command.TheVariants as command
-use Rattle.kw_app.specs.declared.command.TheConstants.{MOST_WORKERS, DEFAULT_WORKERS, FEWEST_ROWS, DEFAULT_ROWS, SIMULATED_ROWS, MOST_START, MOST_LINES}
-use Rattle.kw_app.specs.Words.{Part, number, workers, rows, part_words, numbers, all_workers, all_rows, is_known, number_in, IsOption, AreNumbers, Makes, Means, command_word}
-use Rattle.kw_app.proofs.Getters.{number_parts}
+use Rattle.kw_command.specs.declared.command.Command.{Command}
+use Rattle.kw_command.specs.declared.command.Command.TheVariants as command
+use Rattle.kw_command.specs.declared.command.TheConstants.{MOST_WORKERS, DEFAULT_WORKERS, FEWEST_ROWS, DEFAULT_ROWS, SIMULATED_ROWS, MOST_START, MOST_LINES}
+use Rattle.kw_command.specs.Words.{Part, number, workers, rows, part_words, numbers, all_workers, all_rows, is_known, number_in, IsOption, AreNumbers, Makes, Means, command_word}
+use Rattle.kw_command.proofs.Getters.{number_parts}
 
 abbrev IsKnown : List ℕ → Type 0
 IsKnown w = is_known w ≡ true

@@ -1,0 +1,11 @@
+pub mod Meaning
+pub mod Numbers
+pub mod Options
+pub mod Commands
+pub mod Ranges
+pub mod Walk
+pub mod Parsed
+pub mod Tokens
+pub mod Known
+pub mod Getters
+pub mod Means
