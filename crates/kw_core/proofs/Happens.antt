@@ -26,6 +26,8 @@ use Rattle.kw_world.specs.Step.{word, row_of, row_at, followed, is_skipped}
 use Rattle.kw_world.proofs.Frame.{word-same, word-other, word-loaded}
 use Rattle.kw_world.proofs.Lists.{get-set_same, get-set_other}
 use Rattle.kw_world.proofs.Rows.{in_table, offered_below}
+use Rattle.kw_core.specs.declared.history.Logged.{Logged}
+use Rattle.kw_core.specs.declared.history.Change.{Change}
 use Rattle.kw_core.specs.Noted.{noted}
 use Rattle.kw_core.specs.Run.{Run, change_of, seat_after, origins_after, logged, noted_by}
 use Rattle.kw_core.specs.Words.{Words}
@@ -41,6 +43,14 @@ pub record Changed (z : Sizes) (rows : ℕ) (v v' : Words) (it : Row) : Type 0 w
 -- the word that the event of an activity finds
 abbrev pub found_at : Sizes → Words → Activity → ℕ → Choice → Local → ℕ
 found_at z v a s choice l = v (row z a s choice l).operation.name
+
+-- the entry of an event in the log
+abbrev pub log_entry : Sizes → Run → Activity → ℕ → Choice → Local → Logged
+log_entry z r a s choice l = logged s (row z a s choice l).operation.kind (word z r.world name.Clock)
+
+-- the change of an event
+abbrev pub change_at : Sizes → Run → Activity → ℕ → Choice → Local → Change
+change_at z r a s choice l = change_of z a s choice l (found_at z (word z r.world) a s choice l) (r.seats s) r.origin
 
 -- from r to r' the seat s, which knows l and is at the activity a, makes an event, and knows l' after it
 pub record Happens (z : Sizes) (r r' : Run) (s : ℕ) (choice : Choice) (l l' : Local) (a : Activity) : Type 0 where

@@ -25,17 +25,17 @@ use Rattle.kw_core.specs.declared.history.Change.TheVariants.{Nothing, Begins, A
 use Rattle.kw_core.specs.Noted.{IsWithin, MayNote}
 use Rattle.kw_core.specs.Step.{Keeps}
 use Rattle.kw_core.specs.Appended.{appended}
-use Rattle.kw_laws.specs.Inv.{Inv}
+use Rattle.kw_reads.specs.Inv.{Inv}
 use Rattle.kw_core.specs.Run.{Run, Origins, change_of, found_by, beginning, helping, noted_by}
 use Rattle.kw_core.specs.declared.seat_log.SeatLog.{SeatLog}
-use Rattle.kw_laws.specs.Readers.{AreCopies}
+use Rattle.kw_reads.specs.Readers.{AreCopies}
 use Rattle.kw_core.specs.Stages.{IsTaking}
 use Rattle.kw_core.specs.Recording.{Recording, origin_in}
 use Rattle.kw_core.specs.Remarks.{remark_of, HasRoomFor}
 use Rattle.kw_laws.specs.Recorder.{Records, CanSettle, IsInTable, log_of, happening_at, logged_of, entry_of}
 use Rattle.kw_core.proofs.Events.{IsBegun}
 use Rattle.kw_core.proofs.Happens.{happens}
-use Rattle.kw_laws.proofs.HistoryKeeps.{may_note}
+use Rattle.kw_reads.proofs.HistoryKeeps.{may_note}
 use Rattle.kw_core.proofs.Appended.{within_appended}
 use Rattle.kw_laws.proofs.Recorded.{GivesNone, none_of, none_helping, place_within, room_given, prepared, change_recorded}
 

@@ -15,13 +15,13 @@ use Rattle.kw_core.specs.declared.history.End.{End}
 use Rattle.kw_core.specs.Step.{CallStep, as_it_was, begins, gets_put, ends}
 use Rattle.kw_core.specs.Events.{may_step, is_valid, is_valid_from, world, walked}
 use Rattle.kw_core.specs.Run.{Run, goes_on, noted_by, history}
-use Rattle.kw_laws.specs.Inv.{Inv}
+use Rattle.kw_reads.specs.Inv.{Inv}
 use Rattle.kw_core.proofs.Events.{may_come}
 use Rattle.kw_core.proofs.Runs.{goes_on-moved, history-append, history-world, keeps_along}
 use Rattle.kw_core.proofs.Happens.{happens}
-use Rattle.kw_laws.proofs.HistoryKeeps.{history_step}
+use Rattle.kw_reads.proofs.HistoryKeeps.{history_step}
 use Rattle.kw_core.proofs.StepLaws.{no_end}
-use Rattle.kw_laws.proofs.Keeps.{inv_goes_on, inv_holds}
+use Rattle.kw_reads.proofs.Keeps.{inv_goes_on, inv_holds}
 use Rattle.kw_core.proofs.Steps.{none_some}
 
 -- a call that ended is one of the list

@@ -21,13 +21,13 @@ use Rattle.kw_core.specs.Events.{is_valid}
 use Rattle.kw_core.specs.Run.{Run, history}
 use Rattle.kw_shape.specs.Shape.{Walks}
 use Rattle.kw_core.specs.Stages.{IsKeeping, IsWaiting}
-use Rattle.kw_laws.specs.Readers.{IsDue, IsCopyOf, AreCopies}
-use Rattle.kw_laws.specs.Replies.{RisesBelow}
-use Rattle.kw_laws.specs.Inv.{Inv}
+use Rattle.kw_reads.specs.Readers.{IsDue, IsCopyOf, AreCopies}
+use Rattle.kw_reads.specs.Replies.{RisesBelow}
+use Rattle.kw_reads.specs.Inv.{Inv}
 use Rattle.kw_laws.specs.Unfrozen.{HasCellOfOwn, IsUnfrozen}
 use Rattle.kw_laws.specs.Laws.{IsIdleOrFrozen, HasCellOrFrozen, IsWaitingOrDrawn, IsGathered, KeepsLaws}
 use Rattle.kw_core.proofs.Attempts.{in_range}
-use Rattle.kw_laws.proofs.Keeps.{inv_holds}
+use Rattle.kw_reads.proofs.Keeps.{inv_holds}
 use Rattle.kw_shape.proofs.Walking.{past}
 use Rattle.kw_laws.proofs.Unfrozen.{counts_hold, unfrozen}
 

@@ -18,18 +18,18 @@ use Rattle.kw_core.specs.declared.history.End.{End}
 use Rattle.kw_core.specs.History.{attempt, called}
 use Rattle.kw_core.specs.Run.{Run}
 use Rattle.kw_core.specs.Stages.{IsBusy, IsPutting, HasMet, IsStamp, IsHelp}
-use Rattle.kw_laws.specs.Puts.{OwnsAttempt, Helps}
-use Rattle.kw_laws.specs.Positions.{Calling}
-use Rattle.kw_laws.specs.Inv.{Inv}
+use Rattle.kw_puts.specs.Puts.{OwnsAttempt, Helps}
+use Rattle.kw_puts.specs.Positions.{Calling}
+use Rattle.kw_reads.specs.Inv.{Inv}
 use Rattle.kw_laws.specs.Mirror.{Acts, TakesCell, StampedBy, StampedAt, MirrorsAttempt, NoLoad, announcing, stamping, operation}
 use Rattle.kw_core.proofs.Happens.{Happens}
 use Rattle.kw_core.proofs.Changes.{made}
 use Rattle.kw_core.proofs.RoomBelow.{room_below}
-use Rattle.kw_laws.proofs.Rely.{SameAttempt}
-use Rattle.kw_laws.proofs.RelyProof.{goes_on_by}
+use Rattle.kw_puts.proofs.Rely.{SameAttempt}
+use Rattle.kw_reads.proofs.Relying.{goes_on_by}
 use Rattle.kw_core.proofs.Steps.{old_call, none_some}
-use Rattle.kw_laws.proofs.HistoryKeeps.{history_step}
-use Rattle.kw_laws.proofs.NewAttempts.{IsNew, attempt_was}
+use Rattle.kw_reads.proofs.HistoryKeeps.{history_step}
+use Rattle.kw_puts.proofs.NewAttempts.{IsNew, attempt_was}
 use Rattle.kw_laws.proofs.Over.{AttemptOver, stays, is_announced, is_stamped, is_helped, attempt_over, CallOver, goes_on, is_ended, call_over}
 use Rattle.kw_laws.proofs.Occurs.{acts_lasts, takes_lasts, stamped_lasts, no_load_lasts}
 use Rattle.kw_laws.proofs.Mirroring.{Kept, acts_here}

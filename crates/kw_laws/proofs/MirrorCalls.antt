@@ -39,15 +39,15 @@ use Rattle.kw_core.specs.Noted.{noted}
 use Rattle.kw_core.specs.Step.{Keeps}
 use Rattle.kw_core.specs.Run.{Run, change_of, beginning, logged}
 use Rattle.kw_core.specs.Stages.{IsBusy}
-use Rattle.kw_laws.specs.Positions.{Calling}
-use Rattle.kw_laws.specs.Inv.{Inv}
+use Rattle.kw_puts.specs.Positions.{Calling}
+use Rattle.kw_reads.specs.Inv.{Inv}
 use Rattle.kw_laws.specs.Mirror.{Occurs, IsLogged, BeginsCall, EndsCall, NoEnd, DrawsVersion, TakesCell, MirrorsCall, IsCallOf, IsAttemptOf, operation, begun}
 use Rattle.kw_core.proofs.Happens.{Happens, found_at}
 use Rattle.kw_core.proofs.Changes.{made}
 use Rattle.kw_core.proofs.NotedLaws.{called_push_new}
-use Rattle.kw_laws.proofs.RelyProof.{goes_on_by}
+use Rattle.kw_reads.proofs.Relying.{goes_on_by}
 use Rattle.kw_core.proofs.Steps.{none_some}
-use Rattle.kw_laws.proofs.NewAttempts.{one_more_is, one_more_within}
+use Rattle.kw_puts.proofs.NewAttempts.{one_more_is, one_more_within}
 use Rattle.kw_laws.proofs.Over.{CallOver, goes_on, is_ended, SameLog, call_over, IsCallNow, call_was}
 use Rattle.kw_laws.proofs.Occurs.{occurs_within, occurs_was, begins_lasts, ends_lasts, ends_was, no_end_lasts, no_end_more}
 use Rattle.kw_laws.proofs.Mirroring.{Kept, acting_local, chosen_call, occurs_here, leaves_here, ends_here, ended_here, log_keeps}

@@ -14,14 +14,14 @@ use Rattle.kw_core.specs.Events.{world, may_step, is_valid_from, is_valid}
 use Rattle.kw_core.specs.Run.{Run, goes_on, noted_by, run, start, history}
 use Rattle.kw_core.specs.Stages.{IsStamp, IsHelp}
 use Rattle.kw_core.specs.Step.{Keeps}
-use Rattle.kw_laws.specs.Inv.{Inv}
+use Rattle.kw_reads.specs.Inv.{Inv}
 use Rattle.kw_laws.specs.Mirror.{Mirrors}
 use Rattle.kw_core.proofs.Events.{may_come, world-snoc, world-nil}
 use Rattle.kw_core.proofs.Runs.{goes_on-world, goes_on-moved}
 use Rattle.kw_core.proofs.Happens.{Happens, happens}
-use Rattle.kw_laws.proofs.Keeps.{inv_goes_on}
+use Rattle.kw_reads.proofs.Keeps.{inv_goes_on}
 use Rattle.kw_shape.proofs.ShapeOpens.{all_resting}
-use Rattle.kw_laws.proofs.Opens.{inv_start}
+use Rattle.kw_reads.proofs.Opens.{inv_start}
 use Rattle.kw_laws.proofs.Mirroring.{Kept, events_keep, log_keeps}
 use Rattle.kw_laws.proofs.MirrorSeats.{begun-nil, numbers_keep, running_keeps, loads_keep, stamp_keeps, help_keeps}
 use Rattle.kw_laws.proofs.MirrorAttempts.{attempts_keep}

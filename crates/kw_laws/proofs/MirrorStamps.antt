@@ -28,12 +28,12 @@ use Rattle.kw_core.specs.Noted.{noted}
 use Rattle.kw_core.specs.Run.{Run, change_of, helping, logged}
 use Rattle.kw_core.specs.Stages.{IsPutting, HasMet}
 use Rattle.kw_core.specs.Words.{Words}
-use Rattle.kw_laws.specs.Inv.{Inv}
+use Rattle.kw_reads.specs.Inv.{Inv}
 use Rattle.kw_laws.specs.Mirror.{Occurs, Acts, IsAnnouncementOf, IsStampOf, announcing, stamping}
 use Rattle.kw_core.proofs.Happens.{Happens, found_at, chosen}
 use Rattle.kw_core.proofs.NotedLaws.{attempt_set_same}
-use Rattle.kw_laws.proofs.RelyProof.{goes_on_by}
-use Rattle.kw_laws.proofs.Rely.{GoesOn}
+use Rattle.kw_reads.proofs.Relying.{goes_on_by}
+use Rattle.kw_puts.proofs.Rely.{GoesOn}
 use Rattle.kw_laws.proofs.Occurs.{occurs_was}
 use Rattle.kw_laws.proofs.Mirroring.{Kept, acting_local, row_here}
 

@@ -26,7 +26,7 @@ use Rattle.kw_core.specs.declared.seat_log.SeatLog.{SeatLog}
 use Rattle.kw_core.specs.Run.{Origins, answering, drawing}
 use Rattle.kw_core.specs.Words.{Words}
 use Rattle.kw_core.proofs.NotedLaws.{attempt_set_same, called_set_same, called_set_other, called_push_old, called_push_new, called_same}
-use Rattle.kw_laws.proofs.RelyEntry.{attempt_left}
+use Rattle.kw_puts.proofs.RelyEntry.{attempt_left}
 use Rattle.kw_core.proofs.Changes.{Makes, makes_nothing, makes_begin, makes_add, makes_announce, makes_stamp, makes_help, makes_end}
 
 -- an attempt over an event of seat s: it is as it was; or it is the seat's own and is announced or stamped; or it is helped

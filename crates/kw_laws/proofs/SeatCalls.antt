@@ -18,15 +18,15 @@ use Rattle.kw_world.specs.Table.{row}
 use Rattle.kw_world.specs.Step.{word, step, followed}
 use Rattle.kw_core.specs.Events.{local_of, walked, world, may_step, is_valid_from, is_valid, of_seat, event}
 use Rattle.kw_core.specs.Run.{Run, goes_on, noted_by, run, start, history}
-use Rattle.kw_laws.specs.Inv.{Inv}
+use Rattle.kw_reads.specs.Inv.{Inv}
 use Rattle.kw_core.specs.Stages.{IsBusy}
 use Rattle.kw_laws.specs.SeatCalls.{CallSeen, calls_by, calls_of, calls_seen, seen_after, KeepsTurns, AreApart, AreStill}
 use Rattle.kw_core.proofs.Events.{MayCome, may_come, valid_front, of_seat_own, of_seat_other}
 use Rattle.kw_core.proofs.Runs.{goes_on-world, goes_on-moved, history-snoc, history-append, history-nil, history-world, holds_of_history}
 use Rattle.kw_core.proofs.Happens.{Happens, happens, found_at}
-use Rattle.kw_laws.proofs.Keeps.{inv_keeps}
+use Rattle.kw_reads.proofs.Keeps.{inv_keeps}
 use Rattle.kw_shape.proofs.ShapeOpens.{all_resting}
-use Rattle.kw_laws.proofs.Opens.{inv_start}
+use Rattle.kw_reads.proofs.Opens.{inv_start}
 use Rattle.kw_laws.proofs.Records.{seats_kept}
 use Rattle.kw_laws.proofs.MirrorKeeps.{mirrors_hold}
 use Rattle.kw_laws.proofs.SeatApart.{apart}

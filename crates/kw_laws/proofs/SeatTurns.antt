@@ -22,8 +22,8 @@ use Rattle.kw_core.specs.Run.{Run, Origins, logged, change_of, beginning, answer
 use Rattle.kw_core.specs.declared.seat_log.SeatLog.{SeatLog}
 use Rattle.kw_core.specs.Words.{Words}
 use Rattle.kw_core.specs.Stages.{IsBusy}
-use Rattle.kw_laws.specs.Positions.{Calling}
-use Rattle.kw_laws.specs.Inv.{Inv}
+use Rattle.kw_puts.specs.Positions.{Calling}
+use Rattle.kw_reads.specs.Inv.{Inv}
 use Rattle.kw_laws.specs.SeatCalls.{CallSeen, seen, begun_at, ended_at, end_last, seen_after, AreInTurn, HasLast, KeepsTurns, AreStill}
 use Rattle.kw_core.proofs.Happens.{Happens, each_seat, found_at}
 use Rattle.kw_core.proofs.Changes.{Makes, made, makes_nothing, makes_begin, makes_add, makes_announce, makes_stamp, makes_help, makes_end}

@@ -28,8 +28,8 @@ use Rattle.kw_core.specs.Events.{may_step, is_valid}
 use Rattle.kw_core.specs.declared.history.Attempt.{Attempt}
 use Rattle.kw_core.specs.History.{LoadClock, attempt}
 use Rattle.kw_core.specs.HistoryLaws.{IsPut}
-use Rattle.kw_laws.specs.Inv.{Inv}
-use Rattle.kw_laws.specs.Puts.{entry_of, IsPublishedAt}
+use Rattle.kw_reads.specs.Inv.{Inv}
+use Rattle.kw_puts.specs.Puts.{entry_of, IsPublishedAt}
 use Rattle.kw_core.specs.Run.{Run, goes_on, start, history}
 use Rattle.kw_core.specs.Stages.{IsPublished}
 use Rattle.kw_laws.specs.Unfrozen.{IsUnfrozenCount, IsUnfrozenEntry, HasCellOfOwn, AreCountsUnfrozen, IsUnfrozen}
@@ -37,9 +37,9 @@ use Rattle.kw_core.proofs.Arrows.{not_below}
 use Rattle.kw_core.proofs.Events.{may_come}
 use Rattle.kw_core.proofs.Frame.{count_kept}
 use Rattle.kw_core.proofs.Happens.{Happens, happens}
-use Rattle.kw_laws.proofs.Keeps.{inv_goes_on}
-use Rattle.kw_laws.proofs.Opens.{inv_start}
-use Rattle.kw_laws.proofs.Owners.{published_puts}
+use Rattle.kw_reads.proofs.Keeps.{inv_goes_on}
+use Rattle.kw_reads.proofs.Opens.{inv_start}
+use Rattle.kw_puts.proofs.Owners.{published_puts}
 use Rattle.kw_core.proofs.Runs.{goes_on-moved, holds_of_history}
 
 -- Counts.

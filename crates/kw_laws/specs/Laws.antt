@@ -21,8 +21,8 @@ use Rattle.kw_core.specs.Run.{Run}
 use Rattle.kw_core.specs.Stages.{IsAtRow, IsCovering, IsEarly, IsKeeping}
 use Rattle.kw_core.specs.Words.{next_in, least_in}
 use Rattle.kw_shape.specs.Shape.{IsLinked, HoldsKey, Walks}
-use Rattle.kw_laws.specs.Readers.{IsDue, IsCopyOf}
-use Rattle.kw_laws.specs.Replies.{RisesBelow}
+use Rattle.kw_reads.specs.Readers.{IsDue, IsCopyOf}
+use Rattle.kw_reads.specs.Replies.{RisesBelow}
 use Rattle.kw_laws.specs.Unfrozen.{IsUnfrozen}
 
 -- the entry is idle or frozen

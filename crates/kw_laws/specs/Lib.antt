@@ -1,9 +1,4 @@
 pub mod Recorder
-pub mod Puts
-pub mod Positions
-pub mod Readers
-pub mod Replies
-pub mod Inv
 pub mod Unfrozen
 pub mod Laws
 pub mod Example

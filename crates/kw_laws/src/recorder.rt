@@ -12,7 +12,7 @@ ghost use Rattle.kw_world.specs.Step.{step, stepped};
 ghost use Rattle.kw_core.specs.declared.history.Logged.{Logged};
 ghost use Rattle.kw_core.specs.Appended.{appended};
 ghost use Rattle.kw_core.specs.Run.{Run, goes_on};
-ghost use Rattle.kw_laws.specs.Inv.{Inv};
+ghost use Rattle.kw_reads.specs.Inv.{Inv};
 ghost use Rattle.kw_core.specs.Recording.{Recording};
 ghost use Rattle.kw_laws.specs.Recorder.{Records, CanSettle, opening_record, entry_of, settled_by, logged_of};
 

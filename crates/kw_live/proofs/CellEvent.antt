@@ -18,11 +18,11 @@ use Rattle.kw_world.specs.Step.{next_of, row_of}
 use Rattle.kw_world.specs.Table.{row}
 use Rattle.kw_world.proofs.Rows.{row_of-next}
 use Rattle.kw_laws.specs.Laws.{KeepsLaws}
-use Rattle.kw_laws.specs.Replies.{RisesBelow}
+use Rattle.kw_reads.specs.Replies.{RisesBelow}
 use Rattle.kw_core.specs.Run.{history}
 use Rattle.kw_core.specs.Stages.{IsAtRow, IsBusy, IsCovering}
 use Rattle.kw_laws.proofs.LawProofs.{laws_hold}
-use Rattle.kw_laws.proofs.Owners.{true_false}
+use Rattle.kw_puts.proofs.Owners.{true_false}
 use Rattle.kw_table.specs.declared.pass.Pass.{Pass}
 use Rattle.kw_table.specs.declared.shared.Shared.{Shared}
 use Rattle.kw_table.specs.Passes.{view, Makes}

@@ -21,7 +21,7 @@ use Rattle.kw_world.specs.RowPut.{given_of}
 use Rattle.kw_world.specs.RowRead.{gathering, row_read, scan_on, scan_ended, to_cell, version_in_hand, version_met, with_pairs}
 use Rattle.kw_world.specs.Sizes.{Sizes}
 use Rattle.kw_world.specs.Table.{row}
-use Rattle.kw_laws.proofs.Owners.{true_false}
+use Rattle.kw_puts.proofs.Owners.{true_false}
 use Rattle.kw_live.specs.Following.{bare_activity, bare_reply, carried, held_at, pairs_or}
 use Rattle.kw_live.specs.Reading.{is_reading_cells}
 

@@ -16,7 +16,7 @@ use Rattle.kw_world.specs.RowRead.{to_look, look_met, help_met, remembering}
 use Rattle.kw_world.specs.Sizes.{Sizes, product}
 use Rattle.kw_world.specs.Step.{next_of, row_of}
 use Rattle.kw_world.specs.Table.{row}
-use Rattle.kw_laws.proofs.Owners.{true_false}
+use Rattle.kw_puts.proofs.Owners.{true_false}
 use Rattle.kw_table.specs.declared.pass.Pass.{Pass}
 use Rattle.kw_table.specs.declared.shared.Shared.{Shared}
 use Rattle.kw_live.specs.Calling.{Keeps}

@@ -23,7 +23,7 @@ use Rattle.kw_world.specs.Table.{row}
 use Rattle.kw_laws.specs.Unfrozen.{HasCellOfOwn}
 use Rattle.kw_core.specs.Run.{history}
 use Rattle.kw_core.proofs.Arrows.{below}
-use Rattle.kw_laws.proofs.Owners.{true_false}
+use Rattle.kw_puts.proofs.Owners.{true_false}
 use Rattle.kw_table.specs.declared.pass.Pass.{Pass}
 use Rattle.kw_table.specs.declared.shared.Shared.{Shared}
 use Rattle.kw_table.specs.Passes.{view}

@@ -22,7 +22,7 @@ use Rattle.kw_world.specs.Step.{next_of, row_of, word}
 use Rattle.kw_world.specs.Table.{row}
 use Rattle.kw_core.specs.Run.{history}
 use Rattle.kw_core.proofs.Arrows.{at_most}
-use Rattle.kw_laws.proofs.Owners.{true_false}
+use Rattle.kw_puts.proofs.Owners.{true_false}
 use Rattle.kw_table.specs.declared.pass.Pass.{Pass}
 use Rattle.kw_table.specs.declared.shared.Shared.{Shared}
 use Rattle.kw_table.specs.Passes.{view}

@@ -18,14 +18,14 @@ use Rattle.kw_world.specs.WorldView.{WorldView}
 use Rattle.kw_world.specs.Step.{step, stepped, Stepped, is_skipped, IsMade}
 use Rattle.kw_core.specs.Events.{is_valid, world, may_begin, is_call_in_range}
 use Rattle.kw_core.specs.declared.history.CallLog.{CallLog}
-use Rattle.kw_laws.specs.Inv.{Inv}
+use Rattle.kw_reads.specs.Inv.{Inv}
 use Rattle.kw_laws.specs.Laws.{KeepsLaws}
 use Rattle.kw_core.specs.Recording.{Recording}
 use Rattle.kw_laws.specs.Recorder.{Records, opening_record}
 use Rattle.kw_core.specs.Run.{Run, goes_on, start}
 use Rattle.kw_laws.proofs.EndedCalls.{ended_lasts}
 use Rattle.kw_core.proofs.Events.{may_step_from, valid-nil, valid-snoc, world-snoc}
-use Rattle.kw_laws.proofs.Keeps.{inv_holds}
+use Rattle.kw_reads.proofs.Keeps.{inv_holds}
 use Rattle.kw_laws.proofs.LawProofs.{laws_hold}
 use Rattle.kw_laws.proofs.Records.{records_start, seats_kept}
 use Rattle.kw_core.proofs.Runs.{history-nil, history-snoc, history-world}

@@ -1,0 +1,227 @@
+-- The call of a busy seat over its own event: it runs on, and what it has for a put is its own attempt.
+use Rattle.std.proofs.Common.{ℕ, ◌≡◌, ◌⊎◌, inl, inr, ◌+◌, ◌<◌, Bool, true, false, Option, Some, None, [], ◌∷◌, ◌++◌, arith, refl, sym, ◌∙◌, ap, subst, length, length-append, slice_get}
+use Rattle.std.proofs.lemmas.Option.{same_Some}
+use Rattle.kw_words.specs.declared.layout.Name.TheVariants as name
+use Rattle.kw_words.specs.declared.pend.Pend.TheVariants as pend
+use Rattle.kw_words.specs.declared.sizes.TheConstants.{MOST_CELLS}
+use Rattle.kw_words.specs.Pend.{pend_of, pend_word}
+use Rattle.kw_words.proofs.PendWords.{pend_of-Pending, pend_of-Stamped}
+use Rattle.kw_model.specs.declared.call.Call.{Call}
+use Rattle.kw_model.specs.declared.call.Call.TheVariants.{Put, Del, Get, Scan}
+use Rattle.kw_world.specs.declared.activity.Activity.{Activity}
+use Rattle.kw_world.specs.declared.activity.Activity.TheVariants.{Idle, Enter, LookHelp, Stamp, PutClear, Leave}
+use Rattle.kw_world.specs.declared.local.Local.{Local}
+use Rattle.kw_world.specs.declared.event.Choice.{Choice}
+use Rattle.kw_world.specs.declared.event.Choice.TheVariants.{Begin}
+use Rattle.kw_world.specs.Sizes.{Sizes}
+use Rattle.kw_world.specs.Step.{word}
+use Rattle.kw_core.specs.History.{History, LoadClock, attempt, called}
+use Rattle.kw_core.specs.declared.history.Logged.{Logged}
+use Rattle.kw_core.specs.declared.history.CallLog.{CallLog}
+use Rattle.kw_core.specs.HistoryLaws.{Makes as MakesPut}
+use Rattle.kw_core.specs.declared.history.Change.{Change}
+use Rattle.kw_core.specs.Noted.{noted}
+use Rattle.kw_core.specs.Step.{Keeps}
+use Rattle.kw_core.specs.Run.{Run, Origins, beginning, log_begun}
+use Rattle.kw_core.specs.declared.seat_log.SeatLog.{SeatLog}
+use Rattle.kw_core.specs.Stages.{IsBusy, IsPutting, IsPublished, IsStamp, IsStamped, IsPutClear, IsDone, IsHelp}
+use Rattle.kw_shape.specs.Shape.{IsReadCall, IsKind}
+use Rattle.kw_puts.specs.Puts.{OwnsAttempt, entry_of}
+use Rattle.kw_puts.specs.Positions.{Calling}
+use Rattle.kw_puts.specs.Below.{Below}
+use Rattle.kw_core.specs.Step.{Step}
+use Rattle.kw_core.proofs.Attempts.{in_range}
+use Rattle.kw_core.proofs.NotedLaws.{called_set_same, called_push_old, called_push_new, called_same}
+use Rattle.kw_core.proofs.Steps.{old_call}
+use Rattle.kw_core.proofs.Changes.{Makes, made, makes_nothing, makes_begin, makes_add, makes_announce, makes_stamp, makes_help, makes_end}
+use Rattle.kw_core.proofs.Happens.{log_entry}
+use Rattle.kw_puts.proofs.RelyEntry.{put_runs}
+use Rattle.kw_puts.proofs.RelyProof.{goes_on_by}
+use Rattle.kw_puts.proofs.Rely.{SameCall}
+use Rattle.kw_core.proofs.Happens.{Happens}
+use Rattle.kw_core.proofs.Arrows.{Arrow, IsNotOwn}
+use Rattle.kw_core.proofs.SeatLogs.{IsUnderway, call_kept, own_kept}
+use Rattle.kw_shape.proofs.NextCalls.{arrow_call, arrow_published, arrow_done}
+
+-- Where a seat is.
+
+-- a seat in a call is busy
+underway_busy : (a : Activity) → IsUnderway a → IsBusy a
+underway_busy Idle u = u
+underway_busy _ u = tt
+
+-- a put that is done is about to end
+done_ends : (a : Activity) → IsDone a → IsUnderway a → ⊥
+done_ends (Leave reply) d u = u
+done_ends _ d u = d
+
+-- a put that is to stamp has announced its cell
+stamp_published : (a : Activity) → IsStamp a → IsPublished a
+stamp_published Stamp x = tt
+stamp_published _ x = absurd x
+
+-- a put that is to clear its entry has a cell and is stamped
+clear_published : (a : Activity) → IsPutClear a → IsPutting a × IsStamped a
+clear_published PutClear x = (tt, tt)
+clear_published _ x = absurd x
+
+-- only a get or a scan helps
+met_reads : (a : Activity) (l : Local) → IsHelp a → IsKind a l → IsReadCall l.call
+met_reads LookHelp l x k = k
+met_reads _ l x k = absurd x
+
+-- a get or a scan puts nothing
+read_makes_none : (c : Call) (key : ℕ) (value : Option ℕ) → IsReadCall (Some c) → MakesPut c key value → ⊥
+read_makes_none (Put k v) key value r m = r
+read_makes_none (Del k) key value r m = r
+read_makes_none (Get k) key value r m = m
+read_makes_none (Scan from upto) key value r m = m
+
+-- What an event leaves of its seat's call.
+
+-- a call runs on until its seat leaves it
+runs_on : (h h' : History) (e : Logged) (z : Sizes) (v : _) (s : ℕ) (choice : Choice) (l : Local) (g : SeatLog) (o : Origins) (a : Activity) (c : Change) → Makes z v s choice l g o a c → IsUnderway a → h' ≡ noted h e c → (x : ℕ) → x < length h.calls → (called h' x).end ≡ (called h x).end
+runs_on h h' e z v s choice l g o a c (makes_nothing b) u n x w = ap (λ (q : CallLog). q.end) (called_same h h' x (ap (λ (y : History). y.calls) n))
+runs_on h h' e z v s choice l g o a c (makes_begin call m) u n x w = absurd u
+runs_on h h' e z v s choice l g o a c (makes_add m) u n x w = ap (λ (q : CallLog). q.end) (called_same h h' x (ap (λ (y : History). y.calls) n))
+runs_on h h' e z v s choice l g o a c (makes_announce m) u n x w = ap (λ (q : CallLog). q.end) (called_same h h' x (ap (λ (y : History). y.calls) n))
+runs_on h h' e z v s choice l g o a c (makes_stamp m) u n x w = put_runs h h' x (attempt h g.own).call _ (ap (λ (y : History). y.calls) n) w
+runs_on h h' e z v s choice l g o a c (makes_help q m k) u n x w = put_runs h h' x (attempt h q).call _ (ap (λ (y : History). y.calls) n) w
+runs_on h h' e z v s choice l g o a c (makes_end reply) u n x w = absurd u
+
+-- the put that a seat's call has after its event is the one that it had, or the seat has stamped it
+put_after : (h h' : History) (e : Logged) (z : Sizes) (v : _) (s : ℕ) (choice : Choice) (l : Local) (g : SeatLog) (o : Origins) (a : Activity) (c : Change) → Makes z v s choice l g o a c → h' ≡ noted h e c → g.call < length h.calls → (IsStamp a → (attempt h g.own).call ≡ g.call) →
+    (IsHelp a → (p : ℕ) → (called h' g.call).put ≡ Some p → ⊥) → (p : ℕ) → (called h' g.call).put ≡ Some p → ((called h g.call).put ≡ Some p) ⊎ IsStamp a × (g.own ≡ p)
+put_after h h' e z v s choice l g o a c (makes_nothing b) n w f r p q = inl (ap (λ (y : CallLog). y.put) (sym (called_same h h' g.call (ap (λ (y : History). y.calls) n))) ∙ q)
+put_after h h' e z v s choice l g o a c (makes_begin call m) n w f r p q = inl (ap (λ (y : CallLog). y.put) (sym (called_push_old h h' g.call _ (ap (λ (y : History). y.calls) n) w)) ∙ q)
+put_after h h' e z v s choice l g o a c (makes_add m) n w f r p q = inl (ap (λ (y : CallLog). y.put) (sym (called_same h h' g.call (ap (λ (y : History). y.calls) n))) ∙ q)
+put_after h h' e z v s choice l g o a c (makes_announce m) n w f r p q = inl (ap (λ (y : CallLog). y.put) (sym (called_same h h' g.call (ap (λ (y : History). y.calls) n))) ∙ q)
+put_after h h' e z v s choice l g o a c (makes_stamp m) n w f r p q =
+    let x = called_set_same h h' (attempt h g.own).call _ (ap (λ (y : History). y.calls) n) (subst (λ y. y < length h.calls) (sym (f tt)) w) in
+    let y : (called h' g.call).put ≡ Some g.own = subst (λ y. (called h' y).put ≡ Some g.own) (f tt) (ap (λ (y : CallLog). y.put) x) in
+    inr (tt, same_Some g.own p (sym y ∙ q))
+put_after h h' e z v s choice l g o a c (makes_help j m k) n w f r p q = absurd (r tt p q)
+put_after h h' e z v s choice l g o a c (makes_end reply) n w f r p q = inl (ap (λ (y : CallLog). y.put) (sym (called_set_same h h' g.call _ (ap (λ (y : History). y.calls) n) w)) ∙ q)
+
+-- the entry of a seat that is about to stamp is its own
+pub own_entry : (z : Sizes) (r : Run) (s : ℕ) (l : Local) → Below z r → slice_get r.world.locals s ≡ Some l → l.activity ≡ Stamp → IsNotOwn l.cell (word z r.world (name.Pend l.row s)) → ⊥
+own_entry z r s l i k a n = which (attempt r.history (r.seats s).own).is_stamped refl
+  where
+    own : OwnsAttempt (word z r.world) r.history s l.activity l (r.seats s)
+    own = i.puts.owns s l k (subst IsPutting (sym a) tt)
+
+    entry : word z r.world (name.Pend l.row s) ≡ entry_of (attempt r.history (r.seats s).own)
+    entry = own.entry (subst IsPublished (sym a) tt)
+
+    cell : l.cell < MOST_CELLS
+    cell = omega (arith, own.cell, (i.puts.given (r.seats s).own own.within).cell, i.shape.sane.sized.few_cells)
+
+    which : (b : Bool) → (attempt r.history (r.seats s).own).is_stamped ≡ b → ⊥
+    which true st =
+        let x : word z r.world (name.Pend l.row s) ≡ pend_word (pend.Stamped l.cell (attempt r.history (r.seats s).own).version) = rw (st, own.cell) at entry in
+        let stands = i.history.laws.loaded (r.seats s).own st in
+        n.stamped (attempt r.history (r.seats s).own).version (ap pend_of x ∙ pend_of-Stamped l.cell _ cell (i.positions.clocked.positive _ LoadClock _ stands) (omega (arith, i.positions.clocked.past _ LoadClock _ stands, (i.shape.sane.each name.Clock tt).1)))
+    which false st =
+        let x : word z r.world (name.Pend l.row s) ≡ pend_word (pend.Pending l.cell) = rw (st, own.cell) at entry in
+        n.pending (ap pend_of x ∙ pend_of-Pending l.cell cell)
+
+-- The call after the event.
+
+-- a call that begins
+pub calling_begins : (z : Sizes) (r r' : Run) (s : ℕ) (choice : Choice) (l l' : Local) (call : Call) → choice ≡ Begin call → l'.call ≡ Some call → l'.number ≡ l.number + 1 → l'.activity ≡ Enter → Happens z r r' s choice l l' Idle → Calling r'.history s l'.activity l' (r'.seats s)
+calling_begins z r r' s choice l l' call c f m a h = subst (λ q. Calling r'.history s l'.activity l' q) (sym log) (record {
+  within = omega (arith, ap length calls, length-append r.history.calls (new ∷ []));
+  seat = ap (λ (q : CallLog). q.seat) is_new;
+  number = ap (λ (q : CallLog). q.number) is_new ∙ sym m;
+  call = f ∙ ap Some (sym (ap (λ (q : CallLog). q.call) is_new));
+  runs = ap (λ (q : CallLog). q.end) is_new;
+  own = λ p q. absurd (no_put p q);
+  published = λ p q. absurd (no_put p q);
+  done = λ d. let x : IsDone Enter = subst IsDone a d in absurd x;
+})
+  where
+    new : CallLog
+    new = record { seat = s; number = l.number + 1; call = call; first = length r.history.log; end = None; put = None; answer = None; draw = None }
+
+    log : r'.seats s ≡ log_begun (Begin call) (length r.history.calls) (r.seats s)
+    log = h.log ∙ ap (λ q. log_begun q (length r.history.calls) (r.seats s)) c
+
+    calls : r'.history.calls ≡ r.history.calls ++ new ∷ []
+    calls = ap (λ (q : History). q.calls) (h.history ∙ ap (λ q. noted r.history (log_entry z r Idle s choice l) (beginning q s l)) c)
+
+    is_new : called r'.history (length r.history.calls) ≡ new
+    is_new = called_push_new r.history r'.history (length r.history.calls) new calls refl
+
+    no_put : (p : ℕ) → (called r'.history (length r.history.calls)).put ≡ Some p → ⊥
+    no_put p q = let x : None ≡ Some p = sym (ap (λ (q : CallLog). q.put) is_new) ∙ q in cc
+
+-- a call that goes on
+module _ (z : Sizes) (r r' : Run) (s : ℕ) (choice : Choice) (l : Local) (a : Activity) (l' : Local) (b : Arrow z (word z r.world) s choice l a l') (h : Happens z r r' s choice l l' a) (i : Below z r) (st : Step r.history r'.history (log_entry z r a s choice l)) (k : Keeps r'.history) (u : IsUnderway a) where
+  -- the call before the event
+  x : Calling r.history s l.activity l (r.seats s)
+  x = i.positions.calling s l h.knows (subst IsBusy (sym h.activity) (underway_busy a u))
+
+  -- the seat's call is the same
+  pub same_call : (r'.seats s).call ≡ (r.seats s).call
+  same_call = ap (λ (q : SeatLog). q.call) h.log ∙ call_kept z choice l _ l'.activity (r.seats s) r.origin r.history a u
+
+  -- what the call is of has not changed
+  same : SameCall r.history r'.history (r.seats s).call
+  same = (goes_on_by z r r' s choice l a l' h i st).calls (r.seats s).call x.within
+
+  -- the activity is one of the call
+  kind : IsKind a l
+  kind = subst (λ q. IsKind q l) h.activity (i.shape.kinds s l h.knows).kind
+
+  -- a call that helps has no put
+  reads_none : IsHelp a → (p : ℕ) → (called r'.history (r.seats s).call).put ≡ Some p → ⊥
+  reads_none y p q =
+      let t = k.laws.is_put (r.seats s).call p q in
+      let m = (k.laws.attempted p (in_range r'.history p t.0)).makes in
+      let c : (called r'.history (attempt r'.history p).call).call ≡ (called r.history (r.seats s).call).call = ap (λ y. (called r'.history y).call) t.1 ∙ same.call in
+      read_makes_none (called r.history (r.seats s).call).call (attempt r'.history p).key (attempt r'.history p).value (subst IsReadCall x.call (met_reads a l y kind)) (subst (λ y. MakesPut y (attempt r'.history p).key (attempt r'.history p).value) c m)
+
+  -- the put of the call was there, or the seat has stamped it now
+  its_put : (p : ℕ) → (called r'.history (r.seats s).call).put ≡ Some p → ((called r.history (r.seats s).call).put ≡ Some p) ⊎ IsStamp a × ((r.seats s).own ≡ p)
+  its_put = put_after r.history r'.history _ z (word z r.world) s choice l (r.seats s) r.origin a _ (made z (word z r.world) s choice l (r.seats s) r.origin a) h.history x.within
+      (λ y. (i.puts.owns s l h.knows (subst IsPutting (sym h.activity) (stamp_puts a y))).call) reads_none
+    where
+      stamp_puts : (c : Activity) → IsStamp c → IsPutting c
+      stamp_puts Stamp y = tt
+      stamp_puts _ y = absurd y
+
+  -- a put of the call is the seat's own attempt, which was announced
+  is_published : (p : ℕ) → ((called r.history (r.seats s).call).put ≡ Some p) ⊎ IsStamp a × ((r.seats s).own ≡ p) → IsPublished a × ((r.seats s).own ≡ p)
+  is_published p (inl e) = (which (x.published p e), x.own p e)
+    where
+      which : IsPublished l.activity ⊎ IsDone l.activity → IsPublished a
+      which (inl y) = subst IsPublished h.activity y
+      which (inr y) = absurd (done_ends a (subst IsDone h.activity y) u)
+  is_published p (inr e) = (stamp_published a e.0, e.1)
+
+  -- a put that clears its entry is the put of its call
+  done_put : IsPutClear a → (called r'.history (r.seats s).call).put ≡ Some (r.seats s).own
+  done_put y =
+      let c = clear_published a y in
+      let own = i.puts.owns s l h.knows (subst IsPutting (sym h.activity) c.0) in
+      let put = i.history.laws.has_put (r.seats s).own (own.stamped (subst IsStamped (sym h.activity) c.1)) in
+      (old_call r.history r'.history _ st (r.seats s).call x.within).put (r.seats s).own (subst (λ y. (called r.history y).put ≡ Some (r.seats s).own) own.call put)
+
+  -- the call after the event
+  pub calling_goes_on : Calling r'.history s l'.activity l' (r'.seats s)
+  calling_goes_on =
+      let t = arrow_call z (word z r.world) s choice l a l' b u in
+      record {
+        within = rw same_call (omega (arith, x.within, (goes_on_by z r r' s choice l a l' h i st).more_calls));
+        seat = rw same_call (same.seat ∙ x.seat);
+        number = rw same_call (same.number ∙ x.number ∙ sym t.1);
+        call = rw same_call (t.0 ∙ x.call ∙ ap Some (sym same.call));
+        runs = rw same_call (runs_on r.history r'.history _ z (word z r.world) s choice l (r.seats s) r.origin a _ (made z (word z r.world) s choice l (r.seats s) r.origin a) u h.history (r.seats s).call x.within ∙ x.runs);
+        own = λ p q.
+            let y = is_published p (its_put p (subst (λ c. (called r'.history c).put ≡ Some p) same_call q)) in
+            ap (λ (q : SeatLog). q.own) h.log ∙ own_kept z choice l _ l'.activity (r.seats s) r.origin r.history a y.0 ∙ y.1;
+        published = λ p q.
+            let y = is_published p (its_put p (subst (λ c. (called r'.history c).put ≡ Some p) same_call q)) in
+            arrow_published z (word z r.world) s choice l a l' b (λ n e. own_entry z r s l i h.knows (h.activity ∙ e) n) y.0;
+        done = λ d. ((r.seats s).own, rw same_call (done_put (arrow_done z (word z r.world) s choice l a l' b kind d)));
+      }

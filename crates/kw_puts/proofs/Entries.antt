@@ -1,0 +1,227 @@
+-- Every event keeps what holds of the entries of a row, and of the attempt that a reader is to help.
+use Rattle.std.proofs.Common.{ℕ, ◌≡◌, ◌≢◌, ◌⊎◌, inl, inr, ◌<◌, true, Some, arith, refl, sym, ◌∙◌, ap, subst, slice_get}
+use Rattle.std.proofs.lemmas.Bool.{cases_eq}
+use Rattle.std.proofs.lemmas.Option.{same_Some}
+use Rattle.kw_words.specs.declared.layout.Name.TheVariants as name
+use Rattle.kw_words.specs.declared.pend.Pend.TheVariants as pend
+use Rattle.kw_words.specs.Pend.{pend_word}
+use Rattle.kw_words.specs.Plain.{key_of_word}
+use Rattle.kw_words.proofs.PendWords.{pend_word_of}
+use Rattle.kw_world.specs.declared.activity.Activity.{Activity}
+use Rattle.kw_world.specs.declared.activity.Activity.TheVariants.{Look, LookKey, LookClock, LookHelp, Announce, Stamp, PutClear}
+use Rattle.kw_world.specs.declared.local.Local.{Local}
+use Rattle.kw_world.specs.declared.event.Choice.{Choice}
+use Rattle.kw_world.specs.Sizes.{Sizes}
+use Rattle.kw_world.specs.Calls.{is_in_range}
+use Rattle.kw_world.specs.Sane.{IsActivity}
+use Rattle.kw_world.specs.Step.{word}
+use Rattle.kw_core.specs.History.{attempt}
+use Rattle.kw_core.specs.Run.{Run}
+use Rattle.kw_core.specs.Stages.{IsPublished, HasMet, IsToHelp}
+use Rattle.kw_puts.specs.Puts.{OwnsAttempt, HasCell, Helps, IsPublishedAt}
+use Rattle.kw_puts.specs.Below.{Below}
+use Rattle.kw_core.specs.Step.{Step}
+use Rattle.kw_core.proofs.Happens.{log_entry}
+use Rattle.kw_core.proofs.Steps.{new_stands}
+use Rattle.kw_core.proofs.Happens.{Happens, knows_next, knows_other, not_exchanged}
+use Rattle.kw_core.proofs.Arrows.{Arrow, NextLook, looks, counts, NextCell, reads_cell, answers, ends_scan, scans_on}
+use Rattle.kw_core.proofs.Arrows.{meets_pending, meets_stamped, meets_neither, is_wanted, is_passed, loads_to_help, helps, finds_stamped, finds_other, counts_cells, has_no_version, has_other_key, gathers, announces, is_refused, loads_clock, stamps, is_stamped, is_not_own, stores_version, clears}
+use Rattle.kw_core.proofs.Frame.{pend_kept}
+use Rattle.kw_puts.proofs.Owners.{IsPendingOf, entry_owner, published_puts}
+use Rattle.kw_puts.proofs.Rely.{SameAttempt, GoesOn}
+use Rattle.kw_puts.proofs.RelyProof.{goes_on_by}
+use Rattle.kw_puts.proofs.OwnAttempts.{acting_own, idle_entry, own_entry}
+
+-- The entries.
+
+-- an entry that is idle stays so, unless its own seat announces
+idle_stays : (z : Sizes) (r r' : Run) (s : ℕ) (choice : Choice) (l : Local) (a : Activity) (l' : Local) → Happens z r r' s choice l l' a → Below z r → (q j : ℕ) → q < r.world.rows → j < z.seats → (a ≡ Announce → q ≡ l.row → j ≡ s → ⊥) → word z r.world (name.Pend q j) ≡ pend_word pend.Idle → word z r'.world (name.Pend q j) ≡ pend_word pend.Idle
+idle_stays z r r' s choice l LookHelp l' h i q j w o n e = which (cases_eq q l.row) (cases_eq j l.looked)
+  where
+    which : (q ≡ l.row) ⊎ (q ≡ l.row → ⊥) → (j ≡ l.looked) ⊎ (j ≡ l.looked → ⊥) → word z r'.world (name.Pend q j) ≡ pend_word pend.Idle
+    which (inl f) (inl g) =
+        let was : word z r.world (name.Pend l.row l.looked) ≡ pend_word pend.Idle = rw (f, g) at e in
+        let lost : word z r.world (name.Pend l.row l.looked) ≢ pend_word (pend.Pending l.met) = λ k. let x : pend_word pend.Idle ≡ pend_word (pend.Pending l.met) = sym was ∙ k in omega (arith, x) in
+        rw (f, g) (not_exchanged _ _ _ _ h.changed.same lost ∙ was)
+    which (inr d) g = pend_kept LookHelp h q j w o (λ x f k. x) (λ x f k. d f) ∙ e
+    which (inl f) (inr d) = pend_kept LookHelp h q j w o (λ x k g. x) (λ x k g. d g) ∙ e
+idle_stays z r r' s choice l Stamp l' h i q j w o n e = which (cases_eq q l.row) (cases_eq j s)
+  where
+    which : (q ≡ l.row) ⊎ (q ≡ l.row → ⊥) → (j ≡ s) ⊎ (j ≡ s → ⊥) → word z r'.world (name.Pend q j) ≡ pend_word pend.Idle
+    which (inl f) (inl g) =
+        let was : word z r.world (name.Pend l.row s) ≡ pend_word pend.Idle = rw (f, g) at e in
+        let lost : word z r.world (name.Pend l.row s) ≢ pend_word (pend.Pending l.cell) = λ k. let x : pend_word pend.Idle ≡ pend_word (pend.Pending l.cell) = sym was ∙ k in omega (arith, x) in
+        rw (f, g) (not_exchanged _ _ _ _ h.changed.same lost ∙ was)
+    which (inr d) g = pend_kept Stamp h q j w o (λ x f k. d f) (λ x f k. x) ∙ e
+    which (inl f) (inr d) = pend_kept Stamp h q j w o (λ x k g. d g) (λ x k g. x) ∙ e
+idle_stays z r r' s choice l PutClear l' h i q j w o n e = which (cases_eq q l.row) (cases_eq j s)
+  where
+    which : (q ≡ l.row) ⊎ (q ≡ l.row → ⊥) → (j ≡ s) ⊎ (j ≡ s → ⊥) → word z r'.world (name.Pend q j) ≡ pend_word pend.Idle
+    which (inl f) (inl g) = rw (f, g) h.changed.same
+    which (inr d) g = pend_kept PutClear h q j w o (λ x f k. d f) (λ x f k. x) ∙ e
+    which (inl f) (inr d) = pend_kept PutClear h q j w o (λ x k g. d g) (λ x k g. x) ∙ e
+idle_stays z r r' s choice l Announce l' h i q j w o n e = pend_kept Announce h q j w o (λ x f g. n refl f g) (λ x f g. x) ∙ e
+idle_stays z r r' s choice l a l' h i q j w o n e = pend_kept a h q j w o (λ x f g. x) (λ x f g. x) ∙ e
+
+-- a seat that announces has announced a cell of its row then
+announces_now : (z : Sizes) (r r' : Run) (s : ℕ) (choice : Choice) (l : Local) (a : Activity) (l' : Local) → Arrow z (word z r.world) s choice l a l' → Happens z r r' s choice l l' a → Below z r → a ≡ Announce → IsPublished l'.activity × (l'.row ≡ l.row)
+announces_now z r r' s choice l a l' (announces x) h i e = (tt, refl)
+announces_now z r r' s choice l a l' (is_refused n) h i e = absurd (n (idle_entry z r s l i h.seat h.knows h.activity))
+announces_now z r r' s choice l a l' _ h i e = absurd (cc)
+
+-- a seat that has announced a cell goes on with it, or clears its entry
+published_goes : (z : Sizes) (r r' : Run) (s : ℕ) (choice : Choice) (l : Local) (a : Activity) (l' : Local) → Arrow z (word z r.world) s choice l a l' → Happens z r r' s choice l l' a → Below z r → IsPublished a → (word z r'.world (name.Pend l.row s) ≡ pend_word pend.Idle) ⊎ IsPublished l'.activity × (l'.row ≡ l.row)
+published_goes z r r' s choice l a l' loads_clock h i p = inr (tt, refl)
+published_goes z r r' s choice l a l' (stamps e) h i p = inr (tt, refl)
+published_goes z r r' s choice l a l' (is_stamped version e) h i p = inr (tt, refl)
+published_goes z r r' s choice l a l' (is_not_own n) h i p = absurd (own_entry z r s l i (acting_own z r r' s choice l Stamp l' h i tt) h.knows h.activity n)
+published_goes z r r' s choice l a l' stores_version h i p = inr (tt, refl)
+published_goes z r r' s choice l a l' clears h i p = inl h.changed.same
+published_goes z r r' s choice l a l' _ h i p = absurd p
+
+-- an entry is idle, or its seat has announced a cell there
+pub entry_keeps : (z : Sizes) (r r' : Run) (s : ℕ) (choice : Choice) (l : Local) (a : Activity) (l' : Local) → Arrow z (word z r.world) s choice l a l' → Happens z r r' s choice l l' a → Below z r → (q j : ℕ) → q < r'.world.rows → j < z.seats → (word z r'.world (name.Pend q j) ≡ pend_word pend.Idle) ⊎ IsPublishedAt (slice_get r'.world.locals) q j
+entry_keeps z r r' s choice l a l' b h i q j o e = which (cases_eq j s) (i.puts.entry q j below e)
+  where
+    below : q < r.world.rows
+    below = subst (λ n. q < n) h.rows o
+
+    -- the acting seat has announced a cell of the row
+    here : j ≡ s → IsPublished l'.activity → l'.row ≡ q → IsPublishedAt (slice_get r'.world.locals) q j
+    here f p k = record { local = l'; knows = rw f (knows_next h); published = p; row = k }
+
+    -- its entry was idle, and it announces or not
+    idle : word z r.world (name.Pend q j) ≡ pend_word pend.Idle → (k : Activity) → a ≡ k → (word z r'.world (name.Pend q j) ≡ pend_word pend.Idle) ⊎ IsPublishedAt (slice_get r'.world.locals) q j
+    idle x Announce f = at (cases_eq q l.row) (cases_eq j s)
+      where
+        at : (q ≡ l.row) ⊎ (q ≡ l.row → ⊥) → (j ≡ s) ⊎ (j ≡ s → ⊥) → (word z r'.world (name.Pend q j) ≡ pend_word pend.Idle) ⊎ IsPublishedAt (slice_get r'.world.locals) q j
+        at (inl g) (inl k) = let p = announces_now z r r' s choice l a l' b h i f in inr (here k p.0 (p.1 ∙ sym g))
+        at (inr d) k = inl (idle_stays z r r' s choice l a l' h i q j below e (λ u g m. d g) x)
+        at (inl g) (inr d) = inl (idle_stays z r r' s choice l a l' h i q j below e (λ u g m. d m) x)
+    idle x k f = inl (idle_stays z r r' s choice l a l' h i q j below e (λ u g m. let y : k ≡ Announce = sym f ∙ u in absurd (cc)) x)
+
+    mine : j ≡ s → IsPublishedAt (slice_get r.world.locals) q j → (word z r'.world (name.Pend q j) ≡ pend_word pend.Idle) ⊎ IsPublishedAt (slice_get r'.world.locals) q j
+    mine f p = met (published_goes z r r' s choice l a l' b h i (subst IsPublished h.activity (subst (λ (x : Local). IsPublished x.activity) is p.published)))
+      where
+        is : p.local ≡ l
+        is = same_Some p.local l (sym p.knows ∙ rw f h.knows)
+
+        row : l.row ≡ q
+        row = ap (λ x. x.row) (sym is) ∙ p.row
+
+        met : (word z r'.world (name.Pend l.row s) ≡ pend_word pend.Idle) ⊎ IsPublished l'.activity × (l'.row ≡ l.row) → (word z r'.world (name.Pend q j) ≡ pend_word pend.Idle) ⊎ IsPublishedAt (slice_get r'.world.locals) q j
+        met (inl x) = inl (rw (← row, f) x)
+        met (inr x) = inr (here f x.0 (x.1 ∙ row))
+
+    which : (j ≡ s) ⊎ (j ≡ s → ⊥) → (word z r.world (name.Pend q j) ≡ pend_word pend.Idle) ⊎ IsPublishedAt (slice_get r.world.locals) q j → (word z r'.world (name.Pend q j) ≡ pend_word pend.Idle) ⊎ IsPublishedAt (slice_get r'.world.locals) q j
+    which f (inl x) = idle x a refl
+    which (inl f) (inr p) = mine f p
+    which (inr d) (inr p) = inr (record { local = p.local; knows = knows_other h j d ∙ p.knows; published = p.published; row = p.row })
+
+-- The attempt that a reader is to help.
+
+look_meets : {A : Type 0} (z : Sizes) (j : ℕ) (a : Activity) → NextLook z j a → HasMet a → A
+look_meets z j a (looks o) p = absurd p
+look_meets z j a (counts o) p = absurd p
+
+cell_meets : {A : Type 0} (l : Local) (j : ℕ) (n : Local) → NextCell l j n → HasMet n.activity → A
+cell_meets l j n (reads_cell o) p = absurd p
+cell_meets l j n (answers o e) p = absurd p
+cell_meets l j n (ends_scan o e f) p = absurd p
+cell_meets l j n (scans_on q o e f g) p = absurd p
+
+-- a reader meets a pending entry: it is that of the seat's own attempt
+pending_met : (z : Sizes) (r r' : Run) (s : ℕ) (choice : Choice) (l : Local) (j c : ℕ) → word z r.world (name.Pend l.row j) ≡ pend_word (pend.Pending c) → Happens z r r' s choice l (record l { looked = j; met = c; activity = LookKey }) (Look j) → Below z r → Step r.history r'.history (log_entry z r (Look j) s choice l) → Helps r'.history r'.origin LookKey (record l { looked = j; met = c; activity = LookKey }) (r'.seats s)
+pending_met z r r' s choice l j c e h i st = record {
+  put = (r.seats j).own;
+  origin = goes.origin l.row c (r.seats j).own (subst (λ x. r.origin x c ≡ Some (r.seats j).own) (own.row ∙ w.row) (subst (λ x. r.origin (attempt r.history (r.seats j).own).row x ≡ Some (r.seats j).own) w.cell (i.puts.given (r.seats j).own own.within).origin));
+  seat = same.seat ∙ own.seat;
+  announced = ((goes.grows.old (r.seats j).own own.within).announced (own.announced w.published)).0;
+  key = λ x. absurd x;
+  after = λ x. absurd x;
+  loaded = λ x. absurd x;
+}
+  where
+    w : IsPendingOf z r l.row j c
+    w = entry_owner i.puts l.row j c (i.shape.sane.locals s l h.knows).below.row (subst (IsActivity z) h.activity (i.shape.sane.locals s l h.knows).ranges.activity) e
+
+    own : OwnsAttempt (word z r.world) r.history j w.local.activity w.local (r.seats j)
+    own = i.puts.owns j w.local w.knows (published_puts w.local.activity w.published)
+
+    goes : GoesOn r.history r'.history r.origin r'.origin
+    goes = goes_on_by z r r' s choice l (Look j) (record l { looked = j; met = c; activity = LookKey }) h i st
+
+    same : SameAttempt r.history r'.history (r.seats j).own
+    same = goes.attempts (r.seats j).own own.within
+
+-- the attempt that was met, after an event of the reader
+module _ (z : Sizes) (r r' : Run) (s : ℕ) (choice : Choice) (l : Local) (a : Activity) (l' : Local) (h : Happens z r r' s choice l l' a) (i : Below z r) (st : Step r.history r'.history (log_entry z r a s choice l)) (m : HasMet a) where
+  helped : Helps r.history r.origin l.activity l (r.seats s)
+  helped = i.puts.helps s l h.knows (subst HasMet (sym h.activity) m)
+
+  met_cell : HasCell r.history l.row l.met helped.put
+  met_cell = i.puts.places.owner l.row l.met helped.put helped.origin
+
+  goes : GoesOn r.history r'.history r.origin r'.origin
+  goes = goes_on_by z r r' s choice l a l' h i st
+
+  met_origin : r'.origin l.row l.met ≡ Some helped.put
+  met_origin = goes.origin l.row l.met helped.put helped.origin
+
+  met_same : SameAttempt r.history r'.history helped.put
+  met_same = goes.attempts helped.put met_cell.within
+
+  met_announced : ((attempt r'.history helped.put).is_announced ≡ true) × ((attempt r'.history helped.put).announced ≡ (attempt r.history helped.put).announced)
+  met_announced = (goes.grows.old helped.put met_cell.within).announced helped.announced
+
+-- its key is one that the reader reads
+key_wanted : (z : Sizes) (r r' : Run) (s : ℕ) (choice : Choice) (l : Local) → is_in_range l.call (key_of_word (word z r.world (name.Key l.row l.met))) ≡ true → Happens z r r' s choice l (record l { activity = LookClock }) LookKey → Below z r → Step r.history r'.history (log_entry z r LookKey s choice l) → Helps r'.history r'.origin LookClock (record l { activity = LookClock }) (r'.seats s)
+key_wanted z r r' s choice l e h i st =
+    let l' : Local = record l { activity = LookClock } in
+    let k = helped z r r' s choice l LookKey l' h i st tt in
+    let c = met_cell z r r' s choice l LookKey l' h i st tt in
+    let same = met_same z r r' s choice l LookKey l' h i st tt in
+    record {
+      put = k.put;
+      origin = met_origin z r r' s choice l LookKey l' h i st tt;
+      seat = same.seat ∙ k.seat;
+      announced = (met_announced z r r' s choice l LookKey l' h i st tt).0;
+      key = λ x. rw (same.key, ← (i.puts.body k.put c.within).key k.announced, c.row, c.cell) e;
+      after = λ x. absurd x;
+      loaded = λ x. absurd x;
+    }
+
+-- the clock is loaded after its announcement
+loaded_to_help : (z : Sizes) (r r' : Run) (s : ℕ) (choice : Choice) (l : Local) → Happens z r r' s choice l (record l { helping = word z r.world name.Clock; activity = LookHelp }) LookClock → Below z r → Step r.history r'.history (log_entry z r LookClock s choice l) → Helps r'.history r'.origin LookHelp (record l { helping = word z r.world name.Clock; activity = LookHelp }) (r'.seats s)
+loaded_to_help z r r' s choice l h i st =
+    let l' : Local = record l { helping = word z r.world name.Clock; activity = LookHelp } in
+    let k = helped z r r' s choice l LookClock l' h i st tt in
+    let c = met_cell z r r' s choice l LookClock l' h i st tt in
+    let same = met_same z r r' s choice l LookClock l' h i st tt in
+    let announced = met_announced z r r' s choice l LookClock l' h i st tt in
+    subst (Helps r'.history r'.origin LookHelp l') (sym h.log) (record {
+      put = k.put;
+      origin = met_origin z r r' s choice l LookClock l' h i st tt;
+      seat = same.seat ∙ k.seat;
+      announced = announced.0;
+      key = λ x. rw same.key (k.key (subst IsToHelp (sym h.activity) tt));
+      after = λ x. rw announced.1 (i.history.past.announced k.put c.within k.announced);
+      loaded = λ x. new_stands r.history r'.history _ st;
+    })
+
+-- the attempt that the acting seat is to help
+pub helps_own : (z : Sizes) (r r' : Run) (s : ℕ) (choice : Choice) (l : Local) (a : Activity) (l' : Local) → Arrow z (word z r.world) s choice l a l' → Happens z r r' s choice l l' a → Below z r → Step r.history r'.history (log_entry z r a s choice l) → HasMet l'.activity → Helps r'.history r'.origin l'.activity l' (r'.seats s)
+helps_own z r r' s choice l a l' (meets_pending j c e) h i st p = pending_met z r r' s choice l j c (sym (pend_word_of _ _ e)) h i st
+helps_own z r r' s choice l a l' (is_wanted e) h i st p = key_wanted z r r' s choice l e h i st
+helps_own z r r' s choice l a l' loads_to_help h i st p = loaded_to_help z r r' s choice l h i st
+helps_own z r r' s choice l a l' (meets_stamped j c version next e n) h i st p = look_meets z _ next n p
+helps_own z r r' s choice l a l' (meets_neither j next e n) h i st p = look_meets z _ next n p
+helps_own z r r' s choice l a l' (is_passed next e n) h i st p = look_meets z _ next n p
+helps_own z r r' s choice l a l' (helps next e n) h i st p = look_meets z _ next n p
+helps_own z r r' s choice l a l' (finds_stamped c version next e n) h i st p = look_meets z _ next n p
+helps_own z r r' s choice l a l' (finds_other next e n) h i st p = look_meets z _ next n p
+helps_own z r r' s choice l a l' (counts_cells next n) h i st p = cell_meets _ _ next n p
+helps_own z r r' s choice l a l' (has_no_version j next e n) h i st p = cell_meets _ _ next n p
+helps_own z r r' s choice l a l' (has_other_key next e n) h i st p = cell_meets _ _ next n p
+helps_own z r r' s choice l a l' (gathers next n) h i st p = cell_meets _ _ next n p
+helps_own z r r' s choice l a l' _ h i st p = absurd p

@@ -1,0 +1,16 @@
+pub mod Owners
+pub mod Rely
+pub mod RelyEntry
+pub mod RelyProof
+pub mod StablePuts
+pub mod NewAttempts
+pub mod OwnAttempts
+pub mod AttemptCells
+pub mod DoneAttempts
+pub mod Entries
+pub mod PutsKeep
+pub mod Callings
+pub mod OwnScans
+pub mod PositionsKeep
+pub mod PutsOpen
+pub mod PutsHold

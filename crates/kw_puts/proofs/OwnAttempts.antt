@@ -1,0 +1,428 @@
+-- Every event keeps what holds of the attempts that seats are at work on, of their entries, and of the attempts that are done.
+use Rattle.std.proofs.Common.{ℕ, ◌≡◌, ◌≢◌, ◌⊎◌, inl, inr, ◌<◌, ◌≤◌, Bool, true, false, Option, Some, None, arith, refl, sym, ◌∙◌, ap, subst, length, slice_get}
+use Rattle.std.proofs.lemmas.Option.{same_Some}
+use Rattle.kw_words.specs.declared.layout.Name.TheVariants as name
+use Rattle.kw_words.specs.declared.pend.Pend.TheVariants as pend
+use Rattle.kw_words.specs.declared.sizes.TheConstants.{VERSION_END, KEY_END}
+use Rattle.kw_words.specs.Count.{count_of}
+use Rattle.kw_words.specs.Pend.{pend_of, pend_word}
+use Rattle.kw_words.specs.Plain.{key_of_word, value_of_word}
+use Rattle.kw_words.proofs.PendWords.{pend_of-Pending, pend_of-Stamped, pend_word_of}
+use Rattle.kw_words.proofs.PlainWords.{key_of_word-key_word, value_of_word-value_word}
+use Rattle.kw_model.specs.declared.call.Call.{Call}
+use Rattle.kw_model.specs.declared.call.Call.TheVariants.{Put, Del, Get, Scan}
+use Rattle.kw_world.specs.declared.activity.Activity.{Activity}
+use Rattle.kw_world.specs.declared.activity.Activity.TheVariants.{PutAdd, PutKey, PutValue, Announce, PutClock, Stamp, PutVersion, PutClear}
+use Rattle.kw_world.specs.declared.local.Local.{Local}
+use Rattle.kw_world.specs.declared.event.Choice.{Choice}
+use Rattle.kw_world.specs.Sizes.{Sizes}
+use Rattle.kw_world.specs.Calls.{first_key, put_value}
+use Rattle.kw_world.specs.RowPut.{has_room}
+use Rattle.kw_world.specs.Sane.{IsCall, IsKnown}
+use Rattle.kw_world.specs.Step.{word}
+use Rattle.kw_core.specs.declared.history.Attempt.{Attempt}
+use Rattle.kw_core.specs.History.{LoadClock, attempt}
+use Rattle.kw_core.specs.declared.history.Change.TheVariants.{Nothing, Announces, Stamps}
+use Rattle.kw_core.specs.Noted.{noted}
+use Rattle.kw_core.specs.Run.{Run}
+use Rattle.kw_core.specs.Stages.{IsPutting, IsFresh, HasKey, IsPublished, IsStamped, IsPutVersion}
+use Rattle.kw_core.specs.Words.{given_in}
+use Rattle.kw_shape.specs.Shape.{Shape}
+use Rattle.kw_puts.specs.Puts.{OwnsAttempt, IsPublishedAt, entry_of}
+use Rattle.kw_core.specs.Step.{Keeps}
+use Rattle.kw_puts.specs.Below.{Below}
+use Rattle.kw_core.specs.Step.{Step}
+use Rattle.kw_core.proofs.NotedLaws.{attempt_set_same}
+use Rattle.kw_core.proofs.Steps.{new_stands}
+use Rattle.kw_core.proofs.Happens.{Happens, chosen, not_chosen, exchanged, not_exchanged}
+use Rattle.kw_core.proofs.Arrows.{Arrow, NextLook, looks, counts, NextCell, reads_cell, answers, ends_scan, scans_on, IsNotOwn}
+use Rattle.kw_core.proofs.Arrows.{meets_stamped, meets_neither, is_passed, helps, finds_stamped, finds_other, counts_cells, has_no_version, has_other_key, gathers, takes_cell, stores_key, stores_value, announces, loads_clock, stamps, is_stamped, stores_version}
+use Rattle.kw_core.proofs.Frame.{key_kept, pend_kept}
+use Rattle.kw_core.proofs.Happens.{log_entry}
+use Rattle.kw_puts.proofs.Rely.{GoesOn}
+use Rattle.kw_puts.proofs.RelyEntry.{attempt_left}
+use Rattle.kw_puts.proofs.RelyProof.{goes_on_by}
+use Rattle.kw_puts.proofs.NewAttempts.{added, one_more_is, one_more_within}
+
+-- What a seat with a cell knows, and what it meets.
+
+-- its own attempt
+pub acting_own : (z : Sizes) (r r' : Run) (s : ℕ) (choice : Choice) (l : Local) (a : Activity) (l' : Local) → Happens z r r' s choice l l' a → Below z r → IsPutting a → OwnsAttempt (word z r.world) r.history s l.activity l (r.seats s)
+acting_own z r r' s choice l a l' h i p = i.puts.owns s l h.knows (subst IsPutting (sym h.activity) p)
+
+-- the version of a stamped attempt is one of the clock's
+pub positive : (z : Sizes) (r : Run) → Below z r → (p : ℕ) → (attempt r.history p).is_stamped ≡ true → 1 ≤ (attempt r.history p).version
+positive z r i p x = i.positions.clocked.positive (attempt r.history p).load LoadClock (attempt r.history p).version (i.history.laws.loaded p x)
+
+below_end : (z : Sizes) (r : Run) → Below z r → (p : ℕ) → (attempt r.history p).is_stamped ≡ true → (attempt r.history p).version < VERSION_END
+below_end z r i p x =
+    let y = i.positions.clocked.past (attempt r.history p).load LoadClock (attempt r.history p).version (i.history.laws.loaded p x) in
+    let c = i.shape.sane.each name.Clock tt in
+    omega (arith, y, c.1)
+
+-- its entry is idle where it is about to announce its cell
+pub idle_entry : (z : Sizes) (r : Run) (s : ℕ) (l : Local) → Below z r → s < z.seats → slice_get r.world.locals s ≡ Some l → l.activity ≡ Announce → word z r.world (name.Pend l.row s) ≡ pend_word pend.Idle
+idle_entry z r s l i o k e = which (i.puts.entry l.row s (i.shape.sane.locals s l k).below.row o)
+  where
+    which : (word z r.world (name.Pend l.row s) ≡ pend_word pend.Idle) ⊎ IsPublishedAt (slice_get r.world.locals) l.row s → word z r.world (name.Pend l.row s) ≡ pend_word pend.Idle
+    which (inl x) = x
+    which (inr p) =
+        let same : p.local ≡ l = same_Some p.local l (sym p.knows ∙ k) in
+        let x : IsPublished Announce = subst IsPublished e (subst (λ (q : Local). IsPublished q.activity) same p.published) in
+        absurd x
+
+-- the entry of an attempt that is stamped, or is not
+entry_stamped : (p : Attempt) → p.is_stamped ≡ true → entry_of p ≡ pend_word (pend.Stamped p.cell p.version)
+entry_stamped p x = rw x refl
+
+entry_pending : (p : Attempt) → p.is_stamped ≡ false → entry_of p ≡ pend_word (pend.Pending p.cell)
+entry_pending p x = rw x refl
+
+-- an attempt whose entry is stamped is so with the version of the entry
+stamped_entry : (p : Attempt) (c version : ℕ) → p.cell ≡ c → entry_of p ≡ pend_word (pend.Stamped c version) → (p.is_stamped ≡ true) × (p.version ≡ version)
+stamped_entry p c version f e = met p.is_stamped refl
+  where
+    met : (b : Bool) → p.is_stamped ≡ b → (p.is_stamped ≡ true) × (p.version ≡ version)
+    met true y = let x : pend_word (pend.Stamped p.cell p.version) ≡ pend_word (pend.Stamped c version) = rw y at e in (y, omega (arith, x, f))
+    met false y = let x : pend_word (pend.Pending p.cell) ≡ pend_word (pend.Stamped c version) = rw y at e in absurd (omega (arith, x))
+
+-- and is its own where it is about to stamp
+pub own_entry : (z : Sizes) (r : Run) (s : ℕ) (l : Local) → Below z r → OwnsAttempt (word z r.world) r.history s l.activity l (r.seats s) → slice_get r.world.locals s ≡ Some l → l.activity ≡ Stamp → IsNotOwn l.cell (word z r.world (name.Pend l.row s)) → ⊥
+own_entry z r s l i own k e n = which (attempt r.history (r.seats s).own).is_stamped refl
+  where
+    cell : l.cell < z.cells
+    cell = (i.shape.sane.locals s l k).ranges.cell
+
+    entry : word z r.world (name.Pend l.row s) ≡ entry_of (attempt r.history (r.seats s).own)
+    entry = own.entry (subst IsPublished (sym e) tt)
+
+    which : (b : Bool) → (attempt r.history (r.seats s).own).is_stamped ≡ b → ⊥
+    which true x =
+        let w : word z r.world (name.Pend l.row s) ≡ pend_word (pend.Stamped l.cell (attempt r.history (r.seats s).own).version) = entry ∙ entry_stamped (attempt r.history (r.seats s).own) x ∙ ap (λ c. pend_word (pend.Stamped c (attempt r.history (r.seats s).own).version)) own.cell in
+        n.stamped (attempt r.history (r.seats s).own).version (ap pend_of w ∙ pend_of-Stamped l.cell (attempt r.history (r.seats s).own).version (omega (arith, cell, i.shape.sane.sized.few_cells)) (positive z r i (r.seats s).own x) (below_end z r i (r.seats s).own x))
+    which false x =
+        let w : word z r.world (name.Pend l.row s) ≡ pend_word (pend.Pending l.cell) = entry ∙ entry_pending (attempt r.history (r.seats s).own) x ∙ ap (λ c. pend_word (pend.Pending c)) own.cell in
+        n.pending (ap pend_of w ∙ pend_of-Pending l.cell (omega (arith, cell, i.shape.sane.sized.few_cells)))
+
+-- the key of a call is in range
+first_below : (c : Option Call) → IsCall c → first_key c < KEY_END
+first_below (Some (Put key value)) h = h.0
+first_below (Some (Del key)) h = h
+first_below (Some (Get key)) h = h
+first_below (Some (Scan from upto)) h = h.0
+first_below None h = omega arith
+
+-- What the acting seat does with its own attempt, one lemma for each event of a put.
+
+-- the key is stored
+key_stored : (z : Sizes) (r r' : Run) (s : ℕ) (choice : Choice) (l : Local) → Happens z r r' s choice l (record l { activity = PutValue }) PutKey → Below z r → Step r.history r'.history (log_entry z r PutKey s choice l) → OwnsAttempt (word z r'.world) r'.history s PutValue (record l { activity = PutValue }) (r'.seats s)
+key_stored z r r' s choice l h i st = subst (OwnsAttempt (word z r'.world) r'.history s PutValue (record l { activity = PutValue })) (sym h.log) (record {
+  within = omega (arith, own.within, goes.more_attempts);
+  seat = rw same own.seat;
+  call = rw same own.call;
+  row = rw same own.row;
+  cell = rw same own.cell;
+  key = rw same own.key;
+  value = rw same own.value;
+  kept = rw same own.kept;
+  unannounced = λ x. rw same (own.unannounced (subst IsFresh (sym h.activity) tt));
+  unstamped = λ x. rw same (own.unstamped (subst IsFresh (sym h.activity) tt));
+  has_key = λ x. rw same (ap key_of_word h.changed.same ∙ key_of_word-key_word (first_key l.call) (first_below l.call known.ranges.call) ∙ sym own.key);
+  has_value = λ x. absurd x;
+  announced = λ x. absurd x;
+  entry = λ x. absurd x;
+  after = λ x. absurd x;
+  loaded = λ x. absurd x;
+  stamped = λ x. absurd x;
+  version = λ x. absurd x;
+  stored = λ x. absurd x;
+})
+  where
+    own : OwnsAttempt (word z r.world) r.history s l.activity l (r.seats s)
+    own = acting_own z r r' s choice l PutKey (record l { activity = PutValue }) h i tt
+
+    goes : GoesOn r.history r'.history r.origin r'.origin
+    goes = goes_on_by z r r' s choice l PutKey (record l { activity = PutValue }) h i st
+
+    same : attempt r'.history (r.seats s).own ≡ attempt r.history (r.seats s).own
+    same = attempt_left r.history r'.history _ (r.seats s).own Nothing tt h.history own.within
+
+    known : IsKnown z r.world.rows l
+    known = i.shape.sane.locals s l h.knows
+
+-- the value is stored
+value_stored : (z : Sizes) (r r' : Run) (s : ℕ) (choice : Choice) (l : Local) → Happens z r r' s choice l (record l { activity = Announce }) PutValue → Below z r → Step r.history r'.history (log_entry z r PutValue s choice l) → OwnsAttempt (word z r'.world) r'.history s Announce (record l { activity = Announce }) (r'.seats s)
+value_stored z r r' s choice l h i st = subst (OwnsAttempt (word z r'.world) r'.history s Announce (record l { activity = Announce })) (sym h.log) (record {
+  within = omega (arith, own.within, goes.more_attempts);
+  seat = rw same own.seat;
+  call = rw same own.call;
+  row = rw same own.row;
+  cell = rw same own.cell;
+  key = rw same own.key;
+  value = rw same own.value;
+  kept = rw same own.kept;
+  unannounced = λ x. rw same (own.unannounced (subst IsFresh (sym h.activity) tt));
+  unstamped = λ x. rw same (own.unstamped (subst IsFresh (sym h.activity) tt));
+  has_key = λ x. rw same (ap key_of_word (key_kept PutValue h l.row l.cell known.below.row known.ranges.cell (λ y e f. y)) ∙ own.has_key (subst HasKey (sym h.activity) tt));
+  has_value = λ x. rw same (ap value_of_word h.changed.same ∙ value_of_word-value_word (put_value l.call) ∙ sym own.value);
+  announced = λ x. absurd x;
+  entry = λ x. absurd x;
+  after = λ x. absurd x;
+  loaded = λ x. absurd x;
+  stamped = λ x. absurd x;
+  version = λ x. absurd x;
+  stored = λ x. absurd x;
+})
+  where
+    own : OwnsAttempt (word z r.world) r.history s l.activity l (r.seats s)
+    own = acting_own z r r' s choice l PutValue (record l { activity = Announce }) h i tt
+
+    goes : GoesOn r.history r'.history r.origin r'.origin
+    goes = goes_on_by z r r' s choice l PutValue (record l { activity = Announce }) h i st
+
+    same : attempt r'.history (r.seats s).own ≡ attempt r.history (r.seats s).own
+    same = attempt_left r.history r'.history _ (r.seats s).own Nothing tt h.history own.within
+
+    known : IsKnown z r.world.rows l
+    known = i.shape.sane.locals s l h.knows
+
+-- the cell is announced
+cell_announced : (z : Sizes) (r r' : Run) (s : ℕ) (choice : Choice) (l : Local) → word z r.world (name.Pend l.row s) ≡ pend_word pend.Idle → Happens z r r' s choice l (record l { activity = PutClock }) Announce → Below z r → Step r.history r'.history (log_entry z r Announce s choice l) → OwnsAttempt (word z r'.world) r'.history s PutClock (record l { activity = PutClock }) (r'.seats s)
+cell_announced z r r' s choice l e h i st = subst (OwnsAttempt (word z r'.world) r'.history s PutClock (record l { activity = PutClock })) (sym h.log) (record {
+  within = omega (arith, own.within, goes.more_attempts);
+  seat = rw same own.seat;
+  call = rw same own.call;
+  row = rw same own.row;
+  cell = rw same own.cell;
+  key = rw same own.key;
+  value = rw same own.value;
+  kept = rw same own.kept;
+  unannounced = λ x. absurd x;
+  unstamped = λ x. absurd x;
+  has_key = λ x. absurd x;
+  has_value = λ x. absurd x;
+  announced = λ x. rw same refl;
+  entry = λ x. exchanged _ _ _ _ h.changed.same e ∙ sym pending ∙ ap entry_of (sym same);
+  after = λ x. absurd x;
+  loaded = λ x. absurd x;
+  stamped = λ x. absurd x;
+  version = λ x. absurd x;
+  stored = λ x. absurd x;
+})
+  where
+    own : OwnsAttempt (word z r.world) r.history s l.activity l (r.seats s)
+    own = acting_own z r r' s choice l Announce (record l { activity = PutClock }) h i tt
+
+    goes : GoesOn r.history r'.history r.origin r'.origin
+    goes = goes_on_by z r r' s choice l Announce (record l { activity = PutClock }) h i st
+
+    same : attempt r'.history (r.seats s).own ≡ record (attempt r.history (r.seats s).own) { is_announced = true; announced = length r.history.log }
+    same = attempt_set_same r.history r'.history (r.seats s).own _ (ap (λ x. x.attempts) (h.history ∙ ap (λ c. noted r.history (log_entry z r Announce s choice l) c) (chosen _ _ (Announces (r.seats s).own) Nothing e))) own.within
+
+    pending : entry_of (record (attempt r.history (r.seats s).own) { is_announced = true; announced = length r.history.log }) ≡ pend_word (pend.Pending l.cell)
+    pending = entry_pending (record (attempt r.history (r.seats s).own) { is_announced = true; announced = length r.history.log }) (own.unstamped (subst IsFresh (sym h.activity) tt)) ∙ ap (λ c. pend_word (pend.Pending c)) own.cell
+
+-- the clock is loaded
+clock_loaded : (z : Sizes) (r r' : Run) (s : ℕ) (choice : Choice) (l : Local) → Happens z r r' s choice l (record l { version = word z r.world name.Clock; activity = Stamp }) PutClock → Below z r → Step r.history r'.history (log_entry z r PutClock s choice l) → OwnsAttempt (word z r'.world) r'.history s Stamp (record l { version = word z r.world name.Clock; activity = Stamp }) (r'.seats s)
+clock_loaded z r r' s choice l h i st = subst (OwnsAttempt (word z r'.world) r'.history s Stamp (record l { version = word z r.world name.Clock; activity = Stamp })) (sym h.log) (record {
+  within = omega (arith, own.within, goes.more_attempts);
+  seat = rw same own.seat;
+  call = rw same own.call;
+  row = rw same own.row;
+  cell = rw same own.cell;
+  key = rw same own.key;
+  value = rw same own.value;
+  kept = rw same own.kept;
+  unannounced = λ x. absurd x;
+  unstamped = λ x. absurd x;
+  has_key = λ x. absurd x;
+  has_value = λ x. absurd x;
+  announced = λ x. rw same (own.announced (subst IsPublished (sym h.activity) tt));
+  entry = λ x. h.changed.loaded refl (name.Pend l.row s) ∙ own.entry (subst IsPublished (sym h.activity) tt) ∙ ap entry_of (sym same);
+  after = λ x. rw same (i.history.past.announced (r.seats s).own own.within (own.announced (subst IsPublished (sym h.activity) tt)));
+  loaded = λ x. new_stands r.history r'.history _ st;
+  stamped = λ x. absurd x;
+  version = λ x. absurd x;
+  stored = λ x. absurd x;
+})
+  where
+    own : OwnsAttempt (word z r.world) r.history s l.activity l (r.seats s)
+    own = acting_own z r r' s choice l PutClock (record l { version = word z r.world name.Clock; activity = Stamp }) h i tt
+
+    goes : GoesOn r.history r'.history r.origin r'.origin
+    goes = goes_on_by z r r' s choice l PutClock (record l { version = word z r.world name.Clock; activity = Stamp }) h i st
+
+    same : attempt r'.history (r.seats s).own ≡ attempt r.history (r.seats s).own
+    same = attempt_left r.history r'.history _ (r.seats s).own Nothing tt h.history own.within
+
+-- the cell is stamped
+cell_stamped : (z : Sizes) (r r' : Run) (s : ℕ) (choice : Choice) (l : Local) → word z r.world (name.Pend l.row s) ≡ pend_word (pend.Pending l.cell) → Happens z r r' s choice l (record l { activity = PutVersion }) Stamp → Below z r → Step r.history r'.history (log_entry z r Stamp s choice l) → OwnsAttempt (word z r'.world) r'.history s PutVersion (record l { activity = PutVersion }) (r'.seats s)
+cell_stamped z r r' s choice l e h i st = subst (OwnsAttempt (word z r'.world) r'.history s PutVersion (record l { activity = PutVersion })) (sym h.log) (record {
+  within = omega (arith, own.within, goes.more_attempts);
+  seat = rw same own.seat;
+  call = rw same own.call;
+  row = rw same own.row;
+  cell = rw same own.cell;
+  key = rw same own.key;
+  value = rw same own.value;
+  kept = rw same own.kept;
+  unannounced = λ x. absurd x;
+  unstamped = λ x. absurd x;
+  has_key = λ x. absurd x;
+  has_value = λ x. absurd x;
+  announced = λ x. rw same (own.announced (subst IsPublished (sym h.activity) tt));
+  entry = λ x. exchanged _ _ _ _ h.changed.same e ∙ ap (λ c. pend_word (pend.Stamped c l.version)) (sym own.cell) ∙ ap entry_of (sym same);
+  after = λ x. absurd x;
+  loaded = λ x. absurd x;
+  stamped = λ x. rw same refl;
+  version = λ x. rw same refl;
+  stored = λ x. absurd x;
+})
+  where
+    own : OwnsAttempt (word z r.world) r.history s l.activity l (r.seats s)
+    own = acting_own z r r' s choice l Stamp (record l { activity = PutVersion }) h i tt
+
+    goes : GoesOn r.history r'.history r.origin r'.origin
+    goes = goes_on_by z r r' s choice l Stamp (record l { activity = PutVersion }) h i st
+
+    same : attempt r'.history (r.seats s).own ≡ record (attempt r.history (r.seats s).own) { is_stamped = true; version = l.version; load = (r.seats s).loaded; at = length r.history.log }
+    same = attempt_set_same r.history r'.history (r.seats s).own _ (ap (λ x. x.attempts) (h.history ∙ ap (λ c. noted r.history (log_entry z r Stamp s choice l) c) (chosen _ _ (Stamps (r.seats s).own l.version (r.seats s).loaded) Nothing e))) own.within
+
+-- the cell was stamped by a reader
+found_stamped : (z : Sizes) (r r' : Run) (s : ℕ) (choice : Choice) (l : Local) (version : ℕ) → word z r.world (name.Pend l.row s) ≡ pend_word (pend.Stamped l.cell version) → Happens z r r' s choice l (record l { version = version; activity = PutVersion }) Stamp → Below z r → Step r.history r'.history (log_entry z r Stamp s choice l) → OwnsAttempt (word z r'.world) r'.history s PutVersion (record l { version = version; activity = PutVersion }) (r'.seats s)
+found_stamped z r r' s choice l version e h i st = subst (OwnsAttempt (word z r'.world) r'.history s PutVersion (record l { version = version; activity = PutVersion })) (sym h.log) (record {
+  within = omega (arith, own.within, goes.more_attempts);
+  seat = rw same own.seat;
+  call = rw same own.call;
+  row = rw same own.row;
+  cell = rw same own.cell;
+  key = rw same own.key;
+  value = rw same own.value;
+  kept = rw same own.kept;
+  unannounced = λ x. absurd x;
+  unstamped = λ x. absurd x;
+  has_key = λ x. absurd x;
+  has_value = λ x. absurd x;
+  announced = λ x. rw same (own.announced (subst IsPublished (sym h.activity) tt));
+  entry = λ x. not_exchanged _ _ _ _ h.changed.same lost ∙ e ∙ sym entry ∙ ap entry_of (sym same);
+  after = λ x. absurd x;
+  loaded = λ x. absurd x;
+  stamped = λ x. rw same is.0;
+  version = λ x. rw same is.1;
+  stored = λ x. absurd x;
+})
+  where
+    own : OwnsAttempt (word z r.world) r.history s l.activity l (r.seats s)
+    own = acting_own z r r' s choice l Stamp (record l { version = version; activity = PutVersion }) h i tt
+
+    goes : GoesOn r.history r'.history r.origin r'.origin
+    goes = goes_on_by z r r' s choice l Stamp (record l { version = version; activity = PutVersion }) h i st
+
+    lost : word z r.world (name.Pend l.row s) ≢ pend_word (pend.Pending l.cell)
+    lost f = let x : pend_word (pend.Stamped l.cell version) ≡ pend_word (pend.Pending l.cell) = sym e ∙ f in omega (arith, x)
+
+    same : attempt r'.history (r.seats s).own ≡ attempt r.history (r.seats s).own
+    same = attempt_left r.history r'.history _ (r.seats s).own Nothing tt (h.history ∙ ap (λ c. noted r.history (log_entry z r Stamp s choice l) c) (not_chosen _ _ (Stamps (r.seats s).own l.version (r.seats s).loaded) Nothing lost)) own.within
+
+    entry : entry_of (attempt r.history (r.seats s).own) ≡ pend_word (pend.Stamped l.cell version)
+    entry = sym (own.entry (subst IsPublished (sym h.activity) tt)) ∙ e
+
+    is : ((attempt r.history (r.seats s).own).is_stamped ≡ true) × ((attempt r.history (r.seats s).own).version ≡ version)
+    is = stamped_entry (attempt r.history (r.seats s).own) l.cell version own.cell entry
+
+-- the version is stored
+version_stored : (z : Sizes) (r r' : Run) (s : ℕ) (choice : Choice) (l : Local) → Happens z r r' s choice l (record l { activity = PutClear }) PutVersion → Below z r → Step r.history r'.history (log_entry z r PutVersion s choice l) → OwnsAttempt (word z r'.world) r'.history s PutClear (record l { activity = PutClear }) (r'.seats s)
+version_stored z r r' s choice l h i st = subst (OwnsAttempt (word z r'.world) r'.history s PutClear (record l { activity = PutClear })) (sym h.log) (record {
+  within = omega (arith, own.within, goes.more_attempts);
+  seat = rw same own.seat;
+  call = rw same own.call;
+  row = rw same own.row;
+  cell = rw same own.cell;
+  key = rw same own.key;
+  value = rw same own.value;
+  kept = rw same own.kept;
+  unannounced = λ x. absurd x;
+  unstamped = λ x. absurd x;
+  has_key = λ x. absurd x;
+  has_value = λ x. absurd x;
+  announced = λ x. rw same (own.announced (subst IsPublished (sym h.activity) tt));
+  entry = λ x. pend_kept PutVersion h l.row s known.below.row h.seat (λ y e f. y) (λ y e f. y) ∙ own.entry (subst IsPublished (sym h.activity) tt) ∙ ap entry_of (sym same);
+  after = λ x. absurd x;
+  loaded = λ x. absurd x;
+  stamped = λ x. rw same (own.stamped (subst IsStamped (sym h.activity) tt));
+  version = λ x. absurd x;
+  stored = λ x. rw same (h.changed.same ∙ sym (own.version (subst IsPutVersion (sym h.activity) tt)));
+})
+  where
+    own : OwnsAttempt (word z r.world) r.history s l.activity l (r.seats s)
+    own = acting_own z r r' s choice l PutVersion (record l { activity = PutClear }) h i tt
+
+    goes : GoesOn r.history r'.history r.origin r'.origin
+    goes = goes_on_by z r r' s choice l PutVersion (record l { activity = PutClear }) h i st
+
+    same : attempt r'.history (r.seats s).own ≡ attempt r.history (r.seats s).own
+    same = attempt_left r.history r'.history _ (r.seats s).own Nothing tt h.history own.within
+
+    known : IsKnown z r.world.rows l
+    known = i.shape.sane.locals s l h.knows
+
+-- a cell is given
+cell_given : (z : Sizes) (r r' : Run) (s : ℕ) (choice : Choice) (l : Local) → has_room z (count_of (word z r.world (name.Count l.row))) ≡ true → Happens z r r' s choice l (record l { cell = given_in (word z r.world) l.row; activity = PutKey }) PutAdd → OwnsAttempt (word z r'.world) r'.history s PutKey (record l { cell = given_in (word z r.world) l.row; activity = PutKey }) (r'.seats s)
+cell_given z r r' s choice l m h = subst (OwnsAttempt (word z r'.world) r'.history s PutKey (record l { cell = given_in (word z r.world) l.row; activity = PutKey })) (sym (rw m at h.log)) (record {
+  within = one_more_within h m;
+  seat = ap (λ x. x.seat) is;
+  call = ap (λ x. x.call) is;
+  row = ap (λ x. x.row) is;
+  cell = ap (λ x. x.cell) is;
+  key = ap (λ x. x.key) is;
+  value = ap (λ x. x.value) is;
+  kept = ap (λ x. x.is_lost) is;
+  unannounced = λ x. ap (λ k. k.is_announced) is;
+  unstamped = λ x. ap (λ k. k.is_stamped) is;
+  has_key = λ x. absurd x;
+  has_value = λ x. absurd x;
+  announced = λ x. absurd x;
+  entry = λ x. absurd x;
+  after = λ x. absurd x;
+  loaded = λ x. absurd x;
+  stamped = λ x. absurd x;
+  version = λ x. absurd x;
+  stored = λ x. absurd x;
+})
+  where
+    is : attempt r'.history (length r.history.attempts) ≡ added r (word z r.world) s l
+    is = one_more_is h m
+
+-- What a look, or a cell, leads to is no part of a put, and has met no entry.
+
+pub look_puts : {A : Type 0} (z : Sizes) (j : ℕ) (a : Activity) → NextLook z j a → IsPutting a → A
+look_puts z j a (looks o) p = absurd p
+look_puts z j a (counts o) p = absurd p
+
+pub cell_puts : {A : Type 0} (l : Local) (j : ℕ) (n : Local) → NextCell l j n → IsPutting n.activity → A
+cell_puts l j n (reads_cell o) p = absurd p
+cell_puts l j n (answers o e) p = absurd p
+cell_puts l j n (ends_scan o e f) p = absurd p
+cell_puts l j n (scans_on q o e f g) p = absurd p
+
+-- the acting seat's own attempt
+pub owns_own : (z : Sizes) (r r' : Run) (s : ℕ) (choice : Choice) (l : Local) (a : Activity) (l' : Local) → Arrow z (word z r.world) s choice l a l' → Happens z r r' s choice l l' a → Below z r → Step r.history r'.history (log_entry z r a s choice l) → Shape z r'.world → Keeps r'.history → IsPutting l'.activity → OwnsAttempt (word z r'.world) r'.history s l'.activity l' (r'.seats s)
+owns_own z r r' s choice l a l' (takes_cell m) h i st after k p = cell_given z r r' s choice l m h
+owns_own z r r' s choice l a l' stores_key h i st after k p = key_stored z r r' s choice l h i st
+owns_own z r r' s choice l a l' stores_value h i st after k p = value_stored z r r' s choice l h i st
+owns_own z r r' s choice l a l' (announces e) h i st after k p = cell_announced z r r' s choice l e h i st
+owns_own z r r' s choice l a l' loads_clock h i st after k p = clock_loaded z r r' s choice l h i st
+owns_own z r r' s choice l a l' (stamps e) h i st after k p = cell_stamped z r r' s choice l (sym (pend_word_of _ _ e)) h i st
+owns_own z r r' s choice l a l' (is_stamped version e) h i st after k p = found_stamped z r r' s choice l version (sym (pend_word_of _ _ e)) h i st
+owns_own z r r' s choice l a l' stores_version h i st after k p = version_stored z r r' s choice l h i st
+owns_own z r r' s choice l a l' (meets_stamped j c version next e n) h i st after k p = look_puts z _ next n p
+owns_own z r r' s choice l a l' (meets_neither j next e n) h i st after k p = look_puts z _ next n p
+owns_own z r r' s choice l a l' (is_passed next e n) h i st after k p = look_puts z _ next n p
+owns_own z r r' s choice l a l' (helps next e n) h i st after k p = look_puts z _ next n p
+owns_own z r r' s choice l a l' (finds_stamped c version next e n) h i st after k p = look_puts z _ next n p
+owns_own z r r' s choice l a l' (finds_other next e n) h i st after k p = look_puts z _ next n p
+owns_own z r r' s choice l a l' (counts_cells next n) h i st after k p = cell_puts _ _ next n p
+owns_own z r r' s choice l a l' (has_no_version j next e n) h i st after k p = cell_puts _ _ next n p
+owns_own z r r' s choice l a l' (has_other_key next e n) h i st after k p = cell_puts _ _ next n p
+owns_own z r r' s choice l a l' (gathers next n) h i st after k p = cell_puts _ _ next n p
+owns_own z r r' s choice l a l' _ h i st after k p = absurd p

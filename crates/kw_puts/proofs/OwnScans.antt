@@ -1,0 +1,591 @@
+-- The word of a scan, and where its seat drew and looked, over the seat's own event.
+use Rattle.std.proofs.Common.{ℕ, zero, suc, ◌≡◌, ◌⊎◌, inl, inr, ◌<◌, ◌≤◌, Bool, true, false, Option, Some, None, arith, refl, sym, ◌∙◌, ap, subst, length}
+use Rattle.kw_words.specs.declared.layout.Name.TheVariants as name
+use Rattle.kw_words.specs.declared.scan.ScanWord.TheVariants.{Quiet, Waiting, Drawn}
+use Rattle.kw_words.specs.Scan.{scan_of, scan_word}
+use Rattle.kw_words.specs.declared.sizes.TheConstants.{VERSION_END}
+use Rattle.kw_words.proofs.ScanWords.{scan_of-Waiting}
+use Rattle.kw_model.specs.declared.call.Call.{Call}
+use Rattle.kw_model.specs.declared.call.Call.TheVariants.{Put, Del, Get, Scan}
+use Rattle.kw_world.specs.declared.activity.Activity.{Activity}
+use Rattle.kw_world.specs.declared.activity.Activity.TheVariants.{Idle, ScanWait, ScanDraw, ScanSettle, Start, Head, GuessMin, Walk, WalkMin, Look, LookKey, LookClock, LookHelp, LookCount, Cell, CellKey, CellValue, ClearScan, PutClock, Stamp, Leave}
+use Rattle.kw_world.specs.declared.local.Local.{Local}
+use Rattle.kw_world.specs.declared.event.Choice.{Choice}
+use Rattle.kw_world.specs.Sizes.{Sizes}
+use Rattle.kw_world.specs.Calls.{is_scan}
+use Rattle.kw_world.specs.RowScan.{version_settled}
+use Rattle.kw_world.specs.RowWalk.{walk_row, is_stopped}
+use Rattle.kw_world.specs.Step.{word, followed}
+use Rattle.kw_core.specs.History.{called, Draw, Stands}
+use Rattle.kw_core.specs.Run.{Run}
+use Rattle.kw_core.specs.declared.seat_log.SeatLog.{SeatLog}
+use Rattle.kw_core.specs.Stages.{is_put, IsBusy, IsCovering, IsWaiting, IsSettling, IsSettled, HasDrawn, IsReading}
+use Rattle.kw_core.specs.Words.{Words}
+use Rattle.kw_shape.specs.Shape.{IsKind, IsScanCall}
+use Rattle.kw_puts.specs.Positions.{IsScanning, Draws}
+use Rattle.kw_puts.specs.Below.{Below}
+use Rattle.kw_core.specs.Step.{Step}
+use Rattle.kw_core.proofs.Happens.{log_entry}
+use Rattle.kw_puts.proofs.Owners.{true_false}
+use Rattle.kw_core.proofs.Frame.{unwritten}
+use Rattle.kw_core.proofs.Steps.{new_stands, stands_before}
+use Rattle.kw_puts.proofs.RelyProof.{goes_on_by}
+use Rattle.kw_core.proofs.Happens.{Changed, Happens, exchanged}
+use Rattle.kw_core.proofs.Arrows.{NextLook, looks, counts, NextCell, reads_cell, answers, ends_scan, scans_on, Arrow, begins, enters, stores_waiting, draws, settles_empty, settles, stops, starts_at_head, guesses, guess_fails, takes_head, guess_serves, guess_is_above, reads_last, reads_before, puts_in_last, puts_before, meets_next, walks_on, meets_pending, is_wanted, loads_to_help, has_version, has_key, meets_stamped, meets_neither, is_passed, helps, finds_stamped, finds_other, counts_cells, has_no_version, has_other_key, gathers, clears_scan, leaves}
+use Rattle.kw_core.proofs.SeatLogs.{IsUnderway, IsNoDraw, call_kept, draw_kept, look_kept}
+use Rattle.kw_shape.proofs.NextCalls.{arrow_call}
+
+-- Where a seat goes on to.
+
+-- after a look at an entry or a cell: it goes on reading, it walks on, or it is over
+abbrev pub IsAfterRead : Activity → Type 0
+IsAfterRead (Look j) = Unit {0}
+IsAfterRead LookKey = Unit {0}
+IsAfterRead LookClock = Unit {0}
+IsAfterRead LookHelp = Unit {0}
+IsAfterRead LookCount = Unit {0}
+IsAfterRead (Cell j) = Unit {0}
+IsAfterRead CellKey = Unit {0}
+IsAfterRead CellValue = Unit {0}
+IsAfterRead Walk = Unit {0}
+IsAfterRead (ClearScan reply) = Unit {0}
+IsAfterRead (Leave reply) = Unit {0}
+IsAfterRead _ = ⊥
+
+-- the seat reads a row
+abbrev pub IsAtReading : Activity → Type 0
+IsAtReading (Look j) = Unit {0}
+IsAtReading LookKey = Unit {0}
+IsAtReading LookClock = Unit {0}
+IsAtReading LookHelp = Unit {0}
+IsAtReading LookCount = Unit {0}
+IsAtReading (Cell j) = Unit {0}
+IsAtReading CellKey = Unit {0}
+IsAtReading CellValue = Unit {0}
+IsAtReading _ = ⊥
+
+-- the next look
+look_after : (z : Sizes) (j : ℕ) (next : Activity) → NextLook z j next → IsAfterRead next
+look_after z j next (looks w) = tt
+look_after z j next (counts w) = tt
+
+-- what follows a cell
+cell_after : (l : Local) (j : ℕ) (k : Local) → NextCell l j k → IsAfterRead k.activity
+cell_after l j k (reads_cell w) = tt
+cell_after l j k (answers w e) = tt
+cell_after l j k (ends_scan w e f) = tt
+cell_after l j k (scans_on r w e f o) = tt
+
+-- where a seat that reads a row goes on to
+pub after_read : (z : Sizes) (v : Words) (s : ℕ) (choice : Choice) (l : Local) (a : Activity) (k : Local) → Arrow z v s choice l a k → IsAtReading a → IsAfterRead k.activity
+after_read z v s choice l a k (meets_stamped j c version next e n) x = look_after z _ next n
+after_read z v s choice l a k (meets_neither j next e n) x = look_after z _ next n
+after_read z v s choice l a k (is_passed next e n) x = look_after z _ next n
+after_read z v s choice l a k (helps next e n) x = look_after z _ next n
+after_read z v s choice l a k (finds_stamped c version next e n) x = look_after z _ next n
+after_read z v s choice l a k (finds_other next e n) x = look_after z _ next n
+after_read z v s choice l a k (counts_cells next n) x = cell_after _ _ next n
+after_read z v s choice l a k (has_no_version j next e n) x = cell_after _ _ next n
+after_read z v s choice l a k (has_other_key next e n) x = cell_after _ _ next n
+after_read z v s choice l a k (gathers next n) x = cell_after _ _ next n
+after_read z v s choice l (Look j) k b x = tt
+after_read z v s choice l LookKey k b x = tt
+after_read z v s choice l LookClock k b x = tt
+after_read z v s choice l (Cell j) k b x = tt
+after_read z v s choice l CellKey k b x = tt
+after_read z v s choice l a k b x = absurd x
+
+-- a read row does not lead to a scan's beginning
+waiting_not_read : (c : Activity) → IsWaiting c → IsAfterRead c → ⊥
+waiting_not_read ScanDraw x y = y
+waiting_not_read ScanSettle x y = y
+waiting_not_read _ x y = x
+
+-- a scan that is to settle still says that it waits
+settling_waits : (c : Activity) → IsSettling c → IsWaiting c
+settling_waits ScanSettle x = tt
+settling_waits _ x = absurd x
+
+-- the event that leads to a waiting scan is the store of its word, or its draw
+waits_from : (z : Sizes) (v : Words) (s : ℕ) (choice : Choice) (l : Local) (a : Activity) (k : Local) → Arrow z v s choice l a k → IsWaiting k.activity → ((a ≡ ScanWait) × (k ≡ record l { activity = ScanDraw })) ⊎ ((a ≡ ScanDraw) × (k ≡ record l { drawn = v name.Clock; activity = ScanSettle }))
+waits_from z v s choice l a k stores_waiting x = inl (refl, refl)
+waits_from z v s choice l a k draws x = inr (refl, refl)
+waits_from z v s choice l (Look j) k b x = absurd (waiting_not_read k.activity x (after_read z v s choice l (Look j) k b tt))
+waits_from z v s choice l LookKey k b x = absurd (waiting_not_read k.activity x (after_read z v s choice l LookKey k b tt))
+waits_from z v s choice l LookClock k b x = absurd (waiting_not_read k.activity x (after_read z v s choice l LookClock k b tt))
+waits_from z v s choice l LookHelp k b x = absurd (waiting_not_read k.activity x (after_read z v s choice l LookHelp k b tt))
+waits_from z v s choice l LookCount k b x = absurd (waiting_not_read k.activity x (after_read z v s choice l LookCount k b tt))
+waits_from z v s choice l (Cell j) k b x = absurd (waiting_not_read k.activity x (after_read z v s choice l (Cell j) k b tt))
+waits_from z v s choice l CellKey k b x = absurd (waiting_not_read k.activity x (after_read z v s choice l CellKey k b tt))
+waits_from z v s choice l CellValue k b x = absurd (waiting_not_read k.activity x (after_read z v s choice l CellValue k b tt))
+waits_from z v s choice l a k b x = absurd x
+
+-- a scan that has its version had it, or has just settled it; and a seat on its way that is no scan began so
+drawn_from : (z : Sizes) (v : Words) (s : ℕ) (choice : Choice) (l : Local) (a : Activity) (k : Local) → Arrow z v s choice l a k → is_scan k.call ≡ true → HasDrawn k.activity → HasDrawn a ⊎ IsSettling a
+drawn_from z v s choice l Start k b e x = inl tt
+drawn_from z v s choice l Head k b e x = inl tt
+drawn_from z v s choice l GuessMin k b e x = inl tt
+drawn_from z v s choice l Walk k b e x = inl tt
+drawn_from z v s choice l WalkMin k b e x = inl tt
+drawn_from z v s choice l (Look j) k b e x = inl tt
+drawn_from z v s choice l LookKey k b e x = inl tt
+drawn_from z v s choice l LookClock k b e x = inl tt
+drawn_from z v s choice l LookHelp k b e x = inl tt
+drawn_from z v s choice l LookCount k b e x = inl tt
+drawn_from z v s choice l (Cell j) k b e x = inl tt
+drawn_from z v s choice l CellKey k b e x = inl tt
+drawn_from z v s choice l CellValue k b e x = inl tt
+drawn_from z v s choice l (ClearScan reply) k b e x = inl tt
+drawn_from z v s choice l ScanSettle k b e x = inr tt
+drawn_from z v s choice l a k (enters n) e x = true_false e n
+drawn_from z v s choice l a k b e x = absurd x
+
+-- the scan's word says so from then on, until it is cleared
+pub settled_from : (z : Sizes) (v : Words) (s : ℕ) (choice : Choice) (l : Local) (a : Activity) (k : Local) → Arrow z v s choice l a k → is_scan k.call ≡ true → IsSettled k.activity → IsCovering a ⊎ IsSettling a
+settled_from z v s choice l Start k b e x = inl tt
+settled_from z v s choice l Head k b e x = inl tt
+settled_from z v s choice l GuessMin k b e x = inl tt
+settled_from z v s choice l Walk k b e x = inl tt
+settled_from z v s choice l WalkMin k b e x = inl tt
+settled_from z v s choice l (Look j) k b e x = inl tt
+settled_from z v s choice l LookKey k b e x = inl tt
+settled_from z v s choice l LookClock k b e x = inl tt
+settled_from z v s choice l LookHelp k b e x = inl tt
+settled_from z v s choice l LookCount k b e x = inl tt
+settled_from z v s choice l (Cell j) k b e x = inl tt
+settled_from z v s choice l CellKey k b e x = inl tt
+settled_from z v s choice l CellValue k b e x = inl tt
+settled_from z v s choice l ScanSettle k b e x = inr tt
+settled_from z v s choice l a k (enters n) e x = true_false e n
+settled_from z v s choice l a k b e x = absurd x
+
+-- a reader that has looked at the first entry had looked at it, or looks at it now
+reading_from : (z : Sizes) (v : Words) (s : ℕ) (choice : Choice) (l : Local) (a : Activity) (k : Local) → Arrow z v s choice l a k → IsReading k.activity → IsReading a ⊎ (a ≡ Look 0)
+reading_from z v s choice l (Look zero) k b x = inr refl
+reading_from z v s choice l (Look (suc j)) k b x = inl (omega arith)
+reading_from z v s choice l LookKey k b x = inl tt
+reading_from z v s choice l LookClock k b x = inl tt
+reading_from z v s choice l LookHelp k b x = inl tt
+reading_from z v s choice l LookCount k b x = inl tt
+reading_from z v s choice l (Cell j) k b x = inl tt
+reading_from z v s choice l CellKey k b x = inl tt
+reading_from z v s choice l CellValue k b x = inl tt
+reading_from z v s choice l a k (reads_last e n) x = absurd (omega (arith, x))
+reading_from z v s choice l a k (reads_before e n) x = absurd (omega (arith, x))
+reading_from z v s choice l a k b x = absurd x
+
+-- a scan keeps its version
+cell_version : (l : Local) (j : ℕ) (k : Local) → NextCell l j k → k.version ≡ l.version
+cell_version l j k (reads_cell w) = refl
+cell_version l j k (answers w e) = refl
+cell_version l j k (ends_scan w e f) = refl
+cell_version l j k (scans_on r w e f o) = refl
+
+-- a scan that has its version keeps it
+pub not_idle_drawn : (z : Sizes) (v : Words) (s : ℕ) (choice : Choice) (l : Local) (a : Activity) (k : Local) → Arrow z v s choice l a k → HasDrawn a → HasDrawn k.activity → k.version ≡ l.version
+not_idle_drawn z v s choice l a k (counts_cells next n) x y = cell_version _ _ next n
+not_idle_drawn z v s choice l a k (has_no_version j next e n) x y = cell_version _ _ next n
+not_idle_drawn z v s choice l a k (has_other_key next e n) x y = cell_version _ _ next n
+not_idle_drawn z v s choice l a k (gathers next n) x y = cell_version _ _ next n
+not_idle_drawn z v s choice l a k (leaves reply) x y = absurd y
+not_idle_drawn z v s choice l ScanSettle k b x y = absurd x
+not_idle_drawn z v s choice l PutClock k b x y = absurd x
+not_idle_drawn z v s choice l Stamp k b x y = absurd x
+not_idle_drawn z v s choice l a k b x y = refl
+
+-- a scan on its way has its version
+pub covering_draws : (a : Activity) → IsCovering a → HasDrawn a
+covering_draws Start x = tt
+covering_draws Head x = tt
+covering_draws GuessMin x = tt
+covering_draws Walk x = tt
+covering_draws WalkMin x = tt
+covering_draws (Look j) x = tt
+covering_draws LookKey x = tt
+covering_draws LookClock x = tt
+covering_draws LookHelp x = tt
+covering_draws LookCount x = tt
+covering_draws (Cell j) x = tt
+covering_draws CellKey x = tt
+covering_draws CellValue x = tt
+covering_draws _ x = absurd x
+
+-- and its word says so
+pub covering_settled : (a : Activity) → IsCovering a → IsSettled a
+covering_settled (ClearScan reply) x = tt
+covering_settled _ x = x
+
+-- a scan whose word is settled has its version
+settled_draws : (a : Activity) → IsSettled a → HasDrawn a
+settled_draws (ClearScan reply) x = tt
+settled_draws (Leave reply) x = absurd x
+settled_draws _ x = x
+
+-- a scan that reads has its version
+pub reading_draws : (a : Activity) → IsReading a → HasDrawn a
+reading_draws (Look j) x = tt
+reading_draws LookKey x = tt
+reading_draws LookClock x = tt
+reading_draws LookHelp x = tt
+reading_draws LookCount x = tt
+reading_draws (Cell j) x = tt
+reading_draws CellKey x = tt
+reading_draws CellValue x = tt
+reading_draws _ x = absurd x
+
+-- where a scan that has its version has no more event of its own that draws
+pub draws_no_more : (a : Activity) → HasDrawn a → IsNoDraw a
+draws_no_more Idle x = absurd x
+draws_no_more ScanDraw x = absurd x
+draws_no_more _ x = tt
+
+-- only a scan settles
+settling_scans : (a : Activity) (l : Local) → IsSettling a → IsKind a l → IsScanCall l.call
+settling_scans ScanSettle l x k = k
+settling_scans _ l x k = absurd x
+
+-- The word.
+
+module _ {z : Sizes} {r r' : Run} {s : ℕ} {choice : Choice} {l l' : Local} where
+  -- a walk that is stopped clears the word and leaves
+  stopped_clears : Happens z r r' s choice l l' Walk → is_stopped choice l ≡ true → word z r'.world (name.Scan s) ≡ scan_word Quiet
+  stopped_clears h e = (subst (λ b. Changed z r.world.rows (word z r.world) (word z r'.world) (walk_row b s l)) e h.changed).same
+
+  -- its seat is on its way no more
+  stopped_leaves : Happens z r r' s choice l l' Walk → is_stopped choice l ≡ true → IsSettled l'.activity → ⊥
+  stopped_leaves h e x = subst (λ (k : Local). IsSettled k.activity) (h.next ∙ ap (λ b. (followed (walk_row b s l) (word z r.world (walk_row b s l).operation.name)).local) e) x
+
+  -- a walk that is not stopped writes no word
+  goes_on_walk : Happens z r r' s choice l l' Walk → is_stopped choice l ≡ false → word z r'.world (name.Scan s) ≡ word z r.world (name.Scan s)
+  goes_on_walk h e = (subst (λ b. Changed z r.world.rows (word z r.world) (word z r'.world) (walk_row b s l)) e h.changed).loaded refl (name.Scan s)
+
+  -- the word of a scan on its way stays
+  word_settled : (a : Activity) → Happens z r r' s choice l l' a → IsCovering a → IsSettled l'.activity → word z r'.world (name.Scan s) ≡ word z r.world (name.Scan s)
+  word_settled Walk h c x = met (is_stopped choice l) refl
+    where
+      met : (b : Bool) → is_stopped choice l ≡ b → word z r'.world (name.Scan s) ≡ word z r.world (name.Scan s)
+      met true e = absurd (stopped_leaves h e x)
+      met false e = goes_on_walk h e
+  word_settled ScanWait h c x = absurd c
+  word_settled ScanSettle h c x = absurd c
+  word_settled (ClearScan reply) h c x = absurd c
+  word_settled a h c x = unwritten a h (name.Scan s) h.seat (λ e. cc)
+
+  -- the word is set where a scan begins to wait and where it settles; every other event keeps it or clears it
+  word_next : (a : Activity) → Happens z r r' s choice l l' a → (IsSettling a → ⊥) → (IsWaiting l'.activity → ⊥) → (a ≡ ScanWait → IsWaiting l'.activity) → (word z r'.world (name.Scan s) ≡ word z r.world (name.Scan s)) ⊎ (word z r'.world (name.Scan s) ≡ scan_word Quiet)
+  word_next Walk h n w f = met (is_stopped choice l) refl
+    where
+      met : (b : Bool) → is_stopped choice l ≡ b → (word z r'.world (name.Scan s) ≡ word z r.world (name.Scan s)) ⊎ (word z r'.world (name.Scan s) ≡ scan_word Quiet)
+      met true e = inr (stopped_clears h e)
+      met false e = inl (goes_on_walk h e)
+  word_next ScanWait h n w f = absurd (w (f refl))
+  word_next ScanSettle h n w f = absurd (n tt)
+  word_next (ClearScan reply) h n w f = inr h.changed.same
+  word_next a h n w f = inl (unwritten a h (name.Scan s) h.seat (λ e. cc))
+
+-- Whether the word is set.
+
+-- the word says that the scan waits, or not
+waits_or_not : (c : Activity) → IsWaiting c ⊎ (IsWaiting c → ⊥)
+waits_or_not ScanDraw = inl tt
+waits_or_not ScanSettle = inl tt
+waits_or_not _ = inr (λ x. x)
+
+-- the scan is to settle, or not
+settles_or_not : (c : Activity) → IsSettling c ⊎ (IsSettling c → ⊥)
+settles_or_not ScanSettle = inl tt
+settles_or_not _ = inr (λ x. x)
+
+-- a call that is a scan
+scan_call : (c : Option Call) → IsScanCall c → is_scan c ≡ true
+scan_call (Some (Scan from upto)) x = refl
+scan_call (Some (Put key value)) x = absurd x
+scan_call (Some (Del key)) x = absurd x
+scan_call (Some (Get key)) x = absurd x
+scan_call None x = absurd x
+
+-- a put is no scan
+put_not_scan : {A : Type 0} (c : Option Call) → is_put c ≡ true → is_scan c ≡ true → A
+put_not_scan (Some (Put key value)) e f = true_false refl (sym f)
+put_not_scan (Some (Del key)) e f = true_false refl (sym f)
+put_not_scan (Some (Get key)) e f = true_false refl (sym e)
+put_not_scan (Some (Scan from upto)) e f = true_false refl (sym e)
+put_not_scan None e f = true_false refl (sym e)
+
+-- a scan that stores its word waits
+wait_waits : (z : Sizes) (v : Words) (s : ℕ) (choice : Choice) (l : Local) (a : Activity) (k : Local) → Arrow z v s choice l a k → a ≡ ScanWait → IsWaiting k.activity
+wait_waits z v s choice l a k stores_waiting e = tt
+wait_waits z v s choice l a k _ e = absurd (cc)
+
+-- a scan that draws waits on
+draw_waits : (z : Sizes) (v : Words) (s : ℕ) (choice : Choice) (l : Local) (a : Activity) (k : Local) → Arrow z v s choice l a k → IsWaiting a → IsWaiting k.activity ⊎ IsSettling a
+draw_waits z v s choice l a k draws x = inl tt
+draw_waits z v s choice l ScanSettle k b x = inr tt
+draw_waits z v s choice l a k _ x = absurd x
+
+-- a scan that settles is on its way
+settling_next : (z : Sizes) (v : Words) (s : ℕ) (choice : Choice) (l : Local) (a : Activity) (k : Local) → Arrow z v s choice l a k → IsSettling a → is_scan l.call ≡ true → IsScanning k.activity k
+settling_next z v s choice l a k (settles_empty e) x f = inr (f, tt)
+settling_next z v s choice l a k (settles e) x f = inr (f, tt)
+settling_next z v s choice l a k _ x f = absurd x
+
+-- a look at the next entry keeps a scan on its way
+look_settled : (z : Sizes) (j : ℕ) (next : Activity) → NextLook z j next → IsSettled next
+look_settled z j next (looks w) = tt
+look_settled z j next (counts w) = tt
+
+-- so does a cell, or it ends the scan
+cell_settled : (l : Local) (j : ℕ) (k : Local) → is_scan l.call ≡ true → NextCell l j k → IsSettled k.activity
+cell_settled l j k f (reads_cell w) = tt
+cell_settled l j k f (answers w e) = true_false f e
+cell_settled l j k f (ends_scan w e g) = tt
+cell_settled l j k f (scans_on r w e g o) = tt
+
+-- the scan clears its word
+abbrev IsClear : Activity → Type 0
+IsClear (ClearScan reply) = Unit {0}
+IsClear _ = ⊥
+
+-- the walk goes on from its start
+start_settled : (z : Sizes) (v : Words) (s : ℕ) (choice : Choice) (l : Local) (k : Local) → Arrow z v s choice l Start k → IsSettled k.activity
+start_settled z v s choice l k starts_at_head = tt
+start_settled z v s choice l k (guesses r c e) = tt
+start_settled z v s choice l k guess_fails = tt
+
+-- a scan whose word is settled is in its call
+settled_underway : (a : Activity) → IsSettled a → IsUnderway a
+settled_underway Idle x = absurd x
+settled_underway (Leave reply) x = absurd x
+settled_underway _ x = tt
+
+-- a scan on its way goes on, or clears its word
+settled_next : (z : Sizes) (v : Words) (s : ℕ) (choice : Choice) (l : Local) (a : Activity) (k : Local) → Arrow z v s choice l a k → is_scan l.call ≡ true → IsSettled a → IsSettled k.activity ⊎ IsClear a ⊎ (a ≡ Walk) × (is_stopped choice l ≡ true)
+settled_next z v s choice l a k (meets_stamped j c version next e n) f x = inl (look_settled z _ next n)
+settled_next z v s choice l a k (meets_neither j next e n) f x = inl (look_settled z _ next n)
+settled_next z v s choice l a k (is_passed next e n) f x = inl (look_settled z _ next n)
+settled_next z v s choice l a k (helps next e n) f x = inl (look_settled z _ next n)
+settled_next z v s choice l a k (finds_stamped c version next e n) f x = inl (look_settled z _ next n)
+settled_next z v s choice l a k (finds_other next e n) f x = inl (look_settled z _ next n)
+settled_next z v s choice l a k (counts_cells next n) f x = inl (cell_settled _ _ next f n)
+settled_next z v s choice l a k (has_no_version j next e n) f x = inl (cell_settled _ _ next f n)
+settled_next z v s choice l a k (has_other_key next e n) f x = inl (cell_settled _ _ next f n)
+settled_next z v s choice l a k (gathers next n) f x = inl (cell_settled _ _ next f n)
+settled_next z v s choice l a k (clears_scan reply) f x = inr (inl tt)
+settled_next z v s choice l a k (stops e) f x = inr (inr (refl, e))
+settled_next z v s choice l a k (puts_in_last e n) f x = put_not_scan l.call e f
+settled_next z v s choice l a k (puts_before e n) f x = put_not_scan l.call e f
+settled_next z v s choice l Start k b f x = inl (start_settled z v s choice l k b)
+settled_next z v s choice l Head k takes_head f x = inl tt
+settled_next z v s choice l GuessMin k (guess_serves w) f x = inl tt
+settled_next z v s choice l GuessMin k (guess_is_above w) f x = inl tt
+settled_next z v s choice l Walk k (reads_last e n) f x = inl tt
+settled_next z v s choice l Walk k (meets_next q e) f x = inl tt
+settled_next z v s choice l WalkMin k (walks_on w) f x = inl tt
+settled_next z v s choice l WalkMin k (reads_before e n) f x = inl tt
+settled_next z v s choice l a k (meets_pending j c e) f x = inl tt
+settled_next z v s choice l LookKey k (is_wanted e) f x = inl tt
+settled_next z v s choice l LookClock k loads_to_help f x = inl tt
+settled_next z v s choice l a k (has_version j version e) f x = inl tt
+settled_next z v s choice l CellKey k (has_key e) f x = inl tt
+settled_next z v s choice l a k _ f x = absurd x
+
+module _ (z : Sizes) (r r' : Run) (s : ℕ) (choice : Choice) (l : Local) (a : Activity) (l' : Local) (b : Arrow z (word z r.world) s choice l a l') (h : Happens z r r' s choice l l' a) (i : Below z r) where
+  -- the activity is one of the call
+  kind : IsKind a l
+  kind = subst (λ q. IsKind q l) h.activity (i.shape.kinds s l h.knows).kind
+
+  -- the call of a seat that settles is a scan
+  settling_call : IsSettling a → is_scan l.call ≡ true
+  settling_call x = scan_call l.call (settling_scans a l x kind)
+
+  -- the word that is cleared
+  clears : IsClear a → word z r'.world (name.Scan s) ≡ scan_word Quiet
+  clears = which a h
+    where
+      which : (c : Activity) → Happens z r r' s choice l l' c → IsClear c → word z r'.world (name.Scan s) ≡ scan_word Quiet
+      which (ClearScan reply) g x = g.changed.same
+      which _ g x = absurd x
+
+  -- the scan is at work, or its word is quiet
+  pub scan_is_set : IsScanning l'.activity l' ⊎ (word z r'.world (name.Scan s) ≡ scan_word Quiet)
+  scan_is_set = waits (waits_or_not l'.activity) (settles_or_not a)
+    where
+      call : IsSettled a → l'.call ≡ l.call
+      call x = (arrow_call z (word z r.world) s choice l a l' b (settled_underway a x)).0
+
+      on_its_way : is_scan l.call ≡ true → IsSettled a → IsSettled l'.activity ⊎ IsClear a ⊎ (a ≡ Walk) × (is_stopped choice l ≡ true) → IsScanning l'.activity l' ⊎ (word z r'.world (name.Scan s) ≡ scan_word Quiet)
+      on_its_way e x (inl y) = inl (inr (subst (λ q. is_scan q ≡ true) (sym (call x)) e, y))
+      on_its_way e x (inr (inl y)) = inr (clears y)
+      on_its_way e x (inr (inr y)) = inr (stopped_clears (subst (Happens z r r' s choice l l') y.0 h) y.1)
+
+      was : (IsSettling a → ⊥) → (IsWaiting l'.activity → ⊥) → word z r'.world (name.Scan s) ≡ word z r.world (name.Scan s) → IsScanning l.activity l ⊎ (word z r.world (name.Scan s) ≡ scan_word Quiet) → IsScanning l'.activity l' ⊎ (word z r'.world (name.Scan s) ≡ scan_word Quiet)
+      was n w e (inr q) = inr (e ∙ q)
+      was n w e (inl (inr x)) = let y = subst IsSettled h.activity x.1 in on_its_way x.0 y (settled_next z (word z r.world) s choice l a l' b x.0 y)
+      was n w e (inl (inl x)) = waiting (draw_waits z (word z r.world) s choice l a l' b (subst IsWaiting h.activity x))
+        where
+          waiting : IsWaiting l'.activity ⊎ IsSettling a → IsScanning l'.activity l' ⊎ (word z r'.world (name.Scan s) ≡ scan_word Quiet)
+          waiting (inl y) = inl (inl y)
+          waiting (inr y) = absurd (n y)
+
+      next : (IsSettling a → ⊥) → (IsWaiting l'.activity → ⊥) → (word z r'.world (name.Scan s) ≡ word z r.world (name.Scan s)) ⊎ (word z r'.world (name.Scan s) ≡ scan_word Quiet) → IsScanning l'.activity l' ⊎ (word z r'.world (name.Scan s) ≡ scan_word Quiet)
+      next n w (inl e) = was n w e (i.positions.scans s l h.knows)
+      next n w (inr e) = inr e
+
+      waits : IsWaiting l'.activity ⊎ (IsWaiting l'.activity → ⊥) → IsSettling a ⊎ (IsSettling a → ⊥) → IsScanning l'.activity l' ⊎ (word z r'.world (name.Scan s) ≡ scan_word Quiet)
+      waits (inl w) x = inl (inl w)
+      waits (inr w) (inl x) = inl (settling_next z (word z r.world) s choice l a l' b x (settling_call x))
+      waits (inr w) (inr n) = next n w (word_next a h n w (wait_waits z (word z r.world) s choice l a l' b))
+
+-- Where it drew and looked.
+
+-- a seat in a call is busy
+underway_busy : (a : Activity) → IsUnderway a → IsBusy a
+underway_busy Idle x = x
+underway_busy _ x = tt
+
+-- a scan that settles does not draw
+settling_no_draw : (a : Activity) → IsSettling a → IsNoDraw a
+settling_no_draw ScanSettle x = tt
+settling_no_draw _ x = absurd x
+
+-- an event that leads to a scan with a version neither begins nor ends a call
+pub drawn_underway : (z : Sizes) (v : Words) (s : ℕ) (choice : Choice) (l : Local) (a : Activity) (k : Local) → Arrow z v s choice l a k → HasDrawn k.activity → IsUnderway a
+drawn_underway z v s choice l a k (begins call e m) x = absurd x
+drawn_underway z v s choice l a k (leaves reply) x = absurd x
+drawn_underway z v s choice l a k _ x = tt
+
+-- a waiting scan settles by its own exchange
+settles_to : (z : Sizes) (r r' : Run) (s : ℕ) (choice : Choice) (l : Local) (a : Activity) (k : Local) → Arrow z (word z r.world) s choice l a k → Happens z r r' s choice l k a → IsSettling a → word z r.world (name.Scan s) ≡ scan_word (Waiting l.waiting) → 1 ≤ l.waiting → l.waiting < VERSION_END → (k.version ≡ l.drawn) × (word z r'.world (name.Scan s) ≡ scan_word (Drawn l.drawn))
+settles_to z r r' s choice l a k (settles_empty e) h x w m n = (ap (λ q. version_settled (scan_of q) l.drawn) w ∙ ap (λ q. version_settled q l.drawn) (scan_of-Waiting l.waiting m n), exchanged _ _ _ _ h.changed.same w)
+settles_to z r r' s choice l a k (settles e) h x w m n = (ap (λ q. version_settled (scan_of q) l.drawn) w ∙ ap (λ q. version_settled q l.drawn) (scan_of-Waiting l.waiting m n), exchanged _ _ _ _ h.changed.same w)
+settles_to z r r' s choice l a k _ h x w m n = absurd x
+
+-- the first entry is looked at now
+looks_now : (z : Sizes) (r r' : Run) (s : ℕ) (choice : Choice) (l k : Local) → Happens z r r' s choice l k (Look 0) → (r'.seats s).looked ≡ length r.history.log
+looks_now z r r' s choice l k h = ap (λ (q : SeatLog). q.looked) h.log
+
+module _ (z : Sizes) (r r' : Run) (s : ℕ) (choice : Choice) (l : Local) (a : Activity) (l' : Local) (b : Arrow z (word z r.world) s choice l a l') (h : Happens z r r' s choice l l' a) (i : Below z r) (st : Step r.history r'.history (log_entry z r a s choice l)) where
+  -- what held of the draw before the event
+  before : Draws (word z r.world) r.history s l.activity l (r.seats s)
+  before = i.positions.draws s l h.knows
+
+  -- the first event of the seat's call is the same
+  pub call_first : IsUnderway a → (called r'.history (r'.seats s).call).first ≡ (called r.history (r.seats s).call).first
+  call_first u =
+      let w = (i.positions.calling s l h.knows (subst IsBusy (sym h.activity) (underway_busy a u))).within in
+      let e : (r'.seats s).call ≡ (r.seats s).call = ap (λ (q : SeatLog). q.call) h.log ∙ call_kept z choice l _ l'.activity (r.seats s) r.origin r.history a u in
+      ap (λ q. (called r'.history q).first) e ∙ ((goes_on_by z r r' s choice l a l' h i st).calls (r.seats s).call w).first
+
+  -- it lies before now
+  call_before : IsUnderway a → (called r.history (r.seats s).call).first < length r.history.log
+  call_before u = i.history.past.first (r.seats s).call (i.positions.calling s l h.knows (subst IsBusy (sym h.activity) (underway_busy a u))).within
+
+  -- a scan was a scan
+  pub was_scan : IsUnderway a → is_scan l'.call ≡ true → is_scan l.call ≡ true
+  was_scan u e = subst (λ q. is_scan q ≡ true) (arrow_call z (word z r.world) s choice l a l' b u).0 e
+
+  -- where the seat drew is kept
+  pub drawn_kept : IsNoDraw a → (r'.seats s).drawn ≡ (r.seats s).drawn
+  drawn_kept n = ap (λ (q : SeatLog). q.drawn) h.log ∙ draw_kept z choice l _ l'.activity (r.seats s) r.origin r.history a n
+
+  -- where it looked is kept
+  pub looked_kept : IsReading a → (r'.seats s).looked ≡ (r.seats s).looked
+  looked_kept x = ap (λ (q : SeatLog). q.looked) h.log ∙ look_kept z choice l _ l'.activity (r.seats s) r.origin r.history a x
+
+  -- a scan that settles has the version that it drew
+  settle : IsSettling a → (l'.version ≡ l.drawn) × (word z r'.world (name.Scan s) ≡ scan_word (Drawn l.drawn))
+  settle x = let k = (i.shape.sane.locals s l h.knows).ranges.waiting in settles_to z r r' s choice l a l' b h x (before.waits (subst IsWaiting (sym h.activity) (settling_waits a x))) k.0 k.1
+
+  -- the word of a waiting scan
+  its_waits : IsWaiting l'.activity → word z r'.world (name.Scan s) ≡ scan_word (Waiting l'.waiting)
+  its_waits x = which (waits_from z (word z r.world) s choice l a l' b x)
+    where
+      which : ((a ≡ ScanWait) × (l' ≡ record l { activity = ScanDraw })) ⊎ ((a ≡ ScanDraw) × (l' ≡ record l { drawn = word z r.world name.Clock; activity = ScanSettle })) → word z r'.world (name.Scan s) ≡ scan_word (Waiting l'.waiting)
+      which (inl e) = (subst (Happens z r r' s choice l l') e.0 h).changed.same ∙ ap (λ (k : Local). scan_word (Waiting k.waiting)) (sym e.1)
+      which (inr e) = unwritten ScanDraw (subst (Happens z r r' s choice l l') e.0 h) (name.Scan s) h.seat (λ f. cc) ∙ before.waits (subst IsWaiting (sym (h.activity ∙ e.0)) tt) ∙ ap (λ (k : Local). scan_word (Waiting k.waiting)) (sym e.1)
+
+  -- a scan that is about to settle has just drawn
+  has_drawn : IsSettling l'.activity → (a ≡ ScanDraw) × (l'.drawn ≡ word z r.world name.Clock) × ((r'.seats s).drawn ≡ length r.history.log)
+  has_drawn x = which (waits_from z (word z r.world) s choice l a l' b (settling_waits l'.activity x))
+    where
+      which : ((a ≡ ScanWait) × (l' ≡ record l { activity = ScanDraw })) ⊎ ((a ≡ ScanDraw) × (l' ≡ record l { drawn = word z r.world name.Clock; activity = ScanSettle })) → (a ≡ ScanDraw) × (l'.drawn ≡ word z r.world name.Clock) × ((r'.seats s).drawn ≡ length r.history.log)
+      which (inl e) = let y : IsSettling ScanDraw = subst (λ (k : Local). IsSettling k.activity) e.1 x in absurd y
+      which (inr e) = (e.0, ap (λ (k : Local). k.drawn) e.1, ap (λ (q : SeatLog). q.drawn) (subst (Happens z r r' s choice l l') e.0 h).log)
+
+  -- the draw of a scan that is to settle
+  its_settling : IsSettling l'.activity → Stands r'.history (r'.seats s).drawn Draw l'.drawn
+  its_settling x =
+      let e = has_drawn x in
+      let g = subst (Happens z r r' s choice l l') e.0 h in
+      let t : Stands r'.history (length r.history.log) Draw (word z r.world name.Clock) = new_stands r.history r'.history _ (subst (λ q. Step r.history r'.history (log_entry z r q s choice l)) e.0 st) in
+      subst (λ q. Stands r'.history q Draw l'.drawn) (sym e.2) (subst (λ q. Stands r'.history (length r.history.log) Draw q) (sym e.1) t)
+
+  -- the word of a scan that has settled
+  its_settled : is_scan l'.call ≡ true → IsSettled l'.activity → word z r'.world (name.Scan s) ≡ scan_word (Drawn l'.version)
+  its_settled e x = which (settled_from z (word z r.world) s choice l a l' b e x)
+    where
+      u : IsUnderway a
+      u = drawn_underway z (word z r.world) s choice l a l' b (settled_draws l'.activity x)
+
+      which : IsCovering a ⊎ IsSettling a → word z r'.world (name.Scan s) ≡ scan_word (Drawn l'.version)
+      which (inl c) = word_settled a h c x ∙ before.settled (was_scan u e) (subst IsSettled (sym h.activity) (covering_settled a c)) ∙ ap (λ q. scan_word (Drawn q)) (sym (not_idle_drawn z (word z r.world) s choice l a l' b (covering_draws a c) (settled_draws l'.activity x)))
+      which (inr y) = (settle y).1 ∙ ap (λ q. scan_word (Drawn q)) (sym (settle y).0)
+
+  -- the draw of a scan that has its version
+  its_drawn : is_scan l'.call ≡ true → HasDrawn l'.activity → Stands r'.history (r'.seats s).drawn Draw l'.version × ((called r'.history (r'.seats s).call).first < (r'.seats s).drawn)
+  its_drawn e x = which (drawn_from z (word z r.world) s choice l a l' b e x)
+    where
+      u : IsUnderway a
+      u = drawn_underway z (word z r.world) s choice l a l' b x
+
+      lasts : (version : ℕ) → l'.version ≡ version → IsNoDraw a → Stands r.history (r.seats s).drawn Draw version → Stands r'.history (r'.seats s).drawn Draw l'.version
+      lasts version f n t = subst (λ q. Stands r'.history q Draw l'.version) (sym (drawn_kept n)) (subst (λ q. Stands r'.history (r.seats s).drawn Draw q) (sym f) ((goes_on_by z r r' s choice l a l' h i st).stands _ Draw version t))
+
+      which : HasDrawn a ⊎ IsSettling a → Stands r'.history (r'.seats s).drawn Draw l'.version × ((called r'.history (r'.seats s).call).first < (r'.seats s).drawn)
+      which (inl y) =
+          let m = subst HasDrawn (sym h.activity) y in (
+            lasts l.version (not_idle_drawn z (word z r.world) s choice l a l' b y x) (draws_no_more a y) (before.drawn (was_scan u e) m),
+            omega (arith, call_first u, drawn_kept (draws_no_more a y), before.drawn_first (was_scan u e) m),
+          )
+      which (inr y) =
+          let m = subst IsSettling (sym h.activity) y in
+          (lasts l.drawn (settle y).0 (settling_no_draw a y) (before.settling m), omega (arith, call_first u, drawn_kept (settling_no_draw a y), before.settling_first m))
+
+  -- where a reader looked: now, or before
+  its_looked : IsReading l'.activity → ((called r'.history (r'.seats s).call).first < (r'.seats s).looked) × ((r'.seats s).looked < length r'.history.log) × (is_scan l'.call ≡ true → (r'.seats s).drawn < (r'.seats s).looked)
+  its_looked x = which (reading_from z (word z r.world) s choice l a l' b x)
+    where
+      u : IsUnderway a
+      u = drawn_underway z (word z r.world) s choice l a l' b (reading_draws l'.activity x)
+
+      now_grows : length r.history.log < length r'.history.log
+      now_grows = (goes_on_by z r r' s choice l a l' h i st).now
+
+      which : IsReading a ⊎ (a ≡ Look 0) → ((called r'.history (r'.seats s).call).first < (r'.seats s).looked) × ((r'.seats s).looked < length r'.history.log) × (is_scan l'.call ≡ true → (r'.seats s).drawn < (r'.seats s).looked)
+      which (inl y) =
+          let m = subst IsReading (sym h.activity) y in (
+            omega (arith, call_first u, looked_kept y, before.looked_first m),
+            omega (arith, looked_kept y, before.looked m, now_grows),
+            λ e. omega (arith, looked_kept y, drawn_kept (draws_no_more a (reading_draws a y)), before.looked_after (was_scan u e) m),
+          )
+      which (inr y) =
+          let at = looks_now z r r' s choice l l' (subst (Happens z r r' s choice l l') y h) in
+          let d : HasDrawn a = subst HasDrawn (sym y) tt in (
+            omega (arith, call_first u, at, call_before u),
+            omega (arith, at, now_grows),
+            λ e. omega (arith, at, drawn_kept (draws_no_more a d), stands_before r.history (r.seats s).drawn Draw l.version (before.drawn (was_scan u e) (subst HasDrawn (sym h.activity) d))),
+          )
+
+  -- all of it
+  pub draws_after : Draws (word z r'.world) r'.history s l'.activity l' (r'.seats s)
+  draws_after = record {
+    waits = its_waits;
+    settling = its_settling;
+    settling_first = λ x. let e = has_drawn x in let u : IsUnderway a = subst IsUnderway (sym e.0) tt in omega (arith, call_first u, call_before u, e.2);
+    settled = its_settled;
+    drawn = λ e x. (its_drawn e x).0;
+    drawn_first = λ e x. (its_drawn e x).1;
+    looked_first = λ x. (its_looked x).0;
+    looked = λ x. (its_looked x).1;
+    looked_after = λ e x. (its_looked x).2 e;
+  }

@@ -1,0 +1,91 @@
+-- Whose a cell is: two attempts of one cell are one, and the attempts that two seats are at work on have different cells.
+use Rattle.std.proofs.Common.{ℕ, ◌≡◌, ◌≢◌, ◌⊎◌, inl, inr, arith, ◌<◌, Bool, true, false, Some, refl, sym, ◌∙◌, ap, subst, length, slice_get}
+use Rattle.std.proofs.lemmas.Option.{same_Some}
+use Rattle.kw_words.specs.declared.layout.Name.TheVariants as name
+use Rattle.kw_words.specs.declared.pend.Pend.TheVariants as pend
+use Rattle.kw_words.specs.Pend.{pend_word}
+use Rattle.kw_world.specs.declared.activity.Activity.{Activity}
+use Rattle.kw_world.specs.declared.activity.Activity.TheVariants.{PutKey, PutValue, Announce, PutClock, Stamp, PutVersion, PutClear}
+use Rattle.kw_world.specs.declared.local.Local.{Local}
+use Rattle.kw_world.specs.Sizes.{Sizes}
+use Rattle.kw_world.specs.Step.{word}
+use Rattle.kw_core.specs.declared.history.Attempt.{Attempt}
+use Rattle.kw_core.specs.History.{attempt}
+use Rattle.kw_core.specs.Run.{Run}
+use Rattle.kw_core.specs.Stages.{IsBusy, IsPutting, IsPublished}
+use Rattle.kw_puts.specs.Puts.{Puts, OwnsAttempt, IsPublishedAt, entry_of}
+
+-- a contradiction of tests
+pub true_false : {A : Type 0} {b : Bool} → b ≡ true → b ≡ false → A
+true_false t f = let x : true ≡ false = sym t ∙ f in absurd (cc)
+
+-- an attempt whose entry is pending is not stamped, and its cell is the one of the entry
+pub pending_entry : (p : Attempt) (c : ℕ) → entry_of p ≡ pend_word (pend.Pending c) → (p.is_stamped ≡ false) × (p.cell ≡ c)
+pending_entry p c e = met p.is_stamped refl
+  where
+    met : (b : Bool) → p.is_stamped ≡ b → (p.is_stamped ≡ false) × (p.cell ≡ c)
+    met true y = let x : pend_word (pend.Stamped p.cell p.version) ≡ pend_word (pend.Pending c) = rw y at e in absurd (omega (arith, x))
+    met false y = let x : pend_word (pend.Pending p.cell) ≡ pend_word (pend.Pending c) = rw y at e in (y, omega (arith, x))
+
+-- a seat that has announced its cell puts, and a seat that puts is in a call
+pub published_puts : (a : Activity) → IsPublished a → IsPutting a
+published_puts PutClock p = tt
+published_puts Stamp p = tt
+published_puts PutVersion p = tt
+published_puts PutClear p = tt
+published_puts _ p = absurd p
+
+pub puts_busy : (a : Activity) → IsPutting a → IsBusy a
+puts_busy PutKey p = tt
+puts_busy PutValue p = tt
+puts_busy Announce p = tt
+puts_busy PutClock p = tt
+puts_busy Stamp p = tt
+puts_busy PutVersion p = tt
+puts_busy PutClear p = tt
+puts_busy _ p = absurd p
+
+-- the entry of a seat in a row is pending with this cell
+pub record IsPendingOf (z : Sizes) (r : Run) (q t c : ℕ) : Type 0 where
+  pub local : Local
+  pub knows : slice_get r.world.locals t ≡ Some local
+  pub published : IsPublished local.activity
+  pub row : local.row ≡ q
+  pub unstamped : (attempt r.history (r.seats t).own).is_stamped ≡ false
+  pub cell : (attempt r.history (r.seats t).own).cell ≡ c
+
+module _ {z : Sizes} {r : Run} (i : Puts z r) where
+  -- two attempts of one cell are one
+  pub same_place : (p q : ℕ) → p < length r.history.attempts → q < length r.history.attempts → (attempt r.history p).row ≡ (attempt r.history q).row → (attempt r.history p).cell ≡ (attempt r.history q).cell → p ≡ q
+  same_place p q o u e f = same_Some p q (sym (i.given p o).origin ∙ rw (e, f) (i.given q u).origin)
+
+  -- the own attempt of a seat that puts
+  pub own_of : (t : ℕ) (k : Local) → slice_get r.world.locals t ≡ Some k → IsPutting k.activity → OwnsAttempt (word z r.world) r.history t k.activity k (r.seats t)
+  own_of t k g p = i.owns t k g p
+
+  -- an attempt with the cell that a seat is at work on is the seat's own
+  pub is_own : (t : ℕ) (k : Local) → slice_get r.world.locals t ≡ Some k → IsPutting k.activity → (p : ℕ) → p < length r.history.attempts → (attempt r.history p).row ≡ k.row → (attempt r.history p).cell ≡ k.cell → p ≡ (r.seats t).own
+  is_own t k g y p o e f = let own = i.owns t k g y in same_place p (r.seats t).own o own.within (e ∙ sym own.row) (f ∙ sym own.cell)
+
+  -- two seats that put are at work on different cells
+  pub cells_apart : (t s : ℕ) (k l : Local) → t ≢ s → slice_get r.world.locals t ≡ Some k → slice_get r.world.locals s ≡ Some l → IsPutting k.activity → IsPutting l.activity → k.row ≡ l.row → k.cell ≡ l.cell → ⊥
+  cells_apart t s k l d g m x y e f =
+      let own = i.owns t k g x in
+      let other = i.owns s l m y in
+      let same = is_own s l m y (r.seats t).own own.within (own.row ∙ e) (own.cell ∙ f) in
+      d (sym own.seat ∙ ap (λ q. (attempt r.history q).seat) same ∙ other.seat)
+
+  -- the own attempts of two seats are different
+  pub owns_apart : (t s : ℕ) (k l : Local) → t ≢ s → slice_get r.world.locals t ≡ Some k → slice_get r.world.locals s ≡ Some l → IsPutting k.activity → IsPutting l.activity → (r.seats t).own ≢ (r.seats s).own
+  owns_apart t s k l d g m x y e = d (sym (i.owns t k g x).seat ∙ ap (λ q. (attempt r.history q).seat) e ∙ (i.owns s l m y).seat)
+
+  -- the seat of a pending entry: it has announced a cell of the row, this cell, and its attempt is not stamped
+  pub entry_owner : (q t c : ℕ) → q < r.world.rows → t < z.seats → word z r.world (name.Pend q t) ≡ pend_word (pend.Pending c) → IsPendingOf z r q t c
+  entry_owner q t c w o e = which (i.entry q t w o)
+    where
+      which : (word z r.world (name.Pend q t) ≡ pend_word pend.Idle) ⊎ IsPublishedAt (slice_get r.world.locals) q t → IsPendingOf z r q t c
+      which (inl x) = let y : pend_word (pend.Pending c) ≡ pend_word pend.Idle = sym e ∙ x in absurd (omega (arith, y))
+      which (inr p) =
+          let own = i.owns t p.local p.knows (published_puts p.local.activity p.published) in
+          let st = pending_entry (attempt r.history (r.seats t).own) c (sym (own.entry p.published) ∙ subst (λ x. word z r.world (name.Pend x t) ≡ pend_word (pend.Pending c)) (sym p.row) e) in
+          record { local = p.local; knows = p.knows; published = p.published; row = p.row; unstamped = st.0; cell = st.1 }

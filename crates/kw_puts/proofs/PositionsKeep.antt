@@ -1,0 +1,312 @@
+-- Every event keeps what holds of the clock, the running calls and the scans.
+use Rattle.std.proofs.Common.{ℕ, ◌≡◌, ◌⊎◌, inl, inr, ◌+◌, ◌<◌, ◌≤◌, Bool, true, false, Some, None, [], ◌∷◌, arith, refl, sym, ◌∙◌, ap, subst, length}
+use Rattle.kw_words.specs.declared.layout.Name.TheVariants as name
+use Rattle.kw_world.specs.declared.activity.Activity.{Activity}
+use Rattle.kw_world.specs.declared.activity.Activity.TheVariants.{Idle, ScanDraw, ScanSettle, Start, Walk, Look, LookCount, Cell, CellKey, CellValue, PutAdd, PutClock, Stamp}
+use Rattle.kw_world.specs.declared.local.Local.{Local}
+use Rattle.kw_world.specs.declared.event.Choice.{Choice}
+use Rattle.kw_world.specs.Sizes.{Sizes}
+use Rattle.kw_words.specs.declared.scan.ScanWord.TheVariants.{Quiet}
+use Rattle.kw_words.specs.Scan.{scan_word}
+use Rattle.kw_world.specs.Step.{word}
+use Rattle.kw_core.specs.History.{History, called, Stands}
+use Rattle.kw_core.specs.Step.{Keeps}
+use Rattle.kw_core.specs.Run.{Run, Origins}
+use Rattle.kw_core.specs.declared.seat_log.SeatLog.{SeatLog}
+use Rattle.std.proofs.Common.{◌==◌, if◌then◌else◌}
+use Rattle.std.proofs.lemmas.Bool.{cases_lt, cases_eq}
+use Rattle.kw_words.specs.Count.{count_of}
+use Rattle.kw_world.specs.declared.event.Choice.TheVariants.{Begin, Go, Guess, Stop}
+use Rattle.kw_world.specs.RowPut.{has_room}
+use Rattle.kw_core.specs.Run.{seat_after, log_begun, log_gathered, is_at_cell}
+use Rattle.kw_core.proofs.Happens.{found_at}
+use Rattle.std.proofs.lemmas.Option.{same_Some}
+use Rattle.kw_core.specs.History.{Draw}
+use Rattle.kw_core.specs.Stages.{IsBusy, IsPublished, IsUnstamped, IsDone, IsSettling, HasDrawn, IsReading}
+use Rattle.kw_core.specs.Words.{Words}
+use Rattle.kw_shape.specs.Shape.{Shape}
+use Rattle.kw_puts.specs.Puts.{Puts}
+use Rattle.kw_puts.specs.Positions.{Clocked, Calling, Numbers, IsScanning, Draws, Positions}
+use Rattle.kw_puts.specs.Below.{Below}
+use Rattle.kw_core.proofs.Happens.{Happens, each_seat}
+use Rattle.kw_core.proofs.Arrows.{Arrow}
+use Rattle.std.proofs.Common.{length-append, length-set}
+use Rattle.kw_words.specs.declared.kind.Kind.{Kind}
+use Rattle.kw_world.specs.RowWalk.{start_row, walk_row, is_stopped}
+use Rattle.kw_world.specs.Table.{row}
+use Rattle.kw_core.specs.declared.history.Logged.{Logged}
+use Rattle.kw_core.specs.declared.history.CallLog.{CallLog}
+use Rattle.kw_core.specs.HistoryLaws.{IsDraw}
+use Rattle.kw_core.specs.declared.history.Change.{Change}
+use Rattle.kw_core.specs.Noted.{noted}
+use Rattle.kw_core.specs.Step.{Step, now}
+use Rattle.kw_core.proofs.NotedLaws.{called_push_new}
+use Rattle.kw_core.proofs.Steps.{stands_was, stands_before}
+use Rattle.kw_core.proofs.Frame.{clock_grows}
+use Rattle.kw_core.proofs.Changes.{Makes, made, makes_nothing, makes_begin, makes_add, makes_announce, makes_stamp, makes_help, makes_end}
+use Rattle.kw_core.proofs.Happens.{log_entry}
+use Rattle.kw_core.proofs.Arrows.{begins, leaves}
+use Rattle.kw_puts.proofs.Callings.{calling_begins, calling_goes_on}
+use Rattle.kw_puts.proofs.OwnScans.{scan_is_set, draws_after}
+use Rattle.kw_shape.proofs.NextCalls.{arrow_number}
+use Rattle.kw_puts.proofs.Rely.{RelyEntry, as_it_was, is_helped, Rely}
+use Rattle.kw_puts.proofs.RelyProof.{rely, goes_on_by}
+
+-- What survives every event of another seat.
+
+-- a put that is not stamped has announced its cell
+unstamped_published : (a : Activity) → IsUnstamped a → IsPublished a
+unstamped_published PutClock x = tt
+unstamped_published Stamp x = tt
+unstamped_published _ x = absurd x
+
+-- and is not done
+not_done : (a : Activity) → IsUnstamped a → IsDone a → ⊥
+not_done PutClock x d = d
+not_done Stamp x d = d
+not_done _ x d = x
+
+-- the call of a busy seat
+pub calling_stable : (z : Sizes) (r r' : Run) (t : ℕ) (k : Local) → Rely z r r' t k → IsBusy k.activity → Calling r.history t k.activity k (r.seats t) → Calling r'.history t k.activity k (r'.seats t)
+calling_stable z r r' t k y b c = subst (λ g. Calling r'.history t k.activity k g) (sym y.log)
+    (let same = y.goes_on.calls (r.seats t).call c.within in
+    record {
+      within = omega (arith, c.within, y.goes_on.more_calls);
+      seat = same.seat ∙ c.seat;
+      number = same.number ∙ c.number;
+      call = c.call ∙ ap Some (sym same.call);
+      runs = y.history.runs (r.seats t).call c.within c.seat ∙ c.runs;
+      own = own c y.entry;
+      published = published c y.entry;
+      done = done c y.entry;
+    })
+  where
+    own : Calling r.history t k.activity k (r.seats t) → RelyEntry (word z r.world) (word z r'.world) r.history r'.history t k.activity k (r.seats t) → (p : ℕ) → (called r'.history (r.seats t).call).put ≡ Some p → (r.seats t).own ≡ p
+    own c (as_it_was e f u) p q = c.own p (sym (u b) ∙ q)
+    own c (is_helped version load x before after n f e put) p q = same_Some _ p (sym put ∙ q)
+
+    published : Calling r.history t k.activity k (r.seats t) → RelyEntry (word z r.world) (word z r'.world) r.history r'.history t k.activity k (r.seats t) → (p : ℕ) → (called r'.history (r.seats t).call).put ≡ Some p → IsPublished k.activity ⊎ IsDone k.activity
+    published c (as_it_was e f u) p q = c.published p (sym (u b) ∙ q)
+    published c (is_helped version load x before after n f e put) p q = inl (unstamped_published k.activity x)
+
+    done : Calling r.history t k.activity k (r.seats t) → RelyEntry (word z r.world) (word z r'.world) r.history r'.history t k.activity k (r.seats t) → IsDone k.activity → (p : ℕ) × ((called r'.history (r.seats t).call).put ≡ Some p)
+    done c (as_it_was e f u) a = let x = c.done a in (x.0, u b ∙ x.1)
+    done c (is_helped version load x before after n f e put) a = absurd (not_done k.activity x a)
+
+-- the numbers of a seat's calls
+pub numbers_stable : (z : Sizes) (r r' : Run) (t : ℕ) (k : Local) → Rely z r r' t k → Numbers r.history t k → Numbers r'.history t k
+numbers_stable z r r' t k y n = λ x w e. which x w e (cases_lt x (length r.history.calls))
+  where
+    which : (x : ℕ) → x < length r'.history.calls → (called r'.history x).seat ≡ t → (x < length r.history.calls) ⊎ (length r.history.calls ≤ x) → (called r'.history x).number ≤ k.number
+    which x w e (inl o) = let same = y.goes_on.calls x o in omega (arith, same.number, n x o (sym same.seat ∙ e))
+    which x w e (inr o) = absurd (y.history.begun x o w e)
+
+-- a scan that is to settle is busy
+settling_busy : (a : Activity) → IsSettling a → IsBusy a
+settling_busy ScanSettle x = tt
+settling_busy _ x = absurd x
+
+-- a scan with a version is busy
+drawn_busy : (a : Activity) → HasDrawn a → IsBusy a
+drawn_busy Idle x = x
+drawn_busy _ x = tt
+
+-- a reader is busy
+reading_busy : (a : Activity) → IsReading a → IsBusy a
+reading_busy Idle x = x
+reading_busy _ x = tt
+
+-- where it drew and looked
+pub draws_stable : (z : Sizes) (r r' : Run) (t : ℕ) (k : Local) → Rely z r r' t k → (IsBusy k.activity → Calling r.history t k.activity k (r.seats t)) → Draws (word z r.world) r.history t k.activity k (r.seats t) → Draws (word z r'.world) r'.history t k.activity k (r'.seats t)
+draws_stable z r r' t k y c n = subst (λ g. Draws (word z r'.world) r'.history t k.activity k g) (sym y.log) (record {
+  waits = λ a. y.words.scan ∙ n.waits a;
+  settling = λ a. y.goes_on.stands _ Draw _ (n.settling a);
+  settling_first = λ a. omega (arith, n.settling_first a, first (settling_busy k.activity a));
+  settled = λ e a. y.words.scan ∙ n.settled e a;
+  drawn = λ e a. y.goes_on.stands _ Draw _ (n.drawn e a);
+  drawn_first = λ e a. omega (arith, n.drawn_first e a, first (drawn_busy k.activity a));
+  looked_first = λ a. omega (arith, n.looked_first a, first (reading_busy k.activity a));
+  looked = λ a. omega (arith, n.looked a, y.goes_on.now);
+  looked_after = n.looked_after;
+})
+  where
+    first : IsBusy k.activity → (called r'.history (r.seats t).call).first ≡ (called r.history (r.seats t).call).first
+    first b = (y.goes_on.calls (r.seats t).call (c b).within).first
+
+-- The acting seat.
+
+-- the event of a draw raises the clock
+draw_raises : (z : Sizes) (r r' : Run) (s : ℕ) (choice : Choice) (l l' : Local) (a : Activity) → Happens z r r' s choice l l' a → IsDraw (row z a s choice l).operation.kind → word z r.world name.Clock < word z r'.world name.Clock
+draw_raises z r r' s choice l l' ScanDraw h d = omega (arith, h.changed.same)
+draw_raises z r r' s choice l l' Start h d = absurd (starts choice d)
+  where
+    starts : (c : Choice) → IsDraw (start_row c l).operation.kind → ⊥
+    starts (Begin call) x = x
+    starts Go x = x
+    starts (Guess q) x = x
+    starts Stop x = x
+draw_raises z r r' s choice l l' Walk h d = absurd (walks (is_stopped choice l) d)
+  where
+    walks : (b : Bool) → IsDraw (walk_row b s l).operation.kind → ⊥
+    walks true x = x
+    walks false x = x
+draw_raises z r r' s choice l l' a h d = absurd d
+
+-- the clock over the log
+pub clocked_keeps : (z : Sizes) (r r' : Run) (s : ℕ) (choice : Choice) (l : Local) (a : Activity) (l' : Local) → Arrow z (word z r.world) s choice l a l' → Happens z r r' s choice l l' a → Below z r → Step r.history r'.history (log_entry z r a s choice l) → Clocked (word z r'.world) r'.history
+clocked_keeps z r r' s choice l a l' b h i st = record {
+  positive = λ x k c t. positive c (was x k c t);
+  past = λ x k c t. past c (was x k c t);
+  drawn = λ x k c d t. drawn x k c d (was x k c t);
+  rises = λ x y k j c d e t u w. rises x y k j c d e w (was x k c t) (was y j d u);
+}
+  where
+    e : Logged
+    e = log_entry z r a s choice l
+
+    step : Step r.history r'.history e
+    step = st
+
+    was : (x : ℕ) (k : Kind) (c : ℕ) → Stands r'.history x k c → Stands r.history x k c ⊎ ((x ≡ now r.history) × (k ≡ e.kind) × (c ≡ e.clock))
+    was x k c t = stands_was r.history r'.history e step x k c t
+
+    grows : word z r.world name.Clock ≤ word z r'.world name.Clock
+    grows = clock_grows a h
+
+    positive : {x : ℕ} {k : Kind} (c : ℕ) → Stands r.history x k c ⊎ ((x ≡ now r.history) × (k ≡ e.kind) × (c ≡ e.clock)) → 1 ≤ c
+    positive {x} {k} c (inl t) = i.positions.clocked.positive x k c t
+    positive c (inr t) = omega (arith, t.2, (i.shape.sane.each name.Clock tt).0)
+
+    past : {x : ℕ} {k : Kind} (c : ℕ) → Stands r.history x k c ⊎ ((x ≡ now r.history) × (k ≡ e.kind) × (c ≡ e.clock)) → c ≤ word z r'.world name.Clock
+    past {x} {k} c (inl t) = omega (arith, i.positions.clocked.past x k c t, grows)
+    past c (inr t) = omega (arith, t.2, grows)
+
+    drawn : (x : ℕ) (k : Kind) (c : ℕ) → IsDraw k → Stands r.history x k c ⊎ ((x ≡ now r.history) × (k ≡ e.kind) × (c ≡ e.clock)) → c < word z r'.world name.Clock
+    drawn x k c d (inl t) = omega (arith, i.positions.clocked.drawn x k c d t, grows)
+    drawn x k c d (inr t) = omega (arith, t.2, draw_raises z r r' s choice l l' a h (subst IsDraw t.1 d))
+
+    rises : (x y : ℕ) (k j : Kind) (c d : ℕ) → IsDraw k → x < y → Stands r.history x k c ⊎ ((x ≡ now r.history) × (k ≡ e.kind) × (c ≡ e.clock)) → Stands r.history y j d ⊎ ((y ≡ now r.history) × (j ≡ e.kind) × (d ≡ e.clock)) → c < d
+    rises x y k j c d q w (inl t) (inl u) = i.positions.clocked.rises x y k j c d q t u w
+    rises x y k j c d q w (inl t) (inr u) = omega (arith, u.2, i.positions.clocked.drawn x k c q t)
+    rises x y k j c d q w (inr t) (inl u) = absurd (omega (arith, w, t.0, stands_before r.history y j d u))
+    rises x y k j c d q w (inr t) (inr u) = absurd (omega (arith, w, t.0, u.0))
+
+-- the calls after an event: those that were there, and one that begins
+new_call : (h h' : History) (e : Logged) (z : Sizes) (v : Words) (s : ℕ) (choice : Choice) (l : Local) (g : SeatLog) (o : Origins) (a : Activity) (c : Change) → Makes z v s choice l g o a c → h' ≡ noted h e c → (x : ℕ) → x < length h'.calls → length h.calls ≤ x → (x ≡ length h.calls) × ((called h' x).number ≡ l.number + 1) × (a ≡ Idle)
+new_call h h' e z v s choice l g o a c (makes_begin call m) n x w f =
+    let cs = ap (λ (y : History). y.calls) n in
+    let last : x ≡ length h.calls = omega (arith, w, f, ap length cs, length-append h.calls (record { seat = s; number = l.number + 1; call = call; first = length h.log; end = None; put = None; answer = None; draw = None } ∷ [])) in
+    (last, ap (λ (q : CallLog). q.number) (called_push_new h h' x _ cs last), refl)
+new_call h h' e z v s choice l g o a c (makes_nothing b) n x w f = absurd (omega (arith, w, f, ap (λ (y : History). length y.calls) n))
+new_call h h' e z v s choice l g o a c (makes_add m) n x w f = absurd (omega (arith, w, f, ap (λ (y : History). length y.calls) n))
+new_call h h' e z v s choice l g o a c (makes_announce m) n x w f = absurd (omega (arith, w, f, ap (λ (y : History). length y.calls) n))
+new_call h h' e z v s choice l g o a c (makes_stamp m) n x w f = absurd (omega (arith, w, f, ap (λ (y : History). length y.calls) n, length-set {A = CallLog}))
+new_call h h' e z v s choice l g o a c (makes_help q m k) n x w f = absurd (omega (arith, w, f, ap (λ (y : History). length y.calls) n, length-set {A = CallLog}))
+new_call h h' e z v s choice l g o a c (makes_end reply) n x w f = absurd (omega (arith, w, f, ap (λ (y : History). length y.calls) n, length-set {A = CallLog}))
+
+-- a call that begins is counted
+idle_number : (z : Sizes) (v : Words) (s : ℕ) (choice : Choice) (l : Local) (a : Activity) (k : Local) → Arrow z v s choice l a k → a ≡ Idle → k.number ≡ l.number + 1
+idle_number z v s choice l a k (begins call e b) f = refl
+idle_number z v s choice l a k _ f = absurd (cc)
+
+-- the numbers of the seat's calls
+pub numbers_own : (z : Sizes) (r r' : Run) (s : ℕ) (choice : Choice) (l : Local) (a : Activity) (l' : Local) → Arrow z (word z r.world) s choice l a l' → Happens z r r' s choice l l' a → Below z r → Step r.history r'.history (log_entry z r a s choice l) → Numbers r'.history s l'
+numbers_own z r r' s choice l a l' b h i st = λ x w e. which x w e (cases_lt x (length r.history.calls))
+  where
+    which : (x : ℕ) → x < length r'.history.calls → (called r'.history x).seat ≡ s → (x < length r.history.calls) ⊎ (length r.history.calls ≤ x) → (called r'.history x).number ≤ l'.number
+    which x w e (inl o) =
+        let same = (goes_on_by z r r' s choice l a l' h i st).calls x o in
+        omega (arith, same.number, i.positions.numbers s l h.knows x o (sym same.seat ∙ e), arrow_number z (word z r.world) s choice l a l' b)
+    which x w e (inr o) =
+        let n = new_call r.history r'.history _ z (word z r.world) s choice l (r.seats s) r.origin a _ (made z (word z r.world) s choice l (r.seats s) r.origin a) h.history x w o in
+        omega (arith, n.1, idle_number z (word z r.world) s choice l a l' b n.2)
+
+-- the seat's call
+pub calling_own : (z : Sizes) (r r' : Run) (s : ℕ) (choice : Choice) (l : Local) (a : Activity) (l' : Local) → Arrow z (word z r.world) s choice l a l' → Happens z r r' s choice l l' a → Below z r → Step r.history r'.history (log_entry z r a s choice l) → Keeps r'.history → IsBusy l'.activity → Calling r'.history s l'.activity l' (r'.seats s)
+calling_own z r r' s choice l a l' (begins call e m) h i st k p = calling_begins z r r' s choice l _ call e refl refl refl h
+calling_own z r r' s choice l a l' (leaves reply) h i st k p = absurd p
+calling_own z r r' s choice l a l' b h i st k p = calling_goes_on z r r' s choice l _ l' b h i st k tt
+
+-- the word of the seat's scan
+pub scans_own : (z : Sizes) (r r' : Run) (s : ℕ) (choice : Choice) (l : Local) (a : Activity) (l' : Local) → Arrow z (word z r.world) s choice l a l' → Happens z r r' s choice l l' a → Below z r → IsScanning l'.activity l' ⊎ (word z r'.world (name.Scan s) ≡ scan_word Quiet)
+scans_own z r r' s choice l a l' b h i = scan_is_set z r r' s choice l a l' b h i
+
+-- where the seat drew and looked
+pub draws_own : (z : Sizes) (r r' : Run) (s : ℕ) (choice : Choice) (l : Local) (a : Activity) (l' : Local) → Arrow z (word z r.world) s choice l a l' → Happens z r r' s choice l l' a → Below z r → Step r.history r'.history (log_entry z r a s choice l) → Shape z r'.world → Draws (word z r'.world) r'.history s l'.activity l' (r'.seats s)
+draws_own z r r' s choice l a l' b h i st after = draws_after z r r' s choice l a l' b h i st
+
+-- where each seat looked and drew last
+log_within : (z : Sizes) (a : Activity) (choice : Choice) (l : Local) (found : ℕ) (next : Activity) (g : SeatLog) (o : Origins) (h : History) → g.looked ≤ length h.log → g.drawn ≤ length h.log → ((seat_after z a choice l found next g o h).looked ≤ length h.log) × ((seat_after z a choice l found next g o h).drawn ≤ length h.log)
+log_within z Idle choice l found next g o h x y = begun choice
+  where
+    begun : (c : Choice) → ((log_begun c (length h.calls) g).looked ≤ length h.log) × ((log_begun c (length h.calls) g).drawn ≤ length h.log)
+    begun (Begin call) = (x, y)
+    begun Go = (x, y)
+    begun (Guess q) = (x, y)
+    begun Stop = (x, y)
+log_within z ScanDraw choice l found next g o h x y = (x, omega arith)
+log_within z (Look j) choice l found next g o h x y = met (j == 0)
+  where
+    met : (b : Bool) → let g' : SeatLog = if b then record g { looked = length h.log; ids = []; read = None } else g in (g'.looked ≤ length h.log) × (g'.drawn ≤ length h.log)
+    met true = (omega arith, y)
+    met false = (x, y)
+log_within z LookCount choice l found next g o h x y = read (is_at_cell next)
+  where
+    read : (b : Bool) → let g' : SeatLog = if b then g else record g { read = Some l.row } in (g'.looked ≤ length h.log) × (g'.drawn ≤ length h.log)
+    read true = (x, y)
+    read false = (x, y)
+log_within z (Cell j) choice l found next g o h x y = read (is_at_cell next)
+  where
+    read : (b : Bool) → let g' : SeatLog = if b then g else record g { read = Some l.row } in (g'.looked ≤ length h.log) × (g'.drawn ≤ length h.log)
+    read true = (x, y)
+    read false = (x, y)
+log_within z CellKey choice l found next g o h x y = read (is_at_cell next)
+  where
+    read : (b : Bool) → let g' : SeatLog = if b then g else record g { read = Some l.row } in (g'.looked ≤ length h.log) × (g'.drawn ≤ length h.log)
+    read true = (x, y)
+    read false = (x, y)
+log_within z CellValue choice l found next g o h x y = read (is_at_cell next)
+  where
+    read : (b : Bool) → let g' : SeatLog = if b then log_gathered (o l.row l.place) g else record (log_gathered (o l.row l.place) g) { read = Some l.row } in (g'.looked ≤ length h.log) × (g'.drawn ≤ length h.log)
+    read true = (x, y)
+    read false = (x, y)
+log_within z PutAdd choice l found next g o h x y = met (has_room z (count_of found))
+  where
+    met : (b : Bool) → let g' : SeatLog = if b then record g { own = length h.attempts } else g in (g'.looked ≤ length h.log) × (g'.drawn ≤ length h.log)
+    met true = (x, y)
+    met false = (x, y)
+log_within z _ choice l found next g o h x y = (x, y)
+
+-- no seat looked or drew later than now
+both_keep : (z : Sizes) (r r' : Run) (s : ℕ) (choice : Choice) (l : Local) (a : Activity) (l' : Local) → Happens z r r' s choice l l' a → Below z r → Step r.history r'.history (log_entry z r a s choice l) → (t : ℕ) → ((r'.seats t).looked ≤ length r'.history.log) × ((r'.seats t).drawn ≤ length r'.history.log)
+both_keep z r r' s choice l a l' h i st t = which (cases_eq t s)
+  where
+    now : length r.history.log < length r'.history.log
+    now = (goes_on_by z r r' s choice l a l' h i st).now
+
+    which : (t ≡ s) ⊎ (t ≡ s → ⊥) → ((r'.seats t).looked ≤ length r'.history.log) × ((r'.seats t).drawn ≤ length r'.history.log)
+    which (inl e) =
+        let x = log_within z a choice l (found_at z (word z r.world) a s choice l) l'.activity (r.seats s) r.origin r.history (i.positions.looks s) (i.positions.drew s) in
+        rw (e, h.log) (omega (arith, x.0, now), omega (arith, x.1, now))
+    which (inr d) = rw (h.logs t d) (omega (arith, i.positions.looks t, now), omega (arith, i.positions.drew t, now))
+
+-- The group.
+
+pub positions_keep : (z : Sizes) (r r' : Run) (s : ℕ) (choice : Choice) (l : Local) (a : Activity) (l' : Local) → Happens z r r' s choice l l' a → Below z r → Step r.history r'.history (log_entry z r a s choice l) → Shape z r'.world → Keeps r'.history → Puts z r' → Positions z r'
+positions_keep z r r' s choice l a l' h i st after k puts = record {
+  clocked = clocked_keeps z r r' s choice l a l' h.arrow h i st;
+  calling = each_seat h (λ t k. IsBusy k.activity → Calling r'.history t k.activity k (r'.seats t))
+      (calling_own z r r' s choice l a l' h.arrow h i st k)
+      (λ t k d g p. calling_stable z r r' t k (rely z r r' s choice l a l' h i st t k d g) p (i.positions.calling t k g p));
+  numbers = each_seat h (λ t k. Numbers r'.history t k)
+      (numbers_own z r r' s choice l a l' h.arrow h i st)
+      (λ t k d g. numbers_stable z r r' t k (rely z r r' s choice l a l' h i st t k d g) (i.positions.numbers t k g));
+  scans = each_seat h (λ t k. IsScanning k.activity k ⊎ (word z r'.world (name.Scan t) ≡ scan_word Quiet))
+      (scans_own z r r' s choice l a l' h.arrow h i)
+      (λ t k d g. subst (λ x. IsScanning k.activity k ⊎ (x ≡ scan_word Quiet)) (sym (rely z r r' s choice l a l' h i st t k d g).words.scan) (i.positions.scans t k g));
+  looks = λ t. (both_keep z r r' s choice l a l' h i st t).0;
+  drew = λ t. (both_keep z r r' s choice l a l' h i st t).1;
+  draws = each_seat h (λ t k. Draws (word z r'.world) r'.history t k.activity k (r'.seats t))
+      (draws_own z r r' s choice l a l' h.arrow h i st after)
+      (λ t k d g. draws_stable z r r' t k (rely z r r' s choice l a l' h i st t k d g) (i.positions.calling t k g) (i.positions.draws t k g));
+}

@@ -1,0 +1,39 @@
+-- Every event keeps what holds of the attempts, their cells and their entries: the group, from one lemma for each part of it.
+use Rattle.std.proofs.Common.{ℕ}
+use Rattle.kw_world.specs.declared.activity.Activity.{Activity}
+use Rattle.kw_world.specs.declared.local.Local.{Local}
+use Rattle.kw_world.specs.declared.event.Choice.{Choice}
+use Rattle.kw_world.specs.Sizes.{Sizes}
+use Rattle.kw_world.specs.Step.{word}
+use Rattle.kw_core.specs.Step.{Keeps}
+use Rattle.kw_core.specs.Run.{Run}
+use Rattle.kw_core.specs.Stages.{IsPutting, HasMet}
+use Rattle.kw_shape.specs.Shape.{Shape}
+use Rattle.kw_puts.specs.Puts.{OwnsAttempt, Helps, Puts}
+use Rattle.kw_puts.specs.Below.{Below}
+use Rattle.kw_core.specs.Step.{Step}
+use Rattle.kw_core.proofs.Happens.{log_entry}
+use Rattle.kw_core.proofs.Happens.{Happens, each_seat}
+use Rattle.kw_puts.proofs.RelyProof.{rely}
+use Rattle.kw_puts.proofs.StablePuts.{owns_stable, helps_stable}
+use Rattle.kw_puts.proofs.AttemptCells.{given_keeps, places_keep, rises_keep, body_keeps}
+use Rattle.kw_puts.proofs.OwnAttempts.{owns_own}
+use Rattle.kw_puts.proofs.DoneAttempts.{old_keeps}
+use Rattle.kw_puts.proofs.Entries.{entry_keeps, helps_own}
+
+-- the attempts, their cells and their entries, after every event
+pub puts_keep : (z : Sizes) (r r' : Run) (s : ℕ) (choice : Choice) (l : Local) (a : Activity) (l' : Local) → Happens z r r' s choice l l' a → Below z r → Step r.history r'.history (log_entry z r a s choice l) → Shape z r'.world → Keeps r'.history → Puts z r'
+puts_keep z r r' s choice l a l' h i st after k = record {
+  given = given_keeps z r r' s choice l a l' h.arrow h i st after;
+  places = places_keep z r r' s choice l a l' h.arrow h i st after;
+  rises = rises_keep z r r' s choice l a l' h.arrow h i st;
+  body = body_keeps z r r' s choice l a l' h.arrow h i st;
+  owns = each_seat h (λ t k. IsPutting k.activity → OwnsAttempt (word z r'.world) r'.history t k.activity k (r'.seats t))
+      (owns_own z r r' s choice l a l' h.arrow h i st after k)
+      (λ t k d g p. owns_stable z r r' t k (rely z r r' s choice l a l' h i st t k d g) p (i.puts.owns t k g p));
+  old = old_keeps z r r' s choice l a l' h.arrow h i st;
+  entry = entry_keeps z r r' s choice l a l' h.arrow h i;
+  helps = each_seat h (λ t k. HasMet k.activity → Helps r'.history r'.origin k.activity k (r'.seats t))
+      (helps_own z r r' s choice l a l' h.arrow h i st)
+      (λ t k d g p. helps_stable z r r' t k (rely z r r' s choice l a l' h i st t k d g) (i.puts.helps t k g p));
+}

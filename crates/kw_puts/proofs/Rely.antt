@@ -1,0 +1,91 @@
+-- What an event leaves to a seat that does not act.
+--
+-- `Rely` is all that a fact about such a seat may count on: its words, the cells that concern it, the record, and its entry. The
+-- lemma `rely` gives it, once, from what holds before the event; each fact about a seat then survives every event of another seat
+-- by one lemma of its own (`Stable` files), which never asks what the other seat does.
+use Rattle.std.proofs.Common.{ℕ, ◌≡◌, ◌≢◌, ◌<◌, ◌≤◌, Some, None, true, false, length}
+use Rattle.kw_words.specs.declared.layout.Name.TheVariants as name
+use Rattle.kw_words.specs.declared.kind.Kind.{Kind}
+use Rattle.kw_words.specs.declared.pend.Pend.TheVariants as pend
+use Rattle.kw_words.specs.Pend.{pend_word}
+use Rattle.kw_world.specs.declared.activity.Activity.{Activity}
+use Rattle.kw_world.specs.declared.local.Local.{Local}
+use Rattle.kw_world.specs.Sizes.{Sizes}
+use Rattle.kw_world.specs.Step.{word}
+use Rattle.kw_core.specs.History.{History, attempt, called, Stands}
+use Rattle.kw_core.specs.Grows.{Grows}
+use Rattle.kw_core.specs.Run.{Run, Origins}
+use Rattle.kw_core.specs.declared.seat_log.SeatLog.{SeatLog}
+use Rattle.kw_core.specs.Stages.{IsBusy, IsPutting, IsUnstamped}
+use Rattle.kw_core.specs.Words.{Words, given_in}
+use Rattle.kw_puts.specs.Puts.{key_in, value_in}
+use Rattle.kw_core.proofs.Frame.{SameRows}
+
+-- the words: the rows and the seat's scan are as they were, and the clock, the counts and the versions that stand do not go back
+pub record RelyWords (z : Sizes) (rows : ℕ) (v v' : Words) (t : ℕ) : Type 0 where
+  pub same : SameRows rows v v'
+  pub scan : v' (name.Scan t) ≡ v (name.Scan t)
+  pub clock : v name.Clock ≤ v' name.Clock
+  pub given : (q : ℕ) → q < rows → given_in v q ≤ given_in v' q
+  pub version : (q c : ℕ) → q < rows → c < z.cells → v (name.Version q c) ≢ 0 → v' (name.Version q c) ≡ v (name.Version q c)
+
+-- the cells: what stands in the cell of an announced attempt stays, and so does what the seat has stored in its own
+pub record RelyCells (v v' : Words) (h : History) (a : Activity) (l : Local) : Type 0 where
+  pub key : (p : ℕ) → p < length h.attempts → (attempt h p).is_announced ≡ true → key_in v' (attempt h p).row (attempt h p).cell ≡ key_in v (attempt h p).row (attempt h p).cell
+  pub value : (p : ℕ) → p < length h.attempts → (attempt h p).is_announced ≡ true → value_in v' (attempt h p).row (attempt h p).cell ≡ value_in v (attempt h p).row (attempt h p).cell
+  pub own_key : IsPutting a → v' (name.Key l.row l.cell) ≡ v (name.Key l.row l.cell)
+  pub own_value : IsPutting a → v' (name.Value l.row l.cell) ≡ v (name.Value l.row l.cell)
+  pub own_version : IsPutting a → v' (name.Version l.row l.cell) ≡ v (name.Version l.row l.cell)
+
+-- what an attempt is of does not change
+pub record SameAttempt (h h' : History) (p : ℕ) : Type 0 where
+  pub call : (attempt h' p).call ≡ (attempt h p).call
+  pub seat : (attempt h' p).seat ≡ (attempt h p).seat
+  pub key : (attempt h' p).key ≡ (attempt h p).key
+  pub value : (attempt h' p).value ≡ (attempt h p).value
+  pub row : (attempt h' p).row ≡ (attempt h p).row
+  pub cell : (attempt h' p).cell ≡ (attempt h p).cell
+  pub add : (attempt h' p).add ≡ (attempt h p).add
+
+-- what a call is of does not change
+pub record SameCall (h h' : History) (x : ℕ) : Type 0 where
+  pub seat : (called h' x).seat ≡ (called h x).seat
+  pub number : (called h' x).number ≡ (called h x).number
+  pub call : (called h' x).call ≡ (called h x).call
+  pub first : (called h' x).first ≡ (called h x).first
+
+-- the record goes on, whoever acts: it keeps what it has, and what is announced or stamped now is so from now on
+pub record GoesOn (h h' : History) (o o' : Origins) : Type 0 where
+  pub now : length h.log < length h'.log
+  pub stands : (x : ℕ) (k : Kind) (c : ℕ) → Stands h x k c → Stands h' x k c
+  pub grows : Grows h h' (length h.log)
+  pub more_attempts : length h.attempts ≤ length h'.attempts
+  pub more_calls : length h.calls ≤ length h'.calls
+  pub attempts : (p : ℕ) → p < length h.attempts → SameAttempt h h' p
+  pub calls : (x : ℕ) → x < length h.calls → SameCall h h' x
+  pub origin : (q c p : ℕ) → o q c ≡ Some p → o' q c ≡ Some p
+
+-- the record goes on for a seat that does not act: no attempt and no call of it is new, and none of its calls ends
+pub record RelyHistory (h h' : History) (t : ℕ) : Type 0 where
+  pub fresh : (p : ℕ) → length h.attempts ≤ p → p < length h'.attempts → (attempt h' p).seat ≢ t
+  pub begun : (x : ℕ) → length h.calls ≤ x → x < length h'.calls → (called h' x).seat ≢ t
+  pub runs : (x : ℕ) → x < length h.calls → (called h x).seat ≡ t → (called h' x).end ≡ (called h x).end
+
+-- the seat's entry in its row, its own attempt and the put of its call: all are as they were, or another seat has stamped the
+-- attempt, all at once
+pub data RelyEntry (v v' : Words) (h h' : History) (t : ℕ) (a : Activity) (l : Local) (g : SeatLog) : Type 0 where
+  as_it_was : (IsPutting a → v' (name.Pend l.row t) ≡ v (name.Pend l.row t)) → (IsPutting a → attempt h' g.own ≡ attempt h g.own) → (IsBusy a → (called h' g.call).put ≡ (called h g.call).put) → RelyEntry v v' h h' t a l g
+  is_helped : (version load : ℕ) → IsUnstamped a → v (name.Pend l.row t) ≡ pend_word (pend.Pending l.cell) → v' (name.Pend l.row t) ≡ pend_word (pend.Stamped l.cell version) →
+      (attempt h g.own).is_stamped ≡ false → attempt h' g.own ≡ record (attempt h g.own) { is_stamped = true; version = version; load = load; at = length h.log } →
+      (called h g.call).put ≡ None → (called h' g.call).put ≡ Some g.own → RelyEntry v v' h h' t a l g
+
+-- all of it, for a seat that knows l
+pub record Rely (z : Sizes) (r r' : Run) (t : ℕ) (l : Local) : Type 0 where
+  pub seat : t < z.seats
+  pub rows : r'.world.rows ≡ r.world.rows
+  pub log : r'.seats t ≡ r.seats t
+  pub words : RelyWords z r.world.rows (word z r.world) (word z r'.world) t
+  pub cells : RelyCells (word z r.world) (word z r'.world) r.history l.activity l
+  pub goes_on : GoesOn r.history r'.history r.origin r'.origin
+  pub history : RelyHistory r.history r'.history t
+  pub entry : RelyEntry (word z r.world) (word z r'.world) r.history r'.history t l.activity l (r.seats t)

@@ -1,0 +1,250 @@
+-- What an event leaves to another seat of its entry, its attempt and its calls. A seat that helps may stamp the attempt of another
+-- one: entry, attempt and call change at once, and nothing else of that seat.
+use Rattle.std.proofs.Common.{ℕ, ◌≡◌, ◌≢◌, ◌⊎◌, inl, inr, ◌+◌, ◌<◌, ◌≤◌, true, Option, Some, arith, refl, sym, ◌∙◌, ap, subst, length, length-append, length-set, set, slice_get}
+use Rattle.std.proofs.lemmas.Bool.{cases_eq}
+use Rattle.std.proofs.lemmas.Option.{same_Some, slice_get_within}
+use Rattle.kw_words.specs.declared.layout.Name.TheVariants as name
+use Rattle.kw_words.specs.declared.pend.Pend.TheVariants as pend
+use Rattle.kw_words.specs.Pend.{pend_word}
+use Rattle.kw_model.specs.declared.call.Reply.{Reply}
+use Rattle.kw_world.specs.declared.activity.Activity.{Activity}
+use Rattle.kw_world.specs.declared.activity.Activity.TheVariants.{LookHelp, PutClock, Stamp, PutVersion, PutClear, Leave}
+use Rattle.kw_world.specs.declared.local.Local.{Local}
+use Rattle.kw_world.specs.declared.event.Choice.{Choice}
+use Rattle.kw_world.specs.Sizes.{Sizes}
+use Rattle.kw_world.specs.Step.{word}
+use Rattle.kw_core.specs.History.{History, attempt, called}
+use Rattle.kw_core.specs.declared.history.Logged.{Logged}
+use Rattle.kw_core.specs.declared.history.Change.{Change}
+use Rattle.kw_core.specs.declared.history.Change.TheVariants.{Nothing, Begins, Adds, Announces, Loses, Stamps, Ends}
+use Rattle.kw_core.specs.Noted.{noted}
+use Rattle.kw_core.specs.Run.{Run, Origins, helping}
+use Rattle.kw_core.specs.declared.seat_log.SeatLog.{SeatLog}
+use Rattle.kw_core.specs.Stages.{IsBusy, IsPutting, IsPublished, IsUnstamped, IsStamped, IsHelp, HasMet}
+use Rattle.kw_core.specs.Words.{Words}
+use Rattle.kw_puts.specs.Puts.{HasCell, Helps, IsPublishedAt}
+use Rattle.kw_puts.specs.Below.{Below}
+use Rattle.kw_core.proofs.NotedLaws.{attempt_set_same, attempt_set_other, attempt_push_old, attempt_push_new, attempt_same, called_set_same, called_set_other, called_push_old, called_push_new, called_same}
+use Rattle.kw_core.proofs.Happens.{Happens, chosen, not_chosen, exchanged, not_exchanged}
+use Rattle.kw_core.proofs.Frame.{pend_kept}
+use Rattle.kw_puts.proofs.Owners.{true_false, is_own, owns_apart, pending_entry, published_puts, puts_busy}
+use Rattle.kw_core.proofs.Changes.{Makes, makes_nothing, makes_begin, makes_add, makes_announce, makes_stamp, makes_help, makes_end, made}
+use Rattle.kw_core.proofs.Happens.{log_entry}
+use Rattle.kw_words.proofs.Refusals.{none_unless}
+use Rattle.kw_puts.proofs.Rely.{RelyHistory, RelyEntry, as_it_was, is_helped}
+
+-- The record, for another seat.
+
+none_new : {A : Type 0} (n m x : ℕ) → m ≡ n → n ≤ x → x < m → A
+none_new n m x e o w = absurd (omega (arith, e, o, w))
+
+last_new : (n m x : ℕ) → m ≡ n + 1 → n ≤ x → x < m → x ≡ n
+last_new n m x e o w = omega (arith, e, o, w)
+
+-- a call that is given a put goes on
+pub put_runs : (h h' : History) (x y : ℕ) (o : Option ℕ) → h'.calls ≡ set h.calls y (record (called h y) { put = o }) → x < length h.calls → (called h' x).end ≡ (called h x).end
+put_runs h h' x y o n w = which (cases_eq x y)
+  where
+    which : (x ≡ y) ⊎ (x ≡ y → ⊥) → (called h' x).end ≡ (called h x).end
+    which (inl u) = subst (λ q. (called h' q).end ≡ (called h q).end) (sym u) (ap (λ q. q.end) (called_set_same h h' y _ n (subst (λ q. q < length h.calls) u w)))
+    which (inr u) = ap (λ q. q.end) (called_set_other h h' y x _ n u)
+
+-- what the change of the acting seat leaves to another one: new attempts, new calls and calls that end are its own
+pub change_apart : (h h' : History) (e : Logged) (z : Sizes) (v : Words) (s : ℕ) (choice : Choice) (l : Local) (g : SeatLog) (o : Origins) (a : Activity) (c : Change) → Makes z v s choice l g o a c → ((reply : Reply) → a ≡ Leave reply → (called h g.call).seat ≡ s) → h' ≡ noted h e c → (t : ℕ) → t ≢ s → RelyHistory h h' t
+change_apart h h' e z v s choice l g o a c (makes_nothing b) f n t d = record {
+  fresh = λ p i w. none_new _ _ p (ap (λ x. length x.attempts) n) i w;
+  begun = λ x i w. none_new _ _ x (ap (λ y. length y.calls) n) i w;
+  runs = λ x w y. ap (λ c. c.end) (called_same h h' x (ap (λ y. y.calls) n));
+}
+change_apart h h' e z v s choice l g o a c (makes_begin call m) f n t d =
+    let cs = ap (λ y. y.calls) n in
+    record {
+      fresh = λ p i w. none_new _ _ p (ap (λ x. length x.attempts) n) i w;
+      begun = λ x i w u. d (sym u ∙ ap (λ q. q.seat) (called_push_new h h' x _ cs (last_new _ _ x (ap length cs ∙ length-append h.calls _) i w)));
+      runs = λ x w y. ap (λ q. q.end) (called_push_old h h' x _ cs w);
+    }
+change_apart h h' e z v s choice l g o a c (makes_add m) f n t d =
+    let ps = ap (λ y. y.attempts) n in
+    record {
+      fresh = λ p i w u. d (sym u ∙ ap (λ q. q.seat) (attempt_push_new h h' p _ ps (last_new _ _ p (ap length ps ∙ length-append h.attempts _) i w)));
+      begun = λ x i w. none_new _ _ x (ap (λ y. length y.calls) n) i w;
+      runs = λ x w y. ap (λ q. q.end) (called_same h h' x (ap (λ y. y.calls) n));
+    }
+change_apart h h' e z v s choice l g o a c (makes_announce m) f n t d = record {
+  fresh = λ p i w. none_new _ _ p (ap (λ x. length x.attempts) n ∙ length-set h.attempts _ _) i w;
+  begun = λ x i w. none_new _ _ x (ap (λ y. length y.calls) n) i w;
+  runs = λ x w y. ap (λ q. q.end) (called_same h h' x (ap (λ y. y.calls) n));
+}
+change_apart h h' e z v s choice l g o a c (makes_stamp m) f n t d = record {
+  fresh = λ p i w. none_new _ _ p (ap (λ x. length x.attempts) n ∙ length-set h.attempts _ _) i w;
+  begun = λ x i w. none_new _ _ x (ap (λ y. length y.calls) n ∙ length-set h.calls _ _) i w;
+  runs = λ x w y. put_runs h h' x (attempt h g.own).call _ (ap (λ y. y.calls) n) w;
+}
+change_apart h h' e z v s choice l g o a c (makes_help q m k) f n t d = record {
+  fresh = λ p i w. none_new _ _ p (ap (λ x. length x.attempts) n ∙ length-set h.attempts _ _) i w;
+  begun = λ x i w. none_new _ _ x (ap (λ y. length y.calls) n ∙ length-set h.calls _ _) i w;
+  runs = λ x w y. put_runs h h' x (attempt h q).call _ (ap (λ y. y.calls) n) w;
+}
+change_apart h h' e z v s choice l g o a c (makes_end reply) f n t d = record {
+  fresh = λ p i w. none_new _ _ p (ap (λ x. length x.attempts) n) i w;
+  begun = λ x i w. none_new _ _ x (ap (λ y. length y.calls) n ∙ length-set h.calls _ _) i w;
+  runs = λ x w y. ap (λ q. q.end) (called_set_other h h' g.call x _ (ap (λ y. y.calls) n) (λ u. d (sym y ∙ ap (λ q. (called h q).seat) u ∙ f reply refl)));
+}
+
+-- The attempt and the put of another seat.
+
+-- the change is not of this attempt, and gives no put to this call
+abbrev pub IsAway : History → ℕ → Change → Type 0
+IsAway h p (Announces q) = p ≢ q
+IsAway h p (Loses q) = p ≢ q
+IsAway h p (Stamps q version load) = p ≢ q
+IsAway h p _ = Unit {0}
+
+abbrev pub IsPutAway : History → ℕ → Change → Type 0
+IsPutAway h x (Stamps q version load) = x ≢ (attempt h q).call
+IsPutAway h x _ = Unit {0}
+
+pub attempt_left : (h h' : History) (e : Logged) (p : ℕ) (c : Change) → IsAway h p c → h' ≡ noted h e c → p < length h.attempts → attempt h' p ≡ attempt h p
+attempt_left h h' e p Nothing d n w = attempt_same h h' p (ap (λ x. x.attempts) n)
+attempt_left h h' e p (Begins seat number call) d n w = attempt_same h h' p (ap (λ x. x.attempts) n)
+attempt_left h h' e p (Adds call seat key value row cell) d n w = attempt_push_old h h' p _ (ap (λ x. x.attempts) n) w
+attempt_left h h' e p (Announces q) d n w = attempt_set_other h h' q p _ (ap (λ x. x.attempts) n) d
+attempt_left h h' e p (Loses q) d n w = attempt_set_other h h' q p _ (ap (λ x. x.attempts) n) d
+attempt_left h h' e p (Stamps q version load) d n w = attempt_set_other h h' q p _ (ap (λ x. x.attempts) n) d
+attempt_left h h' e p (Ends x reply answer draw) d n w = attempt_same h h' p (ap (λ x. x.attempts) n)
+
+pub put_left : (h h' : History) (e : Logged) (x : ℕ) (c : Change) → IsPutAway h x c → h' ≡ noted h e c → x < length h.calls → (called h' x).put ≡ (called h x).put
+put_left h h' e x Nothing d n w = ap (λ q. q.put) (called_same h h' x (ap (λ x. x.calls) n))
+put_left h h' e x (Begins seat number call) d n w = ap (λ q. q.put) (called_push_old h h' x _ (ap (λ x. x.calls) n) w)
+put_left h h' e x (Adds call seat key value row cell) d n w = ap (λ q. q.put) (called_same h h' x (ap (λ x. x.calls) n))
+put_left h h' e x (Announces q) d n w = ap (λ q. q.put) (called_same h h' x (ap (λ x. x.calls) n))
+put_left h h' e x (Loses q) d n w = ap (λ q. q.put) (called_same h h' x (ap (λ x. x.calls) n))
+put_left h h' e x (Stamps q version load) d n w = ap (λ q. q.put) (called_set_other h h' (attempt h q).call x _ (ap (λ x. x.calls) n) d)
+put_left h h' e x (Ends y reply answer draw) d n w = which (cases_eq x y)
+  where
+    which : (x ≡ y) ⊎ (x ≡ y → ⊥) → (called h' x).put ≡ (called h x).put
+    which (inl u) = subst (λ q. (called h' q).put ≡ (called h q).put) (sym u) (ap (λ q. q.put) (called_set_same h h' y _ (ap (λ x. x.calls) n) (subst (λ q. q < length h.calls) u w)))
+    which (inr u) = ap (λ q. q.put) (called_set_other h h' y x _ (ap (λ x. x.calls) n) u)
+
+-- The entry.
+
+module _ (z : Sizes) (r r' : Run) (s : ℕ) (choice : Choice) (l l' : Local) (i : Below z r) (t : ℕ) (k : Local) (d : t ≢ s) (g : slice_get r.world.locals t ≡ Some k) where
+  inside : t < z.seats
+  inside = omega (arith, slice_get_within r.world.locals t k g, i.shape.sane.seats)
+
+  -- the attempt that the acting seat announces or stamps is not that of another seat
+  away : (a : Activity) (c : Change) → l.activity ≡ a → slice_get r.world.locals s ≡ Some l → Makes z (word z r.world) s choice l (r.seats s) r.origin a c → (IsHelp a → ⊥) → IsPutting k.activity → IsAway r.history (r.seats t).own c
+  away a c is m (makes_nothing b) n p = tt
+  away a c is m (makes_begin call e) n p = tt
+  away a c is m (makes_add e) n p = tt
+  away a c is m (makes_announce e) n p = owns_apart i.puts t s k l d g m p (subst IsPutting (sym is) tt)
+  away a c is m (makes_stamp e) n p = owns_apart i.puts t s k l d g m p (subst IsPutting (sym is) tt)
+  away a c is m (makes_help q e f) n p = absurd (n tt)
+  away a c is m (makes_end reply) n p = tt
+
+  -- nor is the call that gets a put
+  put_away : (a : Activity) (c : Change) → l.activity ≡ a → slice_get r.world.locals s ≡ Some l → Makes z (word z r.world) s choice l (r.seats s) r.origin a c → (IsHelp a → ⊥) → IsBusy k.activity → IsPutAway r.history (r.seats t).call c
+  put_away a c is m (makes_nothing b) n p = tt
+  put_away a c is m (makes_begin call e) n p = tt
+  put_away a c is m (makes_add e) n p = tt
+  put_away a c is m (makes_announce e) n p = tt
+  put_away a c is m (makes_stamp e) n p = λ u.
+      let own = i.puts.owns s l m (subst IsPutting (sym is) tt) in
+      let mine = i.positions.calling t k g p in
+      let other = i.positions.calling s l m (subst IsBusy (sym is) tt) in
+      d (sym mine.seat ∙ ap (λ q. (called r.history q).seat) (u ∙ own.call) ∙ other.seat)
+  put_away a c is m (makes_help q e f) n p = absurd (n tt)
+  put_away a c is m (makes_end reply) n p = tt
+
+  -- an event that helps no one
+  pub entry_apart : (a : Activity) → Happens z r r' s choice l l' a → (IsHelp a → ⊥) → RelyEntry (word z r.world) (word z r'.world) r.history r'.history t k.activity k (r.seats t)
+  entry_apart a h n =
+      let m = made z (word z r.world) s choice l (r.seats s) r.origin a in
+      as_it_was
+      (λ p. pend_kept a h k.row t (i.shape.sane.locals t k g).below.row inside (λ x e f. d f) (λ x e f. n x))
+      (λ p. attempt_left r.history r'.history _ (r.seats t).own _ (away a _ h.activity h.knows m n p) h.history (i.puts.owns t k g p).within)
+      (λ p. put_left r.history r'.history _ (r.seats t).call _ (put_away a _ h.activity h.knows m n p) h.history (i.positions.calling t k g p).within)
+
+-- A seat that helps.
+
+-- a seat that has announced its cell and is not stamped is about to load the clock or to stamp
+unstamped : (a : Activity) → IsPublished a → (IsStamped a → ⊥) → IsUnstamped a
+unstamped PutClock p n = tt
+unstamped Stamp p n = tt
+unstamped PutVersion p n = absurd (n tt)
+unstamped PutClear p n = absurd (n tt)
+unstamped _ p n = absurd p
+
+module _ (z : Sizes) (r r' : Run) (s : ℕ) (choice : Choice) (l l' : Local) (i : Below z r) (t : ℕ) (k : Local) (d : t ≢ s) (g : slice_get r.world.locals t ≡ Some k) (h : Happens z r r' s choice l l' LookHelp) where
+  helper : Helps r.history r.origin l.activity l (r.seats s)
+  helper = i.puts.helps s l h.knows (subst HasMet (sym h.activity) tt)
+
+  below : k.row < r.world.rows
+  below = (i.shape.sane.locals t k g).below.row
+
+  -- the exchange that is not made changes nothing
+  lost_change : word z r.world (name.Pend l.row l.looked) ≢ pend_word (pend.Pending l.met) → r'.history ≡ noted r.history (log_entry z r LookHelp s choice l) Nothing
+  lost_change n = h.history ∙ ap (λ c. noted r.history (log_entry z r LookHelp s choice l) c) (not_chosen _ _ _ Nothing n)
+
+  lost_entry : word z r.world (name.Pend l.row l.looked) ≢ pend_word (pend.Pending l.met) → word z r'.world (name.Pend k.row t) ≡ word z r.world (name.Pend k.row t)
+  lost_entry n = which (cases_eq k.row l.row) (cases_eq t l.looked)
+    where
+      which : (k.row ≡ l.row) ⊎ (k.row ≡ l.row → ⊥) → (t ≡ l.looked) ⊎ (t ≡ l.looked → ⊥) → word z r'.world (name.Pend k.row t) ≡ word z r.world (name.Pend k.row t)
+      which (inl e) (inl f) = rw (e, f) (not_exchanged _ _ _ _ h.changed.same n)
+      which (inr e) f = pend_kept LookHelp h k.row t below (inside z r r' s choice l l' i t k d g) (λ x q u. d u) (λ x q u. e q)
+      which (inl e) (inr f) = pend_kept LookHelp h k.row t below (inside z r r' s choice l l' i t k d g) (λ x q u. d u) (λ x q u. f u)
+
+  -- the one that is made stamps the attempt that was met
+  won_change : word z r.world (name.Pend l.row l.looked) ≡ pend_word (pend.Pending l.met) → r'.history ≡ noted r.history (log_entry z r LookHelp s choice l) (Stamps helper.put l.helping (r.seats s).loaded)
+  won_change e = h.history ∙ ap (λ c. noted r.history (log_entry z r LookHelp s choice l) c) (chosen _ _ _ Nothing e ∙ ap (λ x. helping x l.helping (r.seats s).loaded) helper.origin)
+
+  met_cell : HasCell r.history l.row l.met helper.put
+  met_cell = i.puts.places.owner l.row l.met helper.put helper.origin
+
+  -- it was not that of the seat looked at
+  won_other : word z r.world (name.Pend l.row l.looked) ≡ pend_word (pend.Pending l.met) → t ≢ l.looked → RelyEntry (word z r.world) (word z r'.world) r.history r'.history t k.activity k (r.seats t)
+  won_other e n =
+      as_it_was
+      (λ p. pend_kept LookHelp h k.row t below (inside z r r' s choice l l' i t k d g) (λ x q u. d u) (λ x q u. n u))
+      (λ p. let own = i.puts.owns t k g p in attempt_left r.history r'.history _ (r.seats t).own (Stamps helper.put l.helping (r.seats s).loaded) (λ u. n (sym own.seat ∙ ap (λ q. (attempt r.history q).seat) u ∙ helper.seat)) (won_change e) own.within)
+      (λ p. let c = i.positions.calling t k g p in
+      put_left r.history r'.history _ (r.seats t).call (Stamps helper.put l.helping (r.seats s).loaded)
+      (λ u. n (sym c.seat ∙ ap (λ q. (called r.history q).seat) u ∙ (i.history.laws.attempted helper.put met_cell.within).seat ∙ helper.seat)) (won_change e) c.within)
+
+  -- the seat looked at has announced a cell of this row
+  at_entry : word z r.world (name.Pend l.row l.looked) ≡ pend_word (pend.Pending l.met) → t ≡ l.looked → IsPublished k.activity × (k.row ≡ l.row)
+  at_entry e f = which (i.puts.entry l.row t (i.shape.sane.locals s l h.knows).below.row (inside z r r' s choice l l' i t k d g))
+    where
+      which : (word z r.world (name.Pend l.row t) ≡ pend_word pend.Idle) ⊎ IsPublishedAt (slice_get r.world.locals) l.row t → IsPublished k.activity × (k.row ≡ l.row)
+      which (inl x) = let y : pend_word (pend.Pending l.met) ≡ pend_word pend.Idle = sym e ∙ (rw f at x) in absurd (omega (arith, y))
+      which (inr p) = let x = same_Some p.local k (sym p.knows ∙ g) in (subst (λ u. IsPublished u.activity) x p.published, subst (λ (u : Local). u.row ≡ l.row) x p.row)
+
+  -- the seat looked at is helped
+  won_own : word z r.world (name.Pend l.row l.looked) ≡ pend_word (pend.Pending l.met) → t ≡ l.looked → IsPublished k.activity → k.row ≡ l.row → RelyEntry (word z r.world) (word z r'.world) r.history r'.history t k.activity k (r.seats t)
+  won_own e f y q =
+      let p = published_puts k.activity y in
+      let own = i.puts.owns t k g p in
+      let c = i.positions.calling t k g (puts_busy k.activity p) in
+      let word_is : word z r.world (name.Pend k.row t) ≡ pend_word (pend.Pending l.met) = rw (q, f) e in
+      let st = pending_entry (attempt r.history (r.seats t).own) l.met (sym (own.entry y) ∙ word_is) in
+      let same : helper.put ≡ (r.seats t).own = is_own i.puts t k g p helper.put met_cell.within (met_cell.row ∙ sym q) (met_cell.cell ∙ sym st.1 ∙ own.cell) in
+      let cell_is : l.met ≡ k.cell = sym st.1 ∙ own.cell in
+      let n : r'.history ≡ noted r.history (log_entry z r LookHelp s choice l) (Stamps (r.seats t).own l.helping (r.seats s).loaded) = subst (λ x. r'.history ≡ noted r.history (log_entry z r LookHelp s choice l) (Stamps x l.helping (r.seats s).loaded)) same (won_change e) in
+      is_helped l.helping (r.seats s).loaded (unstamped k.activity y (λ x. true_false (own.stamped x) st.0))
+      (subst (λ x. word z r.world (name.Pend k.row t) ≡ pend_word (pend.Pending x)) cell_is word_is)
+      (subst (λ x. word z r'.world (name.Pend k.row t) ≡ pend_word (pend.Stamped x l.helping)) cell_is (rw (q, f) (exchanged _ _ _ _ h.changed.same e)))
+      st.0
+      (attempt_set_same r.history r'.history (r.seats t).own _ (ap (λ x. x.attempts) n) own.within)
+      (none_unless _ (λ x u. true_false (subst (λ j. (attempt r.history j).is_stamped ≡ true) (sym (c.own x u)) (i.history.laws.is_put (r.seats t).call x u).0) st.0))
+      (ap (λ x. x.put) (called_set_same r.history r'.history (r.seats t).call _ (ap (λ x. x.calls) n ∙ ap (λ x. set r.history.calls x (record (called r.history x) { put = Some (r.seats t).own })) own.call) c.within))
+
+  pub entry_helped : RelyEntry (word z r.world) (word z r'.world) r.history r'.history t k.activity k (r.seats t)
+  entry_helped = which (cases_eq (word z r.world (name.Pend l.row l.looked)) (pend_word (pend.Pending l.met))) (cases_eq t l.looked)
+    where
+      which : (word z r.world (name.Pend l.row l.looked) ≡ pend_word (pend.Pending l.met)) ⊎ (word z r.world (name.Pend l.row l.looked) ≡ pend_word (pend.Pending l.met) → ⊥) → (t ≡ l.looked) ⊎ (t ≡ l.looked → ⊥) → RelyEntry (word z r.world) (word z r'.world) r.history r'.history t k.activity k (r.seats t)
+      which (inr n) f =
+          as_it_was (λ p. lost_entry n)
+          (λ p. attempt_left r.history r'.history _ (r.seats t).own Nothing tt (lost_change n) (i.puts.owns t k g p).within)
+          (λ p. put_left r.history r'.history _ (r.seats t).call Nothing tt (lost_change n) (i.positions.calling t k g p).within)
+      which (inl e) (inr n) = won_other e n
+      which (inl e) (inl f) = let x = at_entry e f in won_own e f x.0 x.1

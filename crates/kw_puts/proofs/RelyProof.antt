@@ -1,0 +1,187 @@
+-- Every event of another seat is one that a seat may rely on.
+use Rattle.std.proofs.Common.{ℕ, ◌≡◌, ◌≢◌, ◌⊎◌, inl, inr, ◌<◌, Bool, true, false, Some, None, arith, refl, sym, ◌∙◌, ap, subst, length, slice_get}
+use Rattle.kw_words.specs.declared.layout.Name.TheVariants as name
+use Rattle.kw_world.specs.declared.activity.Activity.{Activity}
+use Rattle.kw_world.specs.declared.activity.Activity.TheVariants.{LookHelp, PutAdd, PutKey, PutValue, PutVersion, Leave}
+use Rattle.kw_world.specs.declared.local.Local.{Local}
+use Rattle.kw_world.specs.declared.event.Choice.{Choice}
+use Rattle.kw_world.specs.Sizes.{Sizes}
+use Rattle.std.proofs.lemmas.Option.{slice_get_within}
+use Rattle.std.proofs.Common.{◌==◌, ◌&&◌, if◌then◌else◌}
+use Rattle.std.proofs.lemmas.Bool.{cases_eq, and_parts}
+use Rattle.kw_words.specs.Count.{count_of}
+use Rattle.kw_words.specs.Plain.{key_of_word, value_of_word}
+use Rattle.kw_model.specs.declared.call.Reply.{Reply}
+use Rattle.kw_world.specs.RowPut.{has_room, given_of}
+use Rattle.kw_world.specs.Sane.{IsLocal, IsLocalBelow}
+use Rattle.kw_core.specs.Step.{AttemptStep, as_it_was, is_added, is_announced, is_lost, is_stamped}
+use Rattle.kw_core.specs.Run.{origins_after, with_origin}
+use Rattle.kw_core.specs.Stages.{IsBusy, IsFresh, IsPutVersion}
+use Rattle.kw_puts.specs.Puts.{OwnsAttempt}
+use Rattle.kw_puts.specs.Positions.{Calling}
+use Rattle.kw_core.proofs.Steps.{stands_lasts, now_grows, old_call, step_grows}
+use Rattle.kw_core.proofs.Arrows.{eq_from}
+use Rattle.kw_core.proofs.Happens.{found_at}
+use Rattle.kw_core.proofs.Frame.{WritesKey, WritesValue, key_kept, value_kept, version_kept, scan_kept, clock_grows, given_grows}
+use Rattle.kw_core.proofs.RoomBelow.{room_below}
+use Rattle.kw_puts.proofs.Owners.{true_false, is_own, cells_apart}
+use Rattle.kw_core.proofs.Changes.{made}
+use Rattle.kw_puts.proofs.RelyEntry.{change_apart, entry_apart, entry_helped}
+use Rattle.kw_core.proofs.Happens.{log_entry}
+use Rattle.kw_puts.proofs.Rely.{SameAttempt}
+use Rattle.kw_world.specs.Step.{word}
+use Rattle.kw_core.specs.History.{History, attempt}
+use Rattle.kw_core.specs.Run.{Run, Origins}
+use Rattle.kw_core.specs.Stages.{IsPutting}
+use Rattle.kw_puts.specs.Below.{Below}
+use Rattle.kw_core.specs.Step.{Step}
+use Rattle.kw_core.proofs.Happens.{Happens}
+use Rattle.kw_core.proofs.Frame.{same_rows}
+use Rattle.kw_puts.proofs.Rely.{RelyWords, RelyCells, GoesOn, RelyHistory, RelyEntry, Rely}
+
+-- The words.
+
+-- a seat that stores a key, a value or a version has a cell
+pub key_puts : (a : Activity) → WritesKey a → IsPutting a × IsFresh a
+key_puts PutKey x = (tt, tt)
+key_puts _ x = absurd x
+
+pub value_puts : (a : Activity) → WritesValue a → IsPutting a × IsFresh a
+value_puts PutValue x = (tt, tt)
+value_puts _ x = absurd x
+
+pub version_puts : (a : Activity) → IsPutVersion a → IsPutting a
+version_puts PutVersion x = tt
+version_puts _ x = absurd x
+
+-- a version that stands is the one that is stored there
+pub rely_version : (z : Sizes) (r r' : Run) (s : ℕ) (choice : Choice) (l : Local) (a : Activity) (l' : Local) → Happens z r r' s choice l l' a → Below z r → (q c : ℕ) → q < r.world.rows → c < z.cells → word z r.world (name.Version q c) ≢ 0 → word z r'.world (name.Version q c) ≡ word z r.world (name.Version q c)
+rely_version z r r' s choice l PutVersion l' h i q c o w n = which (cases_eq q l.row) (cases_eq c l.cell)
+  where
+    own : OwnsAttempt (word z r.world) r.history s l.activity l (r.seats s)
+    own = i.puts.owns s l h.knows (subst IsPutting (sym h.activity) tt)
+
+    stands : q ≡ l.row → c ≡ l.cell → word z r.world (name.Version q c) ≡ l.version
+    stands e f =
+        let b = i.puts.body (r.seats s).own own.within in
+        let x : word z r.world (name.Version (attempt r.history (r.seats s).own).row (attempt r.history (r.seats s).own).cell) ≢ 0 = rw (own.row, own.cell) (rw (e, f) at n) in
+        let y : word z r.world (name.Version l.row l.cell) ≡ (attempt r.history (r.seats s).own).version = rw (own.row, own.cell) at (b.version x) in
+        rw (e, f) (y ∙ own.version (subst IsPutVersion (sym h.activity) tt))
+
+    which : (q ≡ l.row) ⊎ (q ≡ l.row → ⊥) → (c ≡ l.cell) ⊎ (c ≡ l.cell → ⊥) → word z r'.world (name.Version q c) ≡ word z r.world (name.Version q c)
+    which (inl e) (inl f) = subst (λ x. word z r'.world (name.Version x c) ≡ word z r.world (name.Version q c)) (sym e) (subst (λ x. word z r'.world (name.Version l.row x) ≡ word z r.world (name.Version q c)) (sym f) (h.changed.same ∙ sym (stands e f)))
+    which (inr d) f = version_kept PutVersion h q c o w (λ x e g. d e)
+    which (inl e) (inr d) = version_kept PutVersion h q c o w (λ x g f. d f)
+rely_version z r r' s choice l a l' h i q c o w n = version_kept a h q c o w (λ x e f. x)
+
+-- the words that concern another seat
+pub rely_words : (z : Sizes) (r r' : Run) (s : ℕ) (choice : Choice) (l : Local) (a : Activity) (l' : Local) → Happens z r r' s choice l l' a → Below z r → (t : ℕ) → t < z.seats → t ≢ s → RelyWords z r.world.rows (word z r.world) (word z r'.world) t
+rely_words z r r' s choice l a l' h i t o d = record {
+  same = same_rows a h;
+  scan = scan_kept a h t o d;
+  clock = clock_grows a h;
+  given = given_grows a h (λ q w. i.shape.sane.each (name.Count q) w);
+  version = rely_version z r r' s choice l a l' h i;
+}
+
+-- The cells.
+
+-- the cells that concern another seat
+pub rely_cells : (z : Sizes) (r r' : Run) (s : ℕ) (choice : Choice) (l : Local) (a : Activity) (l' : Local) → Happens z r r' s choice l l' a → Below z r → (t : ℕ) (k : Local) → t ≢ s → slice_get r.world.locals t ≡ Some k → RelyCells (word z r.world) (word z r'.world) r.history k.activity k
+rely_cells z r r' s choice l a l' h i t k d g = record {
+  key = λ p o y. let c = i.puts.given p o in ap key_of_word (key_kept a h (attempt r.history p).row (attempt r.history p).cell c.linked.below c.cell (λ x e f. fresh (key_puts a x) p o y e f));
+  value = λ p o y. let c = i.puts.given p o in ap value_of_word (value_kept a h (attempt r.history p).row (attempt r.history p).cell c.linked.below c.cell (λ x e f. fresh (value_puts a x) p o y e f));
+  own_key = λ y. key_kept a h k.row k.cell below.row ranges.cell (λ x e f. apart (key_puts a x).0 y e f);
+  own_value = λ y. value_kept a h k.row k.cell below.row ranges.cell (λ x e f. apart (value_puts a x).0 y e f);
+  own_version = λ y. version_kept a h k.row k.cell below.row ranges.cell (λ x e f. apart (version_puts a x) y e f);
+}
+  where
+    below : IsLocalBelow r.world.rows k
+    below = (i.shape.sane.locals t k g).below
+
+    ranges : IsLocal z k
+    ranges = (i.shape.sane.locals t k g).ranges
+
+    -- the acting seat's cell is not that of an announced attempt
+    fresh : IsPutting a × IsFresh a → (p : ℕ) → p < length r.history.attempts → (attempt r.history p).is_announced ≡ true → (attempt r.history p).row ≡ l.row → (attempt r.history p).cell ≡ l.cell → ⊥
+    fresh x p o y e f =
+        let m : IsPutting l.activity = subst IsPutting (sym h.activity) x.0 in
+        let same = is_own i.puts s l h.knows m p o e f in
+        true_false (subst (λ q. (attempt r.history q).is_announced ≡ true) same y) ((i.puts.owns s l h.knows m).unannounced (subst IsFresh (sym h.activity) x.1))
+
+    apart : IsPutting a → IsPutting k.activity → k.row ≡ l.row → k.cell ≡ l.cell → ⊥
+    apart x y e f = cells_apart i.puts t s k l d g h.knows y (subst IsPutting (sym h.activity) x) e f
+
+-- The record.
+
+-- an attempt that was there
+same_attempt : (h h' : History) (p : ℕ) → p < length h.attempts → AttemptStep h h' p → SameAttempt h h' p
+same_attempt h h' p w (as_it_was v e) = record { call = rw e refl; seat = rw e refl; key = rw e refl; value = rw e refl; row = rw e refl; cell = rw e refl; add = rw e refl }
+same_attempt h h' p w (is_added a n e c s m x y z) = absurd (omega (arith, w, n))
+same_attempt h h' p w (is_announced v n e) = record { call = rw e refl; seat = rw e refl; key = rw e refl; value = rw e refl; row = rw e refl; cell = rw e refl; add = rw e refl }
+same_attempt h h' p w (is_lost v n e) = record { call = rw e refl; seat = rw e refl; key = rw e refl; value = rw e refl; row = rw e refl; cell = rw e refl; add = rw e refl }
+same_attempt h h' p w (is_stamped version load v a n k x y u e put) = record { call = rw e refl; seat = rw e refl; key = rw e refl; value = rw e refl; row = rw e refl; cell = rw e refl; add = rw e refl }
+
+-- the origins go on: a cell that is given was nobody's
+origins_go_on : (z : Sizes) (r r' : Run) (s : ℕ) (choice : Choice) (l : Local) (a : Activity) (l' : Local) → Happens z r r' s choice l l' a → Below z r → (q c p : ℕ) → r.origin q c ≡ Some p → origins_after z a l (found_at z (word z r.world) a s choice l) r.origin r.history q c ≡ Some p
+origins_go_on z r r' s choice l PutAdd l' h i q c p e = met (has_room z (count_of (word z r.world (name.Count l.row)))) refl
+  where
+    -- the place is not the one that is given
+    other : (b : Bool) → ((q == l.row) && (c == given_of (count_of (word z r.world (name.Count l.row))))) ≡ b → has_room z (count_of (word z r.world (name.Count l.row))) ≡ true → (if b then Some (length r.history.attempts) else r.origin q c) ≡ Some p
+    other true y m =
+        let t = and_parts (q == l.row) (c == given_of (count_of (word z r.world (name.Count l.row)))) y in
+        let u : r.origin q c ≡ None = rw (eq_from q l.row t.0, eq_from _ _ t.1) (i.puts.places.nobody l.row (given_of (count_of (word z r.world (name.Count l.row)))) (i.shape.sane.locals s l h.knows).below.row (room_below z (count_of (word z r.world (name.Count l.row))) m) (omega arith)) in
+        let x : None ≡ Some p = sym u ∙ e in absurd (cc)
+    other false y m = e
+
+    met : (b : Bool) → has_room z (count_of (word z r.world (name.Count l.row))) ≡ b → (let o : Origins = if b then with_origin r.origin l.row (given_of (count_of (word z r.world (name.Count l.row)))) (length r.history.attempts) else r.origin in o) q c ≡ Some p
+    met true m = other _ refl m
+    met false m = e
+origins_go_on z r r' s choice l a l' h i q c p e = e
+
+-- the record, whoever acts
+pub goes_on_by : (z : Sizes) (r r' : Run) (s : ℕ) (choice : Choice) (l : Local) (a : Activity) (l' : Local) → Happens z r r' s choice l l' a → Below z r → Step r.history r'.history (log_entry z r a s choice l) → GoesOn r.history r'.history r.origin r'.origin
+goes_on_by z r r' s choice l a l' h i st =
+    let step = st in
+    let e = log_entry z r a s choice l in
+    record {
+      now = omega (arith, now_grows r.history r'.history e step);
+      stands = stands_lasts r.history r'.history e step;
+      grows = step_grows r.history r'.history e step;
+      more_attempts = step.more_attempts;
+      more_calls = step.more_calls;
+      attempts = λ p w. same_attempt r.history r'.history p w (step.attempts p (omega (arith, w, step.more_attempts)));
+      calls = λ x w. let c = old_call r.history r'.history e step x w in record { seat = c.seat; number = c.number; call = c.call; first = c.first };
+      origin = λ q c p x. subst (λ o. o q c ≡ Some p) (sym h.origin) (origins_go_on z r r' s choice l a l' h i q c p x);
+    }
+
+-- the record, for another seat
+pub rely_history : (z : Sizes) (r r' : Run) (s : ℕ) (choice : Choice) (l : Local) (a : Activity) (l' : Local) → Happens z r r' s choice l l' a → Below z r → (t : ℕ) → t ≢ s → RelyHistory r.history r'.history t
+rely_history z r r' s choice l a l' h i t d =
+    change_apart r.history r'.history _ z (word z r.world) s choice l (r.seats s) r.origin a _ (made z (word z r.world) s choice l (r.seats s) r.origin a)
+    (λ reply e. (calling reply e).seat) h.history t d
+  where
+    calling : (reply : Reply) → a ≡ Leave reply → Calling r.history s l.activity l (r.seats s)
+    calling reply e = i.positions.calling s l h.knows (subst IsBusy (sym (h.activity ∙ e)) tt)
+
+-- The entry.
+
+-- the entry of another seat
+pub rely_entry : (z : Sizes) (r r' : Run) (s : ℕ) (choice : Choice) (l : Local) (a : Activity) (l' : Local) → Happens z r r' s choice l l' a → Below z r → (t : ℕ) (k : Local) → t ≢ s → slice_get r.world.locals t ≡ Some k → RelyEntry (word z r.world) (word z r'.world) r.history r'.history t k.activity k (r.seats t)
+rely_entry z r r' s choice l LookHelp l' h i t k d g = entry_helped z r r' s choice l l' i t k d g h
+rely_entry z r r' s choice l a l' h i t k d g = entry_apart z r r' s choice l l' i t k d g a h (λ x. x)
+
+-- all of it
+pub rely : (z : Sizes) (r r' : Run) (s : ℕ) (choice : Choice) (l : Local) (a : Activity) (l' : Local) → Happens z r r' s choice l l' a → Below z r → Step r.history r'.history (log_entry z r a s choice l) → (t : ℕ) (k : Local) → t ≢ s → slice_get r.world.locals t ≡ Some k → Rely z r r' t k
+rely z r r' s choice l a l' h i st t k d g =
+    let o : t < z.seats = omega (arith, slice_get_within r.world.locals t k g, i.shape.sane.seats) in
+    record {
+      seat = o;
+      rows = h.rows;
+      log = h.logs t d;
+      words = rely_words z r r' s choice l a l' h i t o d;
+      cells = rely_cells z r r' s choice l a l' h i t k d g;
+      goes_on = goes_on_by z r r' s choice l a l' h i st;
+      history = rely_history z r r' s choice l a l' h i t d;
+      entry = rely_entry z r r' s choice l a l' h i t k d g;
+    }

@@ -1,0 +1,110 @@
+-- What the entry of an attempt's seat says of the attempt: an announced attempt is old, or the entry is its own.
+use Rattle.std.proofs.Common.{ℕ, ◌≡◌, ◌⊎◌, inl, inr, ◌<◌, ◌≤◌, Bool, true, false, Some, arith, refl, sym, ◌∙◌, ap, subst, length, slice_get, if◌then◌else◌}
+use Rattle.kw_words.specs.declared.layout.Name.TheVariants as name
+use Rattle.kw_words.specs.declared.pend.Pend.TheVariants as pend
+use Rattle.kw_words.specs.declared.sizes.TheConstants.{VERSION_END}
+use Rattle.kw_words.specs.Pend.{pend_of, pend_word}
+use Rattle.kw_words.proofs.PendWords.{pend_of-Idle, pend_of-Pending, pend_of-Stamped}
+use Rattle.kw_world.specs.declared.activity.Activity.{Activity}
+use Rattle.kw_world.specs.declared.activity.Activity.TheVariants.{PutKey, PutValue, Announce, PutClock, Stamp, PutVersion, PutClear}
+use Rattle.kw_world.specs.declared.local.Local.{Local}
+use Rattle.kw_world.specs.Sizes.{Sizes}
+use Rattle.kw_world.specs.Marks.{mark_of}
+use Rattle.kw_world.specs.Step.{word}
+use Rattle.kw_core.specs.History.{History, LoadClock, attempt}
+use Rattle.kw_core.specs.HistoryLaws.{IsPut}
+use Rattle.kw_core.specs.Run.{Run}
+use Rattle.kw_core.specs.Stages.{IsPutting, IsFresh, IsPublished}
+use Rattle.kw_core.specs.Words.{Words}
+use Rattle.kw_puts.specs.Puts.{IsOld, IsCurrent, IsPublishedAt, entry_of}
+use Rattle.kw_puts.specs.Below.{Below}
+use Rattle.kw_reads.specs.Readers.{IsReady, IsMarkOf}
+use Rattle.kw_core.proofs.Steps.{announced_within}
+use Rattle.kw_puts.proofs.Owners.{true_false, published_puts}
+
+-- what the entry of the seat j in the row q says of an attempt of it: the attempt is old, or the entry is its own
+pub data EntrySays (v : Words) (h : History) (q j p : ℕ) : Type 0 where
+  is_old : IsOld v h p → EntrySays v h q j p
+  is_pending : pend_of (v (name.Pend q j)) ≡ Some (pend.Pending (attempt h p).cell) → EntrySays v h q j p
+  is_stamped : IsPut h p → pend_of (v (name.Pend q j)) ≡ Some (pend.Stamped (attempt h p).cell (attempt h p).version) → EntrySays v h q j p
+
+-- a seat that puts has not announced its cell, or has
+fresh_or_published : (a : Activity) → IsPutting a → IsFresh a ⊎ IsPublished a
+fresh_or_published PutKey p = inl tt
+fresh_or_published PutValue p = inl tt
+fresh_or_published Announce p = inl tt
+fresh_or_published PutClock p = inr tt
+fresh_or_published Stamp p = inr tt
+fresh_or_published PutVersion p = inr tt
+fresh_or_published PutClear p = inr tt
+fresh_or_published _ p = absurd p
+
+module _ {z : Sizes} {r : Run} (k : Below z r) where
+  -- the version of a stamped attempt is one that a word may hold
+  pub version_ranges : (p : ℕ) → IsPut r.history p → (1 ≤ (attempt r.history p).version) × ((attempt r.history p).version < VERSION_END)
+  version_ranges p s =
+      let t = k.history.laws.loaded p s in
+      let w = (k.shape.sane.each name.Clock tt).1 in
+      (k.positions.clocked.positive _ LoadClock _ t, omega (arith, k.positions.clocked.past _ LoadClock _ t, w))
+
+  -- an old attempt is ready for every reader of its row
+  pub old_ready : (l : Local) (p : ℕ) → (attempt r.history p).row ≡ l.row → IsOld (word z r.world) r.history p → IsReady (word z r.world) r.history l p
+  old_ready l p e o = record {
+    stamped = o.stamped;
+    noted = inr (λ n. let x : word z r.world (name.Version (attempt r.history p).row (attempt r.history p).cell) ≡ 0 = rw e n in let y = (version_ranges p o.stamped).0 in absurd (omega (arith, x, y, o.version)));
+  }
+
+  -- an entry that is an attempt's own, as it is read
+  own_entry : (q j p : ℕ) → p < length r.history.attempts → word z r.world (name.Pend q j) ≡ entry_of (attempt r.history p) → (pend_of (word z r.world (name.Pend q j)) ≡ Some (pend.Pending (attempt r.history p).cell)) ⊎ IsPut r.history p × (pend_of (word z r.world (name.Pend q j)) ≡ Some (pend.Stamped (attempt r.history p).cell (attempt r.history p).version))
+  own_entry q j p w e = met (attempt r.history p).is_stamped refl e
+    where
+      cell : (attempt r.history p).cell < z.cells
+      cell = (k.puts.given p w).cell
+
+      met : (b : Bool) → (attempt r.history p).is_stamped ≡ b → word z r.world (name.Pend q j) ≡ (if b then pend_word (pend.Stamped (attempt r.history p).cell (attempt r.history p).version) else pend_word (pend.Pending (attempt r.history p).cell)) → (pend_of (word z r.world (name.Pend q j)) ≡ Some (pend.Pending (attempt r.history p).cell)) ⊎ IsPut r.history p × (pend_of (word z r.world (name.Pend q j)) ≡ Some (pend.Stamped (attempt r.history p).cell (attempt r.history p).version))
+      met true s x =
+          let y = version_ranges p s in
+          inr (s, ap pend_of x ∙ pend_of-Stamped (attempt r.history p).cell (attempt r.history p).version (omega (arith, cell, k.shape.sane.sized.few_cells)) y.0 y.1)
+      met false s x = inl (ap pend_of x ∙ pend_of-Pending (attempt r.history p).cell (omega (arith, cell, k.shape.sane.sized.few_cells)))
+
+  -- what the entry of its seat says of an announced attempt
+  pub entry_says : (q j p : ℕ) → (attempt r.history p).row ≡ q → (attempt r.history p).seat ≡ j → (attempt r.history p).is_announced ≡ true → EntrySays (word z r.world) r.history q j p
+  entry_says q j p e f a = which (k.puts.old p within)
+    where
+      within : p < length r.history.attempts
+      within = announced_within r.history p a
+
+      which : IsCurrent (slice_get r.world.locals) r.seats r.history p ⊎ IsOld (word z r.world) r.history p → EntrySays (word z r.world) r.history q j p
+      which (inr o) = is_old o
+      which (inl c) = stage (fresh_or_published c.local.activity c.putting)
+        where
+          own : (attempt r.history (r.seats (attempt r.history p).seat).own) ≡ attempt r.history p
+          own = ap (attempt r.history) c.own
+
+          read : (pend_of (word z r.world (name.Pend q j)) ≡ Some (pend.Pending (attempt r.history p).cell)) ⊎ IsPut r.history p × (pend_of (word z r.world (name.Pend q j)) ≡ Some (pend.Stamped (attempt r.history p).cell (attempt r.history p).version)) → EntrySays (word z r.world) r.history q j p
+          read (inl x) = is_pending x
+          read (inr x) = is_stamped x.0 x.1
+
+          stage : IsFresh c.local.activity ⊎ IsPublished c.local.activity → EntrySays (word z r.world) r.history q j p
+          stage (inl x) = true_false a (rw own at ((k.puts.owns (attempt r.history p).seat c.local c.knows c.putting).unannounced x))
+          stage (inr x) =
+              let o = k.puts.owns (attempt r.history p).seat c.local c.knows c.putting in
+              let row : c.local.row ≡ q = sym o.row ∙ ap (λ y. y.row) own ∙ e in
+              read (own_entry q j p within (subst (λ y. word z r.world (name.Pend y j) ≡ entry_of (attempt r.history p)) row (subst (λ y. word z r.world (name.Pend c.local.row y) ≡ entry_of (attempt r.history p)) f (o.entry x ∙ ap entry_of own))))
+
+  -- the cell of a stamped entry is that of an attempt that is stamped with the entry's version
+  pub stamped_owner : (q j c version : ℕ) → q < r.world.rows → j < z.seats → pend_of (word z r.world (name.Pend q j)) ≡ Some (pend.Stamped c version) → IsMarkOf r.history r.origin q (mark_of c version)
+  stamped_owner q j c version w o e = which (k.puts.entry q j w o)
+    where
+      from : (p : ℕ) → p < length r.history.attempts → (attempt r.history p).row ≡ q → (pend_of (word z r.world (name.Pend q j)) ≡ Some (pend.Pending (attempt r.history p).cell)) ⊎ IsPut r.history p × (pend_of (word z r.world (name.Pend q j)) ≡ Some (pend.Stamped (attempt r.history p).cell (attempt r.history p).version)) → IsMarkOf r.history r.origin q (mark_of c version)
+      from p i f (inl x) = let y : Some (pend.Pending (attempt r.history p).cell) ≡ Some (pend.Stamped c version) = sym x ∙ e in absurd (cc)
+      from p i f (inr x) =
+          let y : Some (pend.Stamped (attempt r.history p).cell (attempt r.history p).version) ≡ Some (pend.Stamped c version) = sym x.1 ∙ e in
+          let n : (attempt r.history p).cell ≡ c = cc in
+          record { put = p; origin = rw (n, f) at (k.puts.given p i).origin; stamped = x.0; version = cc }
+
+      which : (word z r.world (name.Pend q j) ≡ pend_word pend.Idle) ⊎ IsPublishedAt (slice_get r.world.locals) q j → IsMarkOf r.history r.origin q (mark_of c version)
+      which (inl x) = let y : Some (pend.Stamped c version) ≡ Some pend.Idle = sym e ∙ ap pend_of x ∙ pend_of-Idle in absurd (cc)
+      which (inr x) =
+          let own = k.puts.owns j x.local x.knows (published_puts x.local.activity x.published) in
+          from (r.seats j).own own.within (own.row ∙ x.row) (own_entry q j (r.seats j).own own.within (subst (λ y. word z r.world (name.Pend y j) ≡ entry_of (attempt r.history (r.seats j).own)) x.row (own.entry x.published)))

@@ -1,0 +1,213 @@
+-- The record may note every event: what its laws ask of the log and of the change holds where the event happens.
+use Rattle.std.proofs.Common.{ℕ, suc, ◌≡◌, ◌⊎◌, inl, inr, ◌+◌, ◌<◌, List, [], ◌∷◌, Option, Some, None, true, false, arith, refl, sym, ◌∙◌, ap, subst, length, slice_get}
+use Rattle.kw_words.specs.declared.layout.Name.TheVariants as name
+use Rattle.kw_world.specs.declared.activity.Activity.{Activity}
+use Rattle.kw_world.specs.declared.local.Local.{Local}
+use Rattle.kw_world.specs.declared.event.Choice.{Choice}
+use Rattle.kw_world.specs.Sizes.{Sizes}
+use Rattle.kw_world.specs.Step.{word}
+use Rattle.kw_core.specs.History.{attempt, called, Stands}
+use Rattle.kw_core.specs.declared.history.Change.{Change}
+use Rattle.kw_core.specs.Noted.{MayNote}
+use Rattle.kw_core.specs.Step.{Step}
+use Rattle.kw_words.proofs.Refusals.{none_unless}
+use Rattle.kw_model.specs.declared.call.Call.{Call}
+use Rattle.kw_model.specs.declared.call.Call.TheVariants.{Put, Del, Get, Scan}
+use Rattle.kw_model.specs.declared.call.Reply.{Reply}
+use Rattle.kw_model.specs.declared.call.Reply.TheVariants.{Done, Value, Absent, Pairs, NoRows, Spent, Stopped}
+use Rattle.kw_world.specs.declared.activity.Activity.TheVariants.{Leave}
+use Rattle.kw_world.specs.Calls.{first_key, last_key, put_value, is_scan}
+use Rattle.kw_core.specs.declared.history.Drawn.{Drawn}
+use Rattle.kw_core.specs.History.{LoadClock, Draw}
+use Rattle.kw_core.specs.HistoryLaws.{Makes, Answers, DrawLogged, RisesWithin}
+use Rattle.kw_core.specs.Noted.{MayStamp}
+use Rattle.kw_core.specs.Step.{MayEnd}
+use Rattle.kw_core.specs.Stages.{IsBusy, IsPutting, IsFresh, IsStamp, HasMet, IsHelp, IsPublished, IsDone, HasDrawn}
+use Rattle.kw_shape.specs.Shape.{IsPutCall, IsReplyOf, IsKind}
+use Rattle.kw_reads.specs.Replies.{RisesBelow, IsCovered, IsAnswered, Covers}
+use Rattle.std.proofs.lemmas.Option.{same_Some}
+use Rattle.kw_puts.proofs.Owners.{true_false, is_own, pending_entry, published_puts, puts_busy, entry_owner}
+use Rattle.kw_core.proofs.Changes as changes
+use Rattle.kw_core.proofs.Changes.{made, makes_nothing, makes_begin, makes_add, makes_announce, makes_stamp, makes_help, makes_end}
+use Rattle.kw_core.specs.Run.{Run, change_of, answering, drawing}
+use Rattle.kw_reads.specs.Inv.{Inv, lower}
+use Rattle.kw_world.specs.declared.event.Event.{Event}
+use Rattle.kw_world.specs.declared.opening.Opening.{Opening}
+use Rattle.kw_world.specs.RowWalk.{offered}
+use Rattle.kw_world.specs.Step.{row_of}
+use Rattle.kw_core.specs.Events.{may_step}
+use Rattle.kw_core.specs.Happenings.{happening_at, logged_of}
+use Rattle.kw_core.specs.Run.{found_by, noted_by}
+use Rattle.kw_core.proofs.Events.{may_come}
+use Rattle.kw_core.proofs.Happens.{happens}
+use Rattle.kw_puts.specs.Below.{MayTake}
+use Rattle.kw_puts.proofs.PutsHold.{noted_is_step}
+use Rattle.kw_core.proofs.Happens.{Happens, log_entry, change_at}
+
+-- The call and the attempt of the acting seat.
+
+module _ (z : Sizes) (r r' : Run) (s : ℕ) (choice : Choice) (l l' : Local) (i : Inv z r) where
+  -- an attempt that is stamped with a clock that was loaded after its announcement
+  may_stamp : (p version load : ℕ) → p < length r.history.attempts → (attempt r.history p).is_announced ≡ true → (attempt r.history p).is_stamped ≡ false → (attempt r.history p).is_lost ≡ false →
+      (called r.history (attempt r.history p).call).end ≡ None → ((q : ℕ) → (called r.history (attempt r.history p).call).put ≡ Some q → p ≡ q) → (attempt r.history p).announced < load → Stands r.history load LoadClock version → MayStamp r.history p version load
+  may_stamp p version load w a n k e c b t = record {
+    within = w;
+    is_announced = a;
+    not_stamped = n;
+    not_lost = k;
+    runs = e;
+    no_put = none_unless _ (λ q u. true_false (subst (λ j. (attempt r.history j).is_stamped ≡ true) (sym (c q u)) (i.history.laws.is_put _ q u).0) n);
+    after = b;
+    stands = t;
+  }
+
+  -- a call that ends is answered as its kind is
+  answers_call : (c : Call) (reply : Reply) (put : Option ℕ) → IsReplyOf (Some c) reply → (IsDone (Leave reply) → (p : ℕ) × (put ≡ Some p)) → ((p : ℕ) → put ≡ Some p → IsDone (Leave reply)) → Answers c put reply
+  answers_call (Put key value) Done put f d n = d tt
+  answers_call (Put key value) NoRows put f d n = none_unless put (λ p e. n p e)
+  answers_call (Put key value) Spent put f d n = absurd f
+  answers_call (Put key value) (Value x) put f d n = absurd f
+  answers_call (Put key value) Absent put f d n = absurd f
+  answers_call (Put key value) (Pairs x) put f d n = absurd f
+  answers_call (Put key value) Stopped put f d n = absurd f
+  answers_call (Del key) Done put f d n = d tt
+  answers_call (Del key) NoRows put f d n = none_unless put (λ p e. n p e)
+  answers_call (Del key) Spent put f d n = absurd f
+  answers_call (Del key) (Value x) put f d n = absurd f
+  answers_call (Del key) Absent put f d n = absurd f
+  answers_call (Del key) (Pairs x) put f d n = absurd f
+  answers_call (Del key) Stopped put f d n = absurd f
+  answers_call (Get key) Done put f d n = absurd f
+  answers_call (Get key) NoRows put f d n = absurd f
+  answers_call (Get key) Spent put f d n = absurd f
+  answers_call (Get key) (Value x) put f d n = tt
+  answers_call (Get key) Absent put f d n = tt
+  answers_call (Get key) (Pairs x) put f d n = absurd f
+  answers_call (Get key) Stopped put f d n = absurd f
+  answers_call (Scan from upto) Done put f d n = absurd f
+  answers_call (Scan from upto) NoRows put f d n = absurd f
+  answers_call (Scan from upto) Spent put f d n = tt
+  answers_call (Scan from upto) (Value x) put f d n = absurd f
+  answers_call (Scan from upto) Absent put f d n = absurd f
+  answers_call (Scan from upto) (Pairs x) put f d n = tt
+  answers_call (Scan from upto) Stopped put f d n = tt
+
+-- a call of this kind makes the attempt
+makes_call : (c : Call) → IsPutCall (Some c) → Makes c (first_key (Some c)) (put_value (Some c))
+makes_call (Put key value) h = (refl, refl)
+makes_call (Del key) h = (refl, refl)
+makes_call (Get key) h = absurd h
+makes_call (Scan from upto) h = absurd h
+
+-- pairs below a bound lie up to the number before it
+rises_within : (low upto : ℕ) (pairs : List (ℕ × ℕ)) → RisesBelow low (upto + 1) pairs → RisesWithin low upto pairs
+rises_within low upto [] h = tt
+rises_within low upto (p ∷ pairs) h = (h.0, omega (arith, h.1), rises_within (suc p.0) upto pairs h.2)
+
+-- what is known of a call where it ends
+may_end : (z : Sizes) (r : Run) (s : ℕ) (l : Local) → Inv z r → slice_get r.world.locals s ≡ Some l → (c : Call) (reply : Reply) → l.activity ≡ Leave reply → l.call ≡ Some c → MayEnd r.history c (called r.history (r.seats s).call).first reply (answering (Some c) l (r.seats s)) (drawing reply l (r.seats s))
+may_end z r s l i k (Put key value) reply a e = tt
+may_end z r s l i k (Del key) reply a e = tt
+may_end z r s l i k (Get key) reply a e =
+    let x = i.replies.answers s l k in
+    let y : IsAnswered (Leave reply) (Some (Get key)) r.history l (r.seats s) = subst (λ q. IsAnswered (Leave reply) q r.history l (r.seats s)) e (subst (λ q. IsAnswered q l.call r.history l (r.seats s)) a x) in
+    (_, y, λ v u. refl)
+may_end z r s l i k (Scan from upto) (Pairs pairs) a e =
+    let x : IsCovered (Leave (Pairs pairs)) r.history l (r.seats s) = subst (λ q. IsCovered q r.history l (r.seats s)) a (i.replies.pairs s l k).covered in
+    let y : Covers r.history from l.version (r.seats s).drawn (upto + 1) pairs = subst (λ q. Covers r.history (first_key q) l.version (r.seats s).drawn (last_key q + 1) pairs) e x in
+    (record { at = (r.seats s).drawn; version = l.version }, refl, (i.positions.draws s l k).drawn_first (ap is_scan e) (subst HasDrawn (sym a) tt), rises_within from upto pairs y.rises, λ key o w. y.keys key o (omega (arith, w)))
+may_end z r s l i k (Scan from upto) Done a e = tt
+may_end z r s l i k (Scan from upto) (Value x) a e = tt
+may_end z r s l i k (Scan from upto) Absent a e = tt
+may_end z r s l i k (Scan from upto) NoRows a e = tt
+may_end z r s l i k (Scan from upto) Spent a e = tt
+may_end z r s l i k (Scan from upto) Stopped a e = tt
+
+-- pairs are the reply of a scan
+pairs_of_scan : (c : Option Call) (pairs : List (ℕ × ℕ)) → IsReplyOf c (Pairs pairs) → is_scan c ≡ true
+pairs_of_scan (Some (Put key value)) pairs h = absurd h
+pairs_of_scan (Some (Del key)) pairs h = absurd h
+pairs_of_scan (Some (Get key)) pairs h = absurd h
+pairs_of_scan (Some (Scan from upto)) pairs h = refl
+pairs_of_scan None pairs h = absurd h
+
+-- where a scan that ends with pairs drew
+may_draw : (z : Sizes) (r : Run) (s : ℕ) (l : Local) → Inv z r → slice_get r.world.locals s ≡ Some l → (reply : Reply) → l.activity ≡ Leave reply → (d : Drawn) → drawing reply l (r.seats s) ≡ Some d → DrawLogged r.history d × (d.version < word z r.world name.Clock)
+may_draw z r s l i k (Pairs pairs) a d e =
+    let x = i.positions.draws s l k in
+    let scan = pairs_of_scan l.call pairs (subst (λ q. IsKind q l) a (i.shape.kinds s l k).kind) in
+    let t = x.drawn scan (subst HasDrawn (sym a) tt) in
+    subst (λ (q : Drawn). DrawLogged r.history q × (q.version < word z r.world name.Clock)) (same_Some _ d e)
+    (record { kind = Draw; is_draw = tt; stands = t; later = λ y j c o u. i.positions.clocked.rises _ y Draw j l.version c tt t u o }, i.positions.clocked.drawn _ Draw l.version tt t)
+may_draw z r s l i k Done a d e = let x : None ≡ Some d = e in absurd (cc)
+may_draw z r s l i k (Value v) a d e = let x : None ≡ Some d = e in absurd (cc)
+may_draw z r s l i k Absent a d e = let x : None ≡ Some d = e in absurd (cc)
+may_draw z r s l i k NoRows a d e = let x : None ≡ Some d = e in absurd (cc)
+may_draw z r s l i k Spent a d e = let x : None ≡ Some d = e in absurd (cc)
+may_draw z r s l i k Stopped a d e = let x : None ≡ Some d = e in absurd (cc)
+
+-- the change of every event may happen there
+may_make : (z : Sizes) (r r' : Run) (s : ℕ) (choice : Choice) (l : Local) (a : Activity) (l' : Local) (c : Change) → changes.Makes z (word z r.world) s choice l (r.seats s) r.origin a c → Happens z r r' s choice l l' a → Inv z r →
+    MayNote r.history (log_entry z r a s choice l) c
+may_make z r r' s choice l a l' c (makes_nothing b) h i = tt
+may_make z r r' s choice l a l' c (makes_begin call e) h i = (refl, λ y o e n. absurd (omega (arith, n, i.positions.numbers s l h.knows y o e)))
+may_make z r r' s choice l a l' c (makes_add m) h i =
+    let x = i.positions.calling s l h.knows (subst IsBusy (sym h.activity) tt) in
+    let kind : IsPutCall l.call = subst (λ q. IsKind q l) h.activity (i.shape.kinds s l h.knows).kind in
+    (x.within, x.seat, subst (λ q. Makes (called r.history (r.seats s).call).call (first_key q) (put_value q)) (sym x.call) (makes_call (called r.history (r.seats s).call).call (subst IsPutCall x.call kind)))
+may_make z r r' s choice l a l' c (makes_announce e) h i =
+    let own = i.puts.owns s l h.knows (subst IsPutting (sym h.activity) tt) in
+    (own.within, own.unannounced (subst IsFresh (sym h.activity) tt))
+may_make z r r' s choice l a l' c (makes_stamp e) h i =
+    let own = i.puts.owns s l h.knows (subst IsPutting (sym h.activity) tt) in
+    let x = i.positions.calling s l h.knows (subst IsBusy (sym h.activity) tt) in
+    let y : IsPublished l.activity = subst IsPublished (sym h.activity) tt in
+    let st = pending_entry (attempt r.history (r.seats s).own) l.cell (sym (own.entry y) ∙ e) in
+    may_stamp z r r' s choice l l' i (r.seats s).own l.version (r.seats s).loaded own.within (own.announced y) st.0 own.kept (rw own.call x.runs) (rw own.call x.own) (own.after (subst IsStamp (sym h.activity) tt)) (own.loaded (subst IsStamp (sym h.activity) tt))
+may_make z r r' s choice l a l' c (makes_help p e f) h i =
+    let helper = i.puts.helps s l h.knows (subst HasMet (sym h.activity) tt) in
+    let known = i.shape.sane.locals s l h.knows in
+    let w = entry_owner i.puts l.row l.looked l.met known.below.row known.ranges.looked e in
+    let puts = published_puts w.local.activity w.published in
+    let own = i.puts.owns l.looked w.local w.knows puts in
+    let x = i.positions.calling l.looked w.local w.knows (puts_busy w.local.activity puts) in
+    let place = i.puts.places.owner l.row l.met p f in
+    let same : p ≡ (r.seats l.looked).own = is_own i.puts l.looked w.local w.knows puts p place.within (place.row ∙ sym w.row) (place.cell ∙ sym w.cell ∙ own.cell) in
+    let is_put : helper.put ≡ p = same_Some helper.put p (sym helper.origin ∙ f) in
+    may_stamp z r r' s choice l l' i p l.helping (r.seats s).loaded place.within
+    (subst (λ q. (attempt r.history q).is_announced ≡ true) is_put helper.announced)
+    (rw same w.unstamped) (rw same own.kept) (rw (same, own.call) x.runs) (rw (same, own.call) x.own)
+    (subst (λ q. (attempt r.history q).announced < (r.seats s).loaded) is_put (helper.after (subst IsHelp (sym h.activity) tt)))
+    (helper.loaded (subst IsHelp (sym h.activity) tt))
+may_make z r r' s choice l a l' c (makes_end reply) h i =
+    let x = i.positions.calling s l h.knows (subst IsBusy (sym h.activity) tt) in
+    let kind : IsReplyOf l.call reply = subst (λ q. IsKind q l) h.activity (i.shape.kinds s l h.knows).kind in (
+      x.within,
+      x.runs,
+      answers_call z r r' s choice l l' i (called r.history (r.seats s).call).call reply (called r.history (r.seats s).call).put (subst (λ q. IsReplyOf q reply) x.call kind)
+          (λ y. x.done (subst IsDone (sym h.activity) y))
+          (λ p y. leave_done reply (subst (λ q. IsPublished q ⊎ IsDone q) h.activity (x.published p y))),
+      λ d y. may_draw z r s l i h.knows reply h.activity d y,
+      subst (λ q. MayEnd r.history (called r.history (r.seats s).call).call (called r.history (r.seats s).call).first reply (answering q l (r.seats s)) (drawing reply l (r.seats s))) (sym x.call) (may_end z r s l i h.knows (called r.history (r.seats s).call).call reply h.activity x.call),
+    )
+  where
+    leave_done : (reply : Reply) → IsPublished (Leave reply) ⊎ IsDone (Leave reply) → IsDone (Leave reply)
+    leave_done reply (inl y) = absurd y
+    leave_done reply (inr y) = y
+
+pub may_note : (z : Sizes) (r r' : Run) (s : ℕ) (choice : Choice) (l : Local) (a : Activity) (l' : Local) → Happens z r r' s choice l l' a → Inv z r →
+    MayNote r.history (log_entry z r a s choice l) (change_at z r a s choice l)
+may_note z r r' s choice l a l' h i = may_make z r r' s choice l a l' _ (made z (word z r.world) s choice l (r.seats s) r.origin a) h i
+
+-- one event of the record
+pub history_step : (z : Sizes) (r r' : Run) (s : ℕ) (choice : Choice) (l : Local) (a : Activity) (l' : Local) → Happens z r r' s choice l l' a → Inv z r → Step r.history r'.history (log_entry z r a s choice l)
+history_step z r r' s choice l a l' h i = noted_is_step z r r' s choice l a l' h (lower i) (may_note z r r' s choice l a l' h i)
+
+-- the record may note the event that comes
+pub may_take : (z : Sizes) (o : Opening) (r : Run) (e : Event) → Inv z r → may_step o r.world e ≡ true → MayTake z r e
+unfolding row_of
+may_take z o r e i may l knows =
+    let c = may_come o r.world e may in
+    let same : c.local ≡ l = same_Some c.local l (sym c.knows ∙ knows) in
+    subst (λ (x : Local). MayNote r.history (logged_of (happening_at z r.world e x)) (change_of z x.activity e.seat (offered r.world.rows e.choice) x (found_by z r.world e x) (r.seats e.seat) r.origin)) same
+    (may_note z r (noted_by z r e c.local) e.seat (offered r.world.rows e.choice) c.local c.local.activity _ (happens z r e c.local i.shape.sane c.begins c.knows c.moves) i)

@@ -1,0 +1,40 @@
+-- Every event keeps all of it, and so does every valid list.
+use Rattle.std.proofs.Common.{ℕ, ◌≡◌, true, List, sym, subst}
+use Rattle.kw_world.specs.declared.activity.Activity.{Activity}
+use Rattle.kw_world.specs.declared.local.Local.{Local}
+use Rattle.kw_world.specs.declared.event.Choice.{Choice}
+use Rattle.kw_world.specs.Sizes.{Sizes}
+use Rattle.kw_world.specs.declared.event.Event.{Event}
+use Rattle.kw_world.specs.declared.opening.Opening.{Opening}
+use Rattle.kw_world.specs.Opening.{IsOpening}
+use Rattle.kw_world.specs.RowWalk.{offered}
+use Rattle.kw_core.specs.Events.{may_step, is_valid}
+use Rattle.kw_core.specs.Run.{Run, goes_on, noted_by, history}
+use Rattle.kw_reads.specs.Inv.{Inv, lower}
+use Rattle.kw_core.proofs.Events.{may_come}
+use Rattle.kw_core.proofs.Runs.{goes_on-moved, holds_of_history}
+use Rattle.kw_core.proofs.Happens.{Happens, happens}
+use Rattle.kw_reads.proofs.HistoryKeeps.{may_note}
+use Rattle.kw_puts.proofs.PutsHold.{below_keeps}
+use Rattle.kw_reads.proofs.ReadersKeep.{Before, readers_keep}
+use Rattle.kw_reads.proofs.RepliesKeep.{replies_keep}
+use Rattle.kw_reads.proofs.Opens.{inv_start}
+
+-- one event, over a free run
+pub inv_keeps : (z : Sizes) (r r' : Run) (s : ℕ) (choice : Choice) (l : Local) (a : Activity) (l' : Local) → Happens z r r' s choice l l' a → Inv z r → Inv z r'
+inv_keeps z r r' s choice l a l' h i =
+    let after = below_keeps z r r' s choice l a l' h (lower i) (may_note z r r' s choice l a l' h i) in
+    let before : Before z r r' = record { inv = i; after = after } in
+    let readers = readers_keep z r r' s choice l a l' h before in
+    record { shape = after.shape; history = after.history; puts = after.puts; positions = after.positions; readers = readers; replies = replies_keep z r r' s choice l a l' h before readers }
+
+-- one event that may come
+pub inv_goes_on : (z : Sizes) (o : Opening) (r : Run) (e : Event) → may_step o r.world e ≡ true → Inv z r → Inv z (goes_on z r e)
+inv_goes_on z o r e may i =
+    let c = may_come o r.world e may in
+    subst (Inv z) (sym (goes_on-moved z r e c.local c.knows c.moves))
+    (inv_keeps z r (noted_by z r e c.local) e.seat (offered r.world.rows e.choice) c.local c.local.activity _ (happens z r e c.local i.shape.sane c.begins c.knows c.moves) i)
+
+-- every valid list
+pub inv_holds : (z : Sizes) (o : Opening) → IsOpening z o → (es : List Event) → is_valid z o es ≡ true → Inv z (history z o es)
+inv_holds z o opening es ok = holds_of_history z o (Inv z) (inv_goes_on z o) (inv_start z o opening) es ok

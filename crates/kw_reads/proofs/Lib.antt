@@ -1,0 +1,16 @@
+pub mod HistoryKeeps
+pub mod Relying
+pub mod Ready
+pub mod EntrySays
+pub mod StableReaders
+pub mod LooksKeep
+pub mod CellsKeep
+pub mod SeenKeep
+pub mod ReadersKeep
+pub mod BestIds
+pub mod RangePairs
+pub mod EndOfRow
+pub mod OwnPairs
+pub mod RepliesKeep
+pub mod Opens
+pub mod Keeps

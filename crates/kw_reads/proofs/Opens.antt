@@ -1,0 +1,36 @@
+-- All of it holds where nothing happened.
+use Rattle.std.proofs.Common.{◌⊎◌, None, arith, refl}
+use Rattle.kw_world.specs.Sizes.{Sizes}
+use Rattle.kw_world.specs.declared.opening.Opening.{Opening}
+use Rattle.std.specs.Prelude.{All}
+use Rattle.kw_world.specs.Opening.{IsOpening, opened}
+use Rattle.kw_core.specs.Noted.{nothing_yet}
+use Rattle.kw_core.specs.Stages.{IsLooking, IsTaking}
+use Rattle.kw_core.specs.Run.{no_log}
+use Rattle.kw_world.specs.Step.{word}
+use Rattle.kw_core.specs.Run.{start}
+use Rattle.kw_reads.specs.Readers.{IsMarkOf, Looks, Reads, Gathers, HasSeen, Readers}
+use Rattle.kw_reads.specs.Replies.{HasPairs, IsAnswered, Replies}
+use Rattle.kw_reads.specs.Inv.{Inv}
+use Rattle.kw_core.proofs.NotedLaws.{nothing_keeps}
+use Rattle.kw_shape.proofs.ShapeOpens.{each_rests, shape_starts}
+use Rattle.kw_puts.proofs.PutsOpen.{puts_start, positions_start}
+
+module _ (z : Sizes) (o : Opening) (i : IsOpening z o) where
+  pub readers_start : Readers z (start z o)
+  readers_start = record {
+    remembers = each_rests z o (λ t l. IsLooking l.activity ⊎ IsTaking l.activity → All (IsMarkOf nothing_yet (λ q c. None) l.row) l.remembered) (λ t x j c w. absurd (omega arith));
+    looks = each_rests z o (λ t l. IsLooking l.activity → Looks z (word z (opened z o)) nothing_yet l.activity l no_log) (λ t x. absurd x);
+    reads = each_rests z o (λ t l. IsTaking l.activity → Reads (word z (opened z o)) nothing_yet (λ q c. None) l.activity l no_log) (λ t x. absurd x);
+    gathers = each_rests z o (λ t l. Gathers nothing_yet l.activity l no_log) (λ t. record { empty = λ x. absurd x; no_ids = λ x. absurd x; taking = λ x. absurd x; kept = λ x. absurd x });
+    seen = each_rests z o (λ t l. HasSeen nothing_yet l.activity l no_log) (λ t. record { unread = λ x. absurd x; stamped = λ x. absurd x; taken = λ x. absurd x });
+  }
+
+  pub replies_start : Replies (start z o)
+  replies_start = record {
+    pairs = each_rests z o (λ t l. HasPairs nothing_yet l.activity l no_log) (λ t. record { early = λ x. refl; from = λ e x. absurd x; upto = λ e x. absurd x; covers = λ e x. absurd x; covered = tt });
+    answers = each_rests z o (λ t l. IsAnswered l.activity l.call nothing_yet l no_log) (λ t. tt);
+  }
+
+pub inv_start : (z : Sizes) (o : Opening) → IsOpening z o → Inv z (start z o)
+inv_start z o i = record { shape = shape_starts z o i; history = nothing_keeps; puts = puts_start z o i; positions = positions_start z o i; readers = readers_start z o i; replies = replies_start z o i }

@@ -1,0 +1,197 @@
+-- Every event keeps what holds of the pairs of scans and the answers of gets.
+use Rattle.std.proofs.Common.{ℕ, ◌≤◌, Option, Some, arith, refl, sym, subst, length}
+use Rattle.kw_world.specs.declared.activity.Activity.{Activity}
+use Rattle.kw_world.specs.declared.activity.Activity.TheVariants.{Idle, Enter, ScanClock, ScanWait, ScanDraw, ScanSettle, Look, LookKey, LookClock, LookHelp, LookCount, Cell, CellKey, CellValue, ClearScan, Leave}
+use Rattle.kw_world.specs.declared.local.Local.{Local}
+use Rattle.kw_world.specs.declared.event.Choice.{Choice}
+use Rattle.kw_world.specs.Sizes.{Sizes}
+use Rattle.kw_model.specs.declared.call.Call.{Call}
+use Rattle.kw_model.specs.declared.call.Call.TheVariants.{Get}
+use Rattle.kw_model.specs.declared.call.Reply.{Reply}
+use Rattle.kw_model.specs.declared.call.Reply.TheVariants.{Done, Value, Absent, Pairs, NoRows, Spent, Stopped}
+use Rattle.kw_world.specs.Step.{word}
+use Rattle.kw_core.specs.History.{History, called}
+use Rattle.kw_core.specs.Step.{Keeps}
+use Rattle.kw_core.specs.Run.{Run}
+use Rattle.kw_core.specs.declared.seat_log.SeatLog.{SeatLog}
+use Rattle.kw_core.specs.Stages.{IsBusy}
+use Rattle.kw_reads.specs.Replies.{IsCovered}
+use Rattle.kw_core.specs.Words.{Words}
+use Rattle.kw_puts.specs.Positions.{Calling}
+use Rattle.kw_reads.specs.Readers.{Readers}
+use Rattle.kw_reads.specs.Replies.{HasPairs, IsAnswered, Replies}
+use Rattle.kw_reads.specs.Inv.{Inv}
+use Rattle.kw_core.proofs.Lasts.{get_lasts}
+use Rattle.kw_core.proofs.Happens.{Happens, each_seat}
+use Rattle.kw_core.proofs.Arrows.{Arrow}
+use Rattle.kw_puts.proofs.Rely.{Rely}
+use Rattle.kw_reads.proofs.Relying.{rely}
+use Rattle.kw_reads.proofs.ReadersKeep.{Before}
+use Rattle.std.proofs.lemmas.Bool.{and_parts}
+use Rattle.kw_model.specs.declared.call.Reply.{Reply}
+use Rattle.kw_world.specs.Row.{leave}
+use Rattle.kw_world.specs.RowScan.{reply_or_stopped}
+use Rattle.kw_core.specs.Stages.{IsEarly}
+use Rattle.kw_shape.specs.Shape.{IsKind}
+use Rattle.kw_puts.proofs.Owners.{true_false}
+use Rattle.kw_reads.proofs.Relying.{goes_on_by}
+use Rattle.kw_core.proofs.Arrows.{NextLook, looks, counts, begins, enters, is_spent, settles_empty, settles, stops, meets_stamped, meets_neither, is_passed, helps, finds_stamped, finds_other, counts_cells, has_no_version, has_other_key, gathers, clears_scan, finds_none, takes_none, is_refused, is_not_own, clears, leaves}
+use Rattle.kw_puts.proofs.OwnScans.{IsAfterRead, after_read}
+use Rattle.kw_reads.proofs.OwnPairs.{covers_last, stays, settled_pairs, no_pairs, leave_covered, cell_pairs, put_answered, scan_answered, scan_call_answered, cell_answered}
+
+-- What survives every event of another seat: it began or drew before the event.
+
+-- the pairs of a scan
+pub pairs_stable : (z : Sizes) (r r' : Run) (t : ℕ) (k : Local) → Rely z r r' t k → (r.seats t).drawn ≤ length r.history.log → HasPairs r.history k.activity k (r.seats t) → HasPairs r'.history k.activity k (r'.seats t)
+pairs_stable z r r' t k y d n = subst (λ g. HasPairs r'.history k.activity k g) (sym y.log) (record {
+  early = n.early;
+  from = n.from;
+  upto = n.upto;
+  covers = λ e a. covers_last r.history r'.history r.origin r'.origin _ _ _ _ _ y.goes_on d (n.covers e a);
+  covered = covered k.activity n.covered;
+})
+  where
+    ended : (reply : Reply) → IsCovered (Leave reply) r.history k (r.seats t) → IsCovered (Leave reply) r'.history k (r.seats t)
+    ended (Pairs pairs) x = covers_last r.history r'.history r.origin r'.origin _ _ _ _ _ y.goes_on d x
+    ended Done x = tt
+    ended (Value v) x = tt
+    ended Absent x = tt
+    ended NoRows x = tt
+    ended Spent x = tt
+    ended Stopped x = tt
+
+    cleared : (reply : Reply) → IsCovered (ClearScan reply) r.history k (r.seats t) → IsCovered (ClearScan reply) r'.history k (r.seats t)
+    cleared (Pairs pairs) x = covers_last r.history r'.history r.origin r'.origin _ _ _ _ _ y.goes_on d x
+    cleared Done x = tt
+    cleared (Value v) x = tt
+    cleared Absent x = tt
+    cleared NoRows x = tt
+    cleared Spent x = tt
+    cleared Stopped x = tt
+
+    covered : (a : Activity) → IsCovered a r.history k (r.seats t) → IsCovered a r'.history k (r.seats t)
+    covered (Leave reply) x = ended reply x
+    covered (ClearScan reply) x = cleared reply x
+    covered _ x = tt
+
+-- the answer of a get
+pub answers_stable : (z : Sizes) (r r' : Run) (t : ℕ) (k : Local) → Rely z r r' t k → Keeps r.history → (IsBusy k.activity → Calling r.history t k.activity k (r.seats t)) → IsAnswered k.activity k.call r.history k (r.seats t) → IsAnswered k.activity k.call r'.history k (r'.seats t)
+answers_stable z r r' t k y i c n = subst (λ g. IsAnswered k.activity k.call r'.history k g) (sym y.log) (which k.activity k.call c n)
+  where
+    which : (a : Activity) (q : Option Call) → (IsBusy a → Calling r.history t k.activity k (r.seats t)) → IsAnswered a q r.history k (r.seats t) → IsAnswered a q r'.history k (r.seats t)
+    which (Leave reply) (Some (Get key)) f x =
+        let w = (f tt).within in
+        let same = (y.goes_on.calls (r.seats t).call w).first in
+        rw same (get_lasts r.history r'.history (length r.history.log) key (called r.history (r.seats t).call).first reply _ y.goes_on.grows (omega (arith, i.past.first (r.seats t).call w)) x)
+    which _ _ f x = tt
+
+-- The acting seat.
+
+-- a look at the next entry
+look_not_early : (z : Sizes) (j : ℕ) (next : Activity) → NextLook z j next → {A : Type 0} → IsEarly next → A
+look_not_early z j next (looks w) x = absurd x
+look_not_early z j next (counts w) x = absurd x
+
+-- which ends no scan
+look_covered : (z : Sizes) (j : ℕ) (next : Activity) → NextLook z j next → (h : History) (l : Local) (g : SeatLog) → IsCovered next h l g
+look_covered z j next (looks w) h l g = tt
+look_covered z j next (counts w) h l g = tt
+
+-- and answers no get
+look_answered : (z : Sizes) (j : ℕ) (next : Activity) → NextLook z j next → (call : Option Call) (h : History) (l : Local) (g : SeatLog) → IsAnswered next call h l g
+look_answered z j next (looks w) call h l g = tt
+look_answered z j next (counts w) call h l g = tt
+
+-- the activity is one of the call
+kind_of : (z : Sizes) (r r' : Run) (s : ℕ) (choice : Choice) (l l' : Local) {a : Activity} → Happens z r r' s choice l l' a → Inv z r → IsKind a l
+kind_of z r r' s choice l l' h i = subst (λ q. IsKind q l) h.activity (i.shape.kinds s l h.knows).kind
+
+-- the call does not end
+abbrev IsNoLeave : Activity → Type 0
+IsNoLeave (Leave reply) = ⊥
+IsNoLeave _ = Unit {0}
+
+-- a call that has read no row has not just read a word of one
+early_not_read : (c : Activity) → IsEarly c → IsAfterRead c → ⊥
+early_not_read Idle x y = y
+early_not_read Enter x y = y
+early_not_read ScanClock x y = y
+early_not_read ScanWait x y = y
+early_not_read ScanDraw x y = y
+early_not_read ScanSettle x y = y
+early_not_read _ x y = x
+
+-- a call that has read no row had read none
+arrow_early : (z : Sizes) (v : Words) (s : ℕ) (choice : Choice) (l : Local) (a : Activity) (k : Local) → Arrow z v s choice l a k → IsNoLeave a → IsEarly k.activity → IsEarly a
+arrow_early z v s choice l a k (begins call e m) n x = tt
+arrow_early z v s choice l Enter k b n x = tt
+arrow_early z v s choice l ScanClock k b n x = tt
+arrow_early z v s choice l ScanWait k b n x = tt
+arrow_early z v s choice l ScanDraw k b n x = tt
+arrow_early z v s choice l ScanSettle k b n x = tt
+arrow_early z v s choice l (Look j) k b n x = absurd (early_not_read k.activity x (after_read z v s choice l (Look j) k b tt))
+arrow_early z v s choice l LookKey k b n x = absurd (early_not_read k.activity x (after_read z v s choice l LookKey k b tt))
+arrow_early z v s choice l LookClock k b n x = absurd (early_not_read k.activity x (after_read z v s choice l LookClock k b tt))
+arrow_early z v s choice l LookHelp k b n x = absurd (early_not_read k.activity x (after_read z v s choice l LookHelp k b tt))
+arrow_early z v s choice l LookCount k b n x = absurd (early_not_read k.activity x (after_read z v s choice l LookCount k b tt))
+arrow_early z v s choice l (Cell j) k b n x = absurd (early_not_read k.activity x (after_read z v s choice l (Cell j) k b tt))
+arrow_early z v s choice l CellKey k b n x = absurd (early_not_read k.activity x (after_read z v s choice l CellKey k b tt))
+arrow_early z v s choice l CellValue k b n x = absurd (early_not_read k.activity x (after_read z v s choice l CellValue k b tt))
+arrow_early z v s choice l (Leave reply) k b n x = absurd n
+arrow_early z v s choice l a k b n x = absurd x
+
+-- the pairs of the acting scan
+pub pairs_own : (z : Sizes) (r r' : Run) (s : ℕ) (choice : Choice) (l : Local) (a : Activity) (l' : Local) → Arrow z (word z r.world) s choice l a l' → Happens z r r' s choice l l' a → Before z r r' → Readers z r' → HasPairs r'.history l'.activity l' (r'.seats s)
+pairs_own z r r' s choice l a l' (settles_empty e) h i n = record { early = λ x. absurd x; from = λ f x. absurd x; upto = λ f x. absurd x; covers = λ f x. absurd x; covered = no_pairs r'.history l.call _ (r'.seats s).drawn e }
+pairs_own z r r' s choice l a l' (settles e) h i n = settled_pairs r'.history l _ (r'.seats s) refl refl ((i.inv.replies.pairs s l h.knows).early (subst IsEarly (sym h.activity) tt)) e
+pairs_own z r r' s choice l a l' (clears_scan reply) h i n = record {
+  early = λ x. absurd x;
+  from = λ f x. absurd x;
+  upto = λ f x. absurd x;
+  covers = λ f x. absurd x;
+  covered = subst (λ g. IsCovered (Leave (reply_or_stopped reply choice)) r'.history (leave (reply_or_stopped reply choice) l).local g) (sym h.log)
+      (leave_covered r.history r'.history r.origin r'.origin l _ (r.seats s) reply choice (goes_on_by z r r' s choice l _ _ h i.inv) (i.inv.positions.drew s) refl refl (subst (λ q. IsCovered q r.history l (r.seats s)) h.activity (i.inv.replies.pairs s l h.knows).covered));
+}
+pairs_own z r r' s choice l a l' (leaves reply) h i n = record { early = λ x. refl; from = λ f x. absurd x; upto = λ f x. absurd x; covers = λ f x. absurd x; covered = tt }
+pairs_own z r r' s choice l a l' (enters e) h i n = record { early = λ x. absurd x; from = λ f x. true_false f e; upto = λ f x. true_false f e; covers = λ f x. true_false f e; covered = tt }
+pairs_own z r r' s choice l a l' (counts_cells next x) h i n = cell_pairs z r r' s choice l _ _ _ l' (counts_cells next x) h i n tt (record { call = refl; row = refl; want = refl; next = refl; upper = refl; version = refl; pairs = refl }) x
+pairs_own z r r' s choice l a l' (has_no_version j next e x) h i n = cell_pairs z r r' s choice l _ _ _ l' (has_no_version j next e x) h i n tt (record { call = refl; row = refl; want = refl; next = refl; upper = refl; version = refl; pairs = refl }) x
+pairs_own z r r' s choice l a l' (has_other_key next e x) h i n = cell_pairs z r r' s choice l _ _ _ l' (has_other_key next e x) h i n tt (record { call = refl; row = refl; want = refl; next = refl; upper = refl; version = refl; pairs = refl }) x
+pairs_own z r r' s choice l a l' (gathers next x) h i n = cell_pairs z r r' s choice l _ _ _ l' (gathers next x) h i n tt (record { call = refl; row = refl; want = refl; next = refl; upper = refl; version = refl; pairs = refl }) x
+pairs_own z r r' s choice l a l' (meets_stamped j c version next e x) h i n = stays z r r' s choice l _ _ (meets_stamped j c version next e x) h i refl refl (λ y. y) (look_not_early z _ next x) (look_covered z _ next x r'.history _ (r'.seats s))
+pairs_own z r r' s choice l a l' (meets_neither j next e x) h i n = stays z r r' s choice l _ _ (meets_neither j next e x) h i refl refl (λ y. y) (look_not_early z _ next x) (look_covered z _ next x r'.history _ (r'.seats s))
+pairs_own z r r' s choice l a l' (is_passed next e x) h i n = stays z r r' s choice l _ _ (is_passed next e x) h i refl refl (λ y. y) (look_not_early z _ next x) (look_covered z _ next x r'.history _ (r'.seats s))
+pairs_own z r r' s choice l a l' (helps next e x) h i n = stays z r r' s choice l _ _ (helps next e x) h i refl refl (λ y. y) (look_not_early z _ next x) (look_covered z _ next x r'.history _ (r'.seats s))
+pairs_own z r r' s choice l a l' (finds_stamped c version next e x) h i n = stays z r r' s choice l _ _ (finds_stamped c version next e x) h i refl refl (λ y. y) (look_not_early z _ next x) (look_covered z _ next x r'.history _ (r'.seats s))
+pairs_own z r r' s choice l a l' (finds_other next e x) h i n = stays z r r' s choice l _ _ (finds_other next e x) h i refl refl (λ y. y) (look_not_early z _ next x) (look_covered z _ next x r'.history _ (r'.seats s))
+pairs_own z r r' s choice l a l' b h i n = stays z r r' s choice l _ _ b h i refl refl (λ y. y) (arrow_early z (word z r.world) s choice l _ _ b tt) tt
+
+-- the answer of the acting get
+pub answers_own : (z : Sizes) (r r' : Run) (s : ℕ) (choice : Choice) (l : Local) (a : Activity) (l' : Local) → Arrow z (word z r.world) s choice l a l' → Happens z r r' s choice l l' a → Before z r r' → Readers z r' → IsAnswered l'.activity l'.call r'.history l' (r'.seats s)
+answers_own z r r' s choice l a l' (is_spent e) h i n = scan_call_answered l.call _ r'.history _ (r'.seats s) (kind_of z r r' s choice l l' h i.inv)
+answers_own z r r' s choice l a l' (clears_scan reply) h i n = scan_call_answered l.call _ r'.history _ (r'.seats s) (kind_of z r r' s choice l l' h i.inv).0
+answers_own z r r' s choice l a l' (stops e) h i n = scan_answered l.call _ r'.history _ (r'.seats s) (and_parts _ _ (and_parts _ _ e).1).0
+answers_own z r r' s choice l a l' (finds_none e) h i n = put_answered l.call _ r'.history _ (r'.seats s) (kind_of z r r' s choice l l' h i.inv)
+answers_own z r r' s choice l a l' (takes_none e) h i n = put_answered l.call _ r'.history _ (r'.seats s) (kind_of z r r' s choice l l' h i.inv)
+answers_own z r r' s choice l a l' (is_refused e) h i n = put_answered l.call _ r'.history _ (r'.seats s) (kind_of z r r' s choice l l' h i.inv)
+answers_own z r r' s choice l a l' (is_not_own e) h i n = put_answered l.call _ r'.history _ (r'.seats s) (kind_of z r r' s choice l l' h i.inv)
+answers_own z r r' s choice l a l' clears h i n = put_answered l.call _ r'.history _ (r'.seats s) (kind_of z r r' s choice l l' h i.inv)
+answers_own z r r' s choice l a l' (counts_cells next x) h i n = cell_answered z r r' s choice l _ _ _ l' (counts_cells next x) h i n tt (record { call = refl; row = refl; want = refl; next = refl; upper = refl; version = refl; pairs = refl }) x
+answers_own z r r' s choice l a l' (has_no_version j next e x) h i n = cell_answered z r r' s choice l _ _ _ l' (has_no_version j next e x) h i n tt (record { call = refl; row = refl; want = refl; next = refl; upper = refl; version = refl; pairs = refl }) x
+answers_own z r r' s choice l a l' (has_other_key next e x) h i n = cell_answered z r r' s choice l _ _ _ l' (has_other_key next e x) h i n tt (record { call = refl; row = refl; want = refl; next = refl; upper = refl; version = refl; pairs = refl }) x
+answers_own z r r' s choice l a l' (gathers next x) h i n = cell_answered z r r' s choice l _ _ _ l' (gathers next x) h i n tt (record { call = refl; row = refl; want = refl; next = refl; upper = refl; version = refl; pairs = refl }) x
+answers_own z r r' s choice l a l' (meets_stamped j c version next e x) h i n = look_answered z _ next x l.call r'.history _ (r'.seats s)
+answers_own z r r' s choice l a l' (meets_neither j next e x) h i n = look_answered z _ next x l.call r'.history _ (r'.seats s)
+answers_own z r r' s choice l a l' (is_passed next e x) h i n = look_answered z _ next x l.call r'.history _ (r'.seats s)
+answers_own z r r' s choice l a l' (helps next e x) h i n = look_answered z _ next x l.call r'.history _ (r'.seats s)
+answers_own z r r' s choice l a l' (finds_stamped c version next e x) h i n = look_answered z _ next x l.call r'.history _ (r'.seats s)
+answers_own z r r' s choice l a l' (finds_other next e x) h i n = look_answered z _ next x l.call r'.history _ (r'.seats s)
+answers_own z r r' s choice l a l' b h i n = tt
+
+-- The group.
+
+pub replies_keep : (z : Sizes) (r r' : Run) (s : ℕ) (choice : Choice) (l : Local) (a : Activity) (l' : Local) → Happens z r r' s choice l l' a → Before z r r' → Readers z r' → Replies r'
+replies_keep z r r' s choice l a l' h i n = record {
+  pairs = each_seat h (λ t k. HasPairs r'.history k.activity k (r'.seats t)) (pairs_own z r r' s choice l a l' h.arrow h i n) (λ t k d g. pairs_stable z r r' t k (rely z r r' s choice l a l' h i.inv t k d g) (i.inv.positions.drew t) (i.inv.replies.pairs t k g));
+  answers = each_seat h (λ t k. IsAnswered k.activity k.call r'.history k (r'.seats t)) (answers_own z r r' s choice l a l' h.arrow h i n) (λ t k d g. answers_stable z r r' t k (rely z r r' s choice l a l' h i.inv t k d g) i.inv.history (i.inv.positions.calling t k g) (i.inv.replies.answers t k g));
+}

@@ -1,0 +1,3 @@
+pub mod Readers
+pub mod Replies
+pub mod Inv
