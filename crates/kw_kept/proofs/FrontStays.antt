@@ -1,5 +1,5 @@
 -- What a row shows of the puts that were stamped before a position, at that position and ever after.
-use Rattle.std.proofs.Common.{ℕ, ◌≡◌, ◌⊎◌, inl, inr, ◌<◌, ◌≤◌, Option, arith, sym, subst}
+use Rattle.std.proofs.Common.{ℕ, ◌⊎◌, inl, inr, ◌<◌, ◌≤◌, arith, sym, subst}
 use Rattle.kw_kept.specs.Puts.{Put, Puts, Shows}
 use Rattle.kw_kept.specs.Readers.{Before, Front, GoesOn}
 use Rattle.kw_kept.proofs.GreatestPut.{greatest_of_same}
@@ -17,11 +17,11 @@ front_starts puts in_row stamped a k u f g = shows_of_same puts in_row (λ p. in
 pub front_stays : (puts puts' : Puts) (in_row in_row' stamped stamped' : ℕ → Type 0) (a k u : ℕ) → GoesOn puts puts' in_row in_row' stamped stamped' a → Front puts in_row stamped a k u → Front puts' in_row' stamped' a k u
 front_stays puts puts' in_row in_row' stamped stamped' a k u g h =
     shows_of_same puts' (λ p. in_row p × Before puts stamped a p) (λ p. in_row' p × Before puts' stamped' a p) (Before puts stamped a) (Before puts' stamped' a) k u
-      (λ p i. let b = was p i.1 in (g.row_was p i.0 b.0, b))
-      (λ p i. (g.row_old p i.0 i.1.0, still p i.1))
-      was
-      still
-      (shows_still puts puts' stamped g.unchanged (λ p. in_row p × Before puts stamped a p) (Before puts stamped a) k u (λ p i. i.1.0) (λ p i. i.0) h)
+    (λ p i. let b = was p i.1 in (g.row_was p i.0 b.0, b))
+    (λ p i. (g.row_old p i.0 i.1.0, still p i.1))
+    was
+    still
+    (shows_still puts puts' stamped g.unchanged (λ p. in_row p × Before puts stamped a p) (Before puts stamped a) k u (λ p i. i.1.0) (λ p i. i.0) h)
   where
     was : (p : ℕ) → Before puts' stamped' a p → Before puts stamped a p
     was p i = which (g.was p i.0)

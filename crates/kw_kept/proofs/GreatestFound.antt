@@ -1,5 +1,5 @@
 -- A finite set of puts that were given their cells at different events has a greatest for each key and version.
-use Rattle.std.proofs.Common.{ℕ, zero, suc, ◌≡◌, ◌⊎◌, inl, inr, ◌<◌, ◌≤◌, Option, Some, None, arith, refl, sym, ap, subst}
+use Rattle.std.proofs.Common.{ℕ, zero, suc, ◌≡◌, ◌⊎◌, inl, inr, ◌<◌, ◌≤◌, Option, Some, None, arith, refl, sym, subst}
 use Rattle.std.proofs.lemmas.Bool.{cases_eq, cases_lt}
 use Rattle.std.proofs.lemmas.Option.{same_Some}
 use Rattle.kw_kept.specs.Puts.{Puts, StandsBefore, StandsUpTo, AreApart, Greatest, HasGreatest}
@@ -12,10 +12,13 @@ module _ (puts : Puts) (P : ℕ → Type 0) (k u : ℕ) (known : (p : ℕ) → P
 
   -- the next put is not of the set, or not of the key, or above the bound
   without : (n : ℕ) → (P n → (puts n).key ≡ k → (puts n).version ≤ u → ⊥) → HasGreatest puts (Below n) k u → HasGreatest puts (Below (suc n)) k u
-  without n d (o, g) = (o, record {
-    among = λ p e. let x = g.among p e in ((x.0.0, omega (arith, x.0.1)), x.1, x.2);
-    greatest = λ q i e l. up q i e l (cases_lt q n);
-  })
+  without n d (o, g) = (
+    o,
+    record {
+      among = λ p e. let x = g.among p e in ((x.0.0, omega (arith, x.0.1)), x.1, x.2);
+      greatest = λ q i e l. up q i e l (cases_lt q n);
+    },
+  )
     where
       up : (q : ℕ) → Below (suc n) q → (puts q).key ≡ k → (puts q).version ≤ u → (q < n) ⊎ (n ≤ q) → StandsUpTo puts o q
       up q i e l (inl s) = g.greatest q (i.0, s) e l
@@ -25,10 +28,13 @@ module _ (puts : Puts) (P : ℕ → Type 0) (k u : ℕ) (known : (p : ℕ) → P
 
   -- the next put is above all of them
   above : (n : ℕ) → P n → (puts n).key ≡ k → (puts n).version ≤ u → (o : Option ℕ) → Greatest puts (Below n) k u o → ((p : ℕ) → o ≡ Some p → StandsBefore puts p n) → HasGreatest puts (Below (suc n)) k u
-  above n i e l o g a = (Some n, record {
-    among = λ p f. at p f;
-    greatest = λ q j f m. up q j f m (cases_lt q n);
-  })
+  above n i e l o g a = (
+    Some n,
+    record {
+      among = λ p f. at p f;
+      greatest = λ q j f m. up q j f m (cases_lt q n);
+    },
+  )
     where
       at : (p : ℕ) → Some n ≡ Some p → Below (suc n) p × ((puts p).key ≡ k) × ((puts p).version ≤ u)
       at p f = subst (λ x. Below (suc n) x × ((puts x).key ≡ k) × ((puts x).version ≤ u)) (same_Some n p f) ((i, omega arith), e, l)
@@ -43,10 +49,13 @@ module _ (puts : Puts) (P : ℕ → Type 0) (k u : ℕ) (known : (p : ℕ) → P
 
   -- it stands before the greatest of them
   under : (n p : ℕ) → Greatest puts (Below n) k u (Some p) → StandsBefore puts n p → HasGreatest puts (Below (suc n)) k u
-  under n p g b = (Some p, record {
-    among = λ q f. let x = g.among q f in ((x.0.0, omega (arith, x.0.1)), x.1, x.2);
-    greatest = λ q j f m. up q j f m (cases_lt q n);
-  })
+  under n p g b = (
+    Some p,
+    record {
+      among = λ q f. let x = g.among q f in ((x.0.0, omega (arith, x.0.1)), x.1, x.2);
+      greatest = λ q j f m. up q j f m (cases_lt q n);
+    },
+  )
     where
       up : (q : ℕ) → Below (suc n) q → (puts q).key ≡ k → (puts q).version ≤ u → (q < n) ⊎ (n ≤ q) → StandsUpTo puts (Some p) q
       up q j f m (inl s) = g.greatest q (j.0, s) f m
@@ -81,7 +90,10 @@ module _ (puts : Puts) (P : ℕ → Type 0) (k u : ℕ) (known : (p : ℕ) → P
 
   -- a set whose numbers are bounded has a greatest
   pub greatest_found : (n : ℕ) → ((p : ℕ) → P p → p < n) → HasGreatest puts P k u
-  greatest_found n b = let r = found_below n in (r.0, record {
-    among = λ p e. let x = r.1.among p e in (x.0.0, x.1, x.2);
-    greatest = λ q i e l. r.1.greatest q (i, b q i) e l;
-  })
+  greatest_found n b = let r = found_below n in (
+    r.0,
+    record {
+      among = λ p e. let x = r.1.among p e in (x.0.0, x.1, x.2);
+      greatest = λ q i e l. r.1.greatest q (i, b q i) e l;
+    },
+  )

@@ -1,5 +1,5 @@
 -- The greatest put of a set, and of a set that has more or the same.
-use Rattle.std.proofs.Common.{ℕ, ◌≡◌, ◌⊎◌, ◌≤◌, Option, Some, None, refl, sym, ◌∙◌, ap, subst}
+use Rattle.std.proofs.Common.{ℕ, ◌≡◌, ◌≤◌, Option, Some, None, refl, sym, ◌∙◌, ap, subst}
 use Rattle.kw_kept.specs.Puts.{Puts, StandsUpTo, Greatest}
 use Rattle.kw_kept.proofs.PutOrder.{up_to-antisym}
 

@@ -31,6 +31,10 @@ module _ (clock clock' : ℕ) (waits waits' : ℕ → ℕ) (through through' : �
       which (inl e) (inr n) = omega (arith, l, n)
       which (inr f) g = omega (arith, l, f u t)
 
+-- a position that no scan's wait is after
+pub late_starts : (waits : ℕ → ℕ) (through : ℕ → ℕ → Type 0) (since most : ℕ) → ((i : ℕ) → waits i ≤ since) → IsLate since waits through most
+late_starts waits through since most f i u l t = absurd (omega (arith, f i, l))
+
 -- a seat that was looked at is covered with those that were
 pub passes_covered : (since : ℕ) (waits : ℕ → ℕ) (through : ℕ → ℕ → Type 0) (passed passed' listed listed' : ℕ → Type 0) (most s : ℕ) → Passes since waits through passed passed' listed listed' s → IsLate since waits through most → IsCovered through passed listed most → IsCovered through passed' listed' most
 passes_covered since waits through passed passed' listed listed' most s r late c i u p t = which (r.seat i p)

@@ -1,11 +1,11 @@
 -- What a reader of a row knows at its end. If its best cell was stamped before it looked, or there is none, the gap is behind the
 -- greatest put that was stamped before, which shows the same. Else the gap is behind the best cell's put.
-use Rattle.std.proofs.Common.{ℕ, ◌≡◌, ◌⊎◌, inl, inr, ◌≤◌, Option, Some, None, refl, sym, ◌∙◌, ap, subst}
-use Rattle.kw_kept.specs.Puts.{Puts, StandsBefore, StandsUpTo, value_of}
+use Rattle.std.proofs.Common.{ℕ, ◌≡◌, ◌⊎◌, inl, inr, ◌≤◌, Option, Some, None, refl, sym, ◌∙◌, subst}
+use Rattle.kw_kept.specs.Puts.{Puts, StandsBefore, StandsUpTo, Same}
 use Rattle.kw_kept.specs.Readers.{Reads, Knows}
 use Rattle.kw_kept.proofs.PutOrder.{up_to-trans}
 use Rattle.kw_kept.proofs.GreatestPut.{greatest_of_larger}
-use Rattle.kw_kept.proofs.Shown.{value_of_same}
+use Rattle.kw_kept.proofs.Shown.{same_sym}
 
 module _ (puts : Puts) (in_row gathered stamped before here early lost : ℕ → Type 0) (k v : ℕ) (best : Option ℕ) (r : Reads puts in_row gathered stamped before here early lost k v best) where
   -- of all that was stamped before, this shows
@@ -16,8 +16,9 @@ module _ (puts : Puts) (in_row gathered stamped before here early lost : ℕ →
   abbrev front : Option ℕ
   front = r.front.0
 
-  front_same : value_of puts top ≡ value_of puts front
-  front_same = sym (value_of_same puts front top (r.shows front top r.front.1 r.top.1))
+  -- both show the same
+  top_shows : Same puts top front
+  top_shows = same_sym puts front top (r.shows front top r.front.1 r.top.1)
 
   -- the early attempts are lost, or stamped and up to a gap that what was gathered and what was stamped before elsewhere stand up to
   early_known : (gap : Option ℕ) → ((q : ℕ) → gathered q → (puts q).key ≡ k → (puts q).version ≤ v → StandsUpTo puts gap q) → ((q : ℕ) → before q → (puts q).key ≡ k → (puts q).version ≤ v → StandsUpTo puts gap q) → (q : ℕ) → early q → (puts q).key ≡ k → lost q ⊎ stamped q × ((puts q).version ≤ v → StandsUpTo puts gap q)
@@ -36,7 +37,7 @@ module _ (puts : Puts) (in_row gathered stamped before here early lost : ℕ →
       which (inr h) = other (r.other q i f h)
 
   -- the answer is what all shows that was stamped before
-  with_top : value_of puts top ≡ value_of puts best → ((q : ℕ) → gathered q → (puts q).key ≡ k → (puts q).version ≤ v → StandsUpTo puts top q) → Knows puts stamped early lost k v best
+  with_top : Same puts top best → ((q : ℕ) → gathered q → (puts q).key ≡ k → (puts q).version ≤ v → StandsUpTo puts top q) → Knows puts stamped early lost k v best
   with_top e g = record {
     gap = top;
     of_key = λ p f. let x = r.top.1.among p f in (r.stamps p x.0, x.1, x.2);
@@ -49,7 +50,7 @@ module _ (puts : Puts) (in_row gathered stamped before here early lost : ℕ →
   with_best p e d = record {
     gap = best;
     of_key = λ q f. let x = r.best_is.among q f in ((r.of_row q x.0).1, x.1, x.2);
-    shows = refl;
+    shows = inl refl;
     knows = early_known best r.best_is.greatest (λ q b f l. let x = r.best_is.among p e in met q f b (r.later p q x.0 d b (f ∙ sym x.1)) l);
   }
     where
@@ -59,7 +60,7 @@ module _ (puts : Puts) (in_row gathered stamped before here early lost : ℕ →
 
   -- nothing is gathered that shows at this version
   with_none : best ≡ None → Knows puts stamped early lost k v best
-  with_none e = with_top (front_same ∙ ap (value_of puts) (none front refl ∙ sym e)) (λ q i f l. absurd (subst (λ o. StandsUpTo puts o q) e (r.best_is.greatest q i f l)))
+  with_none e = with_top (subst (Same puts top) (none front refl ∙ sym e) top_shows) (λ q i f l. absurd (subst (λ o. StandsUpTo puts o q) e (r.best_is.greatest q i f l)))
     where
       none : (o : Option ℕ) → front ≡ o → front ≡ None
       none None f = f
@@ -70,7 +71,7 @@ module _ (puts : Puts) (in_row gathered stamped before here early lost : ℕ →
   with_front p e b =
       let x = r.best_is.among p e in
       let same : front ≡ best = greatest_of_larger puts (λ q. in_row q × before q) gathered k v front best r.front.1 r.best_is (λ q i. r.all q i.0 i.1) p e ((r.of_row p x.0).0, b) in
-      with_top (front_same ∙ ap (value_of puts) same)
+      with_top (subst (Same puts top) same top_shows)
       (λ q i f l. up_to-trans puts top p q (r.top.1.greatest p b x.1 x.2) (subst (λ o. StandsUpTo puts o q) e (r.best_is.greatest q i f l)))
 
   -- a reader knows what it has to

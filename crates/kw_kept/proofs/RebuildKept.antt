@@ -1,7 +1,7 @@
 -- The replacing of rows keeps what rows show of the stamped puts: of each old row the new ones have kept what each version shows that
 -- is listed, and what the newest shows; a version that is not listed is at least all of the old row, so it shows the same as the newest.
-use Rattle.std.proofs.Common.{ℕ, ◌≡◌, ◌⊎◌, inl, inr, ◌≤◌, Option, arith, refl}
-use Rattle.kw_kept.specs.Puts.{Puts, Greatest, Same, Shows}
+use Rattle.std.proofs.Common.{ℕ, ◌≡◌, ◌⊎◌, inl, inr, ◌≤◌, Option, arith}
+use Rattle.kw_kept.specs.Puts.{Puts, Greatest, Shows}
 use Rattle.kw_kept.specs.Kept.{Kept, Rebuilds, IsAsBefore, Replaces}
 use Rattle.kw_kept.proofs.GreatestPut.{greatest_of_same}
 use Rattle.kw_kept.proofs.Shown.{shows_through}

@@ -9,10 +9,10 @@ same_trans puts a b c (inl e) (inr f) = inr (ap (value_of puts) e ∙ f.0, f.1)
 same_trans puts a b c (inr e) (inl f) = inr (e.0, ap (value_of puts) (sym f) ∙ e.1)
 same_trans puts a b c (inr e) (inr f) = inr (e.0, f.1)
 
--- options that are the same show one value, or none
-pub value_of_same : (puts : Puts) (a b : Option ℕ) → Same puts a b → value_of puts a ≡ value_of puts b
-value_of_same puts a b (inl e) = ap (value_of puts) e
-value_of_same puts a b (inr e) = e.0 ∙ sym e.1
+-- it goes both ways
+pub same_sym : (puts : Puts) (a b : Option ℕ) → Same puts a b → Same puts b a
+same_sym puts a b (inl e) = inl (sym e)
+same_sym puts a b (inr e) = inr (e.1, e.0)
 
 -- what a set shows goes on through a set that has a greatest
 pub shows_through : (puts : Puts) (P Q R : ℕ → Type 0) (k u : ℕ) → HasGreatest puts Q k u → Shows puts P Q k u → Shows puts Q R k u → Shows puts P R k u

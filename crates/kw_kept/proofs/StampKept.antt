@@ -1,8 +1,8 @@
 -- A stamp keeps what rows show of the stamped puts. At a version that does not show the new put nothing changes. At one that does, the
 -- greatest of all is the new put, or a put above it, which has a cell in the row.
-use Rattle.std.proofs.Common.{ℕ, ◌≡◌, ◌⊎◌, inl, inr, ◌<◌, ◌≤◌, Option, Some, None, arith, refl, sym, ◌∙◌, ap, subst}
+use Rattle.std.proofs.Common.{ℕ, ◌≡◌, ◌⊎◌, inl, inr, ◌<◌, ◌≤◌, Some, None, arith, refl, sym, ◌∙◌, ap, subst}
 use Rattle.std.proofs.lemmas.Bool.{cases_eq, cases_lt}
-use Rattle.kw_kept.specs.Puts.{Puts, Put, StandsBefore, StandsUpTo, Greatest, Same, Shows}
+use Rattle.kw_kept.specs.Puts.{Puts, StandsBefore, StandsUpTo, Shows}
 use Rattle.kw_kept.specs.Kept.{Kept, Stamps}
 use Rattle.kw_kept.proofs.PutOrder.{never_both}
 use Rattle.kw_kept.proofs.GreatestPut.{greatest_of_larger, greatest_of_same}
@@ -18,7 +18,7 @@ module _ (puts puts' : Puts) (in_row in_row' : ℕ → ℕ → Type 0) (stamped 
       which (inr j) = s.old p (s.of_row q p j)
 
   -- at a version that shows the new put, the row shows what all show
-  now_shown : (k u : ℕ) → (puts' o).key ≡ k → (puts' o).version ≤ u → (b t : Option ℕ) → Greatest puts' (in_row' row) k u b → Greatest puts' stamped' k u t → Same puts' b t
+  pub now_shown : (k u : ℕ) → (puts' o).key ≡ k → (puts' o).version ≤ u → Shows puts' (in_row' row) stamped' k u
   now_shown k u e l b None x y = absurd (y.greatest o s.new e l)
   now_shown k u e l b (Some q) x y = inl (greatest_of_larger puts' (in_row' row) stamped' k u b (Some q) x y (of_row' row) q refl (which (s.was q (y.among q refl).0)))
     where

@@ -1,7 +1,7 @@
 -- That rows have kept what is needed of the stamped puts, and the two changes that could lose it: a stamp, and the replacing of rows.
 -- `in_row q` are the puts of which row q has a stamped cell, `stamped` all stamped puts, `holds q k` says that the key k is of the row q
 -- of the list.
-use Rattle.std.specs.Prelude.{ℕ, ◌≡◌, ◌⊎◌, ◌<◌, ◌≤◌}
+use Rattle.std.specs.Prelude.{ℕ, ◌≡◌, ◌⊎◌, ◌≤◌}
 use Rattle.kw_kept.specs.Puts.{Puts, StandsBefore, HasGreatest, Shows}
 
 -- each row shows for each of its keys, at each version that is needed, what all stamped puts show

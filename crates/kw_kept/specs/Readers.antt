@@ -1,7 +1,7 @@
 -- What a reader of a row knows at its end. A row may have dropped a tombstone under which there is no older cell, so the put whose
 -- gap the reader answers from may have no cell there.
 use Rattle.std.specs.Prelude.{ℕ, ◌≡◌, ◌⊎◌, ◌<◌, ◌≤◌, Option, Some}
-use Rattle.kw_kept.specs.Puts.{Puts, StandsBefore, StandsUpTo, Greatest, HasGreatest, value_of, Shows}
+use Rattle.kw_kept.specs.Puts.{Puts, StandsBefore, StandsUpTo, Greatest, HasGreatest, Same, Shows}
 
 -- stamped before a position
 abbrev pub Before : Puts → (ℕ → Type 0) → ℕ → ℕ → Type 0
@@ -39,9 +39,10 @@ pub record Reads (puts : Puts) (in_row gathered stamped before here early lost :
   pub own : (q : ℕ) → early q → (puts q).key ≡ k → here q → lost q ⊎ gathered q
   pub other : (q : ℕ) → early q → (puts q).key ≡ k → (here q → ⊥) → lost q ⊎ before q
 
--- it answers what a gap shows, behind a stamped put or behind none, and each early attempt is lost, or stamped and not after the gap
+-- what it answers is what a gap shows, behind a stamped put of the key or behind none; where it answers a value, the gap is behind the put
+-- of its cell. Each early attempt is lost, or stamped and, if its version is in bound, not after the gap
 pub record Knows (puts : Puts) (stamped early lost : ℕ → Type 0) (k v : ℕ) (best : Option ℕ) : Type 0 where
   pub gap : Option ℕ
   pub of_key : (p : ℕ) → gap ≡ Some p → stamped p × ((puts p).key ≡ k) × ((puts p).version ≤ v)
-  pub shows : value_of puts gap ≡ value_of puts best
+  pub shows : Same puts gap best
   pub knows : (q : ℕ) → early q → (puts q).key ≡ k → lost q ⊎ stamped q × ((puts q).version ≤ v → StandsUpTo puts gap q)

@@ -16,9 +16,11 @@ pub fn greatest_laws()
     ensures through { (puts : ℕ → Put) (a b c : ℕ → Bool) (k u : ℕ) → HasGreatest puts (On b) k u → Shows puts (On a) (On b) k u → Shows puts (On b) (On c) k u → Shows puts (On a) (On c) k u }
 {}
 
-/// Rows that have kept what is needed still have after a stamp.
+/// Rows that have kept what is needed still have after a stamp. At a version that shows the new put its row shows what all stamped
+/// puts show, whatever it had kept before.
 pub fn stamp_laws()
-    ensures { (puts later : ℕ → Put) (a b : ℕ → ℕ → Bool) (c d : ℕ → Bool) (e f : ℕ → ℕ → Bool) (needed : ℕ → Bool) (row o : ℕ) → Stamps puts later (OnEach a) (OnEach b) (On c) (On d) (OnEach e) (OnEach f) row o → Kept puts (OnEach a) (On c) (OnEach e) (On needed) → Kept later (OnEach b) (On d) (OnEach f) (On needed) }
+    ensures own { (puts later : ℕ → Put) (a b : ℕ → ℕ → Bool) (c d : ℕ → Bool) (e f : ℕ → ℕ → Bool) (row o u : ℕ) → Stamps puts later (OnEach a) (OnEach b) (On c) (On d) (OnEach e) (OnEach f) row o → (later o).version ≤ u → Shows later (OnEach b row) (On d) (later o).key u }
+    ensures kept { (puts later : ℕ → Put) (a b : ℕ → ℕ → Bool) (c d : ℕ → Bool) (e f : ℕ → ℕ → Bool) (needed : ℕ → Bool) (row o : ℕ) → Stamps puts later (OnEach a) (OnEach b) (On c) (On d) (OnEach e) (OnEach f) row o → Kept puts (OnEach a) (On c) (OnEach e) (On needed) → Kept later (OnEach b) (On d) (OnEach f) (On needed) }
 {}
 
 /// A row that was built of another shows what that showed, at each version that is listed or at least every version in it. So rows
@@ -34,6 +36,7 @@ pub fn needed_laws()
     ensures shrinks { (clock later : ℕ) (waits after : ℕ → ℕ) (a b : ℕ → ℕ → Bool) (u : ℕ) → Moves clock later waits after (OnEach a) (OnEach b) → IsNeeded later (OnEach b) u → IsNeeded clock (OnEach a) u }
     ensures kept { (puts : ℕ → Put) (a : ℕ → ℕ → Bool) (stamped : ℕ → Bool) (e : ℕ → ℕ → Bool) (before now : ℕ → Bool) → ((u : ℕ) → On now u → On before u) → Kept puts (OnEach a) (On stamped) (OnEach e) (On before) → Kept puts (OnEach a) (On stamped) (OnEach e) (On now) }
     ensures covered { (clock later : ℕ) (waits after : ℕ → ℕ) (a b : ℕ → ℕ → Bool) (passed listed : ℕ → Bool) (most : ℕ) → Moves clock later waits after (OnEach a) (OnEach b) → most ≤ clock → IsCovered (OnEach a) (On passed) (On listed) most → IsCovered (OnEach b) (On passed) (On listed) most }
+    ensures early { (waits : ℕ → ℕ) (a : ℕ → ℕ → Bool) (since most : ℕ) → ((i : ℕ) → waits i ≤ since) → IsLate since waits (OnEach a) most }
     ensures late { (clock later : ℕ) (waits after : ℕ → ℕ) (a b : ℕ → ℕ → Bool) (since most : ℕ) → Moves clock later waits after (OnEach a) (OnEach b) → most ≤ clock → IsLate since waits (OnEach a) most → IsLate since after (OnEach b) most }
     ensures passes { (waits : ℕ → ℕ) (a : ℕ → ℕ → Bool) (passed now listed more : ℕ → Bool) (since most s : ℕ) → Passes since waits (OnEach a) (On passed) (On now) (On listed) (On more) s → IsLate since waits (OnEach a) most → IsCovered (OnEach a) (On passed) (On listed) most → IsCovered (OnEach a) (On now) (On more) most }
     ensures all { (clock : ℕ) (a : ℕ → ℕ → Bool) (passed listed : ℕ → Bool) (most u : ℕ) → most ≤ clock → ((i : ℕ) (v : ℕ) → OnEach a i v → On passed i) → IsCovered (OnEach a) (On passed) (On listed) most → IsNeeded clock (OnEach a) u → On listed u ⊎ (most ≤ u) }
