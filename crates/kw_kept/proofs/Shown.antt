@@ -23,6 +23,7 @@ module _ (puts puts' : Puts) (Q : ℕ → Type 0) (s : (p : ℕ) → Q p → put
   before_was : (p q : ℕ) → Q p → Q q → StandsBefore puts' p q → StandsBefore puts p q
   before_was p q i j b = subst (λ (x : Put). (x.version < (puts q).version) ⊎ ((x.version ≡ (puts q).version) × (x.add < (puts q).add))) (s p i) (subst (λ (x : Put). ((puts' p).version < x.version) ⊎ (((puts' p).version ≡ x.version) × ((puts' p).add < x.add))) (s q j) b)
 
+  -- what stands up to an unchanged put did so before
   up_to_was : (o : Option ℕ) (q : ℕ) → ((p : ℕ) → o ≡ Some p → Q p) → Q q → StandsUpTo puts' o q → StandsUpTo puts o q
   up_to_was None q f j b = b
   up_to_was (Some p) q f j (inl e) = inl e
@@ -35,6 +36,7 @@ module _ (puts puts' : Puts) (Q : ℕ → Type 0) (s : (p : ℕ) → Q p → put
     greatest = λ q i e l. up_to_was o q (λ p h. f p (g.among p h).0) (f q i) (g.greatest q i (subst (λ (y : Put). y.key ≡ k) (sym (s q (f q i))) e) (subst (λ (y : Put). y.version ≤ u) (sym (s q (f q i))) l));
   }
 
+  -- an unchanged put shows the value that it did
   value_was : (o : Option ℕ) → ((p : ℕ) → o ≡ Some p → Q p) → value_of puts' o ≡ value_of puts o
   value_was None f = refl
   value_was (Some p) f = ap (λ (x : Put). x.value) (s p (f p refl))
