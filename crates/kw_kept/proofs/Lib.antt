@@ -1,0 +1,9 @@
+pub mod PutOrder
+pub mod GreatestPut
+pub mod GreatestFound
+pub mod Shown
+pub mod StampKept
+pub mod RebuildKept
+pub mod NeededLists
+pub mod FrontStays
+pub mod ReaderKnows

@@ -1,0 +1,4 @@
+pub mod Puts
+pub mod Kept
+pub mod Needed
+pub mod Readers
