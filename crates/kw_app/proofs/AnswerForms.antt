@@ -13,7 +13,7 @@ use Rattle.kw_line.specs.declared.answer.Answer.{Answer}
 use Rattle.kw_line.specs.declared.answer.Answer.TheVariants as answer
 use Rattle.kw_line.specs.declared.item.Form.{Form}
 use Rattle.kw_line.specs.declared.item.Form.TheVariants as form
-use Rattle.kw_line.specs.Answered.{answer_for, answer_of_pairs, answers_for, number_or_nothing, is_update, is_get, is_range, least, greatest, values}
+use Rattle.kw_line.specs.Answered.{IsReplyOf, answer_for, answer_of_pairs, answers_for, number_or_nothing, is_update, is_get, is_range, least, greatest, values}
 use Rattle.kw_line.specs.Line.{IsCallOf}
 use Rattle.kw_app.specs.Running.{is_refused}
 
@@ -35,28 +35,28 @@ same_answers (f ∷ fs) (r ∷ rs) (s ∷ ss) l m each =
     ap (λ a. a ∷ answers_for fs rs) (same_Some (answer_for f r) (answer_for f s) (each 0 f refl)) ∙ ap (λ l. answer_for f s ∷ l) rest
 
 -- an answer that is no refusal stands for no refusal
-pub unrefused : (f : Form) (r : Reply) → is_refused (answer_for f r) ≡ false → is_refusal r ≡ false
-unrefused f reply.Done n = refl
-unrefused f (reply.Value v) n = refl
-unrefused f reply.Absent n = refl
-unrefused f (reply.Pairs ps) n = refl
-unrefused f reply.NoRows n = absurd (false≢true (sym n))
-unrefused f reply.Spent n = absurd (false≢true (sym n))
-unrefused f reply.Stopped n = absurd (false≢true (sym n))
+pub unrefused : (f : Form) (r : Reply) → IsReplyOf f r → is_refused (answer_for f r) ≡ false → is_refusal r ≡ false
+unrefused f reply.Done h n = refl
+unrefused f (reply.Value v) h n = refl
+unrefused f reply.Absent h n = refl
+unrefused f (reply.Pairs ps) h n = refl
+unrefused f reply.NoRows h n = absurd (false≢true (sym n))
+unrefused f reply.Spent h n = absurd (false≢true (sym n))
+unrefused f reply.Stopped h n = absurd h
 
 -- a scan that is refused is answered so
-scan_refused : (f : Form) (a b : ℕ) (r : Reply) → may_refuse (Scan a b) r ≡ true → answer_for f r ≡ answer.Spent
-scan_refused f a b reply.Spent h = refl
-scan_refused f a b reply.Stopped h = refl
-scan_refused f a b _ h = absurd (false≢true h)
+scan_refused : (f : Form) (a b : ℕ) (r : Reply) → IsReplyOf f r → may_refuse (Scan a b) r ≡ true → answer_for f r ≡ answer.Spent
+scan_refused f a b reply.Spent g h = refl
+scan_refused f a b reply.Stopped g h = absurd g
+scan_refused f a b _ g h = absurd (false≢true h)
 
 -- and so is every range line that is refused
-pub range_refused : (f : Form) (c : Call) (r : Reply) → IsCallOf f c → IsTrue (is_range f) → may_refuse c r ≡ true → answer_for f r ≡ answer.Spent
-range_refused f (Scan a b) r i t h = scan_refused f a b r h
-range_refused form.Put (Put k v) r i t h = absurd (false≢true t)
-range_refused form.Del (Del k) r i t h = absurd (false≢true t)
-range_refused form.Get (Get k) r i t h = absurd (false≢true t)
-range_refused _ _ r i t h = absurd i
+pub range_refused : (f : Form) (c : Call) (r : Reply) → IsReplyOf f r → IsCallOf f c → IsTrue (is_range f) → may_refuse c r ≡ true → answer_for f r ≡ answer.Spent
+range_refused f (Scan a b) r g i t h = scan_refused f a b r g h
+range_refused form.Put (Put k v) r g i t h = absurd (false≢true t)
+range_refused form.Del (Del k) r g i t h = absurd (false≢true t)
+range_refused form.Get (Get k) r g i t h = absurd (false≢true t)
+range_refused _ _ r g i t h = absurd i
 
 -- a number or nothing is no refusal for want of rows
 number_served : (n : Option ℕ) → number_or_nothing n ≡ answer.NoRows → ⊥

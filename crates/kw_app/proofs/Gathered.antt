@@ -1,24 +1,27 @@
 -- The answer to a range line, from what its scan says; and the forms of lines, from their calls.
-use Rattle.std.proofs.Common.{◌≡◌, ℕ, [], Option, Ok, refl, sym, ap, ◌∙◌, subst}
+use Rattle.std.proofs.Common.{◌≡◌, ℕ, IsTrue, [], Option, Ok, refl, sym, ap, ◌∙◌, subst}
 use Rattle.kw_model.specs.declared.call.Call.{Call}
 use Rattle.kw_model.specs.declared.call.Call.TheVariants.{Put, Del, Get, Scan}
 use Rattle.kw_model.specs.Map.{Pairs}
+use Rattle.kw_model.specs.declared.call.Reply.TheVariants as reply
 use Rattle.kw_line.specs.declared.answer.Answer.{Answer}
 use Rattle.kw_line.specs.declared.item.Form.{Form}
 use Rattle.kw_line.specs.declared.item.Form.TheVariants as form
-use Rattle.kw_line.specs.Answered.{answer_for, answer_of_pairs}
+use Rattle.kw_line.specs.Answered.{IsReplyOf, is_range, answer_for, answer_of_pairs}
 use Rattle.kw_line.specs.Line.{IsCallOf}
 use Rattle.kw_table.specs.declared.pass.Pass.{Pass}
 use Rattle.kw_map.specs.Kiwi.{Answers as Scans}
-use Rattle.kw_app.specs.Working.{Answers}
+use Rattle.kw_app.specs.Working.{LineAnswered, MetSpent}
 
 -- a scan whose gatherer was new answers what the gatherer says of the lists for which it stands
 pub gathered : {S : Type 0} (last : S → Option ℕ) (stands : S → Pairs → Type 0) (stops : S → ℕ) (p q : Pass) (from upto : ℕ) (old new : S) (f : Form) (answer : Answer)
-    → Scans last stands stops p q from upto old new (Ok tt) → stands old [] → ((list : Pairs) → stands new list → answer ≡ answer_of_pairs f list) → Answers p q (Scan from upto) f answer
-gathered last stands stops p q from upto old new f answer scan start gives = record {
+    → IsTrue (is_range f) → Scans last stands stops p q from upto old new (Ok tt) → stands old [] → ((list : Pairs) → stands new list → answer ≡ answer_of_pairs f list) → LineAnswered p q (Scan from upto) f answer
+gathered last stands stops p q from upto old new f answer range scan start gives = record {
   reply = scan.reply;
   calls = scan.calls;
+  is_reply = subst (IsReplyOf f) (sym scan.took.1) range;
   answer_is = gives scan.took.0 (scan.took.2.follows [] start) ∙ sym (ap (answer_for f) scan.took.1);
+  cause = λ e. let bad : reply.Pairs scan.took.0 ≡ reply.Spent = sym scan.took.1 ∙ e in absurd (cc);
 }
 
 -- the form of a put's line
@@ -55,6 +58,6 @@ form_of_get form.Greatest k h = absurd h
 form_of_get form.List k h = absurd h
 
 -- the same answer, of the line's own call and form
-pub answers_as : (p q : Pass) (c d : Call) (f g : Form) (answer : Answer) → c ≡ d → f ≡ g → Answers p q d g answer → Answers p q c f answer
+pub answers_as : (p q : Pass) (c d : Call) (f g : Form) (answer : Answer) → c ≡ d → f ≡ g → LineAnswered p q d g answer → LineAnswered p q c f answer
 answers_as p q c d f g answer call_is form_is h =
-    subst (λ (x : Form). Answers p q c x answer) (sym form_is) (subst (λ (x : Call). Answers p q x g answer) (sym call_is) h)
+    subst (λ (x : Form). LineAnswered p q c x answer) (sym form_is) (subst (λ (x : Call). LineAnswered p q x g answer) (sym call_is) h)

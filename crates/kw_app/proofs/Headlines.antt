@@ -1,13 +1,15 @@
 -- What the answers of a run are worth, from the order of its lines.
-use Rattle.std.proofs.Common.{ℕ, zero, suc, true, false, ◌≡◌, ◌⊎◌, inl, inr, IsTrue, All, List, [], ◌∷◌, length, take, Some, refl, sym, ap, ◌∙◌, subst, arith}
+use Rattle.std.proofs.Common.{ℕ, zero, suc, ◌<◌, true, false, ◌≡◌, ◌≢◌, ◌⊎◌, inl, inr, IsTrue, All, List, [], ◌∷◌, length, take, Some, refl, sym, ap, ◌∙◌, subst, arith}
 use Rattle.std.specs.List.{slice_get, AllByRecursion}
 use Rattle.std.proofs.lemmas.Bool.{false≢true}
 use Rattle.std.proofs.lemmas.List.{length-map}
-use Rattle.std.proofs.lemmas.Option.{same_Some, slice_get_within, get_or_from_slice_get}
+use Rattle.std.specs.Option.{option_map}
+use Rattle.std.proofs.lemmas.Option.{same_Some, slice_get_within, slice_get-map, get_or_from_slice_get}
 use Rattle.kw_model.specs.Map.{Pairs, after, answers}
 use Rattle.kw_model.specs.Legal.{IsLegal, IsRight, is_refusal, may_refuse}
 use Rattle.kw_model.specs.declared.call.Call.{Call}
 use Rattle.kw_model.specs.declared.call.Reply.{Reply}
+use Rattle.kw_model.specs.declared.call.Reply.TheVariants.{Stopped}
 use Rattle.kw_model.proofs.Answers.{answers_only}
 use Rattle.kw_world.specs.declared.opening.Opening.{Opening}
 use Rattle.kw_world.specs.Opening.{IsOpening}
@@ -17,7 +19,8 @@ use Rattle.kw_line.specs.declared.answer.Answer.TheVariants.{NoRows, Spent}
 use Rattle.kw_line.specs.declared.item.Form.{Form}
 use Rattle.kw_line.specs.declared.item.Item.{Item}
 use Rattle.kw_line.specs.declared.item.Item.TheVariants as item
-use Rattle.kw_line.specs.Answered.{answer_for, answers_for, is_range}
+use Rattle.kw_line.specs.Answered.{IsReplyOf, answer_for, answers_for, is_range}
+use Rattle.kw_line.proofs.Replied.{right_is_reply}
 use Rattle.kw_line.specs.Line.{IsCallOf, IsItem, calls, forms}
 use Rattle.kw_line.specs.Quiet.{quiet}
 use Rattle.kw_work.specs.declared.line.Line.{Line}
@@ -32,7 +35,8 @@ use Rattle.kw_work.proofs.WorkerOrders.{keeps_all, keeps_keys}
 use Rattle.kw_table.specs.declared.pass.Pass.{Pass}
 use Rattle.kw_table.specs.declared.pass.View.{View}
 use Rattle.kw_table.specs.Passes.{view}
-use Rattle.kw_app.specs.Recorded.{no_call, recorded, reply_of, seat_calls}
+use Rattle.kw_laws.specs.SeatCalls.{CallSeen}
+use Rattle.kw_app.specs.Recorded.{IsWithin, no_call, recorded, reply_of, seat_calls}
 use Rattle.kw_app.specs.Running.{is_refused, Shows}
 use Rattle.kw_app.specs.Headline.{Headline, HasOneOrder, UpdatesServed, QuietAnswered, AreRefusals, line_calls}
 use Rattle.kw_app.specs.Answering.{some_refused}
@@ -40,7 +44,7 @@ use Rattle.kw_app.specs.OneThread.{answers_to}
 use Rattle.kw_app.proofs.AnswerForms.{MayBeRefused, answers_at, same_answers, unrefused, range_refused, right_refusal}
 use Rattle.kw_app.proofs.Shown.{IfFirst}
 use Rattle.kw_app.proofs.Merging.{length-merge}
-use Rattle.kw_app.proofs.LineOrders.{AreOrdered, lines_ordered}
+use Rattle.kw_app.proofs.LineOrders.{AreOrdered, line_caused, lines_ordered}
 
 -- there are as many forms as calls
 many_forms : (items : List Item) → length (forms items) ≡ length (calls items)
@@ -92,9 +96,6 @@ module _ (o : Opening) (items : List Item) (printed : List Answer) (v : View) (o
         cuts = ordered.cuts;
       }
 
-  one_order : HasOneOrder o v.seen items printed
-  one_order = record { asks = ordered.asks_all ∙ calls-lines_of 1 items; ended = ordered.ended_all; numbers = ordered.numbers; order = order; prints = shows.prints; legal = legal; precedence = ordered.precedence; workers = workers }
-
   -- The line at a place.
 
   record IsAt (i : ℕ) (f : Form) : Type 0 where
@@ -122,6 +123,53 @@ module _ (o : Opening) (items : List Item) (printed : List Answer) (v : View) (o
         answered = ap (λ q. slice_get q i) shows.prints ∙ answers_at (forms items) replies i f r.0 e r.1;
       }
 
+  -- The reply of a line.
+
+  -- it is right where the line's call stands
+  record IsRightAt (i : ℕ) (f : Form) (x : IsAt i f) : Type 0 where
+    map : Pairs
+    right : IsRight map x.call x.reply
+
+  right_here : (i : ℕ) (f : Form) (x : IsAt i f) → IsRightAt i f x
+  right_here i f x =
+      let a = order.every i (slice_get_within (calls items) i x.call x.calls_are) in
+      let m : Pairs = map_after (call_at (calls items)) (reply_at replies) [] (take a.0 ordered.numbers) in
+      let right = right_at (call_at (calls items)) (reply_at replies) [] ordered.numbers a.0 i legal a.1 in
+      let c : call_at (calls items) i ≡ x.call = get_or_from_slice_get (calls items) i x.call _ x.calls_are in
+      let r : reply_at replies i ≡ x.reply = get_or_from_slice_get replies i x.reply _ x.replied in
+      record { map = m; right = subst (λ q. IsRight m q x.reply) c (subst (λ q. IsRight m (call_at (calls items) i) q) r right) }
+
+  -- its call was not stopped
+  unstopped : (i : ℕ) (r : Reply) → slice_get replies i ≡ Some r → r ≢ Stopped
+  unstopped i r e stop =
+      let made : List CallSeen = line_calls o v.seen (lines_of 1 items) in
+      let c = element_at made i (subst (λ n. i < n) (length-map made reply_of) (slice_get_within replies i r e)) in
+      let is : reply_of c.0 ≡ r = same_Some (reply_of c.0) r (sym (slice_get-map reply_of made i ∙ ap (option_map reply_of) c.1) ∙ e) in
+      let within = subst (IsWithin 0 (length v.seen)) (get_or_from_slice_get made i c.0 c.0 c.1) (ordered.ended_all i c.0 (slice_get_within made i c.0 c.1)) in
+      within.unstopped (is ∙ stop)
+
+  -- so it is one that a line of its form may have
+  is_reply : (i : ℕ) (f : Form) (x : IsAt i f) → IsReplyOf f x.reply
+  is_reply i f x = let h = right_here i f x in right_is_reply h.map f x.call x.reply x.is_call h.right (unstopped i x.reply x.replied)
+
+  are_replies : (i : ℕ) (f : Form) (r : Reply) → slice_get (forms items) i ≡ Some f → slice_get replies i ≡ Some r → IsReplyOf f r
+  are_replies i f r e g = let x = at i f e in subst (IsReplyOf f) (same_Some x.reply r (sym x.replied ∙ g)) (is_reply i f x)
+
+  one_order : HasOneOrder o v.seen items printed
+  one_order = record {
+    asks = ordered.asks_all ∙ calls-lines_of 1 items;
+    ended = ordered.ended_all;
+    prints = shows.prints;
+    are_replies = are_replies;
+    causes = line_caused o v.seen (lines_of 1 items) opening shows.valid shows.asks_are shows.ended shows.causes;
+    numbers = ordered.numbers;
+    order = order;
+    of_calls = ordered.of_calls;
+    legal = legal;
+    precedence = ordered.precedence;
+    workers = workers;
+  }
+
   -- One worker.
 
   -- where no answer is a refusal, no reply is one
@@ -133,7 +181,7 @@ module _ (o : Opening) (items : List Item) (printed : List Answer) (v : View) (o
       let x = at i f.0 f.1 in
       let a : Answer = answer_for f.0 x.reply in
       let served : is_refused a ≡ false = subst (λ b. is_refused b ≡ false) (get_or_from_slice_get printed i a a x.answered) (none i a (slice_get_within printed i a x.answered)) in
-      subst (λ r. is_refusal r ≡ false) (sym (get_or_from_slice_get replies i x.reply d x.replied)) (unrefused f.0 x.reply served)
+      subst (λ r. is_refusal r ≡ false) (sym (get_or_from_slice_get replies i x.reply d x.replied)) (unrefused f.0 x.reply (is_reply i f.0 x) served)
 
   -- one worker's lines stand in line order, and so the answers are those in line order
   alone : o.seats ≡ 1 → All (λ a. is_refused a ≡ false) printed → printed ≡ answers_to items
@@ -148,7 +196,7 @@ module _ (o : Opening) (items : List Item) (printed : List Answer) (v : View) (o
 
   -- where no answer of a line that sets a value or takes a key away is a refusal, no such reply is one
   served : UpdatesServed items printed → NoItemRefused items replies
-  served all i f r e g u = unrefused f r (all i f (answer_for f r) e (ap (λ q. slice_get q i) shows.prints ∙ answers_at (forms items) replies i f r e g) u)
+  served all i f r e g u = unrefused f r (are_replies i f r e g) (all i f (answer_for f r) e (ap (λ q. slice_get q i) shows.prints ∙ answers_at (forms items) replies i f r e g) u)
 
   quiet_answered : UpdatesServed items printed → QuietAnswered items printed
   quiet_answered all i f e q = go (quiet_items_answered 1 items replies ordered.numbers each many_replies order (keeps_keys o.seats (blocks_of 1 items) ordered.numbers workers) (served all) legal i x.call f x.reply x.calls_are e x.replied q)
@@ -158,7 +206,7 @@ module _ (o : Opening) (items : List Item) (printed : List Answer) (v : View) (o
 
       go : (slice_get (answers [] (calls items)) i ≡ Some x.reply) ⊎ (IsTrue (is_range f) × IsTrue (may_refuse x.call x.reply)) → (slice_get printed i ≡ slice_get (answers_to items) i) ⊎ (IsTrue (is_range f) × (slice_get printed i ≡ Some Spent))
       go (inl same) = inl (x.answered ∙ sym (answers_at (forms items) (answers [] (calls items)) i f x.reply e same))
-      go (inr h) = inr (h.0, x.answered ∙ ap Some (range_refused f x.call x.reply x.is_call h.0 h.1))
+      go (inr h) = inr (h.0, x.answered ∙ ap Some (range_refused f x.call x.reply (is_reply i f x) x.is_call h.0 h.1))
 
   -- where all lines are quiet and none is refused, the answers are those in line order
   pub all_quiet : ((i : ℕ) (f : Form) → slice_get (forms items) i ≡ Some f → slice_get (quiet items) i ≡ Some true) → some_refused printed ≡ false → printed ≡ answers_to items
@@ -174,13 +222,7 @@ module _ (o : Opening) (items : List Item) (printed : List Answer) (v : View) (o
 
   -- the reply of a line is right where its call stands, so it is refused only as its form may be
   may : (i : ℕ) (f : Form) (x : IsAt i f) → MayBeRefused f (answer_for f x.reply)
-  may i f x =
-      let a = order.every i (slice_get_within (calls items) i x.call x.calls_are) in
-      let m : Pairs = map_after (call_at (calls items)) (reply_at replies) [] (take a.0 ordered.numbers) in
-      let right = right_at (call_at (calls items)) (reply_at replies) [] ordered.numbers a.0 i legal a.1 in
-      let c : call_at (calls items) i ≡ x.call = get_or_from_slice_get (calls items) i x.call _ x.calls_are in
-      let r : reply_at replies i ≡ x.reply = get_or_from_slice_get replies i x.reply _ x.replied in
-      right_refusal f x.call x.reply m x.is_call (subst (λ q. IsRight m q x.reply) c (subst (λ q. IsRight m (call_at (calls items) i) q) r right))
+  may i f x = let h = right_here i f x in right_refusal f x.call x.reply h.map x.is_call h.right
 
   refusals : AreRefusals items printed
   refusals = record {

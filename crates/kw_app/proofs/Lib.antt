@@ -6,6 +6,7 @@ pub mod Inputs
 pub mod Streams
 pub mod Each
 pub mod Gathered
+pub mod Spent
 pub mod Works
 pub mod Merging
 pub mod Seats

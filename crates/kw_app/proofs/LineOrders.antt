@@ -6,13 +6,17 @@ use Rattle.std.proofs.lemmas.Bool.{cases_lt}
 use Rattle.std.proofs.lemmas.List.{take-append-drop, take_at, take_all, length-map}
 use Rattle.std.proofs.lemmas.List.Concat.{flat_map-append}
 use Rattle.std.proofs.lemmas.Option.{same_Some, slice_get-map, slice_get_within, get_or_from_slice_get}
+use Rattle.kw_model.specs.declared.call.Call.TheVariants.{Scan}
 use Rattle.kw_model.specs.declared.call.Reply.{Reply}
+use Rattle.kw_model.specs.declared.call.Reply.TheVariants as reply
+use Rattle.kw_model.specs.Map.{Pairs}
 use Rattle.kw_world.specs.declared.event.Event.{Event}
 use Rattle.kw_world.specs.declared.opening.Opening.{Opening}
 use Rattle.kw_world.specs.Opening.{IsOpening}
 use Rattle.kw_world.specs.Sizes.{product}
 use Rattle.kw_core.specs.declared.history.End.{End}
 use Rattle.kw_core.specs.History.{History, called}
+use Rattle.kw_core.specs.HistoryLaws.{EndsWith, HistoryLaws}
 use Rattle.kw_core.specs.Events.{is_valid}
 use Rattle.kw_core.specs.Run.{history}
 use Rattle.kw_laws.specs.SeatCalls.{CallSeen, seen}
@@ -23,7 +27,7 @@ use Rattle.kw_order.specs.Legal.{IsLegalOrder, call_of}
 use Rattle.kw_order.specs.Legal as order
 use Rattle.kw_order.specs.SeatOrder.{IsTurn, AllEnded}
 use Rattle.kw_order.proofs.LegalOrder.{order_is_legal}
-use Rattle.kw_order.proofs.OneOrder.{order_exists}
+use Rattle.kw_order.proofs.OneOrder.{order_exists, order_unique}
 use Rattle.kw_order.proofs.OrderProofs.{order_has_laws}
 use Rattle.kw_order.proofs.SeatOrders.{name_of, one_turn, seen_turn, turn_of, turn_apart, placed_within, all_placed, turns_kept}
 use Rattle.kw_work.specs.declared.line.Line.{Line}
@@ -32,9 +36,9 @@ use Rattle.kw_work.specs.LineOrder.{IsOrderOf, StandsBefore, IsLegalIn, AreOfLin
 use Rattle.kw_work.proofs.Asked.{element_at}
 use Rattle.kw_work.proofs.Collected.{map-merge}
 use Rattle.kw_work.proofs.MadeCalls.{lines_in_order, lines_legal, lines_before_by}
-use Rattle.kw_app.specs.Recorded.{asked, asks, EndsBefore, IsWithin, no_call, recorded, reply_at, reply_of, seat_calls}
+use Rattle.kw_app.specs.Recorded.{asked, asks, EndsBefore, HasCause, IsWithin, no_call, recorded, reply_at, reply_of, seat_calls}
 use Rattle.kw_app.specs.Running.{AreInBlocks}
-use Rattle.kw_app.specs.Headline.{KeepsPrecedence, line_calls}
+use Rattle.kw_app.specs.Headline.{HasTops, IsOrderOfCalls, KeepsPrecedence, line_calls}
 use Rattle.kw_app.proofs.Merging.{length-merge}
 use Rattle.kw_app.proofs.LineOrdersPlaces.{across, own_before, in_part, share_of, own_before_more, own_before_once, own_before_grows, merged_at}
 
@@ -136,6 +140,15 @@ module _ (o : Opening) (E : List Event) (lines : List Line) (opening : IsOpening
   pub all_asked : asked (line_calls o E lines) ≡ calls_of lines
   all_asked = map-merge (λ (c : CallSeen). c.call) (λ (m : Line). m.call) o.seats (seat_calls o E) no_call [] lines (let some = opening.some_seats in omega arith) asks_are
 
+  -- the call of a line that was told as spent has its cause, where each seat's calls have
+  pub line_caused : ((w : ℕ) → w < o.seats → All (HasCause o E w) (seat_calls o E w)) → (i : ℕ) (l : Line) (c : CallSeen) → slice_get lines i ≡ Some l → slice_get (line_calls o E lines) i ≡ Some c → HasCause o E (worker_of o.seats l) c
+  line_caused causes i l c e f =
+      let w : ℕ = worker_of o.seats l in
+      let k : ℕ = own_before o.seats w lines i in
+      let d = across (λ (c : CallSeen). c.call) (λ (m : Line). m.call) (seat_calls o E w) (part o.seats w lines) k l (asks_are w (seated l)) (in_part o.seats i lines l e) in
+      subst (HasCause o E w) (same_Some (get_or (seat_calls o E w) k no_call) c (sym (merged_at o.seats (seat_calls o E) no_call lines i l e) ∙ f))
+      (causes w (seated l) k no_call (slice_get_within (seat_calls o E w) k d.0 d.1))
+
   -- all calls have ended
   all_ended : AllEnded product o E
   all_ended s k c lt e = let d = has_end (length E) c.end (within s k c lt e).ends in (d.0, d.1)
@@ -184,6 +197,25 @@ module _ (o : Opening) (E : List Event) (lines : List Line) (opening : IsOpening
             let x = call_named i l.0 l.1 in
             let a = is_order.every x.0 (all_placed product o E opening ok all_ended x.0 x.1.turn.within) in
             (a.0, x.0, a.1, one_line (line_of x.0) i x.0 (line_here x.0 x.1.turn.within) x.1)
+
+    -- the pairs of a scan are those of the tops at its version
+    has_tops : HistoryLaws h → (x from upto at : ℕ) (pairs : Pairs) → EndsWith h x (Scan from upto) at (reply.Pairs pairs) → HasTops h x from upto pairs
+    has_tops history x from upto at pairs ends =
+        let s = history.scanned x from upto at pairs ends in
+        record { drawn = s.draw; draw = s.drawn; tops = laws.tops x from upto at pairs s.draw ends s.drawn; no_others = laws.no_others x from upto at pairs ends }
+
+    -- the lines stand as their calls do
+    pub of_calls : HistoryLaws h → IsOrderOfCalls o E (line_calls o E lines) (map line_of ys)
+    of_calls history = record {
+      places = ys;
+      is_order = is_order;
+      only = λ xs other. order_unique h history xs ys other is_order;
+      as_many = length-map ys line_of;
+      made_by = λ a i x e f.
+          let same : line_of x ≡ i = same_Some (line_of x) i (sym (slice_get-map line_of ys a ∙ ap (option_map line_of) f) ∙ e) in
+          subst (λ k. slice_get (line_calls o E lines) k ≡ Some (seen (called h x))) same (made_here (line_of x) x (placed a x f));
+      scans = λ a x from upto at pairs e ends. has_tops history x from upto at pairs ends;
+    }
 
     -- where the call of line i has ended before that of line j began, it stands before it
     stand_apart : (i j : ℕ) → ((x y : ℕ) → IsLineOf i x → IsLineOf j y → EndsBefore (called h y).first (called h x).end) → StandsBefore (map line_of ys) i j
@@ -244,6 +276,7 @@ module _ (o : Opening) (E : List Event) (lines : List Line) (opening : IsOpening
     pub ended_all : All (IsWithin 0 (length E)) (line_calls o E lines)
     pub numbers : List ℕ
     pub order : IsOrderOf (length (calls_of lines)) numbers
+    pub of_calls : IsOrderOfCalls o E (line_calls o E lines) numbers
     pub legal : IsLegalIn (calls_of lines) (recorded o.seats (seat_calls o E) lines) numbers
     pub precedence : KeepsPrecedence (line_calls o E lines) numbers
     pub shares : (i j : ℕ) (l m : Line) → i < j → slice_get lines i ≡ Some l → slice_get lines j ≡ Some m → worker_of o.seats l ≡ worker_of o.seats m → StandsBefore numbers i j
@@ -262,6 +295,7 @@ module _ (o : Opening) (E : List Event) (lines : List Line) (opening : IsOpening
         ended_all = all_within;
         numbers = map line_of ys.0;
         order = lines_in_order (calls_of lines) rs (call_of h) (order.reply_of h) line_of ys.0 calls;
+        of_calls = of_calls ys.0 ys.1 of_order laws;
         legal = lines_legal (calls_of lines) rs (call_of h) (order.reply_of h) line_of ys.0 calls (order_is_legal h laws ys.0 ys.1);
         precedence = precedence_kept ys.0 ys.1 of_order;
         shares = shares_kept ys.0 ys.1 of_order;

@@ -37,6 +37,7 @@ shows_first m o items answers (p ∷ ps) is together ran =
       valid = ap (λ (x : Opening). is_valid product x (view p).seen) (sym opening) ∙ p.known.valid;
       asks_are = λ w lt. ran.asks_are w lt ∙ ap (λ x. asks (part o.seats w x)) lines;
       ended = ran.ended;
+      causes = ran.causes;
       prints = ran.prints ∙ (ap (λ x. printed o.seats (seat_calls o (view p).seen) x) lines
           ∙ ap (λ fs. answers_for fs (recorded o.seats (seat_calls o (view p).seen) (lines_of 1 items))) (forms-lines_of 1 items));
       blocks = in_blocks o o.seats (blocks_of 1 items) (view p).seen answers ran;

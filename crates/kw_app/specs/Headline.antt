@@ -1,30 +1,58 @@
 -- What the answers of a run are worth: they are those of an ordered map of one thread that the lines' calls ask one after the other.
-use Rattle.std.specs.Prelude.{ℕ, ◌≡◌, ◌⊎◌, true, false, not, IsTrue, All, List, [], length, slice_get, Some}
-use Rattle.kw_laws.specs.SeatCalls.{CallSeen}
+use Rattle.std.specs.Prelude.{ℕ, ◌≡◌, ◌<◌, ◌≤◌, ◌⊎◌, Option, None, true, false, not, IsTrue, All, List, [], length, slice_get, Some}
+use Rattle.kw_model.specs.declared.call.Call.TheVariants.{Scan}
+use Rattle.kw_model.specs.declared.call.Reply.{Reply}
+use Rattle.kw_model.specs.declared.call.Reply.TheVariants as reply
+use Rattle.kw_model.specs.Map.{Pairs, value_of}
+use Rattle.kw_core.specs.History.{History, called}
+use Rattle.kw_core.specs.declared.history.Drawn.{Drawn}
+use Rattle.kw_core.specs.HistoryLaws.{EndsWith, shows}
+use Rattle.kw_laws.specs.SeatCalls.{CallSeen, seen}
+use Rattle.kw_order.specs.Order.{IsOrder, IsTop}
+use Rattle.kw_map.specs.Kiwi.{happened}
 use Rattle.kw_world.specs.declared.event.Event.{Event}
 use Rattle.kw_world.specs.declared.opening.Opening.{Opening}
 use Rattle.kw_line.specs.declared.answer.Answer.{Answer}
 use Rattle.kw_line.specs.declared.answer.Answer.TheVariants.{NoRows, Spent}
 use Rattle.kw_line.specs.declared.item.Form.{Form}
 use Rattle.kw_line.specs.declared.item.Item.{Item}
-use Rattle.kw_line.specs.Answered.{answers_for, is_update, is_get, is_range}
+use Rattle.kw_line.specs.Answered.{IsReplyOf, answers_for, is_update, is_get, is_range}
 use Rattle.kw_line.specs.Line.{calls, forms}
 use Rattle.kw_line.specs.Quiet.{quiet}
 use Rattle.kw_work.specs.declared.line.Line.{Line}
 use Rattle.kw_work.specs.Collecting.{merge}
-use Rattle.kw_work.specs.Dealing.{lines_of, blocks_of}
+use Rattle.kw_work.specs.Dealing.{lines_of, blocks_of, worker_of}
 use Rattle.kw_work.specs.LineOrder.{IsOrderOf, StandsBefore, IsLegalIn, KeepsWorkers}
 use Rattle.kw_app.specs.OneThread.{answers_to}
-use Rattle.kw_app.specs.Recorded.{asked, EndsBefore, IsWithin, no_call, recorded, seat_calls}
+use Rattle.kw_app.specs.Recorded.{asked, EndsBefore, HasCause, IsWithin, no_call, recorded, seat_calls}
 use Rattle.kw_app.specs.Running.{is_refused}
 
 -- the calls of the lines in line order, as the list of events shows them
 abbrev pub line_calls : Opening → List Event → List Line → List CallSeen
 line_calls o E lines = merge o.seats (seat_calls o E) no_call [] lines
 
+-- call x, a scan, drew a version; for each key of its range the pairs have the value of the key's last put or delete with a version not above it, so no
+-- pair where that is a delete or where there is none; and they have no other key
+pub record HasTops (h : History) (x from upto : ℕ) (pairs : Pairs) : Type 0 where
+  pub drawn : Drawn
+  pub draw : (called h x).draw ≡ Some drawn
+  pub tops : (key : ℕ) → from ≤ key → key ≤ upto → (p : Option ℕ) × IsTop h key drawn.version p × (value_of key pairs ≡ shows h p)
+  pub no_others : (key : ℕ) → (key < from) ⊎ (upto < key) → value_of key pairs ≡ None
+
 -- where the call of line i has ended before the first event of the call of line j, i stands before j
 abbrev pub KeepsPrecedence : List CallSeen → List ℕ → Type 0
 KeepsPrecedence made xs = (i j : ℕ) (c d : CallSeen) → slice_get made i ≡ Some c → slice_get made j ≡ Some d → EndsBefore d.first c.end → StandsBefore xs i j
+
+-- The calls of the record in their one order, of which a list of events has no other; line number a of the order made the a-th of these calls.
+pub record IsOrderOfCalls (o : Opening) (E : List Event) (made : List CallSeen) (numbers : List ℕ) : Type 0 where
+  -- the places of the calls in the record
+  pub places : List ℕ
+  pub is_order : IsOrder (happened o E) places
+  pub only : (xs : List ℕ) → IsOrder (happened o E) xs → xs ≡ places
+  pub as_many : length numbers ≡ length places
+  pub made_by : (a i x : ℕ) → slice_get numbers a ≡ Some i → slice_get places a ≡ Some x → slice_get made i ≡ Some (seen (called (happened o E) x))
+  -- of each of these scans that ended with pairs: it had a version, and its pairs are those of the tops at it
+  pub scans : (a x from upto at : ℕ) (pairs : Pairs) → slice_get places a ≡ Some x → EndsWith (happened o E) x (Scan from upto) at (reply.Pairs pairs) → HasTops (happened o E) x from upto pairs
 
 -- each line has made its call, and there is one order of the lines in which the map of one thread gives all that is printed
 pub record HasOneOrder (o : Opening) (E : List Event) (items : List Item) (printed : List Answer) : Type 0 where
@@ -33,9 +61,15 @@ pub record HasOneOrder (o : Opening) (E : List Event) (items : List Item) (print
   pub ended : All (IsWithin 0 (length E)) (line_calls o E (lines_of 1 items))
   -- what is printed are the replies of these calls
   pub prints : printed ≡ answers_for (forms items) (recorded o.seats (seat_calls o E) (lines_of 1 items))
+  -- each is a reply that a line of this form may have, so no call was stopped
+  pub are_replies : (i : ℕ) (f : Form) (r : Reply) → slice_get (forms items) i ≡ Some f → slice_get (recorded o.seats (seat_calls o E) (lines_of 1 items)) i ≡ Some r → IsReplyOf f r
+  -- a line is told that it is spent only where its worker's seat, while it made the line's call, found the versions spent
+  pub causes : (i : ℕ) (l : Line) (c : CallSeen) → slice_get (lines_of 1 items) i ≡ Some l → slice_get (line_calls o E (lines_of 1 items)) i ≡ Some c → HasCause o E (worker_of o.seats l) c
   -- the numbers of the lines in the order, counted from 0: each stands there once
   pub numbers : List ℕ
   pub order : IsOrderOf (length (calls items)) numbers
+  -- it is that of the calls, of which the list of events has one
+  pub of_calls : IsOrderOfCalls o E (line_calls o E (lines_of 1 items)) numbers
   -- asked in this order of the map, which was empty, the calls have these replies; a refusal leaves the map as it was
   pub legal : IsLegalIn (calls items) (recorded o.seats (seat_calls o E) (lines_of 1 items)) numbers
   -- a call that ended before another began stands before it

@@ -10,7 +10,7 @@ ghost use Rattle.kw_line.specs.Answered.{number_or_nothing};
 ghost use Rattle.kw_live.specs.Following.{GoesTo};
 ghost use Rattle.kw_map.specs.Kiwi.{IsIdle};
 ghost use Rattle.kw_work.specs.Dealing.{IsLine};
-ghost use Rattle.kw_app.specs.Working.{Answers};
+ghost use Rattle.kw_app.specs.Working.{LineAnswered};
 
 use kw_line::answer::Answer;
 use kw_line::item::Form;
@@ -32,7 +32,7 @@ pub fn ask(alloc: Global, kiwi: &Kiwi, pass: &mut Pass, line: Line) -> Result<An
     requires line { IsLine line }
     ensures idle { IsIdle kiwi.now pass.new }
     ensures goes { GoesTo kiwi.now.shared pass.old pass.new }
-    ensures answers { IfOk result (λ answer. Answers pass.old pass.new line.call line.form answer) }
+    ensures answers { IfOk result (λ answer. LineAnswered pass.old pass.new line.call line.form answer) }
 {
     match line.call {
         Call::Put(key, value) => Ok(put(kiwi, pass, key, value)),
@@ -54,7 +54,7 @@ fn put(kiwi: &Kiwi, pass: &mut Pass, key: u32, value: u64) -> Answer
     requires value { value < VALUE_END }
     ensures idle { IsIdle kiwi.now pass.new }
     ensures goes { GoesTo kiwi.now.shared pass.old pass.new }
-    ensures answers { Answers pass.old pass.new (Call.Put key value) form.Put result }
+    ensures answers { LineAnswered pass.old pass.new (Call.Put key value) form.Put result }
 {
     match kiwi.put(pass, key, value) {
         Ok(()) => Answer::Done,
@@ -66,7 +66,7 @@ fn delete(kiwi: &Kiwi, pass: &mut Pass, key: u32) -> Answer
     requires { IsIdle kiwi.now pass.old }
     ensures idle { IsIdle kiwi.now pass.new }
     ensures goes { GoesTo kiwi.now.shared pass.old pass.new }
-    ensures answers { Answers pass.old pass.new (Call.Del key) form.Del result }
+    ensures answers { LineAnswered pass.old pass.new (Call.Del key) form.Del result }
 {
     match kiwi.delete(pass, key) {
         Ok(()) => Answer::Done,
@@ -78,7 +78,7 @@ fn get(kiwi: &Kiwi, pass: &mut Pass, key: u32) -> Answer
     requires { IsIdle kiwi.now pass.old }
     ensures idle { IsIdle kiwi.now pass.new }
     ensures goes { GoesTo kiwi.now.shared pass.old pass.new }
-    ensures answers { Answers pass.old pass.new (Call.Get key) form.Get result }
+    ensures answers { LineAnswered pass.old pass.new (Call.Get key) form.Get result }
 {
     match kiwi.get(pass, key) {
         Some(value) => number(value),
@@ -90,7 +90,7 @@ fn sum(kiwi: &Kiwi, pass: &mut Pass, from: u32, upto: u32) -> Answer
     requires { IsIdle kiwi.now pass.old }
     ensures idle { IsIdle kiwi.now pass.new }
     ensures goes { GoesTo kiwi.now.shared pass.old pass.new }
-    ensures answers { Answers pass.old pass.new (Call.Scan from upto) form.Sum result }
+    ensures answers { LineAnswered pass.old pass.new (Call.Scan from upto) form.Sum result }
 {
     let mut into = SumGather::new();
     match kiwi.scan(pass, from, upto, &mut into) {
@@ -104,7 +104,7 @@ fn count(kiwi: &Kiwi, pass: &mut Pass, from: u32, upto: u32) -> Answer
     requires { IsIdle kiwi.now pass.old }
     ensures idle { IsIdle kiwi.now pass.new }
     ensures goes { GoesTo kiwi.now.shared pass.old pass.new }
-    ensures answers { Answers pass.old pass.new (Call.Scan from upto) form.Count result }
+    ensures answers { LineAnswered pass.old pass.new (Call.Scan from upto) form.Count result }
 {
     let mut into = CountGather::new();
     match kiwi.scan(pass, from, upto, &mut into) {
@@ -118,7 +118,7 @@ fn least(kiwi: &Kiwi, pass: &mut Pass, from: u32, upto: u32) -> Answer
     requires { IsIdle kiwi.now pass.old }
     ensures idle { IsIdle kiwi.now pass.new }
     ensures goes { GoesTo kiwi.now.shared pass.old pass.new }
-    ensures answers { Answers pass.old pass.new (Call.Scan from upto) form.Least result }
+    ensures answers { LineAnswered pass.old pass.new (Call.Scan from upto) form.Least result }
 {
     let mut into = LeastGather::new();
     match kiwi.scan(pass, from, upto, &mut into) {
@@ -132,7 +132,7 @@ fn greatest(kiwi: &Kiwi, pass: &mut Pass, from: u32, upto: u32) -> Answer
     requires { IsIdle kiwi.now pass.old }
     ensures idle { IsIdle kiwi.now pass.new }
     ensures goes { GoesTo kiwi.now.shared pass.old pass.new }
-    ensures answers { Answers pass.old pass.new (Call.Scan from upto) form.Greatest result }
+    ensures answers { LineAnswered pass.old pass.new (Call.Scan from upto) form.Greatest result }
 {
     let mut into = GreatestGather::new();
     match kiwi.scan(pass, from, upto, &mut into) {
@@ -147,7 +147,7 @@ fn list(alloc: Global, kiwi: &Kiwi, pass: &mut Pass, from: u32, upto: u32) -> Re
     requires { IsIdle kiwi.now pass.old }
     ensures idle { IsIdle kiwi.now pass.new }
     ensures goes { GoesTo kiwi.now.shared pass.old pass.new }
-    ensures answers { IfOk result (λ answer. Answers pass.old pass.new (Call.Scan from upto) form.List answer) }
+    ensures answers { IfOk result (λ answer. LineAnswered pass.old pass.new (Call.Scan from upto) form.List answer) }
 {
     let mut into = ListGather::new(alloc);
     match kiwi.scan(pass, from, upto, &mut into) {
