@@ -1,0 +1,6 @@
+pub mod Chains
+pub mod Frames
+pub mod Lists
+pub mod Statuses
+pub mod Swapped
+pub mod Swaps

@@ -1,0 +1,48 @@
+-- What a seat knows of the group that it rebalances: one row, or two neighbours.
+use Rattle.std.specs.Prelude.{ℕ, ◌≡◌, ◌⊎◌, Option, Some}
+use Rattle.kw_rows.specs.Ledger.{Ledger, IsLive, IsDead, IsFresh}
+use Rattle.kw_rows.specs.RowState.{Leader, Follower, IsLed, IsTwo, IsLeader, IsClaimable, IsClaimed, IsTaken}
+use Rattle.kw_rows.specs.Rows.{Rows}
+use Rattle.kw_rows.specs.States.{LinksOn}
+
+-- how far a seat is with its group: r leads, c is the row after it
+pub data View : Type 0 where
+  Elsewhere : View
+  -- it found r a leader of so many rows, and marks its link
+  Marking : ℕ → ℕ → View
+  -- it marked the link, and decides how many rows go
+  Opened : ℕ → ℕ → View
+  -- two rows go, and it takes c along
+  Claiming : ℕ → ℕ → View
+  -- c goes along, and it marks the link of c
+  MarkingNext : ℕ → ℕ → View
+  -- the group is r, or r and c, with what stands after it
+  Alone : ℕ → Option ℕ → View
+  Pair : ℕ → ℕ → Option ℕ → View
+
+-- r goes alone: so it was decided, or the row after it leads a group of its own
+pub record IsAlone (w : Rows) (r : ℕ) (after : Option ℕ) : Type 0 where
+  pub either : (w.state r ≡ Leader 1) ⊎ (w.state r ≡ Leader 2) × ((c : ℕ) × (after ≡ Some c) × IsLeader (w.state c))
+
+pub record IsPair (w : Rows) (r c : ℕ) : Type 0 where
+  pub leads : w.state r ≡ Leader 2
+  pub follows : w.state c ≡ Follower r
+
+abbrev pub Group : Rows → Ledger → View → Type 0
+Group w g Elsewhere = Unit {0}
+Group w g (Marking r n) = IsLed n (w.state r)
+Group w g (Opened r c) = LinksOn w r (Some c) × IsLed 0 (w.state r)
+Group w g (Claiming r c) = LinksOn w r (Some c) × IsTwo (w.state r) × (IsLive g r → IsClaimable r (w.state c)) × (IsDead g r → IsClaimed r (w.state c))
+Group w g (MarkingNext r c) = LinksOn w r (Some c) × IsTwo (w.state r) × IsTaken r (w.state c)
+Group w g (Alone r after) = LinksOn w r after × (IsLive g r → IsAlone w r after)
+Group w g (Pair r c after) = LinksOn w r (Some c) × LinksOn w c after × (IsLive g r → IsPair w r c) × (IsDead g r → IsDead g c × ((g.fates c).gone ≡ (g.fates r).gone))
+
+-- the seat may name the rows of its view
+abbrev pub Named : Ledger → ℕ → View → Type 0
+Named g t Elsewhere = Unit {0}
+Named g t (Marking r n) = IsFresh g t r
+Named g t (Opened r c) = IsFresh g t r × IsFresh g t c
+Named g t (Claiming r c) = IsFresh g t r × IsFresh g t c
+Named g t (MarkingNext r c) = IsFresh g t r × IsFresh g t c
+Named g t (Alone r after) = IsFresh g t r
+Named g t (Pair r c after) = IsFresh g t r × IsFresh g t c
