@@ -1,5 +1,5 @@
 -- An event that leaves what a seat may name as it was keeps the list of rows, and what held rows lead to.
-use Rattle.std.proofs.Common.{ℕ, ◌≡◌, ◌⊎◌, inl, inr, ◌<◌, ◌≤◌, Option, Some, None, arith, refl, sym, ◌∙◌, ap, subst}
+use Rattle.std.proofs.Common.{ℕ, suc, ◌≡◌, ◌⊎◌, inl, inr, ◌<◌, ◌≤◌, Option, Some, None, arith, refl, sym, ◌∙◌, ap, subst}
 use Rattle.kw_rows.specs.Ledger.{Ledger, Fate, Status, Live, Dead, IsLive, IsDead, IsFresh, IsHeld, WasHeld, Past}
 use Rattle.kw_rows.specs.Rows.{Rows, Chain, Closed, Follows, HoldsKey, IsBefore, WasLinked, leads, bound}
 use Rattle.kw_rows.proofs.Statuses.{not_dead}
@@ -154,7 +154,7 @@ module _ (w w' : Rows) (ledger ledger' : Ledger) (e : Frames w w' ledger ledger'
       inr (record { since = h.since; dead = ap (λ (k : Fate). k.status) s ∙ h.dead; passes = q ∙ sym p ∙ h.passes; before = subst (λ (k : Fate). h.since < k.gone) (sym s) h.before })
 
   -- what is recorded stays past, where no more is recorded
-  pub past_framed : (now : ℕ) → Past ledger now → ((t since : ℕ) → ledger'.passes t ≡ Some since → since < 1 + now) → ((m at : ℕ) → ledger'.numbered m ≡ Some at → at < 1 + now) → Past ledger' (1 + now)
+  pub past_framed : (now : ℕ) → Past ledger now → ((t since : ℕ) → ledger'.passes t ≡ Some since → since < suc now) → ((m at : ℕ) → ledger'.numbered m ≡ Some at → at < suc now) → Past ledger' (suc now)
   past_framed now b begun drawn = record {
     gone = λ x d. omega (arith, ap (λ (k : Fate). k.gone) (e.was x (inr d)), b.gone x (dead_was x d));
     begun = begun;

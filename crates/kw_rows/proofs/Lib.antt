@@ -1,4 +1,5 @@
 pub mod Chains
+pub mod Framed
 pub mod Frames
 pub mod Lists
 pub mod Statuses
