@@ -1,7 +1,9 @@
 pub mod Chains
+pub mod Exchanges
 pub mod Framed
 pub mod Frames
 pub mod Lists
 pub mod Statuses
+pub mod StatesKeep
 pub mod Swapped
 pub mod Swaps
