@@ -4,6 +4,7 @@ pub mod Framed
 pub mod Frames
 pub mod Lists
 pub mod Statuses
+pub mod Sets
 pub mod StatesKeep
 pub mod Swapped
 pub mod Swaps
