@@ -1,3 +1,4 @@
+pub mod Calm
 pub mod Chains
 pub mod Exchanges
 pub mod Framed
