@@ -3,9 +3,12 @@ pub mod Chains
 pub mod Exchanges
 pub mod Framed
 pub mod Frames
+pub mod Kept
 pub mod Lists
-pub mod Statuses
+pub mod Replaced
 pub mod Sets
 pub mod StatesKeep
+pub mod Statuses
 pub mod Swapped
 pub mod Swaps
+pub mod Won
