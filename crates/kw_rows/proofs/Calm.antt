@@ -1,16 +1,16 @@
 -- Events that change no state of a held row: free rows taken, infants given back or written, retired rows free again, marks, frozen
 -- rows, numbers and passes. States, marks and what seats know of their groups stay right.
-use Rattle.std.proofs.Common.{ℕ, ◌≡◌, ◌≢◌, ◌⊎◌, inl, inr, ◌≤◌, true, Option, Some, None, refl, sym, ◌∙◌, ap, subst}
+use Rattle.std.proofs.Common.{ℕ, ◌≡◌, ◌≢◌, ◌⊎◌, inl, inr, true, Option, Some, None, sym, ◌∙◌, ap, subst}
 use Rattle.std.proofs.lemmas.Bool.{cases_eq}
 use Rattle.kw_rows.specs.Ledger.{Ledger, Fate, Status, Free, Infant, Live, Dead, IsLive, IsDead, IsFresh, IsHeld}
 use Rattle.kw_rows.specs.RowState as row
 use Rattle.kw_rows.specs.RowState.{State, Leader, IsLed, IsTwo, IsLeader, IsEngaged, IsDecided, IsClaimable, IsClaimed, IsTaken}
-use Rattle.kw_rows.specs.Rows.{Rows, Chain, Closed}
+use Rattle.kw_rows.specs.Rows.{Rows, Chain}
 use Rattle.kw_rows.specs.States.{LinksOn, HasState, States, Marks}
-use Rattle.kw_rows.specs.Group.{View, Elsewhere, Marking, Opened, Claiming, MarkingNext, Alone, Pair, IsAlone, IsPair, Group, Named}
-use Rattle.kw_rows.specs.Events.{SameLinks, SameStates, SameFates, SameLedger, Turns, Takes, GivesBack, Fills, Reclaims, MarksLink, Freezes, Numbers, Passes, Rests}
-use Rattle.kw_rows.proofs.Statuses.{not_infant, not_dead, not_free, dead_infant, dead_free}
-use Rattle.kw_rows.proofs.StatesKeep.{Leads, SameRow, SameMarks, states_kept, marks_same, marks_none}
+use Rattle.kw_rows.specs.Group.{View, Elsewhere, Marking, Opened, Claiming, MarkingNext, Alone, Pair, IsAlone, Group, Named}
+use Rattle.kw_rows.specs.Events.{SameLinks, SameStates, SameFates, Turns, Takes, GivesBack, Fills, Reclaims, MarksLink, Freezes, Numbers, Passes, Rests}
+use Rattle.kw_rows.proofs.Statuses.{not_infant, not_free, dead_infant, dead_free}
+use Rattle.kw_rows.proofs.StatesKeep.{Leads, SameRow, states_kept, marks_same, marks_none}
 use Rattle.kw_rows.proofs.Framed.{held_no, retired_no}
 
 -- a held row has the state, the link and the fate that it had, and a marked link stays marked

@@ -5,7 +5,7 @@ use Rattle.kw_rows.specs.Ledger.{Ledger, Fate, IsLive, IsDead}
 use Rattle.kw_rows.specs.RowState as row
 use Rattle.kw_rows.specs.RowState.{State, Normal, Leader, Follower, Retired, IsLed, IsTwo, IsLeader, IsClaimable, IsClaimed, IsTaken}
 use Rattle.kw_rows.specs.Rows.{Rows, Chain}
-use Rattle.kw_rows.specs.States.{LinksOn, HasLeader}
+use Rattle.kw_rows.specs.States.{LinksOn}
 use Rattle.kw_rows.specs.Group.{View, Elsewhere, Marking, Opened, Claiming, MarkingNext, Alone, Pair, IsAlone, IsPair, Group}
 use Rattle.kw_rows.specs.Events.{SameLedger, SetsState}
 use Rattle.kw_rows.proofs.Statuses.{not_dead}
@@ -160,4 +160,3 @@ to_retired w ledger x m s c d = record {
   same = λ n a o q. not_dead (ledger.fates x).status a d;
   follower = λ r a b q. not_dead (ledger.fates x).status (c.linked r x a b) d;
 }
-

@@ -1,12 +1,12 @@
 -- Every event but the replacing one leaves the list of rows as it was, and what held rows lead to; and what is recorded is past.
-use Rattle.std.proofs.Common.{ℕ, suc, ◌≡◌, ◌≢◌, ◌⊎◌, inl, inr, ◌<◌, Option, Some, None, arith, refl, sym, ◌∙◌, ap, subst}
+use Rattle.std.proofs.Common.{ℕ, suc, ◌≡◌, ◌≢◌, ◌⊎◌, inl, inr, ◌<◌, Option, Some, None, arith, sym, ◌∙◌, subst}
 use Rattle.std.proofs.lemmas.Bool.{cases_eq}
 use Rattle.std.proofs.lemmas.Option.{same_Some}
-use Rattle.kw_rows.specs.Ledger.{Ledger, Status, Free, Infant, Live, Dead, IsLive, IsDead, IsHeld, WasHeld, Past}
+use Rattle.kw_rows.specs.Ledger.{Ledger, Status, Free, Infant, Live, Dead, IsDead, IsHeld, Past}
 use Rattle.kw_rows.specs.RowState.{State, Retired}
 use Rattle.kw_rows.specs.Rows.{Rows, WasLinked}
 use Rattle.kw_rows.specs.States.{IsDeadState, IsNumbered, HasState, States}
-use Rattle.kw_rows.specs.Events.{SameLinks, SameLedger, SamePasses, SameFates, Turns, Takes, GivesBack, Fills, Reclaims, Numbers, Passes}
+use Rattle.kw_rows.specs.Events.{SameLinks, SameLedger, Turns, Takes, GivesBack, Fills, Reclaims, Numbers, Passes}
 use Rattle.kw_rows.proofs.Statuses.{not_infant, not_dead, not_free, dead_infant, dead_free}
 use Rattle.kw_rows.proofs.Frames.{Frames}
 

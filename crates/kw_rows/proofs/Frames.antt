@@ -1,7 +1,7 @@
 -- An event that leaves what a seat may name as it was keeps the list of rows, and what held rows lead to.
 use Rattle.std.proofs.Common.{ℕ, suc, ◌≡◌, ◌⊎◌, inl, inr, ◌<◌, ◌≤◌, Option, Some, None, arith, refl, sym, ◌∙◌, ap, subst}
-use Rattle.kw_rows.specs.Ledger.{Ledger, Fate, Status, Live, Dead, IsLive, IsDead, IsFresh, IsHeld, WasHeld, Past}
-use Rattle.kw_rows.specs.Rows.{Rows, Chain, Closed, Follows, HoldsKey, IsBefore, WasLinked, leads, bound}
+use Rattle.kw_rows.specs.Ledger.{Ledger, Fate, IsLive, IsDead, IsFresh, IsHeld, WasHeld, Past}
+use Rattle.kw_rows.specs.Rows.{Rows, Chain, Closed, Follows, HoldsKey, IsBefore, WasLinked, bound}
 use Rattle.kw_rows.proofs.Statuses.{not_dead}
 
 -- a row that was held, or is linked or dead after the event, has the words that the list reads and the fate that it had
@@ -52,9 +52,9 @@ module _ (w w' : Rows) (ledger ledger' : Ledger) (e : Frames w w' ledger ledger'
     first_least = e.least c.first (inl c.first_live) ∙ c.first_least;
     linked = λ x y a f. live_on y (c.linked x y (live_was x a) (to x y (live_was x a) f));
     rises = λ x y a f.
-      let b = live_was x a in
-      let k = to x y b f in
-      omega (arith, e.least x (inl b), e.least y (inl (c.linked x y b k)), c.rises x y b k);
+        let b = live_was x a in
+        let k = to x y b f in
+        omega (arith, e.least x (inl b), e.least y (inl (c.linked x y b k)), c.rises x y b k);
     apart = λ x y a b. which x y (live_was x a) (live_was y b) (c.apart x y (live_was x a) (live_was y b));
   }
     where
@@ -74,9 +74,9 @@ module _ (w w' : Rows) (ledger ledger' : Ledger) (e : Frames w w' ledger ledger'
     linked = linked;
     later = later;
     rises = λ x y h f.
-      let b = was x h in
-      let k = to x y b f in
-      omega (arith, e.least x (held_linked x b), e.least y (held_linked y (c.linked x y b k)), c.rises x y b k);
+        let b = was x h in
+        let k = to x y b f in
+        omega (arith, e.least x (held_linked x b), e.least y (held_linked y (c.linked x y b k)), c.rises x y b k);
     upper = upper;
   }
     where
@@ -95,12 +95,15 @@ module _ (w w' : Rows) (ledger ledger' : Ledger) (e : Frames w w' ledger ledger'
           dead b d (inr u) =
               let s = e.stays y b in
               let l = (c.later x y (was x h) k d).1 in
-              inr (u.0, record {
-                since = u.1.since;
-                dead = ap (λ (t : Fate). t.status) s ∙ d;
-                passes = u.1.passes;
-                before = omega (arith, (held_was u.0 x u.1).before, l, ap (λ (t : Fate). t.gone) s, u.1.before, ap (λ (t : Fate). t.gone) (e.was x (inr u.1.dead)));
-              })
+              inr (
+                u.0,
+                record {
+                  since = u.1.since;
+                  dead = ap (λ (t : Fate). t.status) s ∙ d;
+                  passes = u.1.passes;
+                  before = omega (arith, (held_was u.0 x u.1).before, l, ap (λ (t : Fate). t.gone) s, u.1.before, ap (λ (t : Fate). t.gone) (e.was x (inr u.1.dead)));
+                },
+              )
 
           which : IsHeld ledger y → IsHeld ledger' x → IsHeld ledger' y
           which (inl a) u = inl (live_on y a)

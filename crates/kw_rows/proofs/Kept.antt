@@ -1,7 +1,7 @@
 -- Every event keeps what holds of the rows: one case an event.
-use Rattle.std.proofs.Common.{ℕ, suc, ◌≡◌, ◌<◌, Option, Some, None, arith, refl, sym, ◌∙◌}
+use Rattle.std.proofs.Common.{ℕ, suc, ◌≡◌, ◌<◌, Some, None, arith}
 use Rattle.std.proofs.lemmas.Option.{same_Some}
-use Rattle.kw_rows.specs.Ledger.{Ledger, IsDead, IsFresh, Past}
+use Rattle.kw_rows.specs.Ledger.{Ledger, IsFresh, Past}
 use Rattle.kw_rows.specs.Rows.{Rows, Chain, Closed, Follows}
 use Rattle.kw_rows.specs.States.{States, Marks}
 use Rattle.kw_rows.specs.Group.{View, Group, Named}

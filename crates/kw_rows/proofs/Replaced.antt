@@ -1,6 +1,6 @@
 -- What the replacing event finds and leaves, drawn from what holds of all rows before it.
-use Rattle.std.proofs.Common.{ℕ, suc, ◌≡◌, ◌≢◌, ◌⊎◌, inl, inr, ◌<◌, true, false, Option, Some, None, List, [], ◌∷◌, arith, refl, sym, ◌∙◌, ap, subst}
-use Rattle.kw_rows.specs.Ledger.{Ledger, Fate, IsLive, IsDead, IsFresh, IsHeld, Past}
+use Rattle.std.proofs.Common.{ℕ, suc, ◌≡◌, ◌⊎◌, inl, inr, ◌<◌, true, false, Option, Some, None, List, ◌∷◌, arith, sym, ◌∙◌, ap}
+use Rattle.kw_rows.specs.Ledger.{Ledger, Fate, IsLive, IsDead, IsFresh, IsHeld}
 use Rattle.kw_rows.specs.Rows.{Rows, Chain, Closed, Follows, leads}
 use Rattle.kw_rows.specs.States.{States, Marks}
 use Rattle.kw_rows.specs.Group.{View, Group, Named}

@@ -1,11 +1,11 @@
 -- The exchanges of one state: each leaves the states and the marks of all rows right, and what seats know of their groups.
-use Rattle.std.proofs.Common.{ℕ, ◌≡◌, ◌⊎◌, inl, inr, ◌≤◌, ◌<◌, true, Option, Some, arith, refl, sym, ◌∙◌, ap, subst}
+use Rattle.std.proofs.Common.{ℕ, ◌≡◌, ◌⊎◌, inl, inr, ◌≤◌, ◌<◌, true, Some, arith, refl, sym, ◌∙◌, ap, subst}
 use Rattle.std.proofs.lemmas.Bool.{cases_eq}
-use Rattle.kw_rows.specs.Ledger.{Ledger, Fate, Status, Live, Dead, IsLive, IsDead, IsHeld}
+use Rattle.kw_rows.specs.Ledger.{Ledger, Fate, IsLive, IsDead, IsHeld}
 use Rattle.kw_rows.specs.RowState as row
 use Rattle.kw_rows.specs.RowState.{State, Normal, Leader, Follower, Retired, IsTwo, IsEngaged, IsDecided, IsClaimed}
 use Rattle.kw_rows.specs.Rows.{Rows, Chain}
-use Rattle.kw_rows.specs.States.{HasLeader, IsNumbered, IsLiveState, IsDeadState, HasState, States, Marks}
+use Rattle.kw_rows.specs.States.{IsLiveState, IsDeadState, HasState, States, Marks}
 use Rattle.kw_rows.specs.Group.{View, Claiming, Group}
 use Rattle.kw_rows.specs.Events.{SameLedger, SetsState, Engages, Decides, EngagesNext, Normalises, Retires}
 use Rattle.kw_rows.proofs.Statuses.{not_dead}

@@ -1,10 +1,10 @@
 -- What a row's state and marks say stays true of a row that is as it was, whatever becomes of another.
-use Rattle.std.proofs.Common.{ℕ, ◌≡◌, ◌⊎◌, inl, inr, ◌<◌, ◌≤◌, true, Option, Some, refl, sym, ◌∙◌, ap, subst}
+use Rattle.std.proofs.Common.{ℕ, ◌≡◌, ◌⊎◌, inl, inr, ◌<◌, Some, sym, ◌∙◌, ap, subst}
 use Rattle.kw_rows.specs.Ledger.{Ledger, Fate, Status, Free, Infant, Live, Dead, IsLive, IsDead}
 use Rattle.kw_rows.specs.RowState as row
 use Rattle.kw_rows.specs.RowState.{State, Normal, Leader, Follower, Retired, IsEngaged, IsDecided}
 use Rattle.kw_rows.specs.Rows.{Rows}
-use Rattle.kw_rows.specs.States.{LinksOn, HasLeader, IsNumbered, IsLiveState, IsDeadState, HasState, States, Marks}
+use Rattle.kw_rows.specs.States.{HasLeader, IsLiveState, IsDeadState, HasState, States, Marks}
 
 -- live leaders of two still lead, by the same marked links, and drawn numbers stay drawn
 pub record Leads (w w' : Rows) (ledger ledger' : Ledger) : Type 0 where

@@ -1,8 +1,8 @@
 -- A part of the list is exchanged for another: the live rows stay one list, held rows lead to held rows, and rows that share a key
 -- follow one another.
-use Rattle.std.proofs.Common.{ℕ, ◌≡◌, ◌⊎◌, inl, inr, ◌<◌, ◌≤◌, Option, Some, None, List, [], ◌∷◌, arith, refl, sym, ◌∙◌, ap, subst}
+use Rattle.std.proofs.Common.{ℕ, ◌≡◌, ◌⊎◌, inl, inr, ◌<◌, ◌≤◌, Option, Some, None, List, ◌∷◌, arith, refl, sym, ◌∙◌, ap, subst}
 use Rattle.std.proofs.lemmas.Option.{same_Some}
-use Rattle.kw_rows.specs.Ledger.{Ledger, Dead, IsLive, IsDead, IsFresh, IsHeld, WasHeld}
+use Rattle.kw_rows.specs.Ledger.{Ledger, Dead, IsLive, IsFresh, IsHeld, WasHeld}
 use Rattle.kw_rows.specs.Rows.{Rows, Chain, Closed, Follows, HoldsKey, IsBefore, leads, bound}
 use Rattle.kw_rows.specs.Events.{IsIn}
 use Rattle.kw_rows.proofs.Lists.{in_or_not, link_or_not, to_next, from_last, rise_next, first_rises}

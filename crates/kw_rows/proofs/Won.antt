@@ -1,19 +1,18 @@
 -- A group is replaced: its rows are dead, the new ones are live, and what other seats know of their groups still holds.
-use Rattle.std.proofs.Common.{ℕ, ◌≡◌, ◌≢◌, ◌⊎◌, inl, inr, ◌≤◌, ◌<◌, true, false, Option, Some, None, List, ◌∷◌, arith, refl, sym, ◌∙◌, ap, subst}
+use Rattle.std.proofs.Common.{ℕ, ◌≡◌, ◌≢◌, ◌⊎◌, inl, inr, ◌<◌, true, false, Option, Some, None, List, arith, refl, sym, ◌∙◌, ap, subst}
 use Rattle.std.proofs.lemmas.Bool.{cases_eq}
 use Rattle.std.proofs.lemmas.Option.{same_Some}
 use Rattle.kw_rows.specs.Ledger.{Ledger, Fate, Status, Free, Infant, Live, Dead, IsLive, IsDead, IsFresh}
 use Rattle.kw_rows.specs.RowState as row
 use Rattle.kw_rows.specs.RowState.{State, Normal, Leader, Follower, Retired, IsLed, IsTwo, IsLeader, IsEngaged, IsDecided, IsClaimable, IsClaimed, IsTaken}
 use Rattle.kw_rows.specs.Rows.{Rows, Chain, WasLinked}
-use Rattle.kw_rows.specs.States.{LinksOn, HasLeader, IsNumbered, IsLiveState, IsDeadState, HasState, States, Marks}
+use Rattle.kw_rows.specs.States.{LinksOn, HasLeader, IsLiveState, IsDeadState, HasState, States, Marks}
 use Rattle.kw_rows.specs.Group.{View, Elsewhere, Marking, Opened, Claiming, MarkingNext, Alone, Pair, IsAlone, IsPair, Group, Named}
 use Rattle.kw_rows.specs.Events.{Holds, IsIn}
 use Rattle.kw_rows.proofs.Lists.{in_or_not}
 use Rattle.kw_rows.proofs.Statuses.{not_dead, not_infant, dead_infant}
-use Rattle.kw_rows.proofs.Framed.{dead_state}
 use Rattle.kw_rows.proofs.StatesKeep.{marks_same}
-use Rattle.kw_rows.proofs.Sets.{live_state, live_two}
+use Rattle.kw_rows.proofs.Sets.{live_two}
 
 -- the row is one of the group
 abbrev pub IsOf : ℕ → Option ℕ → ℕ → Type 0

@@ -1,10 +1,10 @@
 -- The events that change rows: what each finds, which is its premise, and what it leaves.
 use Rattle.std.specs.Prelude.{ℕ, ◌≡◌, ◌≢◌, ◌⊎◌, ◌<◌, ◌≤◌, true, false, Option, Some, None, List, [], ◌∷◌}
-use Rattle.kw_rows.specs.Ledger.{Ledger, Free, Infant, Live, Dead, IsLive, IsDead, IsHeld}
+use Rattle.kw_rows.specs.Ledger.{Ledger, Free, Infant, IsLive, IsDead, IsHeld}
 use Rattle.kw_rows.specs.RowState as row
 use Rattle.kw_rows.specs.RowState.{State, Normal, Leader, Follower, Retired, IsEngaged, IsDecided}
 use Rattle.kw_rows.specs.Rows.{Rows, leads, bound}
-use Rattle.kw_rows.specs.States.{LinksOn, IsNumbered}
+use Rattle.kw_rows.specs.States.{IsNumbered}
 use Rattle.kw_rows.specs.Group.{Alone, Pair, Claiming, Group}
 
 -- What stays.

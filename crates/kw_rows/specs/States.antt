@@ -1,5 +1,5 @@
 -- The state and the marks of a row, by what has become of it.
-use Rattle.std.specs.Prelude.{ℕ, ◌≡◌, ◌≤◌, ◌<◌, Bool, true, Option, Some}
+use Rattle.std.specs.Prelude.{ℕ, ◌≡◌, ◌≤◌, ◌<◌, true, Option, Some}
 use Rattle.kw_rows.specs.Ledger.{Ledger, Status, Free, Infant, Live, Dead, IsLive, IsDead}
 use Rattle.kw_rows.specs.RowState as row
 use Rattle.kw_rows.specs.RowState.{State, Normal, Leader, Follower, Retired, IsEngaged, IsDecided}
