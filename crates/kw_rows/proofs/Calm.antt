@@ -1,15 +1,15 @@
 -- Events that change no state of a held row: free rows taken, infants given back or written, retired rows free again, marks, frozen
 -- rows, numbers and passes. States, marks and what seats know of their groups stay right.
-use Rattle.std.proofs.Common.{ℕ, ◌≡◌, ◌≢◌, ◌⊎◌, inl, inr, true, Option, Some, None, sym, ◌∙◌, ap, subst}
+use Rattle.std.proofs.Common.{ℕ, ◌≡◌, ◌≢◌, ◌⊎◌, inl, inr, true, Option, Some, None, sym, ◌∙◌, ap, subst, ◌<◌}
 use Rattle.std.proofs.lemmas.Bool.{cases_eq}
 use Rattle.kw_rows.specs.Ledger.{Ledger, Fate, Status, Free, Infant, Live, Dead, IsLive, IsDead, IsFresh, IsHeld}
 use Rattle.kw_rows.specs.RowState as row
 use Rattle.kw_rows.specs.RowState.{State, Leader, IsLed, IsTwo, IsLeader, IsEngaged, IsDecided, IsClaimable, IsClaimed, IsTaken}
-use Rattle.kw_rows.specs.Rows.{Rows, Chain}
+use Rattle.kw_rows.specs.Rows.{Rows, Chain, Closed}
 use Rattle.kw_rows.specs.States.{LinksOn, HasState, States, Marks}
-use Rattle.kw_rows.specs.Group.{View, Elsewhere, Marking, Opened, Claiming, MarkingNext, Alone, Pair, IsAlone, Group, Named}
+use Rattle.kw_rows.specs.Group.{View, Elsewhere, Marking, Opened, Claiming, MarkingNext, Alone, Pair, IsAlone, IsClaimedNext, WentWith, Group, Named, Pairs}
 use Rattle.kw_rows.specs.Events.{SameLinks, SameStates, SameFates, Turns, Takes, GivesBack, Fills, Reclaims, MarksLink, Freezes, Numbers, Passes, Rests}
-use Rattle.kw_rows.proofs.Statuses.{not_infant, not_free, dead_infant, dead_free}
+use Rattle.kw_rows.proofs.Statuses.{not_infant, not_free, dead_infant, dead_free, not_dead}
 use Rattle.kw_rows.proofs.StatesKeep.{Leads, SameRow, states_kept, marks_same, marks_none}
 use Rattle.kw_rows.proofs.Framed.{held_no, retired_no}
 
@@ -45,7 +45,14 @@ module _ (w w' : Rows) (ledger ledger' : Ledger) (k : Calm w w' ledger ledger') 
     numbered = n;
   }
 
-  module _ (c : Chain w ledger) (t : ℕ) where
+  went_with : (r x : ℕ) → IsHeld ledger r → IsHeld ledger x → WentWith ledger r x → WentWith ledger' r x
+  went_with r x hr hx d = (ap (λ (f : Fate). f.status) (k.fate x hx) ∙ d.0, ap (λ (f : Fate). f.gone) (k.fate x hx) ∙ d.1 ∙ ap (λ (f : Fate). f.gone) (sym (k.fate r hr)))
+
+  module _ (c : Chain w ledger) (o : Closed w ledger) (t : ℕ) where
+    -- the row after a held one is claimed still
+    pub claimed_next : (r : ℕ) → IsHeld ledger r → IsDead ledger r → IsClaimedNext w r → IsClaimedNext w' r
+    claimed_next r a d h = (h.0, k.next r a ∙ h.1, same (IsClaimed r) h.0 (o.linked r h.0 a h.1) h.2)
+
     held : (x : ℕ) → IsFresh ledger t x → IsHeld ledger x
     held x f = fresh_held ledger t x f
 
@@ -59,22 +66,35 @@ module _ (w w' : Rows) (ledger ledger' : Ledger) (k : Calm w w' ledger ledger') 
     -- what a seat knows of its group stays
     pub group_calm : (v : View) → Named ledger t v → Group w ledger v → Group w' ledger' v
     group_calm Elsewhere n g = tt
-    group_calm (Marking r i) n g = same (IsLed i) r (held r n) g
-    group_calm (Opened r x) n g = (link r (Some x) (held r n.0) g.0, same (IsLed 0) r (held r n.0) g.1)
+    group_calm (Marking r i) n g = (same (IsLed i) r (held r n) g.0, λ o a. let d = dead_was r (held r n) a in claimed_next r (held r n) d (g.1 o d))
+    group_calm (Opened r after) n g = (link r after (held r n) g.0, same (IsLed 0) r (held r n) g.1)
     group_calm (Claiming r x) n g = (
       link r (Some x) (held r n.0) g.0,
       same IsTwo r (held r n.0) g.1,
       λ a. same (IsClaimable r) x (held x n.1) (g.2 (live_was r (held r n.0) a)),
       λ a. same (IsClaimed r) x (held x n.1) (g.3 (dead_was r (held r n.0) a)),
     )
-    group_calm (MarkingNext r x) n g = (link r (Some x) (held r n.0) g.0, same IsTwo r (held r n.0) g.1, same (IsTaken r) x (held x n.1) g.2)
+    group_calm (MarkingNext r x) n g = (link r (Some x) (held r n.0) g.0, same IsTwo r (held r n.0) g.1, same (IsTaken r) x (held x n.1) g.2, λ a. went_with r x (held r n.0) (held x n.1) (g.3 (dead_was r (held r n.0) a)))
     group_calm (Alone r after) n g = (link r after (held r n) g.0, λ a. let b = live_was r (held r n) a in alone r after b g.0.next (g.1 b))
     group_calm (Pair r x after) n g = (
       link r (Some x) (held r n.0) g.0,
       link x after (held x n.1) g.1,
       λ a. let p = g.2 (live_was r (held r n.0) a) in record { leads = k.state r (held r n.0) ∙ p.leads; follows = k.state x (held x n.1) ∙ p.follows },
-      λ a. let d = g.3 (dead_was r (held r n.0) a) in (ap (λ (f : Fate). f.status) (k.fate x (held x n.1)) ∙ d.0, ap (λ (f : Fate). f.gone) (k.fate x (held x n.1)) ∙ d.1 ∙ ap (λ (f : Fate). f.gone) (sym (k.fate r (held r n.0)))),
+      λ a. went_with r x (held r n.0) (held x n.1) (g.3 (dead_was r (held r n.0) a)),
     )
+
+  -- what pairs of rows say stays, where no more rows are held
+  pub pairs_calm : Chain w ledger → Closed w ledger → ((x : ℕ) → IsHeld ledger' x → IsHeld ledger x) → ((x : ℕ) → Pairs w ledger x) → (x : ℕ) → Pairs w' ledger' x
+  pairs_calm c o was m x = record {
+    next = λ a q. let h = was x (inl a) in let t = (m x).next (live_was x h a) (sym (k.state x h) ∙ q) in (t.0, k.next x h ∙ t.1);
+    claimed = λ a d q. let h = was x a in let b = dead_was x h d in claimed_next c o 0 x h b ((m x).claimed h b (sym (k.state x h) ∙ q));
+    together = λ p a d q. let h = was x a in let b = dead_was x h d in let t = (m x).together p h b (sym (k.state x h) ∙ q) in went_with x p h (with_held p h b t) t;
+  }
+    where
+      -- a row that went with a held one is held
+      with_held : (p : ℕ) → IsHeld ledger x → IsDead ledger x → WentWith ledger x p → IsHeld ledger p
+      with_held p (inl a) d t = not_dead (ledger.fates x).status a d
+      with_held p (inr h) d t = inr (h.0, record { since = h.1.since; dead = t.0; passes = h.1.passes; before = subst (λ g. h.1.since < g) (sym t.1) h.1.before })
 
 -- what such an event keeps of states, marks and groups
 pub record Stays (w w' : Rows) (ledger ledger' : Ledger) : Type 0 where

@@ -6,7 +6,7 @@ use Rattle.kw_rows.specs.RowState as row
 use Rattle.kw_rows.specs.RowState.{State, Normal, Leader, Follower, Retired, IsLed, IsTwo, IsLeader, IsClaimable, IsClaimed, IsTaken}
 use Rattle.kw_rows.specs.Rows.{Rows, Chain}
 use Rattle.kw_rows.specs.States.{LinksOn}
-use Rattle.kw_rows.specs.Group.{View, Elsewhere, Marking, Opened, Claiming, MarkingNext, Alone, Pair, IsAlone, IsPair, Group}
+use Rattle.kw_rows.specs.Group.{View, Elsewhere, Marking, Opened, Claiming, MarkingNext, Alone, Pair, IsAlone, IsPair, IsClaimedNext, WentWith, Group}
 use Rattle.kw_rows.specs.Events.{SameLedger, SetsState}
 use Rattle.kw_rows.proofs.Statuses.{not_dead}
 use Rattle.kw_rows.proofs.StatesKeep.{Leads}
@@ -63,19 +63,27 @@ module _ (w w' : Rows) (ledger ledger' : Ledger) (x : ℕ) (s s' : State) (found
   pair : (r c : ℕ) → IsLive ledger r → w.next r ≡ Some c → IsPair w r c → IsPair w' r c
   pair r c a f h = record { leads = same_leader r 2 a (omega arith) h.leads; follows = at (λ s. s ≡ Follower r) c (λ u. k.follower r a (to r c u f)) h.follows }
 
+  -- the row after r is claimed still
+  pub claimed_next : (r : ℕ) → IsClaimedNext w r → IsClaimedNext w' r
+  claimed_next r h = (h.0, e.links.next r ∙ h.1, at (IsClaimed r) h.0 (λ q. k.claimed r) h.2)
+
+  -- rows that went together did so still
+  pub went_with : (r c : ℕ) → WentWith ledger r c → WentWith ledger' r c
+  went_with r c d = (status c ∙ d.0, gone c ∙ d.1 ∙ sym (gone r))
+
   -- what a seat knows of its group stays
   pub group_sets : (v : View) → Group w ledger v → Group w' ledger' v
   group_sets Elsewhere g = tt
-  group_sets (Marking r n) g = at (IsLed n) r (λ q. k.led n) g
-  group_sets (Opened r c) g = (link r (Some c) g.0, at (IsLed 0) r (λ q. k.led 0) g.1)
+  group_sets (Marking r n) g = (at (IsLed n) r (λ q. k.led n) g.0, λ o a. claimed_next r (g.1 o (dead_was r a)))
+  group_sets (Opened r after) g = (link r after g.0, at (IsLed 0) r (λ q. k.led 0) g.1)
   group_sets (Claiming r c) g = (link r (Some c) g.0, at IsTwo r (λ q. k.two) g.1, λ a. at (IsClaimable r) c (λ q. k.claimable r (live_was r a) (to r c q g.0.next)) (g.2 (live_was r a)), λ a. at (IsClaimed r) c (λ q. k.claimed r) (g.3 (dead_was r a)))
-  group_sets (MarkingNext r c) g = (link r (Some c) g.0, at IsTwo r (λ q. k.two) g.1, at (IsTaken r) c (λ q. k.taken r) g.2)
+  group_sets (MarkingNext r c) g = (link r (Some c) g.0, at IsTwo r (λ q. k.two) g.1, at (IsTaken r) c (λ q. k.taken r) g.2, λ a. went_with r c (g.3 (dead_was r a)))
   group_sets (Alone r after) g = (link r after g.0, λ a. alone r after (live_was r a) g.0.next (g.1 (live_was r a)))
   group_sets (Pair r c after) g = (
     link r (Some c) g.0,
     link c after g.1,
     λ a. pair r c (live_was r a) g.0.next (g.2 (live_was r a)),
-    λ a. let d = g.3 (dead_was r a) in (status c ∙ d.0, gone c ∙ d.1 ∙ sym (gone r)),
+    λ a. went_with r c (g.3 (dead_was r a)),
   )
 
   -- live leaders of two still lead

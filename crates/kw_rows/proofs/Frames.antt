@@ -40,7 +40,8 @@ module _ (w w' : Rows) (ledger ledger' : Ledger) (e : Frames w w' ledger ledger'
       let b : h.since < (ledger.fates x).gone = subst (λ (k : Fate). h.since < k.gone) f h.before in
       record { since = h.since; dead = d; passes = e.passes t h.since x h.passes d b; before = b }
 
-  was : (x : ℕ) → IsHeld ledger' x → IsHeld ledger x
+  -- no more rows are held
+  pub was : (x : ℕ) → IsHeld ledger' x → IsHeld ledger x
   was x (inl a) = inl (live_was x a)
   was x (inr h) = inr (h.0, held_was h.0 x h.1)
 

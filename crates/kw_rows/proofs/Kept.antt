@@ -4,15 +4,15 @@ use Rattle.std.proofs.lemmas.Option.{same_Some}
 use Rattle.kw_rows.specs.Ledger.{Ledger, IsFresh, Past}
 use Rattle.kw_rows.specs.Rows.{Rows, Chain, Closed, Follows}
 use Rattle.kw_rows.specs.States.{States, Marks}
-use Rattle.kw_rows.specs.Group.{View, Group, Named}
+use Rattle.kw_rows.specs.Group.{View, Group, Named, Pairs}
 use Rattle.kw_rows.specs.Events.{Event, takes, gives_back, fills, reclaims, engages, marks, decides, engages_next, normalises, freezes, numbers, retires, begins, ends, rests, replaces}
 use Rattle.kw_rows.specs.Structure.{Structure}
-use Rattle.kw_rows.proofs.Frames.{Frames, chain_framed, closed_framed, follows_framed, fresh_framed, past_framed}
+use Rattle.kw_rows.proofs.Frames.{Frames, was, chain_framed, closed_framed, follows_framed, fresh_framed, past_framed}
 use Rattle.kw_rows.proofs.Framed.{still, links_still, taken, given_back, reclaimed, filled, numbered, begun, ended, passes_past, numbers_past, number_past, pass_past}
 use Rattle.kw_rows.proofs.Sets.{engaged, decided, followed, normalised, retired}
 use Rattle.kw_rows.proofs.Sets as sets
-use Rattle.kw_rows.proofs.Calm.{Stays, group_calm, takes_stay, gives_back_stay, fills_stay, reclaims_stay, marks_stay, freezes_stay, numbers_stay, passes_stay, rests_stay}
-use Rattle.kw_rows.proofs.Replaced.{replaced_chain, replaced_closed, replaced_follows, replaced_fresh, replaced_states, replaced_marks, replaced_group, replaced_gone}
+use Rattle.kw_rows.proofs.Calm.{Stays, group_calm, pairs_calm, takes_stay, gives_back_stay, fills_stay, reclaims_stay, marks_stay, freezes_stay, numbers_stay, passes_stay, rests_stay}
+use Rattle.kw_rows.proofs.Replaced.{replaced_chain, replaced_closed, replaced_follows, replaced_fresh, replaced_states, replaced_marks, replaced_group, replaced_pairs, replaced_gone}
 
 module _ (w w' : Rows) (ledger ledger' : Ledger) (now : ℕ) (s : Structure w ledger now) where
   -- all that an event keeps
@@ -21,18 +21,20 @@ module _ (w w' : Rows) (ledger ledger' : Ledger) (now : ℕ) (s : Structure w le
     pub closed : Closed w' ledger'
     pub states : States w' ledger'
     pub marks : (x : ℕ) → Marks w' ledger' x
+    pub pairs : (x : ℕ) → Pairs w' ledger' x
     pub follows : Follows w' ledger'
     pub past : Past ledger' (suc now)
     pub fresh : (t since x : ℕ) → ledger.passes t ≡ Some since → ledger'.passes t ≡ Some since → IsFresh ledger t x → IsFresh ledger' t x
     pub group : (t : ℕ) (v : View) → Named ledger t v → Group w ledger v → Group w' ledger' v
 
   -- what an event leaves that is no replacing one
-  framed : Frames w w' ledger ledger' → States w' ledger' → ((x : ℕ) → Marks w' ledger' x) → ((t : ℕ) (v : View) → Named ledger t v → Group w ledger v → Group w' ledger' v) → ((t since : ℕ) → ledger'.passes t ≡ Some since → since < suc now) → ((m at : ℕ) → ledger'.numbered m ≡ Some at → at < suc now) → All
-  framed f state mark group passes drawn = record {
+  framed : Frames w w' ledger ledger' → States w' ledger' → ((x : ℕ) → Marks w' ledger' x) → ((x : ℕ) → Pairs w' ledger' x) → ((t : ℕ) (v : View) → Named ledger t v → Group w ledger v → Group w' ledger' v) → ((t since : ℕ) → ledger'.passes t ≡ Some since → since < suc now) → ((m at : ℕ) → ledger'.numbered m ≡ Some at → at < suc now) → All
+  framed f state mark pair group passes drawn = record {
     chain = chain_framed w w' ledger ledger' f s.chain;
     closed = closed_framed w w' ledger ledger' f s.closed;
     states = state;
     marks = mark;
+    pairs = pair;
     follows = follows_framed w w' ledger ledger' f s.follows;
     past = past_framed w w' ledger ledger' f now s.past passes drawn;
     fresh = fresh_framed w w' ledger ledger' f;
@@ -41,7 +43,7 @@ module _ (w w' : Rows) (ledger ledger' : Ledger) (now : ℕ) (s : Structure w le
 
   -- it changes no state of a held row
   calm : Frames w w' ledger ledger' → Stays w w' ledger ledger' → ((t since : ℕ) → ledger'.passes t ≡ Some since → since < suc now) → ((m at : ℕ) → ledger'.numbered m ≡ Some at → at < suc now) → All
-  calm f k passes drawn = framed f k.states k.marks (λ t v n g. group_calm w w' ledger ledger' k.calm s.chain t v n g) passes drawn
+  calm f k passes drawn = framed f k.states k.marks (pairs_calm w w' ledger ledger' k.calm s.chain s.closed (was w w' ledger ledger' f) s.pairs) (λ t v n g. group_calm w w' ledger ledger' k.calm s.chain s.closed t v n g) passes drawn
 
   -- and no pass or number
   quiet : Frames w w' ledger ledger' → Stays w w' ledger ledger' → ((t : ℕ) → ledger'.passes t ≡ ledger.passes t) → ((m : ℕ) → ledger'.numbered m ≡ ledger.numbered m) → All
@@ -49,21 +51,21 @@ module _ (w w' : Rows) (ledger ledger' : Ledger) (now : ℕ) (s : Structure w le
 
   -- it exchanges one state
   set : Frames w w' ledger ledger' → sets.Kept w w' ledger ledger' → ((t : ℕ) → ledger'.passes t ≡ ledger.passes t) → ((m : ℕ) → ledger'.numbered m ≡ ledger.numbered m) → All
-  set f k p n = framed f k.states k.marks (λ t v i g. k.group v g) (passes_past w w' ledger ledger' now s.past p) (numbers_past w w' ledger ledger' now s.past n)
+  set f k p n = framed f k.states k.marks k.pairs (λ t v i g. k.group v g) (passes_past w w' ledger ledger' now s.past p) (numbers_past w w' ledger ledger' now s.past n)
 
   pub kept : Event w w' ledger ledger' now → All
   kept (takes x t e) = quiet (taken w w' ledger ledger' x t e) (takes_stay w w' ledger ledger' s.states s.marks x t e) e.turns.others.passes e.turns.others.numbered
   kept (gives_back x e) = quiet (given_back w w' ledger ledger' x e) (gives_back_stay w w' ledger ledger' s.states s.marks x e) e.turns.others.passes e.turns.others.numbered
   kept (fills x e) = quiet (filled w w' ledger ledger' x e) (fills_stay w w' ledger ledger' s.states s.marks x e) e.ledger.others.passes e.ledger.others.numbered
   kept (reclaims x m e) = quiet (reclaimed w w' ledger ledger' x m s.states e) (reclaims_stay w w' ledger ledger' s.states s.marks x m e) e.turns.others.passes e.turns.others.numbered
-  kept (engages x e) = set (links_still w w' ledger ledger' e.sets.links e.ledger) (engaged w w' ledger ledger' s.chain s.states s.marks x e) e.ledger.others.passes e.ledger.others.numbered
+  kept (engages x e) = set (links_still w w' ledger ledger' e.sets.links e.ledger) (engaged w w' ledger ledger' s.chain s.states s.marks s.pairs x e) e.ledger.others.passes e.ledger.others.numbered
   kept (marks x e) = quiet (still w w' ledger ledger' e.head e.next e.least e.ledger) (marks_stay w w' ledger ledger' s.states s.marks x e) e.ledger.others.passes e.ledger.others.numbered
-  kept (decides r n e) = set (links_still w w' ledger ledger' e.sets.links e.ledger) (decided w w' ledger ledger' s.chain s.states s.marks r n e) e.ledger.others.passes e.ledger.others.numbered
-  kept (engages_next r c e) = set (links_still w w' ledger ledger' e.sets.links e.ledger) (followed w w' ledger ledger' s.chain s.states s.marks r c e) e.ledger.others.passes e.ledger.others.numbered
-  kept (normalises x t e) = set (links_still w w' ledger ledger' e.sets.links e.ledger) (normalised w w' ledger ledger' s.chain s.states s.marks x t e) e.ledger.others.passes e.ledger.others.numbered
+  kept (decides r n e) = set (links_still w w' ledger ledger' e.sets.links e.ledger) (decided w w' ledger ledger' s.chain s.states s.marks s.pairs r n e) e.ledger.others.passes e.ledger.others.numbered
+  kept (engages_next r c e) = set (links_still w w' ledger ledger' e.sets.links e.ledger) (followed w w' ledger ledger' s.chain s.states s.marks s.pairs r c e) e.ledger.others.passes e.ledger.others.numbered
+  kept (normalises x t e) = set (links_still w w' ledger ledger' e.sets.links e.ledger) (normalised w w' ledger ledger' s.chain s.states s.marks s.pairs x t e) e.ledger.others.passes e.ledger.others.numbered
   kept (freezes x e) = quiet (still w w' ledger ledger' e.head e.next e.least e.ledger) (freezes_stay w w' ledger ledger' s.states s.marks x e) e.ledger.others.passes e.ledger.others.numbered
   kept (numbers m e) = calm (numbered w w' ledger ledger' now m e) (numbers_stay w w' ledger ledger' s.states s.marks now m e) (passes_past w w' ledger ledger' now s.past e.passes) (number_past w w' ledger ledger' now m s.past e)
-  kept (retires x m e) = set (links_still w w' ledger ledger' e.sets.links e.ledger) (retired w w' ledger ledger' s.chain s.states s.marks x m e) e.ledger.others.passes e.ledger.others.numbered
+  kept (retires x m e) = set (links_still w w' ledger ledger' e.sets.links e.ledger) (retired w w' ledger ledger' s.chain s.states s.marks s.pairs x m e) e.ledger.others.passes e.ledger.others.numbered
   kept (begins t e) = calm (begun w w' ledger ledger' t now s.past e) (passes_stay w w' ledger ledger' s.states s.marks t (Some now) e) (pass_past w w' ledger ledger' now t (Some now) (λ since q. omega (arith, same_Some now since q)) s.past e) (numbers_past w w' ledger ledger' now s.past e.numbered)
   kept (ends t e) = calm (ended w w' ledger ledger' t e) (passes_stay w w' ledger ledger' s.states s.marks t None e) (pass_past w w' ledger ledger' now t None (λ since q. no_none since q) s.past e) (numbers_past w w' ledger ledger' now s.past e.numbered)
     where
@@ -75,6 +77,7 @@ module _ (w w' : Rows) (ledger ledger' : Ledger) (now : ℕ) (s : Structure w le
     closed = replaced_closed w w' ledger ledger' now p r c after n more s e;
     states = replaced_states w w' ledger ledger' now p r c after n more s e;
     marks = replaced_marks w w' ledger ledger' now p r c after n more s e;
+    pairs = replaced_pairs w w' ledger ledger' now p r c after n more s e;
     follows = replaced_follows w w' ledger ledger' now p r c after n more s e;
     past = record {
       gone = replaced_gone w w' ledger ledger' now p r c after n more s e;

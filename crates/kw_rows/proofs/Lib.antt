@@ -11,4 +11,5 @@ pub mod StatesKeep
 pub mod Statuses
 pub mod Swapped
 pub mod Swaps
+pub mod Views
 pub mod Won

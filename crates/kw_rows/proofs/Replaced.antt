@@ -1,9 +1,9 @@
 -- What the replacing event finds and leaves, drawn from what holds of all rows before it.
-use Rattle.std.proofs.Common.{ℕ, suc, ◌≡◌, ◌⊎◌, inl, inr, ◌<◌, true, false, Option, Some, None, List, ◌∷◌, arith, sym, ◌∙◌, ap}
+use Rattle.std.proofs.Common.{ℕ, suc, ◌≡◌, ◌⊎◌, inl, inr, ◌<◌, true, false, Option, Some, None, List, ◌∷◌, arith, sym, ◌∙◌, ap, subst}
 use Rattle.kw_rows.specs.Ledger.{Ledger, Fate, IsLive, IsDead, IsFresh, IsHeld}
 use Rattle.kw_rows.specs.Rows.{Rows, Chain, Closed, Follows, leads}
 use Rattle.kw_rows.specs.States.{States, Marks}
-use Rattle.kw_rows.specs.Group.{View, Group, Named}
+use Rattle.kw_rows.specs.Group.{View, Group, Named, Pairs}
 use Rattle.kw_rows.specs.Events.{IsIn, Links, Holds, rest_of, IsOpenLink, Replaces}
 use Rattle.kw_rows.specs.Structure.{Structure}
 use Rattle.kw_rows.proofs.Lists.{in_or_not}
@@ -11,7 +11,7 @@ use Rattle.kw_rows.proofs.Statuses.{not_dead}
 use Rattle.kw_rows.proofs.Chains.{IsLink, leads_live}
 use Rattle.kw_rows.proofs.Swaps.{Swaps}
 use Rattle.kw_rows.proofs.Swapped.{chain_kept, closed_kept, follow_kept, fresh_kept}
-use Rattle.kw_rows.proofs.Won.{Wins, IsOf, IsUnmarked, states_won, marks_won, group_won}
+use Rattle.kw_rows.proofs.Won.{Wins, IsOf, IsUnmarked, states_won, marks_won, group_won, pairs_won}
 
 -- an unmarked row that is held is live
 open_live : (w : Rows) (ledger : Ledger) (p : ℕ) → Marks w ledger p → IsHeld ledger p → w.marked p ≡ false → IsLive ledger p
@@ -100,6 +100,8 @@ module _ (w w' : Rows) (ledger ledger' : Ledger) (now : ℕ) (p : Option ℕ) (r
     marked = e.marked;
     frozen = e.frozen;
     next = λ y d. e.others (Some y) d;
+    leads_on = λ y q. (n, subst (λ x. leads w' x ≡ Some n) (sym q) e.leads_on);
+    passes = e.passes.passes;
     numbered = e.passes.numbered;
     went = λ x i. (e.gone_dead x (in_group r c x i), e.gone_now x (in_group r c x i));
     come = e.come;
@@ -120,13 +122,16 @@ module _ (w w' : Rows) (ledger ledger' : Ledger) (now : ℕ) (p : Option ℕ) (r
   replaced_fresh t since x = fresh_kept w w' ledger ledger' now p r (rest_of c) after n more s.chain swaps t x since
 
   pub replaced_states : States w' ledger'
-  replaced_states = states_won w w' ledger ledger' now p r c after (n ∷ more) s.chain s.states s.marks wins
+  replaced_states = states_won w w' ledger ledger' now p r c after (n ∷ more) s.chain s.states s.marks s.pairs wins
 
   pub replaced_marks : (x : ℕ) → Marks w' ledger' x
-  replaced_marks = marks_won w w' ledger ledger' now p r c after (n ∷ more) s.chain s.states s.marks wins
+  replaced_marks = marks_won w w' ledger ledger' now p r c after (n ∷ more) s.chain s.states s.marks s.pairs wins
+
+  pub replaced_pairs : (x : ℕ) → Pairs w' ledger' x
+  replaced_pairs = pairs_won w w' ledger ledger' now p r c after (n ∷ more) s.chain s.states s.marks s.pairs wins
 
   pub replaced_group : (t : ℕ) (v : View) → Named ledger t v → Group w ledger v → Group w' ledger' v
-  replaced_group = group_won w w' ledger ledger' now p r c after (n ∷ more) s.chain s.states s.marks wins
+  replaced_group = group_won w w' ledger ledger' now p r c after (n ∷ more) s.chain s.states s.marks s.pairs wins
 
   -- a dead row went now, or before
   pub replaced_gone : (x : ℕ) → IsDead ledger' x → (ledger'.fates x).gone < suc now

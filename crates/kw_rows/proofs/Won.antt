@@ -2,14 +2,14 @@
 use Rattle.std.proofs.Common.{ℕ, ◌≡◌, ◌≢◌, ◌⊎◌, inl, inr, ◌<◌, true, false, Option, Some, None, List, arith, refl, sym, ◌∙◌, ap, subst}
 use Rattle.std.proofs.lemmas.Bool.{cases_eq}
 use Rattle.std.proofs.lemmas.Option.{same_Some}
-use Rattle.kw_rows.specs.Ledger.{Ledger, Fate, Status, Free, Infant, Live, Dead, IsLive, IsDead, IsFresh}
+use Rattle.kw_rows.specs.Ledger.{Ledger, Fate, Status, Free, Infant, Live, Dead, IsLive, IsDead, IsFresh, IsHeld}
 use Rattle.kw_rows.specs.RowState as row
 use Rattle.kw_rows.specs.RowState.{State, Normal, Leader, Follower, Retired, IsLed, IsTwo, IsLeader, IsEngaged, IsDecided, IsClaimable, IsClaimed, IsTaken}
 use Rattle.kw_rows.specs.Rows.{Rows, Chain, WasLinked}
 use Rattle.kw_rows.specs.States.{LinksOn, HasLeader, IsLiveState, IsDeadState, HasState, States, Marks}
-use Rattle.kw_rows.specs.Group.{View, Elsewhere, Marking, Opened, Claiming, MarkingNext, Alone, Pair, IsAlone, IsPair, Group, Named}
+use Rattle.kw_rows.specs.Group.{View, Elsewhere, Marking, Opened, Claiming, MarkingNext, Alone, Pair, IsAlone, IsPair, IsClaimedNext, WentWith, Group, Named, Pairs}
 use Rattle.kw_rows.specs.Events.{Holds, IsIn}
-use Rattle.kw_rows.proofs.Lists.{in_or_not}
+use Rattle.kw_rows.proofs.Lists.{in_or_not, link_or_not}
 use Rattle.kw_rows.proofs.Statuses.{not_dead, not_infant, dead_infant}
 use Rattle.kw_rows.proofs.StatesKeep.{marks_same}
 use Rattle.kw_rows.proofs.Sets.{live_two}
@@ -37,6 +37,8 @@ pub record Wins (w w' : Rows) (ledger ledger' : Ledger) (now : ℕ) (p : Option 
   pub marked : (y : ℕ) → w'.marked y ≡ w.marked y
   pub frozen : (y : ℕ) → w'.frozen y ≡ w.frozen y
   pub next : (y : ℕ) → Some y ≢ p → w'.next y ≡ w.next y
+  pub leads_on : (y : ℕ) → Some y ≡ p → (k : ℕ) × (w'.next y ≡ Some k)
+  pub passes : (t : ℕ) → ledger'.passes t ≡ ledger.passes t
   pub numbered : (m : ℕ) → ledger'.numbered m ≡ ledger.numbered m
   pub went : (x : ℕ) → IsOf r c x → IsDead ledger' x × ((ledger'.fates x).gone ≡ now)
   pub come : (x : ℕ) → IsIn new x → IsLive ledger' x
@@ -66,10 +68,16 @@ no_marks w x e f = let x : true ≡ false = sym f ∙ e in absurd (cc)
 no_frozen : {A : Type 0} (w : Rows) (x : ℕ) → w.frozen x ≡ false → w.frozen x ≡ true → A
 no_frozen w x e f = let x : true ≡ false = sym f ∙ e in absurd (cc)
 
+no_leader_follower : (m n : ℕ) → Leader m ≡ Follower n → ⊥
+no_leader_follower m n e = cc
+
+follower_is : (m n : ℕ) → Follower m ≡ Follower n → m ≡ n
+follower_is m n e = cc
+
 no_leader_infant : {A : Type 0} (s m : ℕ) → row.Infant s ≡ Leader m → A
 no_leader_infant s m q = absurd (cc)
 
-module _ (w w' : Rows) (ledger ledger' : Ledger) (now : ℕ) (p : Option ℕ) (r : ℕ) (c after : Option ℕ) (new : List ℕ) (chain : Chain w ledger) (states : States w ledger) (marks : (x : ℕ) → Marks w ledger x) (e : Wins w w' ledger ledger' now p r c after new) where
+module _ (w w' : Rows) (ledger ledger' : Ledger) (now : ℕ) (p : Option ℕ) (r : ℕ) (c after : Option ℕ) (new : List ℕ) (chain : Chain w ledger) (states : States w ledger) (marks : (x : ℕ) → Marks w ledger x) (pairs : (x : ℕ) → Pairs w ledger x) (e : Wins w w' ledger ledger' now p r c after new) where
   -- a row that was linked and is none of the group has the fate that it had
   stayed : (x : ℕ) → (IsOf r c x → ⊥) → WasLinked ledger x → ((ledger'.fates x).status ≡ (ledger.fates x).status) × ((ledger'.fates x).gone ≡ (ledger.fates x).gone)
   stayed x d h = let f = e.fates x d (λ i. old (e.infants x i) h) in (ap (λ (k : Fate). k.status) f, ap (λ (k : Fate). k.gone) f)
@@ -156,8 +164,8 @@ module _ (w w' : Rows) (ledger ledger' : Ledger) (now : ℕ) (p : Option ℕ) (r
 
   -- Other seats.
 
-  claimed : (q k : ℕ) → LinksOn w q (Some k) → IsTwo (w.state q) → (IsLive ledger q → IsClaimable q (w.state k)) → IsOf r c q → IsClaimed q (w.state k)
-  claimed q k h two f i = subst (λ y. IsClaimed y (w.state k)) (sym eq) (which (next_group c e.holds k (ap w.next (sym eq) ∙ h.next) (live_two w ledger r states e.live (subst (λ y. IsTwo (w.state y)) eq two))))
+  claimed_went : (q k : ℕ) → LinksOn w q (Some k) → IsTwo (w.state q) → IsOf r c q → IsClaimed q (w.state k)
+  claimed_went q k h two i = subst (λ y. IsClaimed y (w.state k)) (sym eq) (which (next_group c e.holds k (ap w.next (sym eq) ∙ h.next) (live_two w ledger r states e.live (subst (λ y. IsTwo (w.state y)) eq two))))
     where
       eq : q ≡ r
       eq = leads_is q i two
@@ -203,24 +211,79 @@ module _ (w w' : Rows) (ledger ledger' : Ledger) (now : ℕ) (p : Option ℕ) (r
   linked t x (inl a) = inl a
   linked t x (inr h) = inr h.dead
 
+  -- a row that leads a decided group of two leads two
+  led_two : (m : ℕ) (s : State) → m ≡ 2 → IsLed m s → IsTwo s
+  led_two m (Leader n) o h = let q : n ≡ m = h (omega (arith, o)) in q ∙ o
+  led_two m (Retired n) o h = tt
+  led_two m row.Free o h = absurd h
+  led_two m (row.Infant n) o h = absurd h
+  led_two m Normal o h = absurd h
+  led_two m (Follower n) o h = absurd h
+
+  -- the row after a dead one is claimed still
+  claimed_next : (q : ℕ) → IsDead ledger q → IsClaimedNext w q → IsClaimedNext w' q
+  claimed_next q d h = (h.0, e.next q (other q ((marks q).buried d).0) ∙ h.1, same (IsClaimed q) h.0 h.2)
+
+  -- the row after a leader of two that went now is claimed
+  went_claimed : (q : ℕ) → IsOf r c q → IsTwo (w.state q) → IsClaimedNext w' q
+  went_claimed q i two = which ((pairs r).next e.live (live_two w ledger r states e.live (subst (λ y. IsTwo (w.state y)) eq two)))
+    where
+      eq : q ≡ r
+      eq = leads_is q i two
+
+      which : (k : ℕ) × (w.next r ≡ Some k) → IsClaimedNext w' q
+      which k =
+          let l : LinksOn w q (Some k.0) = record { marked = subst (λ y. w.marked y ≡ true) (sym eq) (r_group c e.holds).0.marked; next = ap w.next eq ∙ k.1 } in
+          (k.0, e.next q (other q l.marked) ∙ l.next, same (IsClaimed q) k.0 (claimed_went q k.0 l two i))
+
+  went_with : (q k : ℕ) → IsDead ledger q → WentWith ledger q k → WentWith ledger' q k
+  went_with q k d t = let x = dead_on k t.0 in (x.1, x.2 ∙ t.1 ∙ sym (dead_on q d).2)
+
+  -- a row that goes along with one that went now went with it
+  taken_went : (q k : ℕ) → LinksOn w q (Some k) → IsTwo (w.state q) → IsTaken q (w.state k) → IsOf r c q → WentWith ledger' q k
+  taken_went q k h two f i = which (next_group c e.holds k (ap w.next (sym eq) ∙ h.next) (live_two w ledger r states e.live (subst (λ y. IsTwo (w.state y)) eq two)))
+    where
+      eq : q ≡ r
+      eq = leads_is q i two
+
+      no_leader : (s : State) → IsTaken q s → IsLeader s → ⊥
+      no_leader (Leader m) t u = t
+      no_leader row.Free t u = t
+      no_leader (row.Infant m) t u = t
+      no_leader Normal t u = t
+      no_leader (Follower m) t u = u
+      no_leader (Retired m) t u = u
+
+      which : IsLeader (w.state k) ⊎ (w.state k ≡ Follower r) × IsOf r c k → WentWith ledger' q k
+      which (inl u) = absurd (no_leader (w.state k) f u)
+      which (inr u) = ((e.went k u.1).0, (e.went k u.1).1 ∙ sym (e.went q i).1)
+
   -- what other seats know of their groups stays
   pub group_won : (t : ℕ) (v : View) → Named ledger t v → Group w ledger v → Group w' ledger' v
   group_won t Elsewhere i h = tt
-  group_won t (Marking q m) i h = same (IsLed m) q h
-  group_won t (Opened q k) i h = (link q (Some k) h.0, same (IsLed 0) q h.1)
+  group_won t (Marking q m) i h = (same (IsLed m) q h.0, λ o a. which o (dead_was q (linked t q i) a))
+    where
+      which : m ≡ 2 → IsDead ledger q ⊎ IsOf r c q → IsClaimedNext w' q
+      which o (inl d) = claimed_next q d (h.1 o d)
+      which o (inr u) = went_claimed q u (subst IsTwo refl (led_two m (w.state q) o h.0))
+  group_won t (Opened q after) i h = (link q after h.0, same (IsLed 0) q h.1)
   group_won t (Claiming q k) i h =
       (link q (Some k) h.0, same IsTwo q h.1, λ a. same (IsClaimable q) k (h.2 (live_was q (linked t q i.0) a).0), λ a. same (IsClaimed q) k (which (dead_was q (linked t q i.0) a)))
     where
       which : IsDead ledger q ⊎ IsOf r c q → IsClaimed q (w.state k)
       which (inl d) = h.3 d
-      which (inr o) = claimed q k h.0 h.1 h.2 o
-  group_won t (MarkingNext q k) i h = (link q (Some k) h.0, same IsTwo q h.1, same (IsTaken q) k h.2)
+      which (inr o) = claimed_went q k h.0 h.1 o
+  group_won t (MarkingNext q k) i h = (link q (Some k) h.0, same IsTwo q h.1, same (IsTaken q) k h.2, λ a. which (dead_was q (linked t q i.0) a))
+    where
+      which : IsDead ledger q ⊎ IsOf r c q → WentWith ledger' q k
+      which (inl d) = went_with q k d (h.3 d)
+      which (inr o) = taken_went q k h.0 h.1 h.2 o
   group_won t (Alone q z) i h = (link q z h.0, λ a. alone q z (h.1 (live_was q (linked t q i) a).0))
   group_won t (Pair q k z) i h =
       (link q (Some k) h.0, link k z h.1, λ a. let b = h.2 (live_was q (linked t q i.0) a).0 in record { leads = e.state q ∙ b.leads; follows = e.state k ∙ b.follows }, λ a. which (dead_was q (linked t q i.0) a))
     where
-      which : IsDead ledger q ⊎ IsOf r c q → IsDead ledger' k × ((ledger'.fates k).gone ≡ (ledger'.fates q).gone)
-      which (inl d) = let t = h.3 d in let x = dead_on k t.0 in (x.1, x.2 ∙ t.1 ∙ sym (dead_on q d).2)
+      which : IsDead ledger q ⊎ IsOf r c q → WentWith ledger' q k
+      which (inl d) = went_with q k d (h.3 d)
       which (inr o) = pair_went q k h.0 h.2 o
 
   -- Rows.
@@ -308,3 +371,69 @@ module _ (w w' : Rows) (ledger ledger' : Ledger) (now : ℕ) (p : Option ℕ) (r
       which (inl i) f = went_marks i
       which (inr d) (inl i) = came_marks i
       which (inr d) (inr f) = marks_same w w' ledger ledger' x (record { state = e.state x; fate = e.fates x d f }) (record { marked = e.marked x; frozen = e.frozen x }) (marks x)
+
+  -- Pairs of rows.
+
+  -- a link that led on leads on
+  next_on : (x : ℕ) → (k : ℕ) × (w.next x ≡ Some k) → (k : ℕ) × (w'.next x ≡ Some k)
+  next_on x h = which (link_or_not p x)
+    where
+      which : (Some x ≡ p) ⊎ (Some x ≡ p → ⊥) → (k : ℕ) × (w'.next x ≡ Some k)
+      which (inl q) = e.leads_on x q
+      which (inr d) = (h.0, e.next x d ∙ h.1)
+
+  -- a dead row that is none of the group was held before
+  held_was : (x : ℕ) → (IsOf r c x → ⊥) → IsDead ledger x → IsHeld ledger' x → IsHeld ledger x
+  held_was x d a (inl b) = not_dead (ledger.fates x).status (sym (stayed x d (inr a)).0 ∙ b) a
+  held_was x d a (inr t) = inr (t.0, record { since = t.1.since; dead = a; passes = sym (e.passes t.0) ∙ t.1.passes; before = subst (λ g. t.1.since < g) (stayed x d (inr a)).1 t.1.before })
+
+  -- a follower of the group went with its leader
+  went_together : (x q : ℕ) → IsOf r c x → w.state x ≡ Follower q → WentWith ledger' x q
+  went_together x q i f = which (of_group c e.holds x i).2 (r_group c e.holds).1
+    where
+      head : IsOf r c r
+      head = is_head c
+        where
+          is_head : (d : Option ℕ) → IsOf r d r
+          is_head None = refl
+          is_head (Some k) = inl refl
+
+      which : (x ≡ r) ⊎ (w.next r ≡ Some x) × (w.state x ≡ Follower r) → (w.state r ≡ Leader 1) ⊎ (w.state r ≡ Leader 2) → WentWith ledger' x q
+      which (inl y) (inl u) = absurd (no_leader_follower 1 q (sym u ∙ ap w.state (sym y) ∙ f))
+      which (inl y) (inr u) = absurd (no_leader_follower 2 q (sym u ∙ ap w.state (sym y) ∙ f))
+      which (inr y) u = subst (WentWith ledger' x) (follower_is r q (sym y.1 ∙ f)) ((e.went r head).0, (e.went r head).1 ∙ sym (e.went x i).1)
+
+  pub pairs_won : (x : ℕ) → Pairs w' ledger' x
+  pairs_won x = which (of_or_not r c x) (in_or_not new x)
+    where
+      two : w'.state x ≡ Leader 2 → IsTwo (w.state x)
+      two q = subst IsTwo (sym (sym (e.state x) ∙ q)) refl
+
+      went_pairs : IsOf r c x → Pairs w' ledger' x
+      went_pairs i = record {
+        next = λ a q. not_dead (ledger'.fates x).status a (e.went x i).0;
+        claimed = λ a d q. went_claimed x i (two q);
+        together = λ y a d q. went_together x y i (sym (e.state x) ∙ q);
+      }
+
+      came_pairs : IsIn new x → Pairs w' ledger' x
+      came_pairs i = record {
+        next = λ a q. no_leader_infant (ledger'.fates x).owner 2 (sym (came_state x i) ∙ q);
+        claimed = λ a d q. not_dead (ledger'.fates x).status (e.come x i) d;
+        together = λ y a d q. not_dead (ledger'.fates x).status (e.come x i) d;
+      }
+
+      rest_pairs : (IsOf r c x → ⊥) → (IsIn new x → ⊥) → Pairs w' ledger' x
+      rest_pairs d f = record {
+        next = λ a q. next_on x ((pairs x).next (status ∙ a) (sym (e.state x) ∙ q));
+        claimed = λ a b q. let o = status ∙ b in claimed_next x o ((pairs x).claimed (held_was x d o a) o (sym (e.state x) ∙ q));
+        together = λ y a b q. let o = status ∙ b in went_with x y o ((pairs x).together y (held_was x d o a) o (sym (e.state x) ∙ q));
+      }
+        where
+          status : (ledger.fates x).status ≡ (ledger'.fates x).status
+          status = ap (λ (k : Fate). k.status) (sym (e.fates x d f))
+
+      which : IsOf r c x ⊎ (IsOf r c x → ⊥) → IsIn new x ⊎ (IsIn new x → ⊥) → Pairs w' ledger' x
+      which (inl i) f = went_pairs i
+      which (inr d) (inl i) = came_pairs i
+      which (inr d) (inr f) = rest_pairs d f

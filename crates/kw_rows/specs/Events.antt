@@ -103,6 +103,7 @@ pub record Decides (w w' : Rows) (g g' : Ledger) (r n : ℕ) : Type 0 where
   pub undecided : w.state r ≡ Leader 0
   pub marked : w.marked r ≡ true
   pub some : 1 ≤ n
+  pub followed : n ≡ 2 → (c : ℕ) × (w.next r ≡ Some c)
   pub sets : SetsState w w' r (Leader n)
   pub ledger : SameLedger g g'
 

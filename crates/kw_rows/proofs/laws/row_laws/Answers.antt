@@ -7,6 +7,7 @@ returns c = record {
   closed = λ w w2 g g2 now s e. (kept w w2 g g2 now s e).closed;
   states = λ w w2 g g2 now s e. (kept w w2 g g2 now s e).states;
   marks = λ w w2 g g2 now s e. (kept w w2 g g2 now s e).marks;
+  pairs = λ w w2 g g2 now s e. (kept w w2 g g2 now s e).pairs;
   follows = λ w w2 g g2 now s e. (kept w w2 g g2 now s e).follows;
   past = λ w w2 g g2 now s e. (kept w w2 g g2 now s e).past;
   fresh = λ w w2 g g2 now s e. (kept w w2 g g2 now s e).fresh;
