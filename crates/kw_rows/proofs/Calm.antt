@@ -26,15 +26,19 @@ fresh_held ledger t x (inl a) = inl a
 fresh_held ledger t x (inr h) = inr (t, h)
 
 module _ (w w' : Rows) (ledger ledger' : Ledger) (k : Calm w w' ledger ledger') where
+  -- a marked link of a held row is as it was
   link : (x : ℕ) (y : Option ℕ) → IsHeld ledger x → LinksOn w x y → LinksOn w' x y
   link x y h l = record { marked = k.marked x h l.marked; next = k.next x h ∙ l.next }
 
+  -- a held row that is live was so
   live_was : (x : ℕ) → IsHeld ledger x → IsLive ledger' x → IsLive ledger x
   live_was x h a = ap (λ (f : Fate). f.status) (sym (k.fate x h)) ∙ a
 
+  -- and one that is dead
   dead_was : (x : ℕ) → IsHeld ledger x → IsDead ledger' x → IsDead ledger x
   dead_was x h a = ap (λ (f : Fate). f.status) (sym (k.fate x h)) ∙ a
 
+  -- what the state of a held row says holds still
   same : (F : State → Type 0) (x : ℕ) → IsHeld ledger x → F (w.state x) → F (w'.state x)
   same F x h f = subst F (sym (k.state x h)) f
 
@@ -45,6 +49,7 @@ module _ (w w' : Rows) (ledger ledger' : Ledger) (k : Calm w w' ledger ledger') 
     numbered = n;
   }
 
+  -- rows that went together did so still
   went_with : (r x : ℕ) → IsHeld ledger r → IsHeld ledger x → WentWith ledger r x → WentWith ledger' r x
   went_with r x hr hx d = (ap (λ (f : Fate). f.status) (k.fate x hx) ∙ d.0, ap (λ (f : Fate). f.gone) (k.fate x hx) ∙ d.1 ∙ ap (λ (f : Fate). f.gone) (sym (k.fate r hr)))
 
@@ -53,9 +58,11 @@ module _ (w w' : Rows) (ledger ledger' : Ledger) (k : Calm w w' ledger ledger') 
     pub claimed_next : (r : ℕ) → IsHeld ledger r → IsDead ledger r → IsClaimedNext w r → IsClaimedNext w' r
     claimed_next r a d h = (h.0, k.next r a ∙ h.1, same (IsClaimed r) h.0 (o.linked r h.0 a h.1) h.2)
 
+    -- what the seat may name is held
     held : (x : ℕ) → IsFresh ledger t x → IsHeld ledger x
     held x f = fresh_held ledger t x f
 
+    -- a row that goes alone does so still
     alone : (r : ℕ) (after : Option ℕ) → IsLive ledger r → w.next r ≡ after → IsAlone w r after → IsAlone w' r after
     alone r after a f h = record { either = which h.either }
       where
@@ -133,6 +140,7 @@ module _ (w w' : Rows) (ledger ledger' : Ledger) (h : States w ledger) (m : (x :
       mark y (inl q) = subst (Marks w' ledger') (sym q) (marks_none w w' ledger ledger' x live dead)
       mark y (inr d) = marks_same w w' ledger ledger' y (row_same y d) (record { marked = e.sets.links.marked y; frozen = e.sets.links.frozen y }) (m y)
 
+  -- a free row is not held
   free_no_live : (x : ℕ) → (ledger.fates x).status ≡ Free → IsHeld ledger x → ⊥
   free_no_live x f = held_no ledger x apart
     where
@@ -140,6 +148,7 @@ module _ (w w' : Rows) (ledger ledger' : Ledger) (h : States w ledger) (m : (x :
       apart (inl a) = not_free (ledger.fates x).status a f
       apart (inr a) = dead_free (ledger.fates x).status a f
 
+  -- nor is an infant
   infant_no : (x : ℕ) → (ledger.fates x).status ≡ Infant → IsHeld ledger x → ⊥
   infant_no x f = held_no ledger x apart
     where
@@ -147,15 +156,19 @@ module _ (w w' : Rows) (ledger ledger' : Ledger) (h : States w ledger) (m : (x :
       apart (inl a) = not_infant (ledger.fates x).status a f
       apart (inr a) = dead_infant (ledger.fates x).status a f
 
+  -- a free row is taken
   pub takes_stay : (x s : ℕ) → Takes w w' ledger ledger' x s → Stays w w' ledger ledger'
   takes_stay x s e = turns_stay x (row.Infant s) e.turns (free_no_live x e.free) (subst (HasState w' ledger' x) (sym e.status) (e.turns.sets.state ∙ ap row.Infant (sym e.owner))) (λ a. not_infant (ledger'.fates x).status a e.status) (λ a. dead_infant (ledger'.fates x).status a e.status)
 
+  -- a row that is not held is free from now on
   free_stay : (x : ℕ) → Turns w w' ledger ledger' x row.Free → (IsHeld ledger x → ⊥) → (ledger'.fates x).status ≡ Free → Stays w w' ledger ledger'
   free_stay x e apart f = turns_stay x row.Free e apart (subst (HasState w' ledger' x) (sym f) e.sets.state) (λ a. not_free (ledger'.fates x).status a f) (λ a. dead_free (ledger'.fates x).status a f)
 
+  -- an infant is given back
   pub gives_back_stay : (x : ℕ) → GivesBack w w' ledger ledger' x → Stays w w' ledger ledger'
   gives_back_stay x e = free_stay x e.turns (infant_no x e.infant) e.status
 
+  -- a retired row is free again
   pub reclaims_stay : (x n : ℕ) → Reclaims w w' ledger ledger' x n → Stays w w' ledger ledger'
   reclaims_stay x n e = free_stay x e.turns (retired_no w ledger x n h e.dead e.retired e.young) e.status
 
@@ -174,12 +187,15 @@ module _ (w w' : Rows) (ledger ledger' : Ledger) (h : States w ledger) (m : (x :
   links_stay : SameLinks w w' → SameStates w w' → SameFates ledger ledger' → ((n at : ℕ) → ledger.numbered n ≡ Some at → ledger'.numbered n ≡ Some at) → Stays w w' ledger ledger'
   links_stay l s f n = still_stay s f n (λ y a. l.next y) (λ y a b. l.marked y ∙ b) (λ y. marks_same w w' ledger ledger' y (record { state = s y; fate = f y }) (record { marked = l.marked y; frozen = l.frozen y }) (m y))
 
+  -- nothing of the rows changes
   pub rests_stay : Rests w w' ledger ledger' → Stays w w' ledger ledger'
   rests_stay e = links_stay e.links e.states e.ledger.fates (λ n at d. e.ledger.others.numbered n ∙ d)
 
+  -- a pass begins or ends
   pub passes_stay : (t : ℕ) (start : Option ℕ) → Passes w w' ledger ledger' t start → Stays w w' ledger ledger'
   passes_stay t start e = links_stay e.links e.states e.fates (λ n at d. e.numbered n ∙ d)
 
+  -- a number is drawn, and those that were drawn stay
   pub numbers_stay : (now n : ℕ) → Numbers w w' ledger ledger' now n → Stays w w' ledger ledger'
   numbers_stay now n e = links_stay e.links e.states e.fates (λ i at d. which i at d (cases_eq i n))
     where
@@ -190,6 +206,7 @@ module _ (w w' : Rows) (ledger ledger' : Ledger) (h : States w ledger) (m : (x :
       which i at d (inl q) = no_none at (sym e.new ∙ subst (λ j. ledger.numbered j ≡ Some at) q d)
       which i at d (inr q) = e.others i q ∙ d
 
+  -- words of an infant are written
   pub fills_stay : (x : ℕ) → Fills w w' ledger ledger' x → Stays w w' ledger ledger'
   fills_stay x e = still_stay e.states e.ledger.fates (λ n at d. e.ledger.others.numbered n ∙ d) (λ y a. e.next y (other y a)) (λ y a b. e.marked y (other y a) ∙ b) (λ y. which y (cases_eq y x))
     where
@@ -203,6 +220,7 @@ module _ (w w' : Rows) (ledger ledger' : Ledger) (h : States w ledger) (m : (x :
       which y (inl q) = subst (Marks w' ledger') (sym q) (marks_none w w' ledger ledger' x (λ a. not_infant (ledger'.fates x).status a infant) (λ a. dead_infant (ledger'.fates x).status a infant))
       which y (inr d) = marks_same w w' ledger ledger' y (record { state = e.states y; fate = e.ledger.fates y }) (record { marked = e.marked y d; frozen = e.frozen y d }) (m y)
 
+  -- a link is marked
   pub marks_stay : (x : ℕ) → MarksLink w w' ledger ledger' x → Stays w w' ledger ledger'
   marks_stay x e = still_stay e.states e.ledger.fates (λ n at d. e.ledger.others.numbered n ∙ d) (λ y a. e.next y) (λ y a b. marked y b (cases_eq y x)) (λ y. which y (cases_eq y x))
     where
@@ -225,6 +243,7 @@ module _ (w w' : Rows) (ledger ledger' : Ledger) (h : States w ledger) (m : (x :
       which y (inl q) = subst (Marks w' ledger') (sym q) here
       which y (inr d) = marks_same w w' ledger ledger' y (record { state = e.states y; fate = e.ledger.fates y }) (record { marked = e.others y d; frozen = e.frozen y }) (m y)
 
+  -- a row gives no more cells
   pub freezes_stay : (x : ℕ) → Freezes w w' ledger ledger' x → Stays w w' ledger ledger'
   freezes_stay x e = still_stay e.states e.ledger.fates (λ n at d. e.ledger.others.numbered n ∙ d) (λ y a. e.next y) (λ y a b. e.marked y ∙ b) (λ y. which y (cases_eq y x))
     where

@@ -24,9 +24,11 @@ pub record Keeps (w : Rows) (ledger : Ledger) (x : ℕ) (s s' : State) : Type 0 
 
 -- an exchange of the state of x for s', which keeps what seats know
 module _ (w w' : Rows) (ledger ledger' : Ledger) (x : ℕ) (s s' : State) (found : w.state x ≡ s) (e : SetsState w w' x s') (same : SameLedger ledger ledger') (k : Keeps w ledger x s s') where
+  -- no status changes
   status : (y : ℕ) → (ledger'.fates y).status ≡ (ledger.fates y).status
   status y = ap (λ (f : Fate). f.status) (same.fates y)
 
+  -- nor when a row went
   gone : (y : ℕ) → (ledger'.fates y).gone ≡ (ledger.fates y).gone
   gone y = ap (λ (f : Fate). f.gone) (same.fates y)
 
@@ -38,21 +40,27 @@ module _ (w w' : Rows) (ledger ledger' : Ledger) (x : ℕ) (s s' : State) (found
       which (inl q) = subst (λ z. F (w'.state z)) (sym q) (subst F (sym e.state) (f q (subst F (ap w.state q ∙ found) h)))
       which (inr d) = subst F (sym (e.others y d)) h
 
+  -- marked links are as they were
   link : (y : ℕ) (z : Option ℕ) → LinksOn w y z → LinksOn w' y z
   link y z l = record { marked = e.links.marked y ∙ l.marked; next = e.links.next y ∙ l.next }
 
+  -- a row that is live was so
   live_was : (y : ℕ) → IsLive ledger' y → IsLive ledger y
   live_was y a = sym (status y) ∙ a
 
+  -- and one that is dead
   dead_was : (y : ℕ) → IsDead ledger' y → IsDead ledger y
   dead_was y a = sym (status y) ∙ a
 
+  -- a live leader of a decided group leads it still
   same_leader : (y n : ℕ) → IsLive ledger y → 1 ≤ n → w.state y ≡ Leader n → w'.state y ≡ Leader n
   same_leader y n a o = at (λ s. s ≡ Leader n) y (λ q. k.same n (subst (IsLive ledger) q a) o)
 
+  -- a link to a row is one to x if the row is
   to : (r y : ℕ) → y ≡ x → w.next r ≡ Some y → w.next r ≡ Some x
   to r y q f = f ∙ ap Some q
 
+  -- a row that goes alone does so still
   alone : (r : ℕ) (after : Option ℕ) → IsLive ledger r → w.next r ≡ after → IsAlone w r after → IsAlone w' r after
   alone r after a f h = record { either = which h.either }
     where
@@ -60,6 +68,7 @@ module _ (w w' : Rows) (ledger ledger' : Ledger) (x : ℕ) (s s' : State) (found
       which (inl q) = inl (same_leader r 1 a (omega arith) q)
       which (inr q) = inr (same_leader r 2 a (omega arith) q.0, (q.1.0, q.1.1, at IsLeader q.1.0 (λ u. k.leader r a (to r q.1.0 u (f ∙ q.1.1))) q.1.2))
 
+  -- two rows that go together do so still
   pair : (r c : ℕ) → IsLive ledger r → w.next r ≡ Some c → IsPair w r c → IsPair w' r c
   pair r c a f h = record { leads = same_leader r 2 a (omega arith) h.leads; follows = at (λ s. s ≡ Follower r) c (λ u. k.follower r a (to r c u f)) h.follows }
 

@@ -14,10 +14,12 @@ use Rattle.kw_rows.proofs.Frames.{Frames}
 pub dead_state : (w : Rows) (ledger : Ledger) (x : ℕ) → States w ledger → IsDead ledger x → IsDeadState ledger x (w.state x)
 dead_state w ledger x s d = subst (HasState w ledger x) d (s x)
 
+-- a free row was not linked
 no_live_free : (s : Status) → s ≡ Free → (s ≡ Live) ⊎ (s ≡ Dead) → ⊥
 no_live_free s e (inl a) = not_free s a e
 no_live_free s e (inr a) = dead_free s a e
 
+-- nor was an infant
 no_live_infant : (s : Status) → s ≡ Infant → (s ≡ Live) ⊎ (s ≡ Dead) → ⊥
 no_live_infant s e (inl a) = not_infant s a e
 no_live_infant s e (inr a) = dead_infant s a e
@@ -46,6 +48,7 @@ module _ (w w' : Rows) (ledger ledger' : Ledger) where
     passes = λ t since x p d b. sym (g.others.passes t) ∙ p;
   }
 
+  -- no word of a link has changed, and nothing of the record
   pub links_still : SameLinks w w' → SameLedger ledger ledger' → Frames w w' ledger ledger'
   links_still l g = still l.head l.next l.least g
 
@@ -60,15 +63,19 @@ module _ (w w' : Rows) (ledger ledger' : Ledger) where
     passes = λ u since y p d b. sym (t.others.passes u) ∙ p;
   }
 
+  -- a free row is taken
   pub taken : (x s : ℕ) → Takes w w' ledger ledger' x s → Frames w w' ledger ledger'
   taken x s e = turned x _ e.turns (held_no ledger x (no_live_free (ledger.fates x).status e.free)) (no_live_infant (ledger'.fates x).status e.status)
 
+  -- an infant is given back
   pub given_back : (x : ℕ) → GivesBack w w' ledger ledger' x → Frames w w' ledger ledger'
   given_back x e = turned x _ e.turns (held_no ledger x (no_live_infant (ledger.fates x).status e.infant)) (no_live_free (ledger'.fates x).status e.status)
 
+  -- a retired row is free again, which nobody held
   pub reclaimed : (x m : ℕ) → States w ledger → Reclaims w w' ledger ledger' x m → Frames w w' ledger ledger'
   reclaimed x m s e = turned x _ e.turns (retired_no w ledger x m s e.dead e.retired e.young) (no_live_free (ledger'.fates x).status e.status)
 
+  -- words of an infant are written, which nobody meets
   pub filled : (x : ℕ) → Fills w w' ledger ledger' x → Frames w w' ledger ledger'
   filled x e = record {
     head = e.head;
@@ -82,6 +89,7 @@ module _ (w w' : Rows) (ledger ledger' : Ledger) where
       other : (y : ℕ) → WasLinked ledger y → y ≢ x
       other y a q = no_live_infant (ledger.fates x).status e.infant (subst (WasLinked ledger) q a)
 
+  -- a number is drawn
   pub numbered : (now m : ℕ) → Numbers w w' ledger ledger' now m → Frames w w' ledger ledger'
   numbered now m e = record {
     head = e.links.head;
@@ -107,9 +115,11 @@ module _ (w w' : Rows) (ledger ledger' : Ledger) where
       which u since y p d b (inl q) = absurd (f y since (sym e.passes ∙ subst (λ v. ledger'.passes v ≡ Some since) q p) d b)
       which u since y p d b (inr q) = sym (e.others u q) ∙ p
 
+  -- a pass begins: what went before is not held by it
   pub begun : (t now : ℕ) → Past ledger now → Passes w w' ledger ledger' t (Some now) → Frames w w' ledger ledger'
   begun t now b e = passed t (Some now) (λ x since q d l. omega (arith, same_Some now since q, b.gone x d, l)) e
 
+  -- a pass ends
   pub ended : (t : ℕ) → Passes w w' ledger ledger' t None → Frames w w' ledger ledger'
   ended t e = passed t None (λ x since q. no_none since q) e
     where
@@ -118,12 +128,15 @@ module _ (w w' : Rows) (ledger ledger' : Ledger) where
 
   -- Passes and numbers are past.
 
+  -- passes that stay began before
   pub passes_past : (now : ℕ) → Past ledger now → ((t : ℕ) → ledger'.passes t ≡ ledger.passes t) → (t since : ℕ) → ledger'.passes t ≡ Some since → since < suc now
   passes_past now b e t since p = omega (arith, b.begun t since (sym (e t) ∙ p))
 
+  -- numbers that stay were drawn before
   pub numbers_past : (now : ℕ) → Past ledger now → ((m : ℕ) → ledger'.numbered m ≡ ledger.numbered m) → (m at : ℕ) → ledger'.numbered m ≡ Some at → at < suc now
   numbers_past now b e m at p = omega (arith, b.drawn m at (sym (e m) ∙ p))
 
+  -- and the new one now
   pub number_past : (now m : ℕ) → Past ledger now → Numbers w w' ledger ledger' now m → (k at : ℕ) → ledger'.numbered k ≡ Some at → at < suc now
   number_past now m b e k at p = which (cases_eq k m)
     where
@@ -131,6 +144,7 @@ module _ (w w' : Rows) (ledger ledger' : Ledger) where
       which (inl q) = omega (arith, same_Some now at (sym e.drawn ∙ subst (λ v. ledger'.numbered v ≡ Some at) q p))
       which (inr q) = omega (arith, b.drawn k at (sym (e.others k q) ∙ p))
 
+  -- a new pass begins now, the others began before
   pub pass_past : (now t : ℕ) (start : Option ℕ) → ((since : ℕ) → start ≡ Some since → since < suc now) → Past ledger now → Passes w w' ledger ledger' t start → (u since : ℕ) → ledger'.passes u ≡ Some since → since < suc now
   pass_past now t start f b e u since p = which (cases_eq u t)
     where

@@ -20,19 +20,24 @@ module _ (w w' : Rows) (ledger ledger' : Ledger) (e : Frames w w' ledger ledger'
   held_linked x (inl a) = inl a
   held_linked x (inr h) = inr h.1.dead
 
+  -- a live row is so still
   live_on : (x : ℕ) → IsLive ledger x → IsLive ledger' x
   live_on x a = ap (λ (f : Fate). f.status) (e.stays x (inl a)) ∙ a
 
+  -- a row that is live was so
   live_was : (x : ℕ) → IsLive ledger' x → IsLive ledger x
   live_was x a = ap (λ (f : Fate). f.status) (sym (e.was x (inl a))) ∙ a
 
+  -- and one that is dead
   dead_was : (x : ℕ) → IsDead ledger' x → IsDead ledger x
   dead_was x a = ap (λ (f : Fate). f.status) (sym (e.was x (inr a))) ∙ a
 
+  -- and one that was linked
   linked_was : (x : ℕ) → WasLinked ledger' x → WasLinked ledger x
   linked_was x (inl a) = inl (live_was x a)
   linked_was x (inr a) = inr (dead_was x a)
 
+  -- a dead row that a seat may name is one that it could name before
   held_was : (t x : ℕ) → WasHeld ledger' t x → WasHeld ledger t x
   held_was t x h =
       let f = e.was x (inr h.dead) in
@@ -45,6 +50,7 @@ module _ (w w' : Rows) (ledger ledger' : Ledger) (e : Frames w w' ledger ledger'
   was x (inl a) = inl (live_was x a)
   was x (inr h) = inr (h.0, held_was h.0 x h.1)
 
+  -- the list is as it was
   pub chain_framed : Chain w ledger → Chain w' ledger'
   chain_framed c = record {
     first = c.first;
@@ -70,6 +76,7 @@ module _ (w w' : Rows) (ledger ledger' : Ledger) (e : Frames w w' ledger ledger'
       which x y a b (inr (inl o)) = inr (inl (before x y a b o))
       which x y a b (inr (inr o)) = inr (inr (before y x b a o))
 
+  -- held rows lead to held rows still
   pub closed_framed : Closed w ledger → Closed w' ledger'
   closed_framed c = record {
     linked = linked;
@@ -128,6 +135,7 @@ module _ (w w' : Rows) (ledger ledger' : Ledger) (e : Frames w w' ledger ledger'
           let b = was x h in
           ap (λ (t : Fate). t.upper) (e.stays x b) ∙ c.upper x b ∙ sym (bound_same x b (w.next x) refl) ∙ ap (bound w') (sym (e.next x (held_linked x b)))
 
+  -- rows that share a key follow one another still
   pub follows_framed : Follows w ledger → Follows w' ledger'
   follows_framed f x y key d l h j n = which (f x y key (dead_was x d) (linked_was y l) (holds x (inr d) h) (holds y l j) n)
     where

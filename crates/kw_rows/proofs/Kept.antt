@@ -53,6 +53,7 @@ module _ (w w' : Rows) (ledger ledger' : Ledger) (now : ℕ) (s : Structure w le
   set : Frames w w' ledger ledger' → sets.Kept w w' ledger ledger' → ((t : ℕ) → ledger'.passes t ≡ ledger.passes t) → ((m : ℕ) → ledger'.numbered m ≡ ledger.numbered m) → All
   set f k p n = framed f k.states k.marks k.pairs (λ t v i g. k.group v g) (passes_past w w' ledger ledger' now s.past p) (numbers_past w w' ledger ledger' now s.past n)
 
+  -- each event keeps all of it
   pub kept : Event w w' ledger ledger' now → All
   kept (takes x t e) = quiet (taken w w' ledger ledger' x t e) (takes_stay w w' ledger ledger' s.states s.marks x t e) e.turns.others.passes e.turns.others.numbered
   kept (gives_back x e) = quiet (given_back w w' ledger ledger' x e) (gives_back_stay w w' ledger ledger' s.states s.marks x e) e.turns.others.passes e.turns.others.numbered

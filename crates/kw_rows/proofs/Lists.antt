@@ -4,6 +4,7 @@ use Rattle.std.proofs.lemmas.Bool.{cases_eq}
 use Rattle.std.proofs.lemmas.Option.{same_Some}
 use Rattle.kw_rows.specs.Events.{IsIn, Links, Rises}
 
+-- a row is in a list, or not
 pub in_or_not : (xs : List ℕ) (x : ℕ) → IsIn xs x ⊎ (IsIn xs x → ⊥)
 in_or_not [] x = inr (λ a. a)
 in_or_not (y ∷ ys) x = which (cases_eq x y) (in_or_not ys x)
@@ -17,6 +18,7 @@ in_or_not (y ∷ ys) x = which (cases_eq x y) (in_or_not ys x)
     which (inr d) (inl i) = inl (inr i)
     which (inr d) (inr f) = inr (neither d f)
 
+-- a row's link is the given one, or not
 pub link_or_not : (p : Option ℕ) (x : ℕ) → (Some x ≡ p) ⊎ (Some x ≡ p → ⊥)
 link_or_not None x = inr (λ e. cc)
 link_or_not (Some q) x = which (cases_eq x q)

@@ -23,6 +23,7 @@ open_link : (w : Rows) (ledger : Ledger) (p : Option ℕ) → ((x : ℕ) → Mar
 open_link w ledger None m o = tt
 open_link w ledger (Some p) m o = open_live w ledger p (m p) o.0 o.1
 
+-- and it leads to the first row of the group, unmarked
 open_unmarked : (w : Rows) (ledger : Ledger) (p : Option ℕ) (r : ℕ) → ((x : ℕ) → Marks w ledger x) → IsOpenLink w ledger p → leads w p ≡ Some r → IsUnmarked w ledger p r
 open_unmarked w ledger None r m o f = tt
 open_unmarked w ledger (Some p) r m o f = (open_live w ledger p (m p) o.0 o.1, o.1, f)
@@ -38,6 +39,7 @@ in_group r None x e = inl e
 in_group r (Some c) x (inl e) = inl e
 in_group r (Some c) x (inr e) = inr (inl e)
 
+-- and back
 of_group : (r : ℕ) (c : Option ℕ) (x : ℕ) → IsIn (r ∷ rest_of c) x → IsOf r c x
 of_group r None x (inl e) = e
 of_group r None x (inr e) = absurd e
@@ -46,9 +48,11 @@ of_group r (Some c) x (inr (inl e)) = inr e
 of_group r (Some c) x (inr (inr e)) = absurd e
 
 module _ (w w' : Rows) (ledger ledger' : Ledger) (now : ℕ) (p : Option ℕ) (r : ℕ) (c after : Option ℕ) (n : ℕ) (more : List ℕ) (s : Structure w ledger now) (e : Replaces w w' ledger ledger' now p r c after n more) where
+  -- the first row of the group is live
   live : IsLive ledger r
   live = leads_live w ledger s.chain p r (open_link w ledger p s.marks e.link) e.found
 
+  -- a row that neither went nor came has the fate that it had
   fate : {A : Type 0} (f : Fate → A) (x : ℕ) → (IsIn (r ∷ rest_of c) x → ⊥) → (IsIn (n ∷ more) x → ⊥) → f (ledger'.fates x) ≡ f (ledger.fates x)
   fate f x d k = ap f (e.fates x d k)
 
@@ -60,6 +64,7 @@ module _ (w w' : Rows) (ledger ledger' : Ledger) (now : ℕ) (p : Option ℕ) (r
       which (inl i) = g x i
       which (inr d) = fate f x d k
 
+  -- what the list sees of the event
   swaps : Swaps w w' ledger ledger' now p r (rest_of c) after n more
   swaps = record {
     link = open_link w ledger p s.marks e.link;
@@ -87,6 +92,7 @@ module _ (w w' : Rows) (ledger ledger' : Ledger) (now : ℕ) (p : Option ℕ) (r
     upper = part (λ (f : Fate). f.upper) e.gone_upper;
   }
 
+  -- what states and groups see of it
   wins : Wins w w' ledger ledger' now p r c after (n ∷ more)
   wins = record {
     live = live;
@@ -109,27 +115,35 @@ module _ (w w' : Rows) (ledger ledger' : Ledger) (now : ℕ) (p : Option ℕ) (r
     fates = λ x d k. e.fates x (λ i. d (of_group r c x i)) k;
   }
 
+  -- so the event keeps each of them
   pub replaced_chain : Chain w' ledger'
   replaced_chain = chain_kept w w' ledger ledger' now p r (rest_of c) after n more s.chain swaps
 
+  -- held rows lead to held rows
   pub replaced_closed : Closed w' ledger'
   replaced_closed = closed_kept w w' ledger ledger' now p r (rest_of c) after n more s.chain swaps s.closed
 
+  -- rows that share a key follow one another
   pub replaced_follows : Follows w' ledger'
   replaced_follows = follow_kept w w' ledger ledger' now p r (rest_of c) after n more s.chain swaps s.closed s.follows
 
+  -- what a seat may name it may name still
   pub replaced_fresh : (t since x : ℕ) → ledger.passes t ≡ Some since → IsFresh ledger t x → IsFresh ledger' t x
   replaced_fresh t since x = fresh_kept w w' ledger ledger' now p r (rest_of c) after n more s.chain swaps t x since
 
+  -- states go with fates
   pub replaced_states : States w' ledger'
   replaced_states = states_won w w' ledger ledger' now p r c after (n ∷ more) s.chain s.states s.marks s.pairs wins
 
+  -- and marks
   pub replaced_marks : (x : ℕ) → Marks w' ledger' x
   replaced_marks = marks_won w w' ledger ledger' now p r c after (n ∷ more) s.chain s.states s.marks s.pairs wins
 
+  -- and what pairs of rows say
   pub replaced_pairs : (x : ℕ) → Pairs w' ledger' x
   replaced_pairs = pairs_won w w' ledger ledger' now p r c after (n ∷ more) s.chain s.states s.marks s.pairs wins
 
+  -- other seats know their groups still
   pub replaced_group : (t : ℕ) (v : View) → Named ledger t v → Group w ledger v → Group w' ledger' v
   replaced_group = group_won w w' ledger ledger' now p r c after (n ∷ more) s.chain s.states s.marks s.pairs wins
 

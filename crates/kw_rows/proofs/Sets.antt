@@ -19,6 +19,7 @@ held_live : (w : Rows) (ledger : Ledger) (x : ℕ) (s : State) → States w ledg
 held_live w ledger x s h (inl a) e f = a
 held_live w ledger x s h (inr a) e f = absurd (f (subst (IsDeadState ledger x) e (dead_state w ledger x h a.1.dead)))
 
+-- a row that leads two, or has led one, leads two or is retired
 two_of : (s : State) → IsTwo s → (s ≡ Leader 2) ⊎ ((m : ℕ) × (s ≡ Retired m))
 two_of (Leader m) h = inl (ap Leader h)
 two_of (Retired m) h = inr (m, refl)
@@ -60,6 +61,7 @@ pub record Kept (w w' : Rows) (ledger ledger' : Ledger) : Type 0 where
 
 -- the state s of row x is exchanged for s'
 module _ (w w' : Rows) (ledger ledger' : Ledger) (x : ℕ) (s s' : State) (found : w.state x ≡ s) (e : SetsState w w' x s') (same : SameLedger ledger ledger') (k : Keeps w ledger x s s') (h : States w ledger) (m : (y : ℕ) → Marks w ledger y) (pairs : (y : ℕ) → Pairs w ledger y) where
+  -- no status changes
   status : (y : ℕ) → (ledger'.fates y).status ≡ (ledger.fates y).status
   status y = ap (λ (f : Fate). f.status) (same.fates y)
 
@@ -67,12 +69,15 @@ module _ (w w' : Rows) (ledger ledger' : Ledger) (x : ℕ) (s s' : State) (found
   new_live : IsLive ledger x → IsLiveState w' ledger' x s' → HasState w' ledger' x (ledger'.fates x).status
   new_live a h = subst (HasState w' ledger' x) (sym (status x ∙ a)) (subst (IsLiveState w' ledger' x) (sym e.state) h)
 
+  -- or is dead
   new_dead : IsDead ledger x → IsDeadState ledger' x s' → HasState w' ledger' x (ledger'.fates x).status
   new_dead a h = subst (HasState w' ledger' x) (sym (status x ∙ a)) (subst (IsDeadState ledger' x) (sym e.state) h)
 
+  -- live leaders of two still lead
   leads : Leads w w' ledger ledger'
   leads = leads_on w w' ledger ledger' x s s' found e same k
 
+  -- all states go with fates
   states_set : HasState w' ledger' x (ledger'.fates x).status → States w' ledger'
   states_set new = states_kept w w' ledger ledger' leads (λ y. which y (cases_eq y x)) h
     where
@@ -80,6 +85,7 @@ module _ (w w' : Rows) (ledger ledger' : Ledger) (x : ℕ) (s s' : State) (found
       which y (inl q) = inr (subst (λ z. HasState w' ledger' z (ledger'.fates z).status) (sym q) new)
       which y (inr d) = inl (record { state = e.others y d; fate = same.fates y })
 
+  -- and marks
   marks_set : Marks w' ledger' x → (y : ℕ) → Marks w' ledger' y
   marks_set new y = which (cases_eq y x)
     where
@@ -96,6 +102,7 @@ module _ (w w' : Rows) (ledger ledger' : Ledger) (x : ℕ) (s s' : State) (found
     buried = λ b. not_dead (ledger.fates x).status a (sym (status x) ∙ b);
   }
 
+  -- no more rows are held
   held_was : (y : ℕ) → IsHeld ledger' y → IsHeld ledger y
   held_was y (inl a) = inl (sym (status y) ∙ a)
   held_was y (inr t) = inr (t.0, record { since = t.1.since; dead = sym (status y) ∙ t.1.dead; passes = sym (same.others.passes t.0) ∙ t.1.passes; before = subst (λ (f : Fate). t.1.since < f.gone) (same.fates y) t.1.before })
@@ -146,9 +153,11 @@ module _ (w w' : Rows) (ledger ledger' : Ledger) (x : ℕ) (s s' : State) (found
 leader_is : (m n : ℕ) → Leader m ≡ Leader n → m ≡ n
 leader_is m n e = cc
 
+-- a retired row leads nothing
 no_retired_leader : (m : ℕ) → Retired m ≡ Leader 2 → ⊥
 no_retired_leader m e = cc
 
+-- nor follows any
 no_retired_follower : (m p : ℕ) → Retired m ≡ Follower p → ⊥
 no_retired_follower m p e = cc
 
@@ -161,18 +170,22 @@ from_quiet : (w w' : Rows) (ledger ledger' : Ledger) (x : ℕ) (s' : State) → 
 from_quiet w w' ledger ledger' x s' f e same k h m pairs a new engaged decided two = live_set w w' ledger ledger' x Normal s' f e same k h m pairs a new (λ b. engaged) decided (λ z. absurd (no_mark w ledger x Normal f (m x) a (λ b. b) ((m x).frozen a z).0)) (λ q. absurd (two q))
 
 module _ (w w' : Rows) (ledger ledger' : Ledger) (c : Chain w ledger) (h : States w ledger) (m : (x : ℕ) → Marks w ledger x) (pairs : (x : ℕ) → Pairs w ledger x) where
+  -- a rebalance begins at a row
   pub engaged : (x : ℕ) → Engages w w' ledger ledger' x → Kept w w' ledger ledger'
   engaged x e = from_quiet w w' ledger ledger' x (Leader 0) e.normal e.sets e.ledger (from_normal w ledger x (Leader 0) (λ r b f. tt)) h m pairs (held_live w ledger x Normal h e.held e.normal (λ f. f)) (λ l. tt) tt (λ n o q. absurd (no_zero n o q)) (λ q. no_zero 2 (omega arith) q)
 
+  -- the number of rows that go is decided
   pub decided : (r n : ℕ) → Decides w w' ledger ledger' r n → Kept w w' ledger ledger'
   decided r n e = live_set w w' ledger ledger' r (Leader 0) (Leader n) e.undecided e.sets e.ledger (from_open w ledger r n e.some) h m pairs (held_live w ledger r (Leader 0) h e.held e.undecided (λ f. omega (arith, f))) (λ l. tt) (λ b. tt) (λ i o q. e.marked) (λ f. (e.marked, e.some)) (λ q. e.followed (leader_is n 2 q))
 
+  -- the next row goes along
   pub followed : (r x : ℕ) → EngagesNext w w' ledger ledger' r x → Kept w w' ledger ledger'
   followed r x e = from_quiet w w' ledger ledger' x (Follower r) e.normal e.sets e.ledger (from_normal w ledger x (Follower r) (λ q b f. one w ledger r q x c a b e.claims.0.next f)) h m pairs (c.linked r x a e.claims.0.next) (λ l. l.leader r x (record { live = a; two = live_two w ledger r h a e.claims.1; link = e.claims.0 })) tt (λ n o q. absurd (no_leader_follower n r (sym q))) (λ q. no_leader_follower 2 r (sym q))
     where
       a : IsLive ledger r
       a = claimer_live w ledger r x e.held e.claims e.normal
 
+  -- a row that was linked is normal
   pub normalised : (x s : ℕ) → Normalises w w' ledger ledger' x s → Kept w w' ledger ledger'
   normalised x s e = live_set w w' ledger ledger' x (row.Infant s) Normal e.infant e.sets e.ledger (from_infant w ledger x s) h m pairs a (λ l. tt) (λ b. absurd (none b)) (λ n o q. absurd (no_normal n q)) (λ f. absurd (none ((m x).frozen a f).0)) (λ q. absurd (no_normal 2 q))
     where
@@ -182,6 +195,7 @@ module _ (w w' : Rows) (ledger ledger' : Ledger) (c : Chain w ledger) (h : State
       none : w.marked x ≡ true → ⊥
       none = no_mark w ledger x (row.Infant s) e.infant (m x) a (λ b. b)
 
+  -- a dead row has its number
   pub retired : (x n : ℕ) → Retires w w' ledger ledger' x n → Kept w w' ledger ledger'
   retired x n e = dead_set w w' ledger ledger' x (w.state x) (Retired n) refl e.sets e.ledger (to_retired w ledger x n (w.state x) c e.dead) h m pairs e.dead (record {
     at = e.number.at;

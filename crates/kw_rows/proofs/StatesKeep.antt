@@ -17,6 +17,7 @@ pub record SameRow (w w' : Rows) (ledger ledger' : Ledger) (x : ℕ) : Type 0 wh
   pub fate : ledger'.fates x ≡ ledger.fates x
 
 module _ (w w' : Rows) (ledger ledger' : Ledger) (l : Leads w w' ledger ledger') where
+  -- a live row with the fate that it had has the state of one
   live_state : (x : ℕ) (s : State) → ledger'.fates x ≡ ledger.fates x → IsLiveState w ledger x s → IsLiveState w' ledger' x s
   live_state x (row.Infant m) f h = h ∙ ap (λ (k : Fate). k.owner) (sym f)
   live_state x Normal f h = tt
@@ -25,6 +26,7 @@ module _ (w w' : Rows) (ledger ledger' : Ledger) (l : Leads w w' ledger ledger')
   live_state x row.Free f h = absurd h
   live_state x (Retired m) f h = absurd h
 
+  -- so has a dead row
   dead_state : (x : ℕ) (s : State) → ledger'.fates x ≡ ledger.fates x → IsDeadState ledger x s → IsDeadState ledger' x s
   dead_state x (Leader m) f h = h
   dead_state x (Follower p) f h = tt
@@ -33,6 +35,7 @@ module _ (w w' : Rows) (ledger ledger' : Ledger) (l : Leads w w' ledger ledger')
   dead_state x Normal f h = absurd h
   dead_state x row.Free f h = absurd h
 
+  -- so has a row of any status
   has_state : (x : ℕ) (s : Status) → SameRow w w' ledger ledger' x → HasState w ledger x s → HasState w' ledger' x s
   has_state x Free e h = e.state ∙ h
   has_state x Infant e h = e.state ∙ h ∙ ap (λ (k : Fate). row.Infant k.owner) (sym e.fate)

@@ -19,15 +19,19 @@ module _ (w w' : Rows) (ledger ledger' : Ledger) (now : ℕ) (p : Option ℕ) (r
 
   -- Before the event.
 
+  -- the rows that go are live, and the first has their least key
   r_live : IsLive ledger r
   r_live = leads_live w ledger c p r e.link e.found
 
+  -- each is live
   went_live : (x : ℕ) → Went x → IsLive ledger x
   went_live x i = (links_live w ledger c r rest after e.group r_live x i).0
 
+  -- and has at least the least key of the first
   went_least : (x : ℕ) → Went x → w.least r ≤ w.least x
   went_least x i = (links_live w ledger c r rest after e.group r_live x i).1
 
+  -- so has each new row
   came_least : (x : ℕ) → Came x → w.least r ≤ w.least x
   came_least x i = omega (arith, e.least, first_rises w.least n more e.rises x i)
 
@@ -35,6 +39,7 @@ module _ (w w' : Rows) (ledger ledger' : Ledger) (now : ℕ) (p : Option ℕ) (r
   after_is : (b : ℕ) → after ≡ Some b → IsLive ledger b × ((y : ℕ) → Went y → w.least y < w.least b)
   after_is b f = after_live w ledger c r rest after e.group r_live b f
 
+  -- what stands after the group does not go
   after_stays : (b : ℕ) → after ≡ Some b → Went b → ⊥
   after_stays b f i = omega (arith, (after_is b f).1 b i)
 
@@ -42,9 +47,11 @@ module _ (w w' : Rows) (ledger ledger' : Ledger) (now : ℕ) (p : Option ℕ) (r
   p_before : (q : ℕ) → Some q ≡ p → IsLive ledger q × (w.next q ≡ Some r)
   p_before q f = (subst (IsLink ledger) (sym f) e.link, subst (λ x. leads w x ≡ Some r) (sym f) e.found)
 
+  -- p does not go
   p_stays : (q : ℕ) → Some q ≡ p → Went q → ⊥
   p_stays q f i = let t = p_before q f in omega (arith, c.rises q r t.0 t.1, went_least q i)
 
+  -- nor is it new
   p_old : (q : ℕ) → Some q ≡ p → Came q → ⊥
   p_old q f i = not_infant (ledger.fates q).status (p_before q f).0 (e.infants q i)
 
@@ -67,15 +74,19 @@ module _ (w w' : Rows) (ledger ledger' : Ledger) (now : ℕ) (p : Option ℕ) (r
 
   -- After it.
 
+  -- p leads to the first new row
   next_p : (x : ℕ) → Some x ≡ p → w'.next x ≡ Some n
   next_p x f = subst (λ q. leads w' q ≡ Some n) (sym f) e.leads_on
 
+  -- all other links are as they were
   next_same : (x : ℕ) → (Some x ≡ p → ⊥) → w'.next x ≡ w.next x
   next_same x f = e.others (Some x) f
 
+  -- those of new rows
   came_same : (x : ℕ) → Came x → w'.next x ≡ w.next x
   came_same x i = next_same x (λ f. p_old x f i)
 
+  -- and of rows that go
   went_same : (x : ℕ) → Went x → w'.next x ≡ w.next x
   went_same x i = next_same x (λ f. p_stays x f i)
 
@@ -83,6 +94,7 @@ module _ (w w' : Rows) (ledger ledger' : Ledger) (now : ℕ) (p : Option ℕ) (r
   live_old : (x : ℕ) → IsLive ledger x → (Went x → ⊥) → IsLive ledger' x
   live_old x a d = e.status x d (λ i. not_infant (ledger.fates x).status a (e.infants x i)) ∙ a
 
+  -- a live row is new, or was live and did not go
   live_split : (x : ℕ) → IsLive ledger' x → Came x ⊎ (IsLive ledger x × (Went x → ⊥))
   live_split x a = which (in_or_not (n ∷ more) x) (in_or_not (r ∷ rest) x)
     where
@@ -105,6 +117,7 @@ module _ (w w' : Rows) (ledger ledger' : Ledger) (now : ℕ) (p : Option ℕ) (r
           (subst (IsLive ledger') q (e.come k.0 (inr k.2)), omega (arith, k.3, ap w.least q))
       which (inr k) = let g : after ≡ Some y = sym k ∙ sym (came_same x i) ∙ f in (after_on y g, e.below x y i g)
 
+  -- a live row that stayed leads to a live row with a greater least key
   old_leads : (x y : ℕ) → IsLive ledger x → (Went x → ⊥) → w'.next x ≡ Some y → IsLive ledger' y × (w.least x < w.least y)
   old_leads x y a d f = which (link_or_not p x)
     where
@@ -117,6 +130,7 @@ module _ (w w' : Rows) (ledger ledger' : Ledger) (now : ℕ) (p : Option ℕ) (r
           let k : w.next x ≡ Some y = sym (next_same x g) ∙ f in
           (live_old y (c.linked x y a k) (stays_out x y a d g k), c.rises x y a k)
 
+  -- so does each live row
   live_leads : (x y : ℕ) → IsLive ledger' x → w'.next x ≡ Some y → IsLive ledger' y × (w.least x < w.least y)
   live_leads x y a f = which (live_split x a)
     where
@@ -134,6 +148,7 @@ module _ (w w' : Rows) (ledger ledger' : Ledger) (now : ℕ) (p : Option ℕ) (r
           record { next = n; follows = next_p x g; above = omega (arith, e.leasts n, e.leasts y, e.least, ap w.least q, o.above) }
       which (inr g) = record { next = o.next; follows = next_same x g ∙ o.follows; above = omega (arith, e.leasts o.next, e.leasts y, o.above) }
 
+  -- a new row and one that stayed stand one before the other
   mixed : (x y : ℕ) → Came x → IsLive ledger y → (Went y → ⊥) → IsBefore w' x y ⊎ IsBefore w' y x
   mixed x y i a d = which (side y a d)
     where
@@ -145,6 +160,7 @@ module _ (w w' : Rows) (ledger ledger' : Ledger) (now : ℕ) (p : Option ℕ) (r
       which (inl k) = let o = before y r k in inr (record { next = o.next; follows = o.follows; above = omega (arith, o.above, e.leasts r, e.leasts x, came_least x i) })
       which (inr k) = inl (step k.0 k.1 k.2 (rise_next w.next w.least n more after e.new e.rises x i))
 
+  -- so do any two live rows
   apart_on : (x y : ℕ) → IsLive ledger' x → IsLive ledger' y → (x ≡ y) ⊎ IsBefore w' x y ⊎ IsBefore w' y x
   apart_on x y a b = which (live_split x a) (live_split y b)
     where
@@ -163,6 +179,7 @@ module _ (w w' : Rows) (ledger ledger' : Ledger) (now : ℕ) (p : Option ℕ) (r
       which (inr o) (inl j) = swap (mixed y x j o.0 o.1)
       which (inr o) (inr q) = old (c.apart x y o.0 q.0)
 
+  -- the first row is live and has the least key 0
   first_on : (m : ℕ) × (w'.head ≡ Some m) × IsLive ledger' m × (w.least m ≡ 0)
   first_on = which p refl
     where
@@ -174,6 +191,7 @@ module _ (w w' : Rows) (ledger ledger' : Ledger) (now : ℕ) (p : Option ℕ) (r
           let t = p_before q (sym f) in
           (c.first, e.others None (λ g. let x : None ≡ Some q = g ∙ f in cc) ∙ c.leads, live_old c.first c.first_live (λ i. omega (arith, went_least c.first i, c.first_least, c.rises q r t.0 t.1)), c.first_least)
 
+  -- the live rows are one list still
   pub chain_kept : Chain w' ledger'
   chain_kept = record {
     first = first_on.0;
@@ -187,6 +205,7 @@ module _ (w w' : Rows) (ledger ledger' : Ledger) (now : ℕ) (p : Option ℕ) (r
 
   -- Rows that a seat may name.
 
+  -- a row that went now is held by each pass that is on
   went_held : (x : ℕ) → Went x → (s since : ℕ) → ledger.passes s ≡ Some since → WasHeld ledger' s x
   went_held x i s since f = record { since = since; dead = e.gone_dead x i; passes = e.passes s ∙ f; before = subst (λ g. since < g) (sym (e.gone_now x i)) (e.begun s since f) }
 
@@ -194,11 +213,13 @@ module _ (w w' : Rows) (ledger ledger' : Ledger) (now : ℕ) (p : Option ℕ) (r
   dead_old : (x : ℕ) → (ledger.fates x).status ≡ Dead → (Went x → ⊥) × (Came x → ⊥)
   dead_old x d = (λ i. not_dead (ledger.fates x).status (went_live x i) d, λ i. dead_infant (ledger.fates x).status d (e.infants x i))
 
+  -- a dead row that was held is so still
   held_old : (s x : ℕ) → WasHeld ledger s x → WasHeld ledger' s x
   held_old s x h =
       let t = dead_old x h.dead in
       record { since = h.since; dead = e.status x t.0 t.1 ∙ h.dead; passes = e.passes s ∙ h.passes; before = subst (λ g. h.since < g) (sym (e.gone x t.0 t.1)) h.before }
 
+  -- what a seat may name it may name still
   pub fresh_kept : (s x since : ℕ) → ledger.passes s ≡ Some since → IsFresh ledger s x → IsFresh ledger' s x
   fresh_kept s x since f (inl a) = which (in_or_not (r ∷ rest) x)
     where
@@ -212,6 +233,7 @@ module _ (w w' : Rows) (ledger ledger' : Ledger) (now : ℕ) (p : Option ℕ) (r
     dead : (ledger.fates x).status ≡ Dead
     held : WasHeld ledger s x
 
+  -- a dead row that is held went now, or was held before
   dead_split : (s x : ℕ) → WasHeld ledger' s x → Went x ⊎ WasDead s x
   dead_split s x h = which (in_or_not (r ∷ rest) x) (in_or_not (n ∷ more) x)
     where
@@ -228,9 +250,11 @@ module _ (w w' : Rows) (ledger ledger' : Ledger) (now : ℕ) (p : Option ℕ) (r
     later : (ledger'.fates y).status ≡ Dead → ((ledger'.fates x).status ≡ Dead) × ((ledger'.fates x).gone ≤ (ledger'.fates y).gone)
     rises : w.least x < w.least y
 
+  -- a live row is as good as is asked
   to_live : (x y : ℕ) → IsLive ledger' y → w.least x < w.least y → Good x y
   to_live x y a l = record { held = inl a; later = λ d. (not_dead (ledger'.fates y).status a d); rises = l }
 
+  -- a row that went now leads to a row that went too, or to a live one
   went_good : (s x y : ℕ) → Went x → (since : ℕ) → ledger.passes s ≡ Some since → w'.next x ≡ Some y → Good x y
   went_good s x y i since f g = which (to_next w.next r rest after e.group x i)
     where
@@ -244,6 +268,7 @@ module _ (w w' : Rows) (ledger ledger' : Ledger) (now : ℕ) (p : Option ℕ) (r
       which (inr q) = to_live x y (after_on y (sym q ∙ k)) (c.rises x y (went_live x i) k)
 
   module _ (o : Closed w ledger) where
+    -- a row that was dead leads to a held row
     dead_good : (s x y : ℕ) → WasDead s x → w'.next x ≡ Some y → Good x y
     dead_good s x y d g = which (o.linked x y h k) (in_or_not (r ∷ rest) y)
       where
@@ -277,6 +302,7 @@ module _ (w w' : Rows) (ledger ledger' : Ledger) (now : ℕ) (p : Option ℕ) (r
               rises = o.rises x y h k;
             }
 
+    -- so does each held row
     good : (x y : ℕ) → IsHeld ledger' x → w'.next x ≡ Some y → Good x y
     good x y (inl a) f = let t = live_leads x y a f in to_live x y t.0 t.1
     good x y (inr h) f = which (dead_split h.0 x h.1)
@@ -290,6 +316,7 @@ module _ (w w' : Rows) (ledger ledger' : Ledger) (now : ℕ) (p : Option ℕ) (r
     bound_same None = refl
     bound_same (Some y) = ap Some (e.leasts y)
 
+    -- the range of a row that is not new ends where it did
     stays_bound : (x : ℕ) → IsHeld ledger x → (Came x → ⊥) → (ledger'.fates x).upper ≡ bound w' (w'.next x)
     stays_bound x h f = e.upper x f ∙ o.upper x h ∙ sym (bound_same (w.next x)) ∙ which (link_or_not p x)
       where
@@ -297,6 +324,7 @@ module _ (w w' : Rows) (ledger ledger' : Ledger) (now : ℕ) (p : Option ℕ) (r
         which (inl g) = ap (bound w') (p_before x g).1 ∙ ap Some (e.leasts r ∙ sym e.least ∙ sym (e.leasts n)) ∙ ap (bound w') (sym (next_p x g))
         which (inr g) = ap (bound w') (sym (next_same x g))
 
+    -- the range of each held row ends where the next one begins
     upper_on : (x : ℕ) → IsHeld ledger' x → (ledger'.fates x).upper ≡ bound w' (w'.next x)
     upper_on x (inl a) = which (live_split x a)
       where
@@ -309,6 +337,7 @@ module _ (w w' : Rows) (ledger ledger' : Ledger) (now : ℕ) (p : Option ℕ) (r
         which (inl i) = stays_bound x (inl (went_live x i)) (λ j. not_infant (ledger.fates x).status (went_live x i) (e.infants x j))
         which (inr d) = stays_bound x (inr (h.0, d.held)) (dead_old x d.dead).1
 
+    -- held rows lead to held rows still
     pub closed_kept : Closed w' ledger'
     closed_kept = record {
       linked = λ x y h f. (good x y h f).held;
@@ -331,6 +360,7 @@ module _ (w w' : Rows) (ledger ledger' : Ledger) (now : ℕ) (p : Option ℕ) (r
         which (inr (inl s)) = absurd (early x y a s h j)
         which (inr (inr s)) = absurd (early y x b s j h)
 
+    -- a key of a row that is not new was one before
     held_was : (x k : ℕ) → (Came x → ⊥) → HoldsKey w' ledger' x k → HoldsKey w ledger x k
     held_was x k d h = record { from = omega (arith, e.leasts x, h.from); below = λ u f. h.below u (e.upper x d ∙ f) }
 
@@ -343,6 +373,7 @@ module _ (w w' : Rows) (ledger ledger' : Ledger) (now : ℕ) (p : Option ℕ) (r
         which (inr f) (inl a) = inl (sym (e.status x f d) ∙ a)
         which (inr f) (inr a) = inr (sym (e.status x f d) ∙ a)
 
+    -- rows that share a key follow one another still
     pub follow_kept : Follows w ledger → Follows w' ledger'
     follow_kept f x y k dx sy hx hy d = go (in_or_not (n ∷ more) y)
       where

@@ -20,6 +20,7 @@ pub opens : (w : Rows) (ledger : Ledger) (r : ℕ) → Group w ledger (Marking r
 opens w ledger r h m = (here w r m, h.0)
 
 module _ (w : Rows) (ledger : Ledger) (now : ℕ) (s : Structure w ledger now) where
+  -- a live row has the state of one
   state_of : (x : ℕ) → IsLive ledger x → IsLiveState w ledger x (w.state x)
   state_of x a = live_state w ledger x s.states a
 
@@ -32,6 +33,7 @@ module _ (w : Rows) (ledger : Ledger) (now : ℕ) (s : Structure w ledger now) w
   led_live x n Normal o h l = absurd h
   led_live x n (Follower m) o h l = absurd h
 
+  -- and is engaged
   led_engaged : (x n : ℕ) (t : State) → IsLed n t → IsLiveState w ledger x t → IsEngaged t
   led_engaged x n (Leader m) h l = tt
   led_engaged x n (Retired m) h l = absurd l
@@ -40,6 +42,7 @@ module _ (w : Rows) (ledger : Ledger) (now : ℕ) (s : Structure w ledger now) w
   led_engaged x n Normal h l = absurd h
   led_engaged x n (Follower m) h l = absurd h
 
+  -- a live row that goes along with r, or has gone, follows it
   taken_live : (r x : ℕ) (t : State) → IsTaken r t → IsLiveState w ledger x t → t ≡ Follower r
   taken_live r x (Follower p) h l = ap Follower h
   taken_live r x (Retired m) h l = absurd l
@@ -65,6 +68,7 @@ module _ (w : Rows) (ledger : Ledger) (now : ℕ) (s : Structure w ledger now) w
   pub alone : (r : ℕ) → Group w ledger (Marking r 1) → w.marked r ≡ true → Group w ledger (Alone r (w.next r))
   alone r h m = (here w r m, λ a. record { either = inl (led_live r 1 (w.state r) (omega arith) h.0 (state_of r a)) })
 
+  -- a row that leads a decided group of two leads two
   led_two : (m : ℕ) (t : State) → m ≡ 2 → IsLed m t → IsTwo t
   led_two m (Leader n) o h = let q : n ≡ m = h (omega (arith, o)) in q ∙ o
   led_two m (Retired n) o h = tt
@@ -114,9 +118,11 @@ module _ (w : Rows) (ledger : Ledger) (now : ℕ) (s : Structure w ledger now) w
   pub may_mark : (r n : ℕ) → Group w ledger (Marking r n) → IsLive ledger r → IsEngaged (w.state r)
   may_mark r n g a = led_engaged r n (w.state r) g.0 (state_of r a)
 
+  -- that of the row that goes along
   pub may_mark_next : (r c : ℕ) → Group w ledger (MarkingNext r c) → IsLive ledger c → IsEngaged (w.state c)
   may_mark_next r c g a = subst IsEngaged (sym (taken_live r c (w.state c) g.2 (state_of c a))) tt
 
+  -- a leader of some is decided
   decided_is : (x n : ℕ) → 1 ≤ n → w.state x ≡ Leader n → IsDecided (w.state x)
   decided_is x n o e = subst IsDecided (sym e) o
 

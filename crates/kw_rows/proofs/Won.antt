@@ -59,21 +59,27 @@ of_or_not r (Some c) x = which (cases_eq x r) (cases_eq x c)
     which (inr d) (inl e) = inl (inr e)
     which (inr d) (inr f) = inr (neither d f)
 
+-- two leaders of so many rows lead as many
 leader_is : (m n : ℕ) → Leader m ≡ Leader n → m ≡ n
 leader_is m n e = cc
 
+-- a link is not both marked and unmarked
 no_marks : {A : Type 0} (w : Rows) (x : ℕ) → w.marked x ≡ false → w.marked x ≡ true → A
 no_marks w x e f = let x : true ≡ false = sym f ∙ e in absurd (cc)
 
+-- a row is not both frozen and not
 no_frozen : {A : Type 0} (w : Rows) (x : ℕ) → w.frozen x ≡ false → w.frozen x ≡ true → A
 no_frozen w x e f = let x : true ≡ false = sym f ∙ e in absurd (cc)
 
+-- a leader follows no row
 no_leader_follower : (m n : ℕ) → Leader m ≡ Follower n → ⊥
 no_leader_follower m n e = cc
 
+-- a follower follows one row
 follower_is : (m n : ℕ) → Follower m ≡ Follower n → m ≡ n
 follower_is m n e = cc
 
+-- an infant leads nothing
 no_leader_infant : {A : Type 0} (s m : ℕ) → row.Infant s ≡ Leader m → A
 no_leader_infant s m q = absurd (cc)
 
@@ -121,14 +127,17 @@ module _ (w w' : Rows) (ledger ledger' : Ledger) (now : ℕ) (p : Option ℕ) (r
       which None h f = let y : Some x ≡ None = f in cc
       which (Some y) h f = no_marks w x (ap w.marked (same_Some x y f) ∙ h.1) m
 
+  -- marked links are as they were
   link : (x : ℕ) (y : Option ℕ) → LinksOn w x y → LinksOn w' x y
   link x y h = record { marked = e.marked x ∙ h.marked; next = e.next x (other x h.marked) ∙ h.next }
 
+  -- what a state says it says still
   same : (F : State → Type 0) (y : ℕ) → F (w.state y) → F (w'.state y)
   same F y k = subst F (sym (e.state y)) k
 
   -- Which rows are what.
 
+  -- a live row that was linked before was live, and is none of the group
   live_was : (x : ℕ) → WasLinked ledger x → IsLive ledger' x → IsLive ledger x × (IsOf r c x → ⊥)
   live_was x h a = which (of_or_not r c x)
     where
@@ -136,9 +145,11 @@ module _ (w w' : Rows) (ledger ledger' : Ledger) (now : ℕ) (p : Option ℕ) (r
       which (inl i) = not_dead (ledger'.fates x).status a (e.went x i).0
       which (inr d) = (sym (stayed x d h).0 ∙ a, d)
 
+  -- a live row that is none of the group is so still
   live_on : (x : ℕ) → IsLive ledger x → (IsOf r c x → ⊥) → IsLive ledger' x
   live_on x a d = (stayed x d (inl a)).0 ∙ a
 
+  -- a dead row was so, or is one of the group
   dead_was : (x : ℕ) → WasLinked ledger x → IsDead ledger' x → IsDead ledger x ⊎ IsOf r c x
   dead_was x h a = which (of_or_not r c x)
     where
@@ -146,9 +157,11 @@ module _ (w w' : Rows) (ledger ledger' : Ledger) (now : ℕ) (p : Option ℕ) (r
       which (inl i) = inr i
       which (inr d) = inl (sym (stayed x d h).0 ∙ a)
 
+  -- the rows of the group were live
   of_live : (x : ℕ) → IsOf r c x → IsLive ledger x
   of_live x i = (of_group c e.holds x i).0
 
+  -- a dead row is none of the group, and is as it was
   dead_on : (x : ℕ) → IsDead ledger x → (IsOf r c x → ⊥) × IsDead ledger' x × ((ledger'.fates x).gone ≡ (ledger.fates x).gone)
   dead_on x a =
       let d = λ (i : IsOf r c x). not_dead {A = ⊥} (ledger.fates x).status (of_live x i) a in
@@ -164,6 +177,7 @@ module _ (w w' : Rows) (ledger ledger' : Ledger) (now : ℕ) (p : Option ℕ) (r
 
   -- Other seats.
 
+  -- if the leader of two went now, the row after it is claimed
   claimed_went : (q k : ℕ) → LinksOn w q (Some k) → IsTwo (w.state q) → IsOf r c q → IsClaimed q (w.state k)
   claimed_went q k h two i = subst (λ y. IsClaimed y (w.state k)) (sym eq) (which (next_group c e.holds k (ap w.next (sym eq) ∙ h.next) (live_two w ledger r states e.live (subst (λ y. IsTwo (w.state y)) eq two))))
     where
@@ -182,6 +196,7 @@ module _ (w w' : Rows) (ledger ledger' : Ledger) (now : ℕ) (p : Option ℕ) (r
       which (inl u) = leader_claimed (w.state k) u
       which (inr u) = subst (IsClaimed r) (sym u.0) refl
 
+  -- a row that goes alone does so still
   alone : (q : ℕ) (z : Option ℕ) → IsAlone w q z → IsAlone w' q z
   alone q z h = record { either = which h.either }
     where
@@ -236,6 +251,7 @@ module _ (w w' : Rows) (ledger ledger' : Ledger) (now : ℕ) (p : Option ℕ) (r
           let l : LinksOn w q (Some k.0) = record { marked = subst (λ y. w.marked y ≡ true) (sym eq) (r_group c e.holds).0.marked; next = ap w.next eq ∙ k.1 } in
           (k.0, e.next q (other q l.marked) ∙ l.next, same (IsClaimed q) k.0 (claimed_went q k.0 l two i))
 
+  -- rows that went together did so still
   went_with : (q k : ℕ) → IsDead ledger q → WentWith ledger q k → WentWith ledger' q k
   went_with q k d t = let x = dead_on k t.0 in (x.1, x.2 ∙ t.1 ∙ sym (dead_on q d).2)
 
@@ -302,6 +318,7 @@ module _ (w w' : Rows) (ledger ledger' : Ledger) (now : ℕ) (p : Option ℕ) (r
           which (inl u) = subst IsLeader s u
           which (inr u) = d u.1
 
+  -- a live row that is none of the group has the state of one
   live_on_state : (x : ℕ) (s : State) → w.state x ≡ s → IsLive ledger x → (IsOf r c x → ⊥) → ledger'.fates x ≡ ledger.fates x → IsLiveState w ledger x s → IsLiveState w' ledger' x s
   live_on_state x (row.Infant m) q a d f h = h ∙ ap (λ (k : Fate). k.owner) (sym f)
   live_on_state x Normal q a d f h = tt
@@ -310,6 +327,7 @@ module _ (w w' : Rows) (ledger ledger' : Ledger) (now : ℕ) (p : Option ℕ) (r
   live_on_state x row.Free q a d f h = absurd h
   live_on_state x (Retired m) q a d f h = absurd h
 
+  -- so has a dead row
   dead_on_state : (x : ℕ) (s : State) → ledger'.fates x ≡ ledger.fates x → IsDeadState ledger x s → IsDeadState ledger' x s
   dead_on_state x (Leader m) f h = h
   dead_on_state x (Follower q) f h = tt
@@ -338,6 +356,7 @@ module _ (w w' : Rows) (ledger ledger' : Ledger) (now : ℕ) (p : Option ℕ) (r
   came_state : (x : ℕ) → IsIn new x → w'.state x ≡ row.Infant (ledger'.fates x).owner
   came_state x i = e.state x ∙ subst (HasState w ledger x) (e.infants x i) (states x) ∙ ap row.Infant (sym (e.owner x i))
 
+  -- all states go with fates
   pub states_won : States w' ledger'
   states_won x = which (of_or_not r c x) (in_or_not new x)
     where
@@ -346,6 +365,7 @@ module _ (w w' : Rows) (ledger ledger' : Ledger) (now : ℕ) (p : Option ℕ) (r
       which (inr d) (inl i) = subst (HasState w' ledger' x) (sym (e.come x i)) (subst (IsLiveState w' ledger' x) (sym (came_state x i)) refl)
       which (inr d) (inr f) = let k = e.fates x d f in subst (HasState w' ledger' x) (ap (λ (t : Fate). t.status) (sym k)) (rest_state x d k (ledger.fates x).status refl (states x))
 
+  -- and marks
   pub marks_won : (x : ℕ) → Marks w' ledger' x
   marks_won x = which (of_or_not r c x) (in_or_not new x)
     where
@@ -403,6 +423,7 @@ module _ (w w' : Rows) (ledger ledger' : Ledger) (now : ℕ) (p : Option ℕ) (r
       which (inl y) (inr u) = absurd (no_leader_follower 2 q (sym u ∙ ap w.state (sym y) ∙ f))
       which (inr y) u = subst (WentWith ledger' x) (follower_is r q (sym y.1 ∙ f)) ((e.went r head).0, (e.went r head).1 ∙ sym (e.went x i).1)
 
+  -- and what pairs of rows say
   pub pairs_won : (x : ℕ) → Pairs w' ledger' x
   pairs_won x = which (of_or_not r c x) (in_or_not new x)
     where

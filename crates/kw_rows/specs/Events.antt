@@ -17,9 +17,11 @@ pub record SameLinks (w w' : Rows) : Type 0 where
   pub frozen : (x : ℕ) → w'.frozen x ≡ w.frozen x
   pub least : (x : ℕ) → w'.least x ≡ w.least x
 
+-- all states
 abbrev pub SameStates : Rows → Rows → Type 0
 SameStates w w' = (x : ℕ) → w'.state x ≡ w.state x
 
+-- what has become of each row
 abbrev pub SameFates : Ledger → Ledger → Type 0
 SameFates g g' = (x : ℕ) → g'.fates x ≡ g.fates x
 
@@ -28,6 +30,7 @@ pub record SamePasses (g g' : Ledger) : Type 0 where
   pub passes : (t : ℕ) → g'.passes t ≡ g.passes t
   pub numbered : (m : ℕ) → g'.numbered m ≡ g.numbered m
 
+-- all that is recorded
 pub record SameLedger (g g' : Ledger) : Type 0 where
   pub fates : SameFates g g'
   pub others : SamePasses g g'
@@ -168,6 +171,7 @@ pub record Rests (w w' : Rows) (g g' : Ledger) : Type 0 where
 
 -- A group is replaced.
 
+-- the row is in the list
 abbrev pub IsIn : List ℕ → ℕ → Type 0
 IsIn [] x = ⊥
 IsIn (y ∷ ys) x = (x ≡ y) ⊎ IsIn ys x
@@ -230,6 +234,7 @@ pub record Replaces (w w' : Rows) (g g' : Ledger) (now : ℕ) (p : Option ℕ) (
   pub fates : (x : ℕ) → (IsIn (r ∷ rest_of c) x → ⊥) → (IsIn (n ∷ more) x → ⊥) → g'.fates x ≡ g.fates x
   pub passes : SamePasses g g'
 
+-- one event at position `now`
 pub data Event (w w' : Rows) (g g' : Ledger) (now : ℕ) : Type 0 where
   takes : (x s : ℕ) → Takes w w' g g' x s → Event w w' g g' now
   gives_back : (x : ℕ) → GivesBack w w' g g' x → Event w w' g g' now

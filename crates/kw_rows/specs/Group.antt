@@ -24,6 +24,7 @@ pub data View : Type 0 where
 pub record IsAlone (w : Rows) (r : ℕ) (after : Option ℕ) : Type 0 where
   pub either : (w.state r ≡ Leader 1) ⊎ (w.state r ≡ Leader 2) × ((c : ℕ) × (after ≡ Some c) × IsLeader (w.state c))
 
+-- c goes along with r
 pub record IsPair (w : Rows) (r c : ℕ) : Type 0 where
   pub leads : w.state r ≡ Leader 2
   pub follows : w.state c ≡ Follower r
@@ -36,6 +37,7 @@ IsClaimedNext w r = (c : ℕ) × (w.next r ≡ Some c) × IsClaimed r (w.state c
 abbrev pub WentWith : Ledger → ℕ → ℕ → Type 0
 WentWith g r c = IsDead g c × ((g.fates c).gone ≡ (g.fates r).gone)
 
+-- what it knows, by how far it is; also once the rows have gone
 abbrev pub Group : Rows → Ledger → View → Type 0
 Group w g Elsewhere = Unit {0}
 Group w g (Marking r n) = IsLed n (w.state r) × (n ≡ 2 → IsDead g r → IsClaimedNext w r)

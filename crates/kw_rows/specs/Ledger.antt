@@ -23,6 +23,7 @@ pub record Fate : Type 0 where
   -- the clock when it was linked
   pub clock : ℕ
 
+-- the record: what has become of the rows, and where passes began and numbers were drawn
 pub record Ledger : Type 0 where
   pub fates : ℕ → Fate
   -- where the pass of each seat began, of those that are in one
@@ -30,9 +31,11 @@ pub record Ledger : Type 0 where
   -- where each retirement number was drawn, of those that were
   pub numbered : ℕ → Option ℕ
 
+-- the row is linked
 abbrev pub IsLive : Ledger → ℕ → Type 0
 IsLive g x = (g.fates x).status ≡ Live
 
+-- it was linked, and is so no more
 abbrev pub IsDead : Ledger → ℕ → Type 0
 IsDead g x = (g.fates x).status ≡ Dead
 

@@ -22,6 +22,7 @@ IsTwo (Leader m) = m ≡ 2
 IsTwo (Retired m) = Unit {0}
 IsTwo _ = ⊥
 
+-- it leads a group
 abbrev pub IsLeader : State → Type 0
 IsLeader (Leader m) = Unit {0}
 IsLeader _ = ⊥

@@ -22,6 +22,7 @@ pub record IsNumbered (g : Ledger) (x m : ℕ) : Type 0 where
   pub drawn : g.numbered m ≡ Some at
   pub after : (g.fates x).gone < at
 
+-- what a live row's state may be, and says
 abbrev pub IsLiveState : Rows → Ledger → ℕ → State → Type 0
 IsLiveState w g x (row.Infant s) = s ≡ (g.fates x).owner
 IsLiveState w g x Normal = Unit {0}
@@ -29,18 +30,21 @@ IsLiveState w g x (Leader m) = Unit {0}
 IsLiveState w g x (Follower p) = HasLeader w g x p
 IsLiveState w g x _ = ⊥
 
+-- what a dead row's may be
 abbrev pub IsDeadState : Ledger → ℕ → State → Type 0
 IsDeadState g x (Leader m) = 1 ≤ m
 IsDeadState g x (Follower p) = Unit {0}
 IsDeadState g x (Retired m) = IsNumbered g x m
 IsDeadState g x _ = ⊥
 
+-- the state goes with what has become of the row
 abbrev pub HasState : Rows → Ledger → ℕ → Status → Type 0
 HasState w g x Free = w.state x ≡ row.Free
 HasState w g x Infant = w.state x ≡ row.Infant (g.fates x).owner
 HasState w g x Live = IsLiveState w g x (w.state x)
 HasState w g x Dead = IsDeadState g x (w.state x)
 
+-- each row has such a state
 abbrev pub States : Rows → Ledger → Type 0
 States w g = (x : ℕ) → HasState w g x (g.fates x).status
 
