@@ -30,6 +30,7 @@ use Rattle.kw_world.specs.Table.{row}
 use Rattle.kw_world.specs.Step.{is_skipped}
 use Rattle.kw_world.specs.declared.event.StepDone.TheVariants.{Moved, Ended}
 use Rattle.kw_model.specs.declared.call.Reply.{Reply}
+use Rattle.kw_core.specs.Stages.{IsStaying}
 
 -- what follows is that the call goes on
 pub record Goes (o : Outcome) : Type 0 where
@@ -130,11 +131,6 @@ settle_goes version l = either (is_range_empty l.call) (to (ClearScan (Pairs [])
 
 walk_min_goes : (least : ℕ) (l : Local) → Goes (walk_min least l)
 walk_min_goes least l = either (nat_le least l.want) (to Walk (record l { row = l.candidate; lower = least })) (arrive l.call (record l { next = Some l.candidate; upper = least })) (record { moved = refl }) (arrive_goes l.call (record l { next = Some l.candidate; upper = least }))
-
--- the seat is not about to leave
-abbrev pub IsStaying : Activity → Type 0
-IsStaying (Leave reply) = ⊥
-IsStaying _ = Unit {0}
 
 -- a seat that is not about to leave goes on, whatever it was told
 pub goes_on : (z : Sizes) (a : Activity) (s : ℕ) (choice : Choice) (l : Local) (told : ℕ) → is_skipped a choice ≡ false → IsStaying a → Goes ((row z a s choice l).next told)

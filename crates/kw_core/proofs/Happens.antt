@@ -33,6 +33,8 @@ use Rattle.kw_core.specs.Run.{Run, change_of, seat_after, origins_after, logged,
 use Rattle.kw_core.specs.Words.{Words}
 use Rattle.kw_core.proofs.Events.{IsBegun}
 use Rattle.kw_core.proofs.Arrows.{Arrow, arrow}
+use Rattle.kw_core.specs.Stages.{IsReached}
+use Rattle.kw_core.specs.Ledger.{ledger_after}
 
 -- the words changed as a line of the table says
 pub record Changed (z : Sizes) (rows : ℕ) (v v' : Words) (it : Row) : Type 0 where
@@ -56,6 +58,7 @@ change_at z r a s choice l = change_of z a s choice l (found_at z (word z r.worl
 pub record Happens (z : Sizes) (r r' : Run) (s : ℕ) (choice : Choice) (l l' : Local) (a : Activity) : Type 0 where
   -- the seat, what it knows, and what it chooses
   pub activity : l.activity ≡ a
+  pub reached : IsReached a
   pub knows : slice_get r.world.locals s ≡ Some l
   pub seat : s < z.seats
   pub begins : IsBegun choice
@@ -73,6 +76,7 @@ pub record Happens (z : Sizes) (r r' : Run) (s : ℕ) (choice : Choice) (l l' : 
   pub history : r'.history ≡ noted r.history (logged s (row z a s choice l).operation.kind (word z r.world name.Clock)) (change_of z a s choice l (found_at z (word z r.world) a s choice l) (r.seats s) r.origin)
   pub log : r'.seats s ≡ seat_after z a choice l (found_at z (word z r.world) a s choice l) l'.activity (r.seats s) r.origin r.history
   pub logs : (t : ℕ) → t ≢ s → r'.seats t ≡ r.seats t
+  pub ledger : r'.ledger ≡ ledger_after z a s l (found_at z (word z r.world) a s choice l) (word z r.world) (length r.history.log) r.ledger
   pub origin : r'.origin ≡ origins_after z a l (found_at z (word z r.world) a s choice l) r.origin r.history
 
 -- Every event that is noted happens.
@@ -94,15 +98,16 @@ begun_offered rows (Guess q) h = met (nat_lt q rows)
     met false = tt
 begun_offered rows Stop h = tt
 
-pub happens : (z : Sizes) (r : Run) (e : Event) (l : Local) → IsSane z r.world → IsBegun e.choice → slice_get r.world.locals e.seat ≡ Some l → is_skipped l.activity e.choice ≡ false →
+pub happens : (z : Sizes) (r : Run) (e : Event) (l : Local) → IsSane z r.world → IsReached l.activity → IsBegun e.choice → slice_get r.world.locals e.seat ≡ Some l → is_skipped l.activity e.choice ≡ false →
     Happens z r (noted_by z r e l) e.seat (offered r.world.rows e.choice) l (followed (row z l.activity e.seat (offered r.world.rows e.choice) l) (found_at z (word z r.world) l.activity e.seat (offered r.world.rows e.choice) l)).local l.activity
 unfolding row_of
-happens z r e l sane begins knows moves =
+happens z r e l sane reached begins knows moves =
     let inside = slice_get_within r.world.locals e.seat l knows in
     let within = in_table z r.world e l sane inside knows in
     let it = row_at z r.world e l in
     record {
       activity = refl;
+      reached = reached;
       knows = knows;
       seat = omega (arith, inside, sane.seats);
       begins = begun_offered r.world.rows e.choice begins;
@@ -122,6 +127,7 @@ happens z r e l sane begins knows moves =
       history = refl;
       log = rw (eq-eqb e.seat e.seat refl) refl;
       logs = λ t d. rw (ne_eqb t e.seat d) refl;
+      ledger = refl;
       origin = refl;
     }
 

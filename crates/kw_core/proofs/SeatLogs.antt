@@ -9,14 +9,8 @@ use Rattle.kw_world.specs.Sizes.{Sizes}
 use Rattle.kw_world.specs.RowPut.{has_room}
 use Rattle.kw_core.specs.History.{History}
 use Rattle.kw_core.specs.Run.{SeatLog, Origins, seat_after, log_gathered, is_at_cell}
-use Rattle.kw_core.specs.Stages.{IsPublished, IsReading}
+use Rattle.kw_core.specs.Stages.{IsPublished, IsReading, IsUnderway}
 use Rattle.kw_core.proofs.Happens.{not_chosen}
-
--- the seat is in a call, and its event does not end it
-abbrev pub IsUnderway : Activity → Type 0
-IsUnderway Idle = ⊥
-IsUnderway (Leave reply) = ⊥
-IsUnderway _ = Unit {0}
 
 -- a part that both branches of a test leave alone
 pub either : {A B : Type 0} (f : A → B) (b : Bool) (x y : A) (c : B) → f x ≡ c → f y ≡ c → f (if b then x else y) ≡ c

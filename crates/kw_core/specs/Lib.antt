@@ -11,3 +11,4 @@ pub mod Run
 pub mod Recording
 pub mod Remarks
 pub mod Stages
+pub mod Ledger

@@ -1,9 +1,9 @@
 -- What led to a world: the world, the record of its history, and what the laws alone need beside them, by one fold over the
 -- events.
 --
--- Beside the record stands, for each seat, what it did last, and for each cell, to which attempt it was given. The fold goes by
--- the activity of the acting seat: `change_of` says what its event adds to the record, `seat_after` what it adds to the seat's
--- own log, and `origins_after` to which attempt a cell is given.
+-- Beside the record stands, for each seat, what it did last, for each cell, to which attempt it was given, and the ledger of rows. The
+-- fold goes by the activity of the acting seat: `change_of` says what its event adds to the record, `seat_after` what it adds to the
+-- seat's own log, `origins_after` to which attempt a cell is given, and `ledger_after` what becomes of the ledger.
 use Rattle.std.specs.Prelude.{ℕ, ◌+◌, ◌==◌, Bool, true, false, ◌&&◌, if◌then◌else◌, Option, Some, None, unwrap_or, List, [], ◌∷◌, ◌++◌, length, slice_get}
 use Rattle.kw_words.specs.declared.layout.Name.TheVariants.{Clock}
 use Rattle.kw_words.specs.declared.kind.Kind.{Kind}
@@ -35,6 +35,7 @@ use Rattle.kw_world.specs.Step.{word, row_at, moved_of, followed, is_skipped}
 pub use Rattle.kw_core.specs.declared.seat_log.SeatLog.{SeatLog}
 use Rattle.kw_core.specs.History.{History, Logged, Drawn}
 use Rattle.kw_core.specs.Noted.{Change, Nothing, Begins, Adds, Announces, Stamps, Ends, noted, nothing_yet}
+use Rattle.kw_core.specs.Ledger.{Ledger, ledger_after, ledger_at_first}
 
 -- to which attempt each cell of each row was given
 abbrev pub Origins : Type 0
@@ -46,6 +47,7 @@ pub record Run : Type 0 where
   pub history : History
   pub seats : ℕ → SeatLog
   pub origin : Origins
+  pub ledger : Ledger
 
 -- the logs with that of one seat set
 abbrev pub with_seat : (ℕ → SeatLog) → ℕ → SeatLog → (ℕ → SeatLog)
@@ -179,6 +181,7 @@ noted_by z r e l = record {
   history = noted r.history (logged e.seat (row_at z r.world e l).operation.kind (word z r.world Clock)) (change_of z l.activity e.seat (offered r.world.rows e.choice) l (found_by z r.world e l) (r.seats e.seat) r.origin);
   seats = with_seat r.seats e.seat (seat_after z l.activity (offered r.world.rows e.choice) l (found_by z r.world e l) (followed (row_at z r.world e l) (found_by z r.world e l)).local.activity (r.seats e.seat) r.origin r.history);
   origin = origins_after z l.activity l (found_by z r.world e l) r.origin r.history;
+  ledger = ledger_after z l.activity e.seat l (found_by z r.world e l) (word z r.world) (length r.history.log) r.ledger;
 }
 
 -- an event of a seat that knows this; an event that is skipped leaves all as it was
@@ -201,7 +204,7 @@ no_log = record { call = 0; own = 0; looked = 0; loaded = 0; drawn = 0; ids = []
 
 -- where nothing happened yet
 abbrev pub start : Sizes → Opening → Run
-start z o = record { world = opened z o; history = nothing_yet; seats = λ s. no_log; origin = λ r c. None }
+start z o = record { world = opened z o; history = nothing_yet; seats = λ s. no_log; origin = λ r c. None; ledger = ledger_at_first o }
 
 -- all that led to the world after these events
 unfoldable pub history : Sizes → Opening → List Event → Run

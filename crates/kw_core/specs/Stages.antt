@@ -1,10 +1,13 @@
--- Where a seat stands: the activities by what is known of a seat there. Each family is a type that computes at every activity, so
--- that a fact with such a premise says nothing elsewhere.
+-- Where a seat stands: the stages of a call, and the activities by what is known of a seat there. Each family is a type that computes
+-- at every activity, so that a fact with such a premise says nothing elsewhere. A family of whole stages goes by `stage_of`, the one
+-- list of all activities: a new one gets its stage there. A finer family names its activities.
 use Rattle.std.specs.Prelude.{◌≤◌, Bool, true, false, Option, Some, None}
 use Rattle.kw_model.specs.declared.call.Call.{Call}
 use Rattle.kw_model.specs.declared.call.Call.TheVariants.{Put, Del, Get, Scan}
 use Rattle.kw_model.specs.declared.call.Reply.TheVariants.{Done, Pairs}
 use Rattle.kw_world.specs.declared.activity.Activity.{Activity}
+use Rattle.kw_core.specs.declared.stage.Stage.{Stage}
+use Rattle.kw_core.specs.declared.stage.Stage.TheVariants.{Resting, Entering, Drawing, Walking, Looking, Taking, Clearing, Putting, Leaving}
 use Rattle.kw_world.specs.declared.activity.Activity.TheVariants.{Idle, Enter, ScanClock, ScanWait, ScanDraw, ScanSettle, Start, Head, GuessMin, Walk, WalkMin, Look, LookKey, LookClock, LookHelp, LookCount, Cell, CellKey, CellValue, ClearScan, PutCount, PutAdd, PutKey, PutValue, Announce, PutClock, Stamp, PutVersion, PutClear, Leave}
 
 -- Calls.
@@ -17,12 +20,90 @@ is_put (Some (Get key)) = false
 is_put (Some (Scan from upto)) = false
 is_put None = false
 
+-- The stages of a call.
+
+-- each activity is of one stage
+abbrev pub stage_of : Activity → Stage
+stage_of Idle = Resting
+stage_of Enter = Entering
+stage_of ScanClock = Drawing
+stage_of ScanWait = Drawing
+stage_of ScanDraw = Drawing
+stage_of ScanSettle = Drawing
+stage_of Start = Walking
+stage_of Head = Walking
+stage_of GuessMin = Walking
+stage_of Walk = Walking
+stage_of WalkMin = Walking
+stage_of (Look i) = Looking
+stage_of LookKey = Looking
+stage_of LookClock = Looking
+stage_of LookHelp = Looking
+stage_of LookCount = Looking
+stage_of (Cell j) = Taking
+stage_of CellKey = Taking
+stage_of CellValue = Taking
+stage_of (ClearScan reply) = Clearing
+stage_of PutCount = Putting
+stage_of PutAdd = Putting
+stage_of PutKey = Putting
+stage_of PutValue = Putting
+stage_of Announce = Putting
+stage_of PutClock = Putting
+stage_of Stamp = Putting
+stage_of PutVersion = Putting
+stage_of PutClear = Putting
+stage_of (Leave reply) = Leaving
+
+-- a seat may come to this activity
+abbrev pub IsReached : Activity → Type 0
+IsReached _ = Unit {0}
+
+abbrev IsBusyStage : Stage → Type 0
+IsBusyStage Resting = ⊥
+IsBusyStage _ = Unit {0}
+
 -- the seat makes a call
 abbrev pub IsBusy : Activity → Type 0
-IsBusy Idle = ⊥
-IsBusy _ = Unit {0}
+IsBusy a = IsBusyStage (stage_of a)
 
--- The walk.
+abbrev IsUnderwayStage : Stage → Type 0
+IsUnderwayStage Resting = ⊥
+IsUnderwayStage Leaving = ⊥
+IsUnderwayStage _ = Unit {0}
+
+-- the seat is in a call, and is not about to leave
+abbrev pub IsUnderway : Activity → Type 0
+IsUnderway a = IsUnderwayStage (stage_of a)
+
+abbrev IsStayingStage : Stage → Type 0
+IsStayingStage Leaving = ⊥
+IsStayingStage _ = Unit {0}
+
+-- the seat is not about to leave
+abbrev pub IsStaying : Activity → Type 0
+IsStaying a = IsStayingStage (stage_of a)
+
+abbrev IsEarlyStage : Stage → Type 0
+IsEarlyStage Resting = Unit {0}
+IsEarlyStage Entering = Unit {0}
+IsEarlyStage Drawing = Unit {0}
+IsEarlyStage _ = ⊥
+
+-- the call has read no row and has no pairs
+abbrev pub IsEarly : Activity → Type 0
+IsEarly a = IsEarlyStage (stage_of a)
+
+abbrev IsKeepingStage : Stage → Type 0
+IsKeepingStage Resting = ⊥
+IsKeepingStage Looking = ⊥
+IsKeepingStage _ = Unit {0}
+
+-- the seat is in a call and does not look at entries: what it gathered in the last row that it read is still there
+abbrev pub IsKeeping : Activity → Type 0
+IsKeeping a = IsKeepingStage (stage_of a)
+
+-- The walk and the row.
 
 -- the walk begins
 abbrev pub IsStarting : Activity → Type 0
@@ -31,75 +112,72 @@ IsStarting Head = Unit {0}
 IsStarting GuessMin = Unit {0}
 IsStarting _ = ⊥
 
+abbrev IsGoingStage : Stage → Type 0
+IsGoingStage Walking = Unit {0}
+IsGoingStage _ = ⊥
+
 -- the seat is on its way to the row of the wanted key
 abbrev pub IsGoing : Activity → Type 0
-IsGoing Start = Unit {0}
-IsGoing Head = Unit {0}
-IsGoing GuessMin = Unit {0}
-IsGoing Walk = Unit {0}
-IsGoing WalkMin = Unit {0}
-IsGoing _ = ⊥
+IsGoing a = IsGoingStage (stage_of a)
+
+abbrev IsReadStage : Stage → Type 0
+IsReadStage Looking = Unit {0}
+IsReadStage Taking = Unit {0}
+IsReadStage _ = ⊥
 
 -- a get or a scan is at its row
 abbrev pub IsAtRead : Activity → Type 0
-IsAtRead (Look i) = Unit {0}
-IsAtRead LookKey = Unit {0}
-IsAtRead LookClock = Unit {0}
-IsAtRead LookHelp = Unit {0}
-IsAtRead LookCount = Unit {0}
-IsAtRead (Cell j) = Unit {0}
-IsAtRead CellKey = Unit {0}
-IsAtRead CellValue = Unit {0}
-IsAtRead _ = ⊥
+IsAtRead a = IsReadStage (stage_of a)
+
+abbrev IsPutStage : Stage → Type 0
+IsPutStage Putting = Unit {0}
+IsPutStage _ = ⊥
 
 -- a put or a delete is at its row
 abbrev pub IsAtPut : Activity → Type 0
-IsAtPut PutCount = Unit {0}
-IsAtPut PutAdd = Unit {0}
-IsAtPut PutKey = Unit {0}
-IsAtPut PutValue = Unit {0}
-IsAtPut Announce = Unit {0}
-IsAtPut PutClock = Unit {0}
-IsAtPut Stamp = Unit {0}
-IsAtPut PutVersion = Unit {0}
-IsAtPut PutClear = Unit {0}
-IsAtPut _ = ⊥
+IsAtPut a = IsPutStage (stage_of a)
+
+abbrev IsRowStage : Stage → Type 0
+IsRowStage Looking = Unit {0}
+IsRowStage Taking = Unit {0}
+IsRowStage Putting = Unit {0}
+IsRowStage _ = ⊥
 
 -- the seat is at the row of the wanted key
 abbrev pub IsAtRow : Activity → Type 0
-IsAtRow (Look i) = Unit {0}
-IsAtRow LookKey = Unit {0}
-IsAtRow LookClock = Unit {0}
-IsAtRow LookHelp = Unit {0}
-IsAtRow LookCount = Unit {0}
-IsAtRow (Cell j) = Unit {0}
-IsAtRow CellKey = Unit {0}
-IsAtRow CellValue = Unit {0}
-IsAtRow PutCount = Unit {0}
-IsAtRow PutAdd = Unit {0}
-IsAtRow PutKey = Unit {0}
-IsAtRow PutValue = Unit {0}
-IsAtRow Announce = Unit {0}
-IsAtRow PutClock = Unit {0}
-IsAtRow Stamp = Unit {0}
-IsAtRow PutVersion = Unit {0}
-IsAtRow PutClear = Unit {0}
-IsAtRow _ = ⊥
+IsAtRow a = IsRowStage (stage_of a)
+
+abbrev IsCoveringStage : Stage → Type 0
+IsCoveringStage Walking = Unit {0}
+IsCoveringStage Looking = Unit {0}
+IsCoveringStage Taking = Unit {0}
+IsCoveringStage _ = ⊥
+
+-- the seat is on its way, or a get or a scan is at its row
+abbrev pub IsCovering : Activity → Type 0
+IsCovering a = IsCoveringStage (stage_of a)
+
+abbrev IsLookingStage : Stage → Type 0
+IsLookingStage Looking = Unit {0}
+IsLookingStage _ = ⊥
+
+-- the reader looks at the entries of the row, or is about to
+abbrev pub IsLooking : Activity → Type 0
+IsLooking a = IsLookingStage (stage_of a)
+
+abbrev IsTakingStage : Stage → Type 0
+IsTakingStage Taking = Unit {0}
+IsTakingStage _ = ⊥
+
+-- the reader reads the cells of the row
+abbrev pub IsTaking : Activity → Type 0
+IsTaking a = IsTakingStage (stage_of a)
 
 -- the seat walks along the rows or is at its row
 abbrev pub IsPastStart : Activity → Type 0
 IsPastStart Walk = Unit {0}
 IsPastStart WalkMin = Unit {0}
 IsPastStart a = IsAtRow a
-
--- a get or a scan is on its way or at its row
-abbrev pub IsCovering : Activity → Type 0
-IsCovering Start = Unit {0}
-IsCovering Head = Unit {0}
-IsCovering GuessMin = Unit {0}
-IsCovering Walk = Unit {0}
-IsCovering WalkMin = Unit {0}
-IsCovering a = IsAtRead a
 
 -- Puts.
 
@@ -174,15 +252,6 @@ IsDone _ = ⊥
 
 -- Readers.
 
--- the reader looks at the entries of the row, or is about to
-abbrev pub IsLooking : Activity → Type 0
-IsLooking (Look i) = Unit {0}
-IsLooking LookKey = Unit {0}
-IsLooking LookClock = Unit {0}
-IsLooking LookHelp = Unit {0}
-IsLooking LookCount = Unit {0}
-IsLooking _ = ⊥
-
 -- it has looked at the first entry
 abbrev pub HasLooked : Activity → Type 0
 HasLooked (Look i) = 1 ≤ i
@@ -210,13 +279,6 @@ abbrev pub IsHelp : Activity → Type 0
 IsHelp LookHelp = Unit {0}
 IsHelp _ = ⊥
 
--- it reads the cells of the row
-abbrev pub IsTaking : Activity → Type 0
-IsTaking (Cell j) = Unit {0}
-IsTaking CellKey = Unit {0}
-IsTaking CellValue = Unit {0}
-IsTaking _ = ⊥
-
 -- it has the version of a cell in hand
 abbrev pub HasVersion : Activity → Type 0
 HasVersion CellKey = Unit {0}
@@ -239,16 +301,6 @@ IsReading (Cell j) = Unit {0}
 IsReading CellKey = Unit {0}
 IsReading CellValue = Unit {0}
 IsReading _ = ⊥
-
--- it is in a call and does not look at entries: what it gathered in the last row that it read is still there
-abbrev pub IsKeeping : Activity → Type 0
-IsKeeping Idle = ⊥
-IsKeeping (Look i) = ⊥
-IsKeeping LookKey = ⊥
-IsKeeping LookClock = ⊥
-IsKeeping LookHelp = ⊥
-IsKeeping LookCount = ⊥
-IsKeeping _ = Unit {0}
 
 -- Scans.
 
@@ -274,12 +326,3 @@ HasDrawn (ClearScan reply) = Unit {0}
 HasDrawn (Leave (Pairs pairs)) = Unit {0}
 HasDrawn a = IsCovering a
 
--- the call has read no row and has no pairs
-abbrev pub IsEarly : Activity → Type 0
-IsEarly Idle = Unit {0}
-IsEarly Enter = Unit {0}
-IsEarly ScanClock = Unit {0}
-IsEarly ScanWait = Unit {0}
-IsEarly ScanDraw = Unit {0}
-IsEarly ScanSettle = Unit {0}
-IsEarly _ = ⊥

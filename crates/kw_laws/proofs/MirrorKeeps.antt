@@ -56,7 +56,7 @@ kept_goes_on z o es e r may i j k =
     let noted : goes_on z r e ≡ noted_by z r e c.local = goes_on-moved z r e c.local c.knows c.moves in
     let w : world z o (es ++ e ∷ []) ≡ (goes_on z r e).world = world-snoc z o es e ∙ ap (λ (x : WorldView). (step z x e).world) k.world ∙ sym (goes_on-world z r e) in
     subst (Kept z o (es ++ e ∷ [])) (sym noted)
-    (kept z o es e r (noted_by z r e c.local) c.local _ c.local.activity (happens z r e c.local i.shape.sane c.begins c.knows c.moves) i (subst (λ (x : Run). Keeps x.history) noted j.history) k (w ∙ ap (λ (x : Run). x.world) noted))
+    (kept z o es e r (noted_by z r e c.local) c.local _ c.local.activity (happens z r e c.local i.shape.sane (i.shape.kinds e.seat c.local c.knows).reached c.begins c.knows c.moves) i (subst (λ (x : Run). Keeps x.history) noted j.history) k (w ∙ ap (λ (x : Run). x.world) noted))
 
 -- no event
 kept_start : (z : Sizes) (o : Opening) → Kept z o [] (start z o)

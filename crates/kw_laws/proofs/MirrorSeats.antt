@@ -26,7 +26,7 @@ use Rattle.kw_core.specs.History.{History, called}
 use Rattle.kw_core.specs.declared.history.CallLog.{CallLog}
 use Rattle.kw_core.specs.Run.{Run, Origins, seat_after, log_begun, log_gathered, is_at_cell}
 use Rattle.kw_core.specs.declared.seat_log.SeatLog.{SeatLog}
-use Rattle.kw_core.specs.Stages.{IsBusy, IsStamp, IsHelp}
+use Rattle.kw_core.specs.Stages.{IsBusy, IsStamp, IsHelp, IsUnderway, IsStaying}
 use Rattle.kw_core.specs.Words.{Words}
 use Rattle.kw_laws.specs.Mirror.{Occurs, Acts, NoLoad, operation, is_begun, begins_by, begun_from, begun}
 use Rattle.kw_core.proofs.Happens.{Happens, each_seat, found_at, knows_next, knows_other}
@@ -35,9 +35,8 @@ use Rattle.kw_core.proofs.Arrows.{Arrow, NextLook, looks, counts, NextCell, read
 use Rattle.kw_core.proofs.Arrows.{begins, loads_to_help, loads_clock, meets_stamped, meets_neither, is_passed, helps, finds_stamped, finds_other, counts_cells, has_no_version, has_other_key, gathers, leaves}
 use Rattle.kw_shape.proofs.NextCalls.{cell_call}
 use Rattle.kw_core.proofs.Steps.{none_some}
-use Rattle.kw_core.proofs.SeatLogs.{IsUnderway, either, call_kept}
+use Rattle.kw_core.proofs.SeatLogs.{either, call_kept}
 use Rattle.kw_laws.proofs.Occurs.{acts_lasts, occurs_was}
-use Rattle.kw_core.proofs.Ends.{IsStaying}
 use Rattle.kw_laws.proofs.Over.{CallOver, goes_on, is_ended, call_over, IsCallNow, call_was}
 use Rattle.kw_laws.proofs.Mirroring.{Kept, acts_here, kind_here, ended_here}
 

@@ -21,17 +21,16 @@ use Rattle.kw_core.specs.Noted.{noted, calls_after}
 use Rattle.kw_core.specs.Run.{Run, Origins, logged, change_of, beginning, answering, drawing, seat_after, log_begun}
 use Rattle.kw_core.specs.declared.seat_log.SeatLog.{SeatLog}
 use Rattle.kw_core.specs.Words.{Words}
-use Rattle.kw_core.specs.Stages.{IsBusy}
+use Rattle.kw_core.specs.Stages.{IsBusy, IsUnderway, IsStaying}
 use Rattle.kw_puts.specs.Positions.{Calling}
 use Rattle.kw_reads.specs.Inv.{Inv}
 use Rattle.kw_laws.specs.SeatCalls.{CallSeen, seen, begun_at, ended_at, end_last, seen_after, AreInTurn, HasLast, KeepsTurns, AreStill}
 use Rattle.kw_core.proofs.Happens.{Happens, each_seat, found_at}
 use Rattle.kw_core.proofs.Changes.{Makes, made, makes_nothing, makes_begin, makes_add, makes_announce, makes_stamp, makes_help, makes_end}
-use Rattle.kw_core.proofs.Ends.{IsStaying}
 use Rattle.kw_laws.proofs.MirrorSeats.{arrow_busy}
 use Rattle.kw_shape.proofs.NextCalls.{arrow_call}
 use Rattle.kw_laws.proofs.Over.{CallOver, goes_on, is_ended, SameLog, call_over, IsCallNow, call_was}
-use Rattle.kw_core.proofs.SeatLogs.{IsUnderway, call_kept}
+use Rattle.kw_core.proofs.SeatLogs.{call_kept}
 use Rattle.kw_laws.proofs.SeatLists.{seen_by, call_at, seen_by-own, seen_by-other, seen_by-push, AreAlike, seen_by-alike, seen_by-last, end_last-snoc, in_turn-more, in_turn-snoc, still-push, still-same, still-last}
 
 -- no call of a busy seat stands after the one that it makes

@@ -69,7 +69,7 @@ record Both (z : Sizes) (r : Run) : Type 0 where
 both_go_on : (z : Sizes) (o : Opening) (r : Run) (e : Event) → may_step o r.world e ≡ true → Both z r → Both z (goes_on z r e)
 both_go_on z o r e may b =
     let c = may_come o r.world e may in
-    let h = happens z r e c.local b.inv.shape.sane c.begins c.knows c.moves in
+    let h = happens z r e c.local b.inv.shape.sane (b.inv.shape.kinds e.seat c.local c.knows).reached c.begins c.knows c.moves in
     record {
       inv = inv_goes_on z o r e may b.inv;
       counts = subst (λ x. AreCountsUnfrozen z x.world) (sym (goes_on-moved z r e c.local c.knows c.moves)) (counts_keep z r _ _ _ _ _ _ h b.inv.shape.sane b.counts);

@@ -65,7 +65,7 @@ pub record AllRest (z : Sizes) (r : Run) : Type 0 where
 rest_goes_on : (z : Sizes) (o : Opening) (r : Run) (e : Event) → may_step o r.world e ≡ true → AllRest z r → AllRest z (goes_on z r e)
 rest_goes_on z o r e may i =
     let c = may_come o r.world e may in
-    let h = happens z r e c.local i.inv.shape.sane c.begins c.knows c.moves in
+    let h = happens z r e c.local i.inv.shape.sane (i.inv.shape.kinds e.seat c.local c.knows).reached c.begins c.knows c.moves in
     record {
       inv = inv_goes_on z o r e may i.inv;
       rest = subst (λ (x : Run). (t : ℕ) (l : Local) → slice_get x.world.locals t ≡ Some l → Rests l.activity l) (sym (goes_on-moved z r e c.local c.knows c.moves))

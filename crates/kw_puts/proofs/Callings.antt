@@ -24,7 +24,7 @@ use Rattle.kw_core.specs.Noted.{noted}
 use Rattle.kw_core.specs.Step.{Keeps}
 use Rattle.kw_core.specs.Run.{Run, Origins, beginning, log_begun}
 use Rattle.kw_core.specs.declared.seat_log.SeatLog.{SeatLog}
-use Rattle.kw_core.specs.Stages.{IsBusy, IsPutting, IsPublished, IsStamp, IsStamped, IsPutClear, IsDone, IsHelp}
+use Rattle.kw_core.specs.Stages.{IsBusy, IsPutting, IsPublished, IsStamp, IsStamped, IsPutClear, IsDone, IsHelp, IsUnderway}
 use Rattle.kw_shape.specs.Shape.{IsReadCall, IsKind}
 use Rattle.kw_puts.specs.Puts.{OwnsAttempt, entry_of}
 use Rattle.kw_puts.specs.Positions.{Calling}
@@ -40,7 +40,7 @@ use Rattle.kw_puts.proofs.RelyProof.{goes_on_by}
 use Rattle.kw_puts.proofs.Rely.{SameCall}
 use Rattle.kw_core.proofs.Happens.{Happens}
 use Rattle.kw_core.proofs.Arrows.{Arrow, IsNotOwn}
-use Rattle.kw_core.proofs.SeatLogs.{IsUnderway, call_kept, own_kept}
+use Rattle.kw_core.proofs.SeatLogs.{call_kept, own_kept}
 use Rattle.kw_shape.proofs.NextCalls.{arrow_call, arrow_published, arrow_done}
 
 -- Where a seat is.

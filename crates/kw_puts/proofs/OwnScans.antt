@@ -19,7 +19,7 @@ use Rattle.kw_world.specs.Step.{word, followed}
 use Rattle.kw_core.specs.History.{called, Draw, Stands}
 use Rattle.kw_core.specs.Run.{Run}
 use Rattle.kw_core.specs.declared.seat_log.SeatLog.{SeatLog}
-use Rattle.kw_core.specs.Stages.{is_put, IsBusy, IsCovering, IsWaiting, IsSettling, IsSettled, HasDrawn, IsReading}
+use Rattle.kw_core.specs.Stages.{is_put, IsBusy, IsCovering, IsWaiting, IsSettling, IsSettled, HasDrawn, IsReading, IsUnderway, IsAtRead}
 use Rattle.kw_core.specs.Words.{Words}
 use Rattle.kw_shape.specs.Shape.{IsKind, IsScanCall}
 use Rattle.kw_puts.specs.Positions.{IsScanning, Draws}
@@ -32,7 +32,7 @@ use Rattle.kw_core.proofs.Steps.{new_stands, stands_before}
 use Rattle.kw_puts.proofs.RelyProof.{goes_on_by}
 use Rattle.kw_core.proofs.Happens.{Changed, Happens, exchanged}
 use Rattle.kw_core.proofs.Arrows.{NextLook, looks, counts, NextCell, reads_cell, answers, ends_scan, scans_on, Arrow, begins, enters, stores_waiting, draws, settles_empty, settles, stops, starts_at_head, guesses, guess_fails, takes_head, guess_serves, guess_is_above, reads_last, reads_before, puts_in_last, puts_before, meets_next, walks_on, meets_pending, is_wanted, loads_to_help, has_version, has_key, meets_stamped, meets_neither, is_passed, helps, finds_stamped, finds_other, counts_cells, has_no_version, has_other_key, gathers, clears_scan, leaves}
-use Rattle.kw_core.proofs.SeatLogs.{IsUnderway, IsNoDraw, call_kept, draw_kept, look_kept}
+use Rattle.kw_core.proofs.SeatLogs.{IsNoDraw, call_kept, draw_kept, look_kept}
 use Rattle.kw_shape.proofs.NextCalls.{arrow_call}
 
 -- Where a seat goes on to.
@@ -52,18 +52,6 @@ IsAfterRead (ClearScan reply) = Unit {0}
 IsAfterRead (Leave reply) = Unit {0}
 IsAfterRead _ = ⊥
 
--- the seat reads a row
-abbrev pub IsAtReading : Activity → Type 0
-IsAtReading (Look j) = Unit {0}
-IsAtReading LookKey = Unit {0}
-IsAtReading LookClock = Unit {0}
-IsAtReading LookHelp = Unit {0}
-IsAtReading LookCount = Unit {0}
-IsAtReading (Cell j) = Unit {0}
-IsAtReading CellKey = Unit {0}
-IsAtReading CellValue = Unit {0}
-IsAtReading _ = ⊥
-
 -- the next look
 look_after : (z : Sizes) (j : ℕ) (next : Activity) → NextLook z j next → IsAfterRead next
 look_after z j next (looks w) = tt
@@ -77,7 +65,7 @@ cell_after l j k (ends_scan w e f) = tt
 cell_after l j k (scans_on r w e f o) = tt
 
 -- where a seat that reads a row goes on to
-pub after_read : (z : Sizes) (v : Words) (s : ℕ) (choice : Choice) (l : Local) (a : Activity) (k : Local) → Arrow z v s choice l a k → IsAtReading a → IsAfterRead k.activity
+pub after_read : (z : Sizes) (v : Words) (s : ℕ) (choice : Choice) (l : Local) (a : Activity) (k : Local) → Arrow z v s choice l a k → IsAtRead a → IsAfterRead k.activity
 after_read z v s choice l a k (meets_stamped j c version next e n) x = look_after z _ next n
 after_read z v s choice l a k (meets_neither j next e n) x = look_after z _ next n
 after_read z v s choice l a k (is_passed next e n) x = look_after z _ next n

@@ -19,7 +19,7 @@ use Rattle.kw_world.specs.Step.{word}
 use Rattle.kw_core.specs.History.{History, called}
 use Rattle.kw_core.specs.Run.{Run, Origins, is_at_cell}
 use Rattle.kw_core.specs.declared.seat_log.SeatLog.{SeatLog}
-use Rattle.kw_core.specs.Stages.{IsAtRow, IsPastStart, IsCovering, IsEarly, IsReading, IsKeeping, IsSettling}
+use Rattle.kw_core.specs.Stages.{IsAtRow, IsPastStart, IsCovering, IsEarly, IsReading, IsKeeping, IsSettling, IsUnderway}
 use Rattle.kw_core.specs.Words.{Words, least_in}
 use Rattle.kw_shape.specs.Shape.{IsAtItsRow, IsPutCall, IsScanCall, Walks}
 use Rattle.kw_reads.specs.Readers.{IsDue, AreCopies, Readers}
@@ -31,7 +31,7 @@ use Rattle.kw_core.proofs.Frame.{same_rows}
 use Rattle.kw_shape.proofs.ShapeKeeps.{walks_stable}
 use Rattle.kw_core.proofs.Happens.{Happens, knows_next}
 use Rattle.kw_core.proofs.Arrows.{NextCell, reads_cell, answers, ends_scan, scans_on, Arrow, not_below, below}
-use Rattle.kw_core.proofs.SeatLogs.{IsEnding, IsUnderway, read_to_end}
+use Rattle.kw_core.proofs.SeatLogs.{IsEnding, read_to_end}
 use Rattle.kw_shape.proofs.NextCalls.{arrow_call}
 use Rattle.kw_puts.proofs.OwnScans.{call_first, drawn_kept, looked_kept, was_scan, drawn_underway, not_idle_drawn, covering_draws, settled_from, covering_settled, draws_no_more, reading_draws}
 use Rattle.kw_puts.proofs.Owners.{true_false}

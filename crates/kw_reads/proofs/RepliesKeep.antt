@@ -14,7 +14,7 @@ use Rattle.kw_core.specs.History.{History, called}
 use Rattle.kw_core.specs.Step.{Keeps}
 use Rattle.kw_core.specs.Run.{Run}
 use Rattle.kw_core.specs.declared.seat_log.SeatLog.{SeatLog}
-use Rattle.kw_core.specs.Stages.{IsBusy}
+use Rattle.kw_core.specs.Stages.{IsBusy, IsStaying}
 use Rattle.kw_reads.specs.Replies.{IsCovered}
 use Rattle.kw_core.specs.Words.{Words}
 use Rattle.kw_puts.specs.Positions.{Calling}
@@ -106,11 +106,6 @@ look_answered z j next (counts w) call h l g = tt
 kind_of : (z : Sizes) (r r' : Run) (s : ℕ) (choice : Choice) (l l' : Local) {a : Activity} → Happens z r r' s choice l l' a → Inv z r → IsKind a l
 kind_of z r r' s choice l l' h i = subst (λ q. IsKind q l) h.activity (i.shape.kinds s l h.knows).kind
 
--- the call does not end
-abbrev IsNoLeave : Activity → Type 0
-IsNoLeave (Leave reply) = ⊥
-IsNoLeave _ = Unit {0}
-
 -- a call that has read no row has not just read a word of one
 early_not_read : (c : Activity) → IsEarly c → IsAfterRead c → ⊥
 early_not_read Idle x y = y
@@ -122,7 +117,7 @@ early_not_read ScanSettle x y = y
 early_not_read _ x y = x
 
 -- a call that has read no row had read none
-arrow_early : (z : Sizes) (v : Words) (s : ℕ) (choice : Choice) (l : Local) (a : Activity) (k : Local) → Arrow z v s choice l a k → IsNoLeave a → IsEarly k.activity → IsEarly a
+arrow_early : (z : Sizes) (v : Words) (s : ℕ) (choice : Choice) (l : Local) (a : Activity) (k : Local) → Arrow z v s choice l a k → IsStaying a → IsEarly k.activity → IsEarly a
 arrow_early z v s choice l a k (begins call e m) n x = tt
 arrow_early z v s choice l Enter k b n x = tt
 arrow_early z v s choice l ScanClock k b n x = tt

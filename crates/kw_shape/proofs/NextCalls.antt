@@ -11,10 +11,9 @@ use Rattle.kw_world.specs.declared.event.Choice.{Choice}
 use Rattle.kw_world.specs.declared.event.Choice.TheVariants.{Begin, Go, Guess, Stop}
 use Rattle.kw_world.specs.Sizes.{Sizes}
 use Rattle.kw_world.specs.RowScan.{reply_or_stopped}
-use Rattle.kw_core.specs.Stages.{IsPublished, IsDone, IsPutClear}
+use Rattle.kw_core.specs.Stages.{IsPublished, IsDone, IsPutClear, IsUnderway}
 use Rattle.kw_core.specs.Words.{Words}
 use Rattle.kw_shape.specs.Shape.{IsPairs, IsKind}
-use Rattle.kw_core.proofs.SeatLogs.{IsUnderway}
 use Rattle.kw_core.proofs.Arrows.{IsNotOwn, NextLook, looks, counts, NextCell, reads_cell, answers, ends_scan, scans_on, Arrow, begins, counts_cells, has_no_version, has_other_key, gathers, meets_stamped, meets_neither, is_passed, helps, finds_stamped, finds_other, clears_scan, loads_clock, stamps, is_stamped, is_not_own, stores_version, clears, leaves}
 
 -- the next cell is one of the same call

@@ -265,78 +265,78 @@ get_reply None x k e = absurd k
 
 -- what a reader does next
 kinds_look : (z : Sizes) (j : ℕ) (l : Local) (next : Activity) → NextLook z j next → IsReadCall l.call → first_key l.call ≤ last_key l.call → Kinds next l
-kinds_look z j l next (looks o) k e = record { kind = k; range = λ x. e }
-kinds_look z j l next (counts o) k e = record { kind = k; range = λ x. e }
+kinds_look z j l next (looks o) k e = record { reached = tt; kind = k; range = λ x. e }
+kinds_look z j l next (counts o) k e = record { reached = tt; kind = k; range = λ x. e }
 
 kinds_cell : (l : Local) (j : ℕ) (next : Local) → NextCell l j next → IsReadCall l.call → first_key l.call ≤ last_key l.call → Kinds next.activity next
-kinds_cell l j next (reads_cell o) k e = record { kind = (k, o); range = λ x. e }
-kinds_cell l j next (answers o n) k e = record { kind = get_reply l.call _ k n; range = λ x. absurd x }
-kinds_cell l j next (ends_scan o y n) k e = record { kind = (scan_call l.call y, tt); range = λ x. absurd x }
-kinds_cell l j next (scans_on q o y n w) k e = record { kind = some_read l.call k; range = λ x. e }
+kinds_cell l j next (reads_cell o) k e = record { reached = tt; kind = (k, o); range = λ x. e }
+kinds_cell l j next (answers o n) k e = record { reached = tt; kind = get_reply l.call _ k n; range = λ x. absurd x }
+kinds_cell l j next (ends_scan o y n) k e = record { reached = tt; kind = (scan_call l.call y, tt); range = λ x. absurd x }
+kinds_cell l j next (scans_on q o y n w) k e = record { reached = tt; kind = some_read l.call k; range = λ x. e }
 
 -- by the arrow that the seat takes
 kinds_by : (z : Sizes) (v : Words) (s : ℕ) (choice : Choice) (l : Local) (a : Activity) (l' : Local) → Arrow z v s choice l a l' → Kinds a l → Kinds l'.activity l'
-kinds_by z v s choice l a l' (begins call e y) k = record { kind = tt; range = λ x. absurd x }
-kinds_by z v s choice l a l' (enters y) k = record { kind = k.kind; range = λ x. one_key l.call y }
-kinds_by z v s choice l a l' (enters_scan y) k = record { kind = scan_call l.call y; range = λ x. absurd x }
-kinds_by z v s choice l a l' (is_spent y) k = record { kind = scan_reply l.call Spent k.kind tt; range = λ x. absurd x }
-kinds_by z v s choice l a l' (waits y) k = record { kind = k.kind; range = λ x. absurd x }
-kinds_by z v s choice l a l' stores_waiting k = record { kind = k.kind; range = λ x. absurd x }
-kinds_by z v s choice l a l' draws k = record { kind = k.kind; range = λ x. absurd x }
-kinds_by z v s choice l a l' (settles_empty y) k = record { kind = (k.kind, tt); range = λ x. absurd x }
-kinds_by z v s choice l a l' (settles y) k = record { kind = some_scan l.call k.kind; range = λ x. not_below (last_key l.call) (first_key l.call) y }
-kinds_by z v s choice l a l' starts_at_head k = record { kind = k.kind; range = λ x. k.range tt }
-kinds_by z v s choice l a l' (guesses q e y) k = record { kind = k.kind; range = λ x. k.range tt }
-kinds_by z v s choice l a l' guess_fails k = record { kind = k.kind; range = λ x. k.range tt }
-kinds_by z v s choice l a l' takes_head k = record { kind = k.kind; range = λ x. k.range tt }
-kinds_by z v s choice l a l' (guess_serves y) k = record { kind = k.kind; range = λ x. k.range tt }
-kinds_by z v s choice l a l' (guess_is_above y) k = record { kind = k.kind; range = λ x. k.range tt }
-kinds_by z v s choice l a l' (stops y) k = record { kind = stopped; range = λ x. absurd x }
+kinds_by z v s choice l a l' (begins call e y) k = record { reached = tt; kind = tt; range = λ x. absurd x }
+kinds_by z v s choice l a l' (enters y) k = record { reached = tt; kind = k.kind; range = λ x. one_key l.call y }
+kinds_by z v s choice l a l' (enters_scan y) k = record { reached = tt; kind = scan_call l.call y; range = λ x. absurd x }
+kinds_by z v s choice l a l' (is_spent y) k = record { reached = tt; kind = scan_reply l.call Spent k.kind tt; range = λ x. absurd x }
+kinds_by z v s choice l a l' (waits y) k = record { reached = tt; kind = k.kind; range = λ x. absurd x }
+kinds_by z v s choice l a l' stores_waiting k = record { reached = tt; kind = k.kind; range = λ x. absurd x }
+kinds_by z v s choice l a l' draws k = record { reached = tt; kind = k.kind; range = λ x. absurd x }
+kinds_by z v s choice l a l' (settles_empty y) k = record { reached = tt; kind = (k.kind, tt); range = λ x. absurd x }
+kinds_by z v s choice l a l' (settles y) k = record { reached = tt; kind = some_scan l.call k.kind; range = λ x. not_below (last_key l.call) (first_key l.call) y }
+kinds_by z v s choice l a l' starts_at_head k = record { reached = tt; kind = k.kind; range = λ x. k.range tt }
+kinds_by z v s choice l a l' (guesses q e y) k = record { reached = tt; kind = k.kind; range = λ x. k.range tt }
+kinds_by z v s choice l a l' guess_fails k = record { reached = tt; kind = k.kind; range = λ x. k.range tt }
+kinds_by z v s choice l a l' takes_head k = record { reached = tt; kind = k.kind; range = λ x. k.range tt }
+kinds_by z v s choice l a l' (guess_serves y) k = record { reached = tt; kind = k.kind; range = λ x. k.range tt }
+kinds_by z v s choice l a l' (guess_is_above y) k = record { reached = tt; kind = k.kind; range = λ x. k.range tt }
+kinds_by z v s choice l a l' (stops y) k = record { reached = tt; kind = stopped; range = λ x. absurd x }
   where
     stopped : IsReplyOf l.call Stopped
     stopped = let t = and_parts (is_stop choice) (is_scan l.call && l.has_read) y in scan_reply l.call Stopped (scan_call l.call (and_parts (is_scan l.call) l.has_read t.1).0) tt
-kinds_by z v s choice l a l' (puts_in_last p y) k = record { kind = put_call l.call p; range = λ x. absurd x }
-kinds_by z v s choice l a l' (reads_last p y) k = record { kind = read_call l.call k.kind p; range = λ x. k.range tt }
-kinds_by z v s choice l a l' (meets_next q y) k = record { kind = k.kind; range = λ x. k.range tt }
-kinds_by z v s choice l a l' (walks_on y) k = record { kind = k.kind; range = λ x. k.range tt }
-kinds_by z v s choice l a l' (puts_before p y) k = record { kind = put_call l.call p; range = λ x. absurd x }
-kinds_by z v s choice l a l' (reads_before p y) k = record { kind = read_call l.call k.kind p; range = λ x. k.range tt }
-kinds_by z v s choice l a l' (meets_pending j c y) k = record { kind = k.kind; range = λ x. k.range tt }
+kinds_by z v s choice l a l' (puts_in_last p y) k = record { reached = tt; kind = put_call l.call p; range = λ x. absurd x }
+kinds_by z v s choice l a l' (reads_last p y) k = record { reached = tt; kind = read_call l.call k.kind p; range = λ x. k.range tt }
+kinds_by z v s choice l a l' (meets_next q y) k = record { reached = tt; kind = k.kind; range = λ x. k.range tt }
+kinds_by z v s choice l a l' (walks_on y) k = record { reached = tt; kind = k.kind; range = λ x. k.range tt }
+kinds_by z v s choice l a l' (puts_before p y) k = record { reached = tt; kind = put_call l.call p; range = λ x. absurd x }
+kinds_by z v s choice l a l' (reads_before p y) k = record { reached = tt; kind = read_call l.call k.kind p; range = λ x. k.range tt }
+kinds_by z v s choice l a l' (meets_pending j c y) k = record { reached = tt; kind = k.kind; range = λ x. k.range tt }
 kinds_by z v s choice l a l' (meets_stamped j c version next y n) k = kinds_look z _ _ next n k.kind (k.range tt)
 kinds_by z v s choice l a l' (meets_neither j next y n) k = kinds_look z _ _ next n k.kind (k.range tt)
-kinds_by z v s choice l a l' (is_wanted y) k = record { kind = k.kind; range = λ x. k.range tt }
+kinds_by z v s choice l a l' (is_wanted y) k = record { reached = tt; kind = k.kind; range = λ x. k.range tt }
 kinds_by z v s choice l a l' (is_passed next y n) k = kinds_look z _ _ next n k.kind (k.range tt)
-kinds_by z v s choice l a l' loads_to_help k = record { kind = k.kind; range = λ x. k.range tt }
+kinds_by z v s choice l a l' loads_to_help k = record { reached = tt; kind = k.kind; range = λ x. k.range tt }
 kinds_by z v s choice l a l' (helps next y n) k = kinds_look z _ _ next n k.kind (k.range tt)
 kinds_by z v s choice l a l' (finds_stamped c version next y n) k = kinds_look z _ _ next n k.kind (k.range tt)
 kinds_by z v s choice l a l' (finds_other next y n) k = kinds_look z _ _ next n k.kind (k.range tt)
 kinds_by z v s choice l a l' (counts_cells next n) k = kinds_cell _ _ next n k.kind (k.range tt)
-kinds_by z v s choice l a l' (has_version j version y) k = record { kind = k.kind; range = λ x. k.range tt }
+kinds_by z v s choice l a l' (has_version j version y) k = record { reached = tt; kind = k.kind; range = λ x. k.range tt }
 kinds_by z v s choice l a l' (has_no_version j next y n) k = kinds_cell _ _ next n k.kind.0 (k.range tt)
-kinds_by z v s choice l a l' (has_key y) k = record { kind = k.kind; range = λ x. k.range tt }
+kinds_by z v s choice l a l' (has_key y) k = record { reached = tt; kind = k.kind; range = λ x. k.range tt }
 kinds_by z v s choice l a l' (has_other_key next y n) k = kinds_cell _ _ next n k.kind.0 (k.range tt)
 kinds_by z v s choice l a l' (gathers next n) k = kinds_cell _ _ next n k.kind.0 (k.range tt)
-kinds_by z v s choice l a l' (clears_scan reply) k = record { kind = cleared choice reply k.kind.1; range = λ x. absurd x }
+kinds_by z v s choice l a l' (clears_scan reply) k = record { reached = tt; kind = cleared choice reply k.kind.1; range = λ x. absurd x }
   where
     cleared : (c : Choice) (y : Reply) → IsPairs y → IsReplyOf l.call (reply_or_stopped y c)
     cleared Stop y p = scan_reply l.call Stopped k.kind.0 tt
     cleared c (Pairs pairs) p = scan_reply l.call _ k.kind.0 tt
     cleared c _ p = absurd p
-kinds_by z v s choice l a l' (finds_room y) k = record { kind = k.kind; range = λ x. absurd x }
-kinds_by z v s choice l a l' (finds_none y) k = record { kind = no_rows l.call k.kind; range = λ x. absurd x }
-kinds_by z v s choice l a l' (takes_cell y) k = record { kind = k.kind; range = λ x. absurd x }
-kinds_by z v s choice l a l' (takes_none y) k = record { kind = no_rows l.call k.kind; range = λ x. absurd x }
-kinds_by z v s choice l a l' stores_key k = record { kind = k.kind; range = λ x. absurd x }
-kinds_by z v s choice l a l' stores_value k = record { kind = k.kind; range = λ x. absurd x }
-kinds_by z v s choice l a l' (announces y) k = record { kind = k.kind; range = λ x. absurd x }
-kinds_by z v s choice l a l' (is_refused y) k = record { kind = no_rows l.call k.kind; range = λ x. absurd x }
-kinds_by z v s choice l a l' loads_clock k = record { kind = k.kind; range = λ x. absurd x }
-kinds_by z v s choice l a l' (stamps y) k = record { kind = k.kind; range = λ x. absurd x }
-kinds_by z v s choice l a l' (is_stamped version y) k = record { kind = k.kind; range = λ x. absurd x }
-kinds_by z v s choice l a l' (is_not_own y) k = record { kind = no_rows l.call k.kind; range = λ x. absurd x }
-kinds_by z v s choice l a l' stores_version k = record { kind = k.kind; range = λ x. absurd x }
-kinds_by z v s choice l a l' clears k = record { kind = put_done l.call k.kind; range = λ x. absurd x }
-kinds_by z v s choice l a l' (leaves reply) k = record { kind = tt; range = λ x. absurd x }
+kinds_by z v s choice l a l' (finds_room y) k = record { reached = tt; kind = k.kind; range = λ x. absurd x }
+kinds_by z v s choice l a l' (finds_none y) k = record { reached = tt; kind = no_rows l.call k.kind; range = λ x. absurd x }
+kinds_by z v s choice l a l' (takes_cell y) k = record { reached = tt; kind = k.kind; range = λ x. absurd x }
+kinds_by z v s choice l a l' (takes_none y) k = record { reached = tt; kind = no_rows l.call k.kind; range = λ x. absurd x }
+kinds_by z v s choice l a l' stores_key k = record { reached = tt; kind = k.kind; range = λ x. absurd x }
+kinds_by z v s choice l a l' stores_value k = record { reached = tt; kind = k.kind; range = λ x. absurd x }
+kinds_by z v s choice l a l' (announces y) k = record { reached = tt; kind = k.kind; range = λ x. absurd x }
+kinds_by z v s choice l a l' (is_refused y) k = record { reached = tt; kind = no_rows l.call k.kind; range = λ x. absurd x }
+kinds_by z v s choice l a l' loads_clock k = record { reached = tt; kind = k.kind; range = λ x. absurd x }
+kinds_by z v s choice l a l' (stamps y) k = record { reached = tt; kind = k.kind; range = λ x. absurd x }
+kinds_by z v s choice l a l' (is_stamped version y) k = record { reached = tt; kind = k.kind; range = λ x. absurd x }
+kinds_by z v s choice l a l' (is_not_own y) k = record { reached = tt; kind = no_rows l.call k.kind; range = λ x. absurd x }
+kinds_by z v s choice l a l' stores_version k = record { reached = tt; kind = k.kind; range = λ x. absurd x }
+kinds_by z v s choice l a l' clears k = record { reached = tt; kind = put_done l.call k.kind; range = λ x. absurd x }
+kinds_by z v s choice l a l' (leaves reply) k = record { reached = tt; kind = tt; range = λ x. absurd x }
 
 -- the acting seat goes on to an activity of its call
 pub kinds_own : (z : Sizes) (r r' : Run) (s : ℕ) (choice : Choice) (l : Local) (a : Activity) (l' : Local) → Arrow z (word z r.world) s choice l a l' → Happens z r r' s choice l l' a → Shape z r.world → Kinds l'.activity l'

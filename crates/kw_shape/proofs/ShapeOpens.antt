@@ -149,6 +149,6 @@ module _ (z : Sizes) (o : Opening) (i : IsOpening z o) where
     room = λ q w. omega (arith, given-none q w, no_adders o.seats q, i.sized.some_cells);
     clock = omega (arith, opens name.Clock tt, no_drawers o.seats, i.clock);
     chain = chain_starts;
-    kinds = each_rests z o (λ t l. Kinds l.activity l) (λ t. record { kind = tt; range = λ x. absurd x });
+    kinds = each_rests z o (λ t l. Kinds l.activity l) (λ t. record { reached = tt; kind = tt; range = λ x. absurd x });
     walks = each_rests z o (λ t l. Walks o.rows (word z (opened z o)) l.activity l) (λ t. record { on = tt; lower = λ x. absurd x; at = λ x. absurd x; begins = λ x. absurd x; wants = λ x. absurd x });
   }

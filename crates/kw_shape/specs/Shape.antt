@@ -22,7 +22,7 @@ use Rattle.kw_world.specs.Row.{row_linked}
 use Rattle.kw_world.specs.Sane.{IsSane}
 use Rattle.kw_world.specs.Step.{word}
 pub use Rattle.kw_core.specs.Words.{Words, next_in, least_in, given_in}
-use Rattle.kw_core.specs.Stages.{IsStarting, IsCovering, IsAtRow, IsPastStart}
+use Rattle.kw_core.specs.Stages.{IsStarting, IsCovering, IsAtRow, IsPastStart, IsReached}
 use Rattle.kw_shape.specs.Rooms.{adders, drawers}
 
 -- The rows.
@@ -151,8 +151,9 @@ IsKind PutClear l = IsPutCall l.call
 IsKind (Leave reply) l = IsReplyOf l.call reply
 IsKind _ l = IsSomeCall l.call
 
--- the activity fits the call, and a scan that walks or reads has a key
+-- the activity is one to which a seat may come, and fits the call, and a scan that walks or reads has a key
 pub record Kinds (a : Activity) (l : Local) : Type 0 where
+  pub reached : IsReached a
   pub kind : IsKind a l
   pub range : IsCovering a → first_key l.call ≤ last_key l.call
 

@@ -1,0 +1,77 @@
+//! Where a seat stands in its call: each activity is of one stage.
+//!
+//! A call goes through its stages in their order; a scan comes back from the cells of a row to the walk. What holds of a seat is
+//! mostly said by stages (`specs/Stages.antt`), and code that goes on as long as a stage lasts asks for it here.
+ghost use Rattle.std.specs.Prelude.{◌≡◌};
+ghost use Rattle.kw_core.specs.Stages.{stage_of};
+
+use kw_world::activity::Activity;
+
+/// A stage of a call.
+#[derive(Clone, Copy, Debug, PartialEq, Eq)]
+pub enum Stage {
+    /// The seat makes no call.
+    Resting,
+
+    /// It announces its epoch.
+    Entering,
+
+    /// A scan gets its version.
+    Drawing,
+
+    /// It walks to the row of the wanted key.
+    Walking,
+
+    /// A get or a scan looks at the entries of the row, and loads its count.
+    Looking,
+
+    /// A get or a scan reads the cells of the row.
+    Taking,
+
+    /// A scan is over, and clears its word.
+    Clearing,
+
+    /// A put or a delete is at its row.
+    Putting,
+
+    /// The call ends.
+    Leaving,
+}
+
+impl Stage {
+    /// The stage of an activity.
+    pub fn of(activity: &Activity) -> Stage
+        ensures { result ≡ stage_of activity.now }
+    {
+        match activity {
+            Activity::Idle => Stage::Resting,
+            Activity::Enter => Stage::Entering,
+            Activity::ScanClock
+            | Activity::ScanWait
+            | Activity::ScanDraw
+            | Activity::ScanSettle => Stage::Drawing,
+            Activity::Start
+            | Activity::Head
+            | Activity::GuessMin
+            | Activity::Walk
+            | Activity::WalkMin => Stage::Walking,
+            Activity::Look(_)
+            | Activity::LookKey
+            | Activity::LookClock
+            | Activity::LookHelp
+            | Activity::LookCount => Stage::Looking,
+            Activity::Cell(_) | Activity::CellKey | Activity::CellValue => Stage::Taking,
+            Activity::ClearScan(_) => Stage::Clearing,
+            Activity::PutCount
+            | Activity::PutAdd
+            | Activity::PutKey
+            | Activity::PutValue
+            | Activity::Announce
+            | Activity::PutClock
+            | Activity::Stamp
+            | Activity::PutVersion
+            | Activity::PutClear => Stage::Putting,
+            Activity::Leave(_) => Stage::Leaving,
+        }
+    }
+}
