@@ -14,6 +14,9 @@ use Rattle.kw_world.specs.declared.activity.Activity.{Activity}
 use Rattle.kw_world.specs.declared.activity.Activity.TheVariants.{Idle, Enter, ScanClock, ScanWait, ScanDraw, ScanSettle, Start, Head, GuessMin, Walk, WalkMin, Look, LookKey, LookClock, LookHelp, LookCount, Cell, CellKey, CellValue, ClearScan, PutCount, PutAdd, PutKey, PutValue, Announce, PutClock, Stamp, PutVersion, PutClear, Leave}
 use Rattle.kw_world.specs.declared.local.Local.{Local}
 use Rattle.kw_world.specs.declared.event.Choice.{Choice}
+use Rattle.kw_world.specs.declared.operation.Action.{Action}
+use Rattle.kw_world.specs.declared.operation.Action.TheVariants.{Load, Store, Add, Or, Exchange}
+use Rattle.kw_world.specs.Table.{row}
 use Rattle.kw_world.specs.declared.event.Choice.TheVariants.{Begin, Go, Guess, Stop}
 use Rattle.kw_world.specs.Sizes.{Sizes}
 use Rattle.kw_world.specs.RowPut.{given_of}
@@ -32,7 +35,8 @@ abbrev pub walk_writes : Bool → ℕ → Option Name
 walk_writes true s = Some (name.Scan s)
 walk_writes false s = None
 
--- the word that the event of an activity writes; none where it loads. The third is whether a walk is stopped
+-- the word that the event of an activity writes; none where it loads. The third is whether a walk is stopped. That the table says so too
+-- is `written_is`: a line that writes and has no name here is refused there
 abbrev pub writes : Activity → ℕ → Bool → Local → Option Name
 writes Enter s b l = Some (name.Pass s)
 writes ScanWait s b l = Some (name.Scan s)
@@ -51,49 +55,38 @@ writes PutClear s b l = Some (name.Pend l.row s)
 writes (Leave reply) s b l = Some (name.Pass s)
 writes _ s b l = None
 
-starts : (z : Sizes) (rows : ℕ) (v v' : Words) (l : Local) (c : Choice) → Changed z rows v v' (start_row c l) → (n : Name) → v' n ≡ v n
-starts z rows v v' l (Begin call) c n = c.loaded refl n
-starts z rows v v' l Go c n = c.loaded refl n
-starts z rows v v' l (Guess q) c n = c.loaded refl n
-starts z rows v v' l Stop c n = c.loaded refl n
+-- the word that an action on this word writes; none where it loads
+abbrev written_by : Action → Name → Option Name
+written_by Load n = None
+written_by _ n = Some n
 
-walks : (z : Sizes) (rows : ℕ) (v v' : Words) (s : ℕ) (l : Local) (b : Bool) → Changed z rows v v' (walk_row b s l) → (n : Name) → IsWithin z.seats z.cells rows n → walk_writes b s ≢ Some n → v' n ≡ v n
-walks z rows v v' s l true c n i d = c.other n i (λ e. d (ap Some (sym e)))
-walks z rows v v' s l false c n i d = c.loaded refl n
+-- `writes` has for each activity what the operation of its line writes
+written_is : (z : Sizes) (a : Activity) (s : ℕ) (choice : Choice) (l : Local) → written_by (row z a s choice l).operation.action (row z a s choice l).operation.name ≡ writes a s (is_stopped choice l) l
+written_is z Start s choice l = starts choice
+  where
+    starts : (c : Choice) → written_by (start_row c l).operation.action (start_row c l).operation.name ≡ None
+    starts (Begin call) = refl
+    starts Go = refl
+    starts (Guess q) = refl
+    starts Stop = refl
+written_is z Walk s choice l = walks (is_stopped choice l)
+  where
+    walks : (b : Bool) → written_by (walk_row b s l).operation.action (walk_row b s l).operation.name ≡ walk_writes b s
+    walks true = refl
+    walks false = refl
+written_is z _ s choice l = refl
+
+-- whatever the action, a word that it does not write is kept
+kept_by : (action : Action) (m n : Name) (v v' : Words) → (action ≡ Load → (x : Name) → v' x ≡ v x) → (n ≢ m → v' n ≡ v n) → written_by action m ≢ Some n → v' n ≡ v n
+kept_by Load m n v v' loaded other d = loaded refl n
+kept_by _ m n v v' loaded other d = other (λ e. d (ap Some (sym e)))
 
 -- the word that is not written is kept
 module _ {z : Sizes} {r r' : Run} {s : ℕ} {choice : Choice} {l l' : Local} where
   pub unwritten : (a : Activity) → Happens z r r' s choice l l' a → (n : Name) → IsWithin z.seats z.cells r.world.rows n → writes a s (is_stopped choice l) l ≢ Some n → word z r'.world n ≡ word z r.world n
-  unwritten Idle h n i d = h.changed.loaded refl n
-  unwritten Enter h n i d = h.changed.other n i (λ e. d (ap Some (sym e)))
-  unwritten ScanClock h n i d = h.changed.loaded refl n
-  unwritten ScanWait h n i d = h.changed.other n i (λ e. d (ap Some (sym e)))
-  unwritten ScanDraw h n i d = h.changed.other n i (λ e. d (ap Some (sym e)))
-  unwritten ScanSettle h n i d = h.changed.other n i (λ e. d (ap Some (sym e)))
-  unwritten Start h n i d = starts z r.world.rows (word z r.world) (word z r'.world) l choice h.changed n
-  unwritten Head h n i d = h.changed.loaded refl n
-  unwritten GuessMin h n i d = h.changed.loaded refl n
-  unwritten Walk h n i d = walks z r.world.rows (word z r.world) (word z r'.world) s l (is_stopped choice l) h.changed n i d
-  unwritten WalkMin h n i d = h.changed.loaded refl n
-  unwritten (Look k) h n i d = h.changed.loaded refl n
-  unwritten LookKey h n i d = h.changed.loaded refl n
-  unwritten LookClock h n i d = h.changed.loaded refl n
-  unwritten LookHelp h n i d = h.changed.other n i (λ e. d (ap Some (sym e)))
-  unwritten LookCount h n i d = h.changed.loaded refl n
-  unwritten (Cell j) h n i d = h.changed.loaded refl n
-  unwritten CellKey h n i d = h.changed.loaded refl n
-  unwritten CellValue h n i d = h.changed.loaded refl n
-  unwritten (ClearScan reply) h n i d = h.changed.other n i (λ e. d (ap Some (sym e)))
-  unwritten PutCount h n i d = h.changed.loaded refl n
-  unwritten PutAdd h n i d = h.changed.other n i (λ e. d (ap Some (sym e)))
-  unwritten PutKey h n i d = h.changed.other n i (λ e. d (ap Some (sym e)))
-  unwritten PutValue h n i d = h.changed.other n i (λ e. d (ap Some (sym e)))
-  unwritten Announce h n i d = h.changed.other n i (λ e. d (ap Some (sym e)))
-  unwritten PutClock h n i d = h.changed.loaded refl n
-  unwritten Stamp h n i d = h.changed.other n i (λ e. d (ap Some (sym e)))
-  unwritten PutVersion h n i d = h.changed.other n i (λ e. d (ap Some (sym e)))
-  unwritten PutClear h n i d = h.changed.other n i (λ e. d (ap Some (sym e)))
-  unwritten (Leave reply) h n i d = h.changed.other n i (λ e. d (ap Some (sym e)))
+  unwritten a h n i d =
+      let it = row z a s choice l in
+      kept_by it.operation.action it.operation.name n (word z r.world) (word z r'.world) h.changed.loaded (h.changed.other n i) (λ e. d (sym (written_is z a s choice l) ∙ e))
 
 -- The rows: no event writes a state, a minimum, a link or the head.
 
