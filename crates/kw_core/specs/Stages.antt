@@ -325,4 +325,3 @@ abbrev pub HasDrawn : Activity → Type 0
 HasDrawn (ClearScan reply) = Unit {0}
 HasDrawn (Leave (Pairs pairs)) = Unit {0}
 HasDrawn a = IsCovering a
-

@@ -46,10 +46,8 @@ impl Stage {
         match activity {
             Activity::Idle => Stage::Resting,
             Activity::Enter => Stage::Entering,
-            Activity::ScanClock
-            | Activity::ScanWait
-            | Activity::ScanDraw
-            | Activity::ScanSettle => Stage::Drawing,
+            Activity::ScanClock | Activity::ScanWait | Activity::ScanDraw | Activity::ScanSettle =>
+                Stage::Drawing,
             Activity::Start
             | Activity::Head
             | Activity::GuessMin

@@ -30,6 +30,9 @@ use Rattle.kw_core.proofs.Attempts.{in_range}
 use Rattle.kw_reads.proofs.Keeps.{inv_holds}
 use Rattle.kw_shape.proofs.Walking.{past}
 use Rattle.kw_laws.proofs.Unfrozen.{counts_hold, unfrozen}
+use Rattle.kw_core.specs.Stages.{HasDrawn}
+use Rattle.kw_reads.specs.Replies.{IsCovered}
+use Rattle.kw_puts.proofs.OwnScans.{covering_draws}
 
 -- pairs that rise below a bound rise
 rising : (low bound : ℕ) (pairs : List (ℕ × ℕ)) → RisesBelow low bound pairs → RisesFrom low pairs
@@ -79,6 +82,8 @@ laws_from z r i u = record {
       omega (arith, x.lower (past l.activity y), at.upper n e, i.shape.chain.rises l.row n at.linked (sym at.next ∙ e));
   pairs = λ t l g s c. let x = (i.replies.pairs t l g).covers s c in rising_from 0 (first_key l.call) l.pairs (omega arith) (rising (first_key l.call) l.want l.pairs x.rises);
   below = λ t l g s c. let x = i.replies.pairs t l g in record { rises = (x.covers s c).rises; from = x.from s c; upto = x.upto s c };
+  covers = λ t l g s c. let d = i.positions.draws t l g in let x = covering_draws l.activity c in record { drawn = d.drawn s x; drawn_first = d.drawn_first s x; covers = (i.replies.pairs t l g).covers s c };
+  covered = λ t l pairs g s a. let d = i.positions.draws t l g in let x : HasDrawn l.activity = subst HasDrawn (sym a) tt in record { drawn = d.drawn s x; drawn_first = d.drawn_first s x; covers = subst (λ q. IsCovered q r.history l (r.seats t)) a (i.replies.pairs t l g).covered };
   early = λ t l g. (i.replies.pairs t l g).early;
   unfrozen = u;
   announces = λ t l g a. idle_or_frozen _ (u.announces t l g a);

@@ -13,8 +13,10 @@ pub mod MirrorSeats
 pub mod MirrorAttempts
 pub mod MirrorCalls
 pub mod MirrorStamps
+pub mod MirrorReads
 pub mod MirrorKeeps
 pub mod SeatLists
 pub mod SeatTurns
 pub mod SeatApart
 pub mod SeatCalls
+pub mod LiveRows

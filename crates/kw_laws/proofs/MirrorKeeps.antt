@@ -27,6 +27,8 @@ use Rattle.kw_laws.proofs.MirrorSeats.{begun-nil, numbers_keep, running_keeps, l
 use Rattle.kw_laws.proofs.MirrorAttempts.{attempts_keep}
 use Rattle.kw_laws.proofs.MirrorCalls.{calls_keep, all_calls_keep, all_attempts_keep}
 use Rattle.kw_laws.proofs.MirrorStamps.{all_announced_keep, all_stamped_keep}
+use Rattle.kw_laws.specs.MirrorReads.{MirrorsReads}
+use Rattle.kw_laws.proofs.MirrorReads.{KeptReads, kept_reads, reads_start}
 
 -- one event, over a free run
 kept : (z : Sizes) (o : Opening) (es : List Event) (e : Event) (r r' : Run) (l l' : Local) (a : Activity) → Happens z r r' e.seat (offered r.world.rows e.choice) l l' a → Inv z r → Keeps r'.history → Kept z o es r → world z o (es ++ e ∷ []) ≡ r'.world → Kept z o (es ++ e ∷ []) r'
@@ -49,14 +51,22 @@ kept z o es e r r' l l' a h i j k w = record {
   help = help_keeps z o es e r r' l l' a h k;
 }
 
+-- the mirror, and what draws and answers are
+record Whole (z : Sizes) (o : Opening) (es : List Event) (r : Run) : Type 0 where
+  kept : Kept z o es r
+  reads : KeptReads z o es r
+
 -- one event that may come
-kept_goes_on : (z : Sizes) (o : Opening) (es : List Event) (e : Event) (r : Run) → may_step o r.world e ≡ true → Inv z r → Inv z (goes_on z r e) → Kept z o es r → Kept z o (es ++ e ∷ []) (goes_on z r e)
+kept_goes_on : (z : Sizes) (o : Opening) (es : List Event) (e : Event) (r : Run) → may_step o r.world e ≡ true → Inv z r → Inv z (goes_on z r e) → Whole z o es r → Whole z o (es ++ e ∷ []) (goes_on z r e)
 kept_goes_on z o es e r may i j k =
     let c = may_come o r.world e may in
     let noted : goes_on z r e ≡ noted_by z r e c.local = goes_on-moved z r e c.local c.knows c.moves in
-    let w : world z o (es ++ e ∷ []) ≡ (goes_on z r e).world = world-snoc z o es e ∙ ap (λ (x : WorldView). (step z x e).world) k.world ∙ sym (goes_on-world z r e) in
-    subst (Kept z o (es ++ e ∷ [])) (sym noted)
-    (kept z o es e r (noted_by z r e c.local) c.local _ c.local.activity (happens z r e c.local i.shape.sane (i.shape.kinds e.seat c.local c.knows).reached c.begins c.knows c.moves) i (subst (λ (x : Run). Keeps x.history) noted j.history) k (w ∙ ap (λ (x : Run). x.world) noted))
+    let w : world z o (es ++ e ∷ []) ≡ (goes_on z r e).world = world-snoc z o es e ∙ ap (λ (x : WorldView). (step z x e).world) k.kept.world ∙ sym (goes_on-world z r e) in
+    let h = happens z r e c.local i.shape.sane (i.shape.kinds e.seat c.local c.knows).reached c.begins c.knows c.moves in
+    subst (Whole z o (es ++ e ∷ [])) (sym noted) (record {
+      kept = kept z o es e r (noted_by z r e c.local) c.local _ c.local.activity h i (subst (λ (x : Run). Keeps x.history) noted j.history) k.kept (w ∙ ap (λ (x : Run). x.world) noted);
+      reads = kept_reads z o es e r (noted_by z r e c.local) c.local _ c.local.activity h i k.kept k.reads;
+    })
 
 -- no event
 kept_start : (z : Sizes) (o : Opening) → Kept z o [] (start z o)
@@ -83,17 +93,25 @@ kept_start z o = record {
     nothing e g = cc
 
 -- along a valid list
-kept_along : (z : Sizes) (o : Opening) (xs : List Event) (r : Run) (w : WorldView) (es : List Event) → r.world ≡ w → is_valid_from z o w es ≡ true → Inv z r → Kept z o xs r → Kept z o (xs ++ es) (run z r es)
+kept_along : (z : Sizes) (o : Opening) (xs : List Event) (r : Run) (w : WorldView) (es : List Event) → r.world ≡ w → is_valid_from z o w es ≡ true → Inv z r → Whole z o xs r → Whole z o (xs ++ es) (run z r es)
 unfolding run is_valid_from
-kept_along z o xs r w [] is ok i k = subst (λ q. Kept z o q r) (sym (append-nil xs)) k
+kept_along z o xs r w [] is ok i k = subst (λ q. Whole z o q r) (sym (append-nil xs)) k
 kept_along z o xs r w (e ∷ es) is ok i k =
     let t = and_parts (may_step o w e) (is_valid_from z o (step z w e).world es) ok in
     let may : may_step o r.world e ≡ true = subst (λ x. may_step o x e ≡ true) (sym is) t.0 in
     let j = inv_goes_on z o r e may i in
-    subst (λ q. Kept z o q (run z (goes_on z r e) es)) (append_assoc xs (e ∷ []) es)
+    subst (λ q. Whole z o q (run z (goes_on z r e) es)) (append_assoc xs (e ∷ []) es)
     (kept_along z o (xs ++ e ∷ []) (goes_on z r e) (step z w e).world es (goes_on-world z r e ∙ ap (λ x. (step z x e).world) is) t.1 j (kept_goes_on z o xs e r may i j k))
 
--- the record of every valid list from an opening mirrors its events
-pub mirrors_hold : (z : Sizes) (o : Opening) → IsOpening z o → (es : List Event) → is_valid z o es ≡ true → Mirrors z o es (history z o es).history
+-- every valid list from an opening
+whole_holds : (z : Sizes) (o : Opening) → IsOpening z o → (es : List Event) → is_valid z o es ≡ true → Whole z o es (history z o es)
 unfolding history is_valid
-mirrors_hold z o opening es ok = (kept_along z o [] (start z o) (opened z o) es refl ok (inv_start z o opening) (kept_start z o)).mirrors
+whole_holds z o opening es ok = kept_along z o [] (start z o) (opened z o) es refl ok (inv_start z o opening) (record { kept = kept_start z o; reads = reads_start z o })
+
+-- its record mirrors its events
+pub mirrors_hold : (z : Sizes) (o : Opening) → IsOpening z o → (es : List Event) → is_valid z o es ≡ true → Mirrors z o es (history z o es).history
+mirrors_hold z o opening es ok = (whole_holds z o opening es ok).kept.mirrors
+
+-- and says of draws and answers what they say
+pub reads_mirrored : (z : Sizes) (o : Opening) → IsOpening z o → (es : List Event) → is_valid z o es ≡ true → MirrorsReads z o es (history z o es).history
+reads_mirrored z o opening es ok = (whole_holds z o opening es ok).reads.mirrors

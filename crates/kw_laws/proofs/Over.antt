@@ -71,11 +71,12 @@ pub record SameLog (c d : CallLog) : Type 0 where
   pub call : d.call ≡ c.call
   pub first : d.first ≡ c.first
   pub end : d.end ≡ c.end
+  pub answer : d.answer ≡ c.answer
   pub draw : d.draw ≡ c.draw
 
 -- the same call
 same_log : (c d : CallLog) → d ≡ c → SameLog c d
-same_log c d e = record { seat = ap (λ (q : CallLog). q.seat) e; number = ap (λ (q : CallLog). q.number) e; call = ap (λ (q : CallLog). q.call) e; first = ap (λ (q : CallLog). q.first) e; end = ap (λ (q : CallLog). q.end) e; draw = ap (λ (q : CallLog). q.draw) e }
+same_log c d e = record { seat = ap (λ (q : CallLog). q.seat) e; number = ap (λ (q : CallLog). q.number) e; call = ap (λ (q : CallLog). q.call) e; first = ap (λ (q : CallLog). q.first) e; end = ap (λ (q : CallLog). q.end) e; answer = ap (λ (q : CallLog). q.answer) e; draw = ap (λ (q : CallLog). q.draw) e }
 
 -- a call over an event of seat s: it goes on, maybe with a put; or it is the seat's, and ends
 pub data CallOver (h h' : History) (l : Local) (g : SeatLog) (a : Activity) (x : ℕ) : Type 0 where
@@ -90,7 +91,7 @@ with_put h h' x y put e w = which (cases_eq x y)
     which : (x ≡ y) ⊎ (x ≡ y → ⊥) → SameLog (called h x) (called h' x)
     which (inl i) =
         let f : called h' y ≡ record (called h y) { put = put } = called_set_same h h' y _ e (subst (λ q. q < length h.calls) i w) in
-        subst (λ q. SameLog (called h q) (called h' q)) (sym i) (rw f (record { seat = refl; number = refl; call = refl; first = refl; end = refl; draw = refl }))
+        subst (λ q. SameLog (called h q) (called h' q)) (sym i) (rw f (record { seat = refl; number = refl; call = refl; first = refl; end = refl; answer = refl; draw = refl }))
     which (inr d) = same_log (called h x) (called h' x) (called_set_other h h' y x _ e d)
 
 pub call_over : (h h' : History) (e : Logged) (z : Sizes) (v : Words) (s : ℕ) (choice : Choice) (l : Local) (g : SeatLog) (o : Origins) (a : Activity) (c : Change) → Makes z v s choice l g o a c → h' ≡ noted h e c → (x : ℕ) → x < length h.calls → CallOver h h' l g a x

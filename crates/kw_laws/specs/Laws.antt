@@ -1,5 +1,5 @@
 -- The laws over all valid lists of events.
-use Rattle.std.specs.Prelude.{ℕ, ◌≡◌, ◌<◌, ◌≤◌, true, Option, Some, None, [], Contains, slice_get}
+use Rattle.std.specs.Prelude.{ℕ, ◌≡◌, ◌+◌, ◌<◌, ◌≤◌, true, Option, Some, None, List, [], Contains, slice_get}
 use Rattle.kw_words.specs.declared.layout.Name.TheVariants as name
 use Rattle.kw_words.specs.declared.pend.Pend.{Pend}
 use Rattle.kw_words.specs.declared.pend.Pend.TheVariants.{Idle, Pending, Stamped, Frozen}
@@ -9,20 +9,22 @@ use Rattle.kw_words.specs.Pend.{pend_of}
 use Rattle.kw_words.specs.Scan.{scan_of}
 use Rattle.kw_cells.specs.declared.cell.Cell as kw_cell
 use Rattle.kw_model.specs.Map.{IsRising}
-use Rattle.kw_world.specs.declared.activity.Activity.TheVariants.{WalkMin, Announce, Stamp, ScanSettle}
+use Rattle.kw_world.specs.declared.activity.Activity.TheVariants.{WalkMin, Announce, Stamp, ScanSettle, ClearScan}
 use Rattle.kw_world.specs.declared.local.Local.{Local}
 use Rattle.kw_world.specs.Sizes.{Sizes}
 use Rattle.kw_world.specs.Calls.{first_key, last_key, is_scan}
 use Rattle.kw_world.specs.Sane.{IsSane}
 use Rattle.kw_world.specs.Step.{word}
-use Rattle.kw_core.specs.History.{History, LoadClock, attempt, Stands}
+use Rattle.kw_core.specs.History.{History, LoadClock, attempt, called, Stands}
 use Rattle.kw_core.specs.HistoryLaws.{HistoryLaws, IsPut}
 use Rattle.kw_core.specs.Run.{Run}
 use Rattle.kw_core.specs.Stages.{IsAtRow, IsCovering, IsEarly, IsKeeping}
 use Rattle.kw_core.specs.Words.{next_in, least_in}
 use Rattle.kw_shape.specs.Shape.{IsLinked, HoldsKey, Walks}
 use Rattle.kw_reads.specs.Readers.{IsDue, IsCopyOf}
-use Rattle.kw_reads.specs.Replies.{RisesBelow}
+use Rattle.kw_reads.specs.Replies.{RisesBelow, Covers}
+use Rattle.kw_model.specs.declared.call.Reply.TheVariants.{Pairs}
+use Rattle.kw_words.specs.declared.kind.Kind.TheVariants.{Draw}
 use Rattle.kw_laws.specs.Unfrozen.{IsUnfrozen}
 
 -- the entry is idle or frozen
@@ -68,6 +70,13 @@ pub record IsBelowWanted (l : Local) : Type 0 where
   pub from : first_key l.call ≤ l.want
   pub upto : l.want ≤ last_key l.call
 
+-- what a scan has: it drew its version in its call, and the pairs are what the map has at this version for the keys of its range below
+-- a bound
+pub record IsDrawnCover (r : Run) (t : ℕ) (l : Local) (bound : ℕ) (pairs : List (ℕ × ℕ)) : Type 0 where
+  pub drawn : Stands r.history (r.seats t).drawn Draw l.version
+  pub drawn_first : (called r.history (r.seats t).call).first < (r.seats t).drawn
+  pub covers : Covers r.history (first_key l.call) l.version (r.seats t).drawn bound pairs
+
 -- what every valid list keeps
 pub record KeepsLaws (z : Sizes) (r : Run) : Type 0 where
   -- every word is one that may stand under its name, and all that a seat knows is in range
@@ -85,6 +94,11 @@ pub record KeepsLaws (z : Sizes) (r : Run) : Type 0 where
   pub pairs : (t : ℕ) (l : Local) → slice_get r.world.locals t ≡ Some l → is_scan l.call ≡ true → IsCovering l.activity → IsRising l.pairs
   -- they are keys of its range below the one that it wants next
   pub below : (t : ℕ) (l : Local) → slice_get r.world.locals t ≡ Some l → is_scan l.call ≡ true → IsCovering l.activity → IsBelowWanted l
+  -- and what the map has for the keys of its range below that one, at the version that it drew: so where it is stopped, its pairs are
+  -- those of its range at this version, up to the key that it would have wanted next
+  pub covers : (t : ℕ) (l : Local) → slice_get r.world.locals t ≡ Some l → is_scan l.call ≡ true → IsCovering l.activity → IsDrawnCover r t l l.want l.pairs
+  -- a scan that is over, and has not been stopped, has those of its whole range
+  pub covered : (t : ℕ) (l : Local) (pairs : List (ℕ × ℕ)) → slice_get r.world.locals t ≡ Some l → is_scan l.call ≡ true → l.activity ≡ ClearScan (Pairs pairs) → IsDrawnCover r t l (last_key l.call + 1) pairs
   -- a call that has read no row has no pairs
   pub early : (t : ℕ) (l : Local) → slice_get r.world.locals t ≡ Some l → IsEarly l.activity → l.pairs ≡ []
   -- no count is frozen and no entry, as long as no row is rebalanced

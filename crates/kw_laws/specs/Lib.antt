@@ -4,3 +4,5 @@ pub mod Laws
 pub mod Example
 pub mod Mirror
 pub mod SeatCalls
+pub mod Live
+pub mod MirrorReads

@@ -16,7 +16,9 @@ ghost use Rattle.kw_world.specs.Sizes.{Sizes};
 ghost use Rattle.kw_core.specs.Events.{is_valid, world, local_of, of_seat, event};
 ghost use Rattle.kw_core.specs.Run.{history};
 ghost use Rattle.kw_laws.specs.Laws.{KeepsLaws};
+ghost use Rattle.kw_laws.specs.Live.{AreLive};
 ghost use Rattle.kw_laws.specs.Mirror.{Mirrors};
+ghost use Rattle.kw_laws.specs.MirrorReads.{MirrorsReads};
 ghost use Rattle.kw_laws.specs.SeatCalls.{calls_seen, seen_after, KeepsTurns, AreApart, AreStill};
 
 /// The empty history keeps the laws, and each event keeps them that may happen as it does.
@@ -25,16 +27,20 @@ pub fn history_laws()
     ensures step { (h : History) (e : Logged) → Keeps h → MayLog h e → (c : Change) → MayNote h e c → Keeps (noted h e c) }
 {}
 
-/// After every valid list of events from an opening the laws hold, whatever the sizes of the table.
+/// After every valid list of events from an opening the laws hold, whatever the sizes of the table. A row at which a seat has
+/// arrived was in the list, as one who follows the links from the first row sees it, after the seat began its pass, or drew.
 pub fn list_laws()
     ensures laws { (z : Sizes) (o : Opening) (events : List Event) → IsOpening z o → is_valid z o events ≡ true → KeepsLaws z (history z o events) }
     ensures world { (z : Sizes) (o : Opening) (events : List Event) → (history z o events).world ≡ world z o events }
+    ensures live { (z : Sizes) (o : Opening) (events : List Event) → IsOpening z o → is_valid z o events ≡ true → AreLive z o events }
 {}
 
 /// The record of every valid list from an opening is what it claims to be: at each position that it names stands the event
-/// that it says, and it leaves no such event out.
+/// that it says, and it leaves no such event out. A scan drew by its own seat and settled for its version, and a get read the cell
+/// of the put whose value it answers.
 pub fn mirror_laws()
-    ensures { (z : Sizes) (o : Opening) (events : List Event) → IsOpening z o → is_valid z o events ≡ true → Mirrors z o events (history z o events).history }
+    ensures events { (z : Sizes) (o : Opening) (events : List Event) → IsOpening z o → is_valid z o events ≡ true → Mirrors z o events (history z o events).history }
+    ensures reads { (z : Sizes) (o : Opening) (events : List Event) → IsOpening z o → is_valid z o events ≡ true → MirrorsReads z o events (history z o events).history }
 {}
 
 /// The calls of one seat in a valid list from an opening. No event makes no call, and events of other seats leave the

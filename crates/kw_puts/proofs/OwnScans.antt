@@ -90,12 +90,12 @@ waiting_not_read ScanSettle x y = y
 waiting_not_read _ x y = x
 
 -- a scan that is to settle still says that it waits
-settling_waits : (c : Activity) → IsSettling c → IsWaiting c
+pub settling_waits : (c : Activity) → IsSettling c → IsWaiting c
 settling_waits ScanSettle x = tt
 settling_waits _ x = absurd x
 
 -- the event that leads to a waiting scan is the store of its word, or its draw
-waits_from : (z : Sizes) (v : Words) (s : ℕ) (choice : Choice) (l : Local) (a : Activity) (k : Local) → Arrow z v s choice l a k → IsWaiting k.activity → ((a ≡ ScanWait) × (k ≡ record l { activity = ScanDraw })) ⊎ ((a ≡ ScanDraw) × (k ≡ record l { drawn = v name.Clock; activity = ScanSettle }))
+pub waits_from : (z : Sizes) (v : Words) (s : ℕ) (choice : Choice) (l : Local) (a : Activity) (k : Local) → Arrow z v s choice l a k → IsWaiting k.activity → ((a ≡ ScanWait) × (k ≡ record l { activity = ScanDraw })) ⊎ ((a ≡ ScanDraw) × (k ≡ record l { drawn = v name.Clock; activity = ScanSettle }))
 waits_from z v s choice l a k stores_waiting x = inl (refl, refl)
 waits_from z v s choice l a k draws x = inr (refl, refl)
 waits_from z v s choice l (Look j) k b x = absurd (waiting_not_read k.activity x (after_read z v s choice l (Look j) k b tt))
@@ -109,7 +109,7 @@ waits_from z v s choice l CellValue k b x = absurd (waiting_not_read k.activity 
 waits_from z v s choice l a k b x = absurd x
 
 -- a scan that has its version had it, or has just settled it; and a seat on its way that is no scan began so
-drawn_from : (z : Sizes) (v : Words) (s : ℕ) (choice : Choice) (l : Local) (a : Activity) (k : Local) → Arrow z v s choice l a k → is_scan k.call ≡ true → HasDrawn k.activity → HasDrawn a ⊎ IsSettling a
+pub drawn_from : (z : Sizes) (v : Words) (s : ℕ) (choice : Choice) (l : Local) (a : Activity) (k : Local) → Arrow z v s choice l a k → is_scan k.call ≡ true → HasDrawn k.activity → HasDrawn a ⊎ IsSettling a
 drawn_from z v s choice l Start k b e x = inl tt
 drawn_from z v s choice l Head k b e x = inl tt
 drawn_from z v s choice l GuessMin k b e x = inl tt
@@ -432,7 +432,7 @@ underway_busy Idle x = x
 underway_busy _ x = tt
 
 -- a scan that settles does not draw
-settling_no_draw : (a : Activity) → IsSettling a → IsNoDraw a
+pub settling_no_draw : (a : Activity) → IsSettling a → IsNoDraw a
 settling_no_draw ScanSettle x = tt
 settling_no_draw _ x = absurd x
 
@@ -481,7 +481,7 @@ module _ (z : Sizes) (r r' : Run) (s : ℕ) (choice : Choice) (l : Local) (a : A
   looked_kept x = ap (λ (q : SeatLog). q.looked) h.log ∙ look_kept z choice l _ l'.activity (r.seats s) r.origin r.history a x
 
   -- a scan that settles has the version that it drew
-  settle : IsSettling a → (l'.version ≡ l.drawn) × (word z r'.world (name.Scan s) ≡ scan_word (Drawn l.drawn))
+  pub settle : IsSettling a → (l'.version ≡ l.drawn) × (word z r'.world (name.Scan s) ≡ scan_word (Drawn l.drawn))
   settle x = let k = (i.shape.sane.locals s l h.knows).ranges.waiting in settles_to z r r' s choice l a l' b h x (before.waits (subst IsWaiting (sym h.activity) (settling_waits a x))) k.0 k.1
 
   -- the word of a waiting scan
@@ -493,7 +493,7 @@ module _ (z : Sizes) (r r' : Run) (s : ℕ) (choice : Choice) (l : Local) (a : A
       which (inr e) = unwritten ScanDraw (subst (Happens z r r' s choice l l') e.0 h) (name.Scan s) h.seat (λ f. cc) ∙ before.waits (subst IsWaiting (sym (h.activity ∙ e.0)) tt) ∙ ap (λ (k : Local). scan_word (Waiting k.waiting)) (sym e.1)
 
   -- a scan that is about to settle has just drawn
-  has_drawn : IsSettling l'.activity → (a ≡ ScanDraw) × (l'.drawn ≡ word z r.world name.Clock) × ((r'.seats s).drawn ≡ length r.history.log)
+  pub has_drawn : IsSettling l'.activity → (a ≡ ScanDraw) × (l'.drawn ≡ word z r.world name.Clock) × ((r'.seats s).drawn ≡ length r.history.log)
   has_drawn x = which (waits_from z (word z r.world) s choice l a l' b (settling_waits l'.activity x))
     where
       which : ((a ≡ ScanWait) × (l' ≡ record l { activity = ScanDraw })) ⊎ ((a ≡ ScanDraw) × (l' ≡ record l { drawn = word z r.world name.Clock; activity = ScanSettle })) → (a ≡ ScanDraw) × (l'.drawn ≡ word z r.world name.Clock) × ((r'.seats s).drawn ≡ length r.history.log)

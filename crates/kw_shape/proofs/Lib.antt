@@ -7,3 +7,4 @@ pub mod ShapeKeeps
 pub mod RowsStay
 pub mod ShapeOpens
 pub mod ShapeHolds
+pub mod FollowRows

@@ -1,2 +1,3 @@
 pub mod Rooms
 pub mod Shape
+pub mod MetRows

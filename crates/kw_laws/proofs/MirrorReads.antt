@@ -1,0 +1,357 @@
+-- That the record says of draws and answers what the events say, kept along a list: beside the mirror, of each seat whose scan has drawn
+-- or settled where it did, and of each busy seat where it read the cells that it has gathered.
+use Rattle.std.proofs.Common.{ℕ, ◌≡◌, ◌≢◌, ◌⊎◌, inl, inr, ◌+◌, ◌<◌, ◌==◌, Bool, true, false, Option, Some, None, List, [], ◌∷◌, ◌++◌, arith, refl, sym, ◌∙◌, ap, subst, length, slice_get, if◌then◌else◌, unwrap_or, Contains}
+use Rattle.std.proofs.lemmas.List.Elements.{Contains-append_cases}
+use Rattle.std.proofs.lemmas.Option.{same_Some}
+use Rattle.kw_words.specs.declared.kind.Kind.TheVariants as kind
+use Rattle.kw_words.specs.declared.layout.Name.TheVariants as name
+use Rattle.kw_words.specs.declared.scan.ScanWord.TheVariants.{Waiting, Drawn}
+use Rattle.kw_words.specs.Plain.{value_of_word}
+use Rattle.kw_words.specs.Scan.{scan_word}
+use Rattle.kw_cells.specs.declared.cell.Cell as kw_cell
+use Rattle.kw_cells.specs.Cells.{best_of}
+use Rattle.kw_model.specs.declared.call.Call.{Call}
+use Rattle.kw_model.specs.declared.call.Call.TheVariants.{Put, Del, Get, Scan}
+use Rattle.kw_model.specs.declared.call.Reply.{Reply}
+use Rattle.kw_model.specs.declared.call.Reply.TheVariants.{Done, Value, Absent, Pairs, NoRows, Spent, Stopped}
+use Rattle.kw_world.specs.declared.activity.Activity.{Activity}
+use Rattle.kw_world.specs.declared.activity.Activity.TheVariants.{Idle, ScanDraw, ScanSettle, Look, LookCount, Cell, CellKey, CellValue, PutAdd, Leave}
+use Rattle.kw_world.specs.declared.event.Choice.{Choice}
+use Rattle.kw_world.specs.declared.event.Choice.TheVariants.{Begin, Go, Guess, Stop}
+use Rattle.kw_world.specs.declared.event.Event.{Event}
+use Rattle.kw_world.specs.declared.limits.TheConstants.{NEWEST}
+use Rattle.kw_world.specs.declared.local.Local.{Local}
+use Rattle.kw_world.specs.declared.opening.Opening.{Opening}
+use Rattle.kw_world.specs.declared.operation.Action.TheVariants.{Load, Add, Exchange}
+use Rattle.kw_world.specs.Calls.{is_scan}
+use Rattle.kw_world.specs.RowPut.{has_room}
+use Rattle.kw_world.specs.RowWalk.{offered}
+use Rattle.kw_world.specs.Sizes.{Sizes}
+use Rattle.kw_world.specs.Step.{word, is_skipped}
+use Rattle.kw_words.specs.Count.{count_of}
+use Rattle.kw_core.specs.declared.history.CallLog.{CallLog}
+use Rattle.kw_core.specs.declared.history.Drawn as history
+use Rattle.kw_core.specs.declared.seat_log.SeatLog.{SeatLog}
+use Rattle.kw_core.specs.History.{History, attempt, called}
+use Rattle.kw_core.specs.Run.{Run, Origins, seat_after, is_at_cell, log_gathered, best_id, id_at, id_of, answering, drawing}
+use Rattle.kw_core.specs.Stages.{IsBusy, IsUnderway, IsSettling, HasDrawn}
+use Rattle.kw_core.proofs.Changes.{made}
+use Rattle.kw_core.proofs.Happens.{Happens, each_seat}
+use Rattle.kw_core.proofs.SeatLogs.{call_kept, draw_kept}
+use Rattle.kw_shape.specs.Shape.{IsKind, IsReplyOf}
+use Rattle.kw_puts.specs.Puts.{HasCell}
+use Rattle.kw_puts.specs.Positions.{Calling}
+use Rattle.kw_puts.proofs.OwnScans.{drawn_from, not_idle_drawn, draws_no_more, drawn_underway, settling_no_draw, settling_waits, was_scan, drawn_kept, settle, has_drawn}
+use Rattle.kw_puts.proofs.Rely.{GoesOn}
+use Rattle.kw_reads.specs.Inv.{Inv, lower}
+use Rattle.kw_reads.specs.Readers.{IsInHand}
+use Rattle.kw_reads.proofs.HistoryKeeps.{history_step}
+use Rattle.kw_reads.proofs.Relying.{goes_on_by}
+use Rattle.kw_laws.specs.Mirror.{Acts, operation}
+use Rattle.kw_laws.specs.MirrorReads.{HasSettled, HasRead, MirrorsReads, settling}
+use Rattle.kw_laws.proofs.Mirroring.{Kept, acts_here}
+use Rattle.kw_laws.proofs.Occurs.{occurs_within, acts_lasts}
+use Rattle.kw_laws.proofs.Over.{CallOver, SameLog, goes_on, is_ended, IsCallNow, call_over, call_was}
+use Rattle.std.proofs.Common.{zero, suc, get_or}
+use Rattle.kw_core.specs.Words.{Words}
+use Rattle.kw_core.specs.Step.{Step}
+use Rattle.kw_core.specs.Run.{start}
+use Rattle.kw_core.specs.Stages.{IsWaiting}
+use Rattle.kw_core.proofs.Arrows.{Arrow, begins, leaves}
+use Rattle.kw_core.proofs.Happens.{found_at, log_entry}
+use Rattle.kw_puts.proofs.OwnScans.{call_first}
+use Rattle.kw_puts.proofs.Rely.{SameAttempt}
+use Rattle.kw_reads.proofs.CellsKeep.{cells_before, value_stands}
+use Rattle.kw_shape.proofs.ShapeOpens.{all_resting}
+
+-- the draws and the answers of the record; of a scan that is to settle the draw, of one that has settled both; and of a busy seat the
+-- loads of the values that it has gathered
+pub record KeptReads (z : Sizes) (o : Opening) (es : List Event) (r : Run) : Type 0 where
+  pub mirrors : MirrorsReads z o es r.history
+  pub drawing : (t : ℕ) (l : Local) → slice_get r.world.locals t ≡ Some l → IsSettling l.activity → Acts z o es (r.seats t).drawn t ScanDraw (operation kind.Draw name.Clock (Add 1)) l.drawn
+  pub settled : (t : ℕ) (l : Local) → slice_get r.world.locals t ≡ Some l → is_scan l.call ≡ true → HasDrawn l.activity → HasSettled z o es t (r.seats t).drawn l.version
+  pub reads : (t : ℕ) (l : Local) → slice_get r.world.locals t ≡ Some l → IsBusy l.activity → (p : ℕ) → Contains (r.seats t).ids p → HasRead z o es r.history t (called r.history (r.seats t).call).first p
+
+-- the only one of a list of one
+only : (q p : ℕ) → Contains (q ∷ []) p → q ≡ p
+only q p c = first c.0 c.1 c.2
+  where
+    first : (k : ℕ) → k < 1 → get_or (q ∷ []) k p ≡ p → q ≡ p
+    first zero o e = e
+    first (suc k) o e = absurd (omega (arith, o))
+
+-- What lasts.
+
+settled_lasts : (z : Sizes) (o : Opening) (es : List Event) (e : Event) (s at version : ℕ) → HasSettled z o es s at version → HasSettled z o (es ++ e ∷ []) s at version
+settled_lasts z o es e s at version t = record {
+  drew = t.drew;
+  draws = acts_lasts z o es e at s _ _ _ t.draws;
+  settle = t.settle;
+  after = t.after;
+  clock = t.clock;
+  found = t.found;
+  settles = acts_lasts z o es e t.settle s _ _ _ t.settles;
+  entry = t.entry;
+}
+
+read_lasts : (z : Sizes) (o : Opening) (es : List Event) (e : Event) (h h' : History) (og og' : Origins) (s first p : ℕ) → GoesOn h h' og og' → HasRead z o es h s first p → HasRead z o (es ++ e ∷ []) h' s first p
+read_lasts z o es e h h' og og' s first p g t =
+    let same = g.attempts p t.within in
+    record {
+      within = omega (arith, t.within, g.more_attempts);
+      at = t.at;
+      after = t.after;
+      found = t.found;
+      acts = rw (same.row, same.cell) (acts_lasts z o es e t.at s _ _ _ t.acts);
+      value = t.value ∙ sym same.value;
+    }
+
+-- The attempts beside gathered cells.
+
+-- the attempt beside the best cell is one of those that were gathered
+id_among : (place : ℕ) (cells : List kw_cell.Cell) (ids : List ℕ) (p : ℕ) → id_at place cells ids ≡ Some p → Contains ids p
+id_among place [] ids p e = let x : None ≡ Some p = e in absurd (cc)
+id_among place (c ∷ cells) [] p e = let x : None ≡ Some p = e in absurd (cc)
+id_among place (c ∷ cells) (q ∷ ids) p e = which (c.place == place) (λ f. id_among place cells ids p f) e
+  where
+    further : Contains ids p → Contains (q ∷ ids) p
+    further b = (suc b.0, omega (arith, b.1), b.2)
+
+    which : (b : Bool) → (id_at place cells ids ≡ Some p → Contains ids p) → (if b then Some q else id_at place cells ids) ≡ Some p → Contains (q ∷ ids) p
+    which true go f = (0, omega arith, same_Some q p f)
+    which false go f = further (go f)
+
+best_among : (c : Option kw_cell.Cell) (cells : List kw_cell.Cell) (ids : List ℕ) (p : ℕ) → id_of c cells ids ≡ Some p → Contains ids p
+best_among (Some c) cells ids p e = id_among c.place cells ids p e
+best_among None cells ids p e = let x : None ≡ Some p = e in absurd (cc)
+
+-- what a call answers is one of them
+answer_among : (c : Option Call) (l : Local) (g : SeatLog) (p : ℕ) → answering c l g ≡ Some p → Contains g.ids p
+answer_among (Some (Put key value)) l g p e = let x : None ≡ Some p = e in absurd (cc)
+answer_among (Some (Del key)) l g p e = let x : None ≡ Some p = e in absurd (cc)
+answer_among (Some (Get key)) l g p e = best_among (best_of l.gathered key NEWEST) l.gathered g.ids p e
+answer_among (Some (Scan from upto)) l g p e = let x : None ≡ Some p = e in absurd (cc)
+answer_among None l g p e = let x : None ≡ Some p = e in absurd (cc)
+
+-- a log with these attempts, or with none of them
+left : (ids : List ℕ) (b : Bool) (x y : SeatLog) → x.ids ≡ ids → y.ids ≡ ids → (let k : SeatLog = if b then x else y in k).ids ≡ ids
+left ids true x y p q = p
+left ids false x y p q = q
+
+-- what an event leaves of them: none where a call begins or a row is looked at anew, all of them, or one more where the value of a cell is
+-- loaded
+module _ (z : Sizes) (choice : Choice) (l : Local) (found : ℕ) (next : Activity) (g : SeatLog) (o : Origins) (h : History) where
+  abbrev after : Activity → SeatLog
+  after a = seat_after z a choice l found next g o h
+
+  abbrev Ids : Activity → Type 0
+  Ids a = ((after a).ids ≡ []) ⊎ (IsBusy a × ((after a).ids ≡ g.ids)) ⊎ ((a ≡ CellValue) × ((after a).ids ≡ g.ids ++ unwrap_or (o l.row l.place) 0 ∷ []))
+
+  ids_after : (a : Activity) → is_skipped a choice ≡ false → Ids a
+  ids_after Idle m = begun choice m
+    where
+      begun : (c : Choice) → is_skipped Idle c ≡ false → ((seat_after z Idle c l found next g o h).ids ≡ []) ⊎ (⊥ × ((seat_after z Idle c l found next g o h).ids ≡ g.ids)) ⊎ ((Idle ≡ CellValue) × ((seat_after z Idle c l found next g o h).ids ≡ g.ids ++ unwrap_or (o l.row l.place) 0 ∷ []))
+      begun (Begin call) n = inl refl
+      begun Go n = let x : true ≡ false = n in absurd (cc)
+      begun (Guess q) n = let x : true ≡ false = n in absurd (cc)
+      begun Stop n = let x : true ≡ false = n in absurd (cc)
+  ids_after (Look i) m = looked (i == 0)
+    where
+      looked : (b : Bool) → ((let k : SeatLog = if b then record g { looked = length h.log; ids = []; read = None } else g in k).ids ≡ []) ⊎ (Unit {0} × ((let k : SeatLog = if b then record g { looked = length h.log; ids = []; read = None } else g in k).ids ≡ g.ids)) ⊎ ((Look i ≡ CellValue) × ((let k : SeatLog = if b then record g { looked = length h.log; ids = []; read = None } else g in k).ids ≡ g.ids ++ unwrap_or (o l.row l.place) 0 ∷ []))
+      looked true = inl refl
+      looked false = inr (inl (tt, refl))
+  ids_after LookCount m = inr (inl (tt, left g.ids (is_at_cell next) g (record g { read = Some l.row }) refl refl))
+  ids_after (Cell j) m = inr (inl (tt, left g.ids (is_at_cell next) g (record g { read = Some l.row }) refl refl))
+  ids_after CellKey m = inr (inl (tt, left g.ids (is_at_cell next) g (record g { read = Some l.row }) refl refl))
+  ids_after CellValue m = let k = log_gathered (o l.row l.place) g in inr (inr (refl, left k.ids (is_at_cell next) k (record k { read = Some l.row }) refl refl))
+  ids_after PutAdd m = inr (inl (tt, left g.ids (has_room z (count_of found)) (record g { own = length h.attempts }) g refl refl))
+  ids_after _ m = inr (inl (tt, refl))
+
+-- a seat that makes a call before and after its event is in it
+stays_busy : (z : Sizes) (v : Words) (s : ℕ) (choice : Choice) (l : Local) (a : Activity) (k : Local) → Arrow z v s choice l a k → IsBusy a → IsBusy k.activity → IsUnderway a
+stays_busy z v s choice l a k (begins call e m) b c = absurd b
+stays_busy z v s choice l a k (leaves reply) b c = absurd c
+stays_busy z v s choice l a k _ b c = tt
+
+-- the activity of a scan that settles
+settling_is : (a : Activity) → IsSettling a → a ≡ ScanSettle
+settling_is ScanSettle x = refl
+settling_is _ x = absurd x
+
+-- pairs are the reply of a scan
+pairs_of_scan : (c : Option Call) (pairs : List (ℕ × ℕ)) → IsReplyOf c (Pairs pairs) → is_scan c ≡ true
+pairs_of_scan (Some (Put key value)) pairs h = absurd h
+pairs_of_scan (Some (Del key)) pairs h = absurd h
+pairs_of_scan (Some (Get key)) pairs h = absurd h
+pairs_of_scan (Some (Scan from upto)) pairs h = refl
+pairs_of_scan None pairs h = absurd h
+
+-- One more event.
+
+module _ (z : Sizes) (o : Opening) (es : List Event) (e : Event) (r r' : Run) (l l' : Local) (a : Activity) (h : Happens z r r' e.seat (offered r.world.rows e.choice) l l' a) (i : Inv z r) (k : Kept z o es r) (n : KeptReads z o es r) where
+  step : Step r.history r'.history (log_entry z r a e.seat (offered r.world.rows e.choice) l)
+  step = history_step z r r' e.seat (offered r.world.rows e.choice) l a l' h i
+
+  goes : GoesOn r.history r'.history r.origin r'.origin
+  goes = goes_on_by z r r' e.seat (offered r.world.rows e.choice) l a l' h i
+
+  -- The draw of a scan.
+
+  drawing_own : IsSettling l'.activity → Acts z o (es ++ e ∷ []) (r'.seats e.seat).drawn e.seat ScanDraw (operation kind.Draw name.Clock (Add 1)) l'.drawn
+  drawing_own x =
+      let d = has_drawn z r r' e.seat (offered r.world.rows e.choice) l a l' h.arrow h (lower i) step x in
+      rw (d.2, d.1) (acts_here z o es e r r' l l' a h k ScanDraw (operation kind.Draw name.Clock (Add 1)) (word z r.world name.Clock) d.0 refl refl)
+
+  pub drawing_keeps : (t : ℕ) (m : Local) → slice_get r'.world.locals t ≡ Some m → IsSettling m.activity → Acts z o (es ++ e ∷ []) (r'.seats t).drawn t ScanDraw (operation kind.Draw name.Clock (Add 1)) m.drawn
+  drawing_keeps = each_seat h (λ t m. IsSettling m.activity → Acts z o (es ++ e ∷ []) (r'.seats t).drawn t ScanDraw (operation kind.Draw name.Clock (Add 1)) m.drawn) drawing_own
+      (λ t m d g x. rw (h.logs t d) (acts_lasts z o es e (r.seats t).drawn t _ _ _ (n.drawing t m g x)))
+
+  -- Its settle.
+
+  settled_own : is_scan l'.call ≡ true → HasDrawn l'.activity → HasSettled z o (es ++ e ∷ []) e.seat (r'.seats e.seat).drawn l'.version
+  settled_own f x = which (drawn_from z (word z r.world) e.seat (offered r.world.rows e.choice) l a l' h.arrow f x)
+    where
+      u : IsUnderway a
+      u = drawn_underway z (word z r.world) e.seat (offered r.world.rows e.choice) l a l' h.arrow x
+
+      was : is_scan l.call ≡ true
+      was = was_scan z r r' e.seat (offered r.world.rows e.choice) l a l' h.arrow h (lower i) step u f
+
+      which : HasDrawn a ⊎ IsSettling a → HasSettled z o (es ++ e ∷ []) e.seat (r'.seats e.seat).drawn l'.version
+      which (inl y) =
+          rw (drawn_kept z r r' e.seat (offered r.world.rows e.choice) l a l' h.arrow h (lower i) step (draws_no_more a y), not_idle_drawn z (word z r.world) e.seat (offered r.world.rows e.choice) l a l' h.arrow y x)
+          (settled_lasts z o es e e.seat _ _ (n.settled e.seat l h.knows was (subst HasDrawn (sym h.activity) y)))
+      which (inr y) =
+          let drew = n.drawing e.seat l h.knows (subst IsSettling (sym h.activity) y) in
+          let waits = (i.positions.draws e.seat l h.knows).waits (subst IsWaiting (sym h.activity) (settling_waits a y)) in
+          let v = settle z r r' e.seat (offered r.world.rows e.choice) l a l' h.arrow h (lower i) step y in
+          rw (drawn_kept z r r' e.seat (offered r.world.rows e.choice) l a l' h.arrow h (lower i) step (settling_no_draw a y), v.0) (record {
+            drew = l.drawn;
+            draws = acts_lasts z o es e (r.seats e.seat).drawn e.seat _ _ _ drew;
+            settle = length r.history.log;
+            after = omega (arith, occurs_within z o es (r.seats e.seat).drawn drew.before _ drew.occurs, k.mirrors.events);
+            clock = l.waiting;
+            found = scan_word (Waiting l.waiting);
+            settles = acts_here z o es e r r' l l' a h k ScanSettle (settling e.seat l.waiting l.drawn) (scan_word (Waiting l.waiting)) (settling_is a y) refl waits;
+            entry = inl (refl, refl);
+          })
+
+  pub settled_keeps : (t : ℕ) (m : Local) → slice_get r'.world.locals t ≡ Some m → is_scan m.call ≡ true → HasDrawn m.activity → HasSettled z o (es ++ e ∷ []) t (r'.seats t).drawn m.version
+  settled_keeps = each_seat h (λ t m. is_scan m.call ≡ true → HasDrawn m.activity → HasSettled z o (es ++ e ∷ []) t (r'.seats t).drawn m.version) settled_own
+      (λ t m d g f x. rw (h.logs t d) (settled_lasts z o es e t _ _ (n.settled t m g f x)))
+
+  -- The loads of values.
+
+  -- those of the acting seat that were there
+  read_before : IsUnderway a → IsBusy a → (p : ℕ) → Contains (r.seats e.seat).ids p → HasRead z o (es ++ e ∷ []) r'.history e.seat (called r'.history (r'.seats e.seat).call).first p
+  read_before u b p c =
+      rw (call_first z r r' e.seat (offered r.world.rows e.choice) l a l' h.arrow h (lower i) step u)
+      (read_lasts z o es e r.history r'.history r.origin r'.origin e.seat _ p goes (n.reads e.seat l h.knows (subst IsBusy (sym h.activity) b) p c))
+
+  -- the one that it makes now
+  read_now : (is : a ≡ CellValue) (p : ℕ) → unwrap_or (r.origin l.row l.place) 0 ≡ p → HasRead z o (es ++ e ∷ []) r'.history e.seat (called r'.history (r'.seats e.seat).call).first p
+  read_now is p q = subst (HasRead z o (es ++ e ∷ []) r'.history e.seat (called r'.history (r'.seats e.seat).call).first) (sym (ap (λ x. unwrap_or x 0) hand.origin) ∙ q) (record {
+    within = omega (arith, place.within, goes.more_attempts);
+    at = length r.history.log;
+    after = omega (arith, call_first z r r' e.seat (offered r.world.rows e.choice) l a l' h.arrow h (lower i) step (subst IsUnderway (sym is) tt), i.history.past.first (r.seats e.seat).call calling.within);
+    found = word z r.world (name.Value l.row l.place);
+    acts = rw (same.row, same.cell, place.row, place.cell) (acts_here z o es e r r' l l' a h k CellValue (operation kind.LoadValue (name.Value l.row l.place) Load) (word z r.world (name.Value l.row l.place)) is refl refl);
+    value = value_stands (lower i) l.row l.place hand.put hand.origin hand.stamped ∙ sym same.value;
+  })
+    where
+      hand : IsInHand r.history r.origin CellValue l
+      hand = (cells_before (subst (Happens z r r' e.seat (offered r.world.rows e.choice) l l') is h) i tt).hand tt
+
+      place : HasCell r.history l.row l.place hand.put
+      place = i.puts.places.owner l.row l.place hand.put hand.origin
+
+      same : SameAttempt r.history r'.history hand.put
+      same = goes.attempts hand.put place.within
+
+      calling : Calling r.history e.seat l.activity l (r.seats e.seat)
+      calling = i.positions.calling e.seat l h.knows (subst IsBusy (sym (h.activity ∙ is)) tt)
+
+  reads_own : IsBusy l'.activity → (p : ℕ) → Contains (r'.seats e.seat).ids p → HasRead z o (es ++ e ∷ []) r'.history e.seat (called r'.history (r'.seats e.seat).call).first p
+  reads_own b p c = which (ids_after z (offered r.world.rows e.choice) l (found_at z (word z r.world) a e.seat (offered r.world.rows e.choice) l) l'.activity (r.seats e.seat) r.origin r.history a h.moves)
+    where
+      has : Contains (seat_after z a (offered r.world.rows e.choice) l (found_at z (word z r.world) a e.seat (offered r.world.rows e.choice) l) l'.activity (r.seats e.seat) r.origin r.history).ids p
+      has = subst (λ (g : SeatLog). Contains g.ids p) h.log c
+
+      cases : (is : a ≡ CellValue) → Contains (r.seats e.seat).ids p ⊎ Contains (unwrap_or (r.origin l.row l.place) 0 ∷ []) p → HasRead z o (es ++ e ∷ []) r'.history e.seat (called r'.history (r'.seats e.seat).call).first p
+      cases is (inl x) = read_before (subst IsUnderway (sym is) tt) (subst IsBusy (sym is) tt) p x
+      cases is (inr x) = read_now is p (only _ p x)
+
+      which : Ids z (offered r.world.rows e.choice) l (found_at z (word z r.world) a e.seat (offered r.world.rows e.choice) l) l'.activity (r.seats e.seat) r.origin r.history a → HasRead z o (es ++ e ∷ []) r'.history e.seat (called r'.history (r'.seats e.seat).call).first p
+      which (inl f) = let x = subst (λ ids. Contains ids p) f has in absurd (omega (arith, x.1))
+      which (inr (inl f)) = read_before (stays_busy z (word z r.world) e.seat (offered r.world.rows e.choice) l a l' h.arrow f.0 b) f.0 p (subst (λ ids. Contains ids p) f.1 has)
+      which (inr (inr f)) = cases f.0 (Contains-append_cases (r.seats e.seat).ids (unwrap_or (r.origin l.row l.place) 0 ∷ []) p (subst (λ ids. Contains ids p) f.1 has))
+
+  pub reads_keep : (t : ℕ) (m : Local) → slice_get r'.world.locals t ≡ Some m → IsBusy m.activity → (p : ℕ) → Contains (r'.seats t).ids p → HasRead z o (es ++ e ∷ []) r'.history t (called r'.history (r'.seats t).call).first p
+  reads_keep = each_seat h (λ t m. IsBusy m.activity → (p : ℕ) → Contains (r'.seats t).ids p → HasRead z o (es ++ e ∷ []) r'.history t (called r'.history (r'.seats t).call).first p) reads_own
+      (λ t m d g b p c.
+      let first = (goes.calls (r.seats t).call (i.positions.calling t m g b).within).first in
+      rw (h.logs t d, first) (read_lasts z o es e r.history r'.history r.origin r'.origin t _ p goes (n.reads t m g b p (subst (λ (q : SeatLog). Contains q.ids p) (h.logs t d) c))))
+
+  -- The record.
+
+  over : (x : ℕ) → x < length r.history.calls → CallOver r.history r'.history l (r.seats e.seat) a x
+  over x w = call_over r.history r'.history _ z (word z r.world) e.seat (offered r.world.rows e.choice) l (r.seats e.seat) r.origin a _ (made z (word z r.world) e.seat (offered r.world.rows e.choice) l (r.seats e.seat) r.origin a) h.history x w
+
+  was : (x : ℕ) → x < length r'.history.calls → (x < length r.history.calls) ⊎ IsCallNow r.history r'.history e.seat (offered r.world.rows e.choice) l a x
+  was x w = call_was r.history r'.history _ z (word z r.world) e.seat (offered r.world.rows e.choice) l (r.seats e.seat) r.origin a _ (made z (word z r.world) e.seat (offered r.world.rows e.choice) l (r.seats e.seat) r.origin a) h.history x w
+
+  -- the seat of a call that ends
+  ending_seat : (x : ℕ) (reply : Reply) → a ≡ Leave reply → x ≡ (r.seats e.seat).call → (called r.history x).seat ≡ e.seat
+  ending_seat x reply is at = ap (λ y. (called r.history y).seat) at ∙ (i.positions.calling e.seat l h.knows (subst IsBusy (sym (h.activity ∙ is)) tt)).seat
+
+  -- where a scan that ends drew and settled
+  drew_at_end : (reply : Reply) (d : history.Drawn) → a ≡ Leave reply → drawing reply l (r.seats e.seat) ≡ Some d → HasSettled z o (es ++ e ∷ []) e.seat d.at d.version
+  drew_at_end (Pairs pairs) d is g =
+      let kind : IsReplyOf l.call (Pairs pairs) = subst (λ q. IsKind q l) (h.activity ∙ is) (i.shape.kinds e.seat l h.knows).kind in
+      subst (λ (q : history.Drawn). HasSettled z o (es ++ e ∷ []) e.seat q.at q.version) (same_Some _ d g)
+      (settled_lasts z o es e e.seat _ _ (n.settled e.seat l h.knows (pairs_of_scan l.call pairs kind) (subst HasDrawn (sym (h.activity ∙ is)) tt)))
+  drew_at_end Done d is g = let x : None ≡ Some d = g in absurd (cc)
+  drew_at_end (Value v) d is g = let x : None ≡ Some d = g in absurd (cc)
+  drew_at_end Absent d is g = let x : None ≡ Some d = g in absurd (cc)
+  drew_at_end NoRows d is g = let x : None ≡ Some d = g in absurd (cc)
+  drew_at_end Spent d is g = let x : None ≡ Some d = g in absurd (cc)
+  drew_at_end Stopped d is g = let x : None ≡ Some d = g in absurd (cc)
+
+  pub draws_keep : (x : ℕ) (d : history.Drawn) → x < length r'.history.calls → (called r'.history x).draw ≡ Some d → HasSettled z o (es ++ e ∷ []) (called r'.history x).seat d.at d.version
+  draws_keep x d w g = which (was x w)
+    where
+      old : x < length r.history.calls → CallOver r.history r'.history l (r.seats e.seat) a x → HasSettled z o (es ++ e ∷ []) (called r'.history x).seat d.at d.version
+      old v (goes_on t) = rw t.seat (settled_lasts z o es e _ _ _ (n.mirrors.draws x d v (sym t.draw ∙ g)))
+      old v (is_ended reply is at f) = rw (ap (λ (c : CallLog). c.seat) f, ending_seat x reply is at) (drew_at_end reply d is (sym (ap (λ (c : CallLog). c.draw) f) ∙ g))
+
+      which : (x < length r.history.calls) ⊎ IsCallNow r.history r'.history e.seat (offered r.world.rows e.choice) l a x → HasSettled z o (es ++ e ∷ []) (called r'.history x).seat d.at d.version
+      which (inl v) = old v (over x v)
+      which (inr c) = let y : None ≡ Some d = sym (ap (λ (q : CallLog). q.draw) c.is) ∙ g in absurd (cc)
+
+  pub answers_keep : (x p : ℕ) → x < length r'.history.calls → (called r'.history x).answer ≡ Some p → HasRead z o (es ++ e ∷ []) r'.history (called r'.history x).seat (called r'.history x).first p
+  answers_keep x p w g = which (was x w)
+    where
+      old : x < length r.history.calls → CallOver r.history r'.history l (r.seats e.seat) a x → HasRead z o (es ++ e ∷ []) r'.history (called r'.history x).seat (called r'.history x).first p
+      old v (goes_on t) = rw (t.seat, t.first) (read_lasts z o es e r.history r'.history r.origin r'.origin _ _ p goes (n.mirrors.answers x p v (sym t.answer ∙ g)))
+      old v (is_ended reply is at f) =
+          let c = answer_among l.call l (r.seats e.seat) p (sym (ap (λ (c : CallLog). c.answer) f) ∙ g) in
+          rw (ap (λ (c : CallLog). c.seat) f, ap (λ (c : CallLog). c.first) f, ending_seat x reply is at, at)
+          (read_lasts z o es e r.history r'.history r.origin r'.origin e.seat _ p goes (n.reads e.seat l h.knows (subst IsBusy (sym (h.activity ∙ is)) tt) p c))
+
+      which : (x < length r.history.calls) ⊎ IsCallNow r.history r'.history e.seat (offered r.world.rows e.choice) l a x → HasRead z o (es ++ e ∷ []) r'.history (called r'.history x).seat (called r'.history x).first p
+      which (inl v) = old v (over x v)
+      which (inr c) = let y : None ≡ Some p = sym (ap (λ (q : CallLog). q.answer) c.is) ∙ g in absurd (cc)
+
+  -- All of it.
+
+  pub kept_reads : KeptReads z o (es ++ e ∷ []) r'
+  kept_reads = record { mirrors = record { draws = draws_keep; answers = answers_keep }; drawing = drawing_keeps; settled = settled_keeps; reads = reads_keep }
+
+-- no event
+pub reads_start : (z : Sizes) (o : Opening) → KeptReads z o [] (start z o)
+reads_start z o = record {
+  mirrors = record { draws = λ x d w. absurd (omega (arith, w)); answers = λ x p w. absurd (omega (arith, w)) };
+  drawing = λ t l g u. absurd (subst (λ (m : Local). IsSettling m.activity) (all_resting o.seats t l g) u);
+  settled = λ t l g f u. absurd (subst (λ (m : Local). HasDrawn m.activity) (all_resting o.seats t l g) u);
+  reads = λ t l g u. absurd (subst (λ (m : Local). IsBusy m.activity) (all_resting o.seats t l g) u);
+}

@@ -1,0 +1,45 @@
+-- Where a seat arrives, the row was in the list while the seat could know of it.
+use Rattle.std.specs.Prelude.{ℕ, ◌≡◌, ◌≤◌, true, false, Some, List, length, slice_get, take}
+use Rattle.kw_words.specs.declared.kind.Kind.TheVariants as kind
+use Rattle.kw_words.specs.declared.layout.Name.TheVariants as name
+use Rattle.kw_words.specs.Plain.{pass_word}
+use Rattle.kw_world.specs.declared.activity.Activity.TheVariants.{Enter, ScanDraw}
+use Rattle.kw_world.specs.declared.event.Event.{Event}
+use Rattle.kw_world.specs.declared.local.Local.{Local}
+use Rattle.kw_world.specs.declared.opening.Opening.{Opening}
+use Rattle.kw_world.specs.declared.operation.Action.TheVariants.{Store, Add}
+use Rattle.kw_world.specs.Calls.{is_scan}
+use Rattle.kw_world.specs.Sizes.{Sizes}
+use Rattle.kw_world.specs.Step.{word}
+use Rattle.kw_core.specs.Events.{world}
+use Rattle.kw_core.specs.Stages.{IsAtRow}
+use Rattle.kw_shape.specs.MetRows.{IsMet}
+use Rattle.kw_laws.specs.Mirror.{Acts, operation}
+
+-- at some position of the list, not before this one, the row was met from Head along links
+pub record WasMet (z : Sizes) (o : Opening) (es : List Event) (q since : ℕ) : Type 0 where
+  pub at : ℕ
+  pub not_before : since ≤ at
+  pub within : at ≤ length es
+  pub met : IsMet (word z (world z o (take at es))) q
+
+-- at position x the seat announces the epoch of a pass
+pub record StoresPass (z : Sizes) (o : Opening) (es : List Event) (x s : ℕ) : Type 0 where
+  pub epoch : ℕ
+  pub found : ℕ
+  pub acts : Acts z o es x s Enter (operation kind.StorePass (name.Pass s) (Store (pass_word (Some epoch)))) found
+
+-- at position x the seat draws a version for its scan
+pub record DrawsHere (z : Sizes) (o : Opening) (es : List Event) (x s : ℕ) : Type 0 where
+  pub version : ℕ
+  pub acts : Acts z o es x s ScanDraw (operation kind.Draw name.Clock (Add 1)) version
+
+-- the row at which a put, a delete or a get has arrived was met from Head along links at some position not before the one at which
+-- the seat stored its pass; the row that a scan reads, at some position not before its draw
+pub record IsLiveRow (z : Sizes) (o : Opening) (es : List Event) (t : ℕ) (l : Local) : Type 0 where
+  pub passed : is_scan l.call ≡ false → (since : ℕ) → StoresPass z o es since t → WasMet z o es l.row since
+  pub drew : is_scan l.call ≡ true → (since : ℕ) → DrawsHere z o es since t → WasMet z o es l.row since
+
+-- each seat that is at the row of its key
+abbrev pub AreLive : Sizes → Opening → List Event → Type 0
+AreLive z o es = (t : ℕ) (l : Local) → slice_get (world z o es).locals t ≡ Some l → IsAtRow l.activity → IsLiveRow z o es t l

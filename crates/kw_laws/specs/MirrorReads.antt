@@ -1,0 +1,49 @@
+-- What a scan drew and what a get answered, in the words of the events: the seat's own draw and the settle by which it has its version,
+-- and the load of the cell whose value is answered.
+use Rattle.std.specs.Prelude.{ℕ, ◌≡◌, ◌⊎◌, ◌<◌, Option, Some, List, length}
+use Rattle.kw_words.specs.declared.kind.Kind.TheVariants as kind
+use Rattle.kw_words.specs.declared.layout.Name.TheVariants as name
+use Rattle.kw_words.specs.declared.scan.ScanWord.TheVariants.{Waiting, Drawn}
+use Rattle.kw_words.specs.Plain.{value_of_word}
+use Rattle.kw_words.specs.Scan.{scan_word}
+use Rattle.kw_world.specs.declared.activity.Activity.TheVariants.{CellValue, ScanDraw, ScanSettle}
+use Rattle.kw_world.specs.declared.event.Event.{Event}
+use Rattle.kw_world.specs.declared.opening.Opening.{Opening}
+use Rattle.kw_world.specs.declared.operation.Action.TheVariants.{Load, Add, Exchange}
+use Rattle.kw_world.specs.declared.operation.Operation.{Operation}
+use Rattle.kw_world.specs.Sizes.{Sizes}
+use Rattle.kw_core.specs.History.{History, attempt, called}
+use Rattle.kw_core.specs.declared.history.Drawn as history
+use Rattle.kw_laws.specs.Mirror.{Acts, operation}
+
+-- the exchange by which a seat that waits with this clock settles for a version
+abbrev pub settling : ℕ → ℕ → ℕ → Operation
+settling seat clock version = operation kind.Settle (name.Scan seat) (Exchange (scan_word (Waiting clock)) (scan_word (Drawn version)))
+
+-- the scan of this seat has its version: the seat drew at this position, and after that an exchange of its entry either won, and left
+-- the version that it drew, or found that its entry had the version
+pub record HasSettled (z : Sizes) (o : Opening) (es : List Event) (s at version : ℕ) : Type 0 where
+  pub drew : ℕ
+  pub draws : Acts z o es at s ScanDraw (operation kind.Draw name.Clock (Add 1)) drew
+  pub settle : ℕ
+  pub after : at < settle
+  pub clock : ℕ
+  pub found : ℕ
+  pub settles : Acts z o es settle s ScanSettle (settling s clock drew) found
+  pub entry : (drew ≡ version) × (found ≡ scan_word (Waiting clock)) ⊎ (found ≡ scan_word (Drawn version))
+
+-- the seat has read the value of this attempt's cell, after this position
+pub record HasRead (z : Sizes) (o : Opening) (es : List Event) (h : History) (s first p : ℕ) : Type 0 where
+  pub within : p < length h.attempts
+  pub at : ℕ
+  pub after : first < at
+  pub found : ℕ
+  pub acts : Acts z o es at s CellValue (operation kind.LoadValue (name.Value (attempt h p).row (attempt h p).cell) Load) found
+  pub value : value_of_word found ≡ (attempt h p).value
+
+-- the record says of draws and answers what the events say
+pub record MirrorsReads (z : Sizes) (o : Opening) (es : List Event) (h : History) : Type 0 where
+  -- a scan drew by its own seat, and settled for the version that it ended with
+  pub draws : (x : ℕ) (d : history.Drawn) → x < length h.calls → (called h x).draw ≡ Some d → HasSettled z o es (called h x).seat d.at d.version
+  -- a call with an answer has read the cell of the attempt that it names
+  pub answers : (x p : ℕ) → x < length h.calls → (called h x).answer ≡ Some p → HasRead z o es h (called h x).seat (called h x).first p
