@@ -27,8 +27,9 @@ use Rattle.kw_laws.proofs.MirrorSeats.{begun-nil, numbers_keep, running_keeps, l
 use Rattle.kw_laws.proofs.MirrorAttempts.{attempts_keep}
 use Rattle.kw_laws.proofs.MirrorCalls.{calls_keep, all_calls_keep, all_attempts_keep}
 use Rattle.kw_laws.proofs.MirrorStamps.{all_announced_keep, all_stamped_keep}
-use Rattle.kw_laws.specs.MirrorReads.{MirrorsReads}
-use Rattle.kw_laws.proofs.MirrorReads.{KeptReads, kept_reads, reads_start}
+use Rattle.kw_laws.specs.MirrorReads.{MirrorsReads, GetsRead}
+use Rattle.kw_reads.proofs.Keeps.{inv_holds}
+use Rattle.kw_laws.proofs.MirrorReads.{KeptReads, kept_reads, reads_start, gets_read}
 
 -- one event, over a free run
 kept : (z : Sizes) (o : Opening) (es : List Event) (e : Event) (r r' : Run) (l l' : Local) (a : Activity) → Happens z r r' e.seat (offered r.world.rows e.choice) l l' a → Inv z r → Keeps r'.history → Kept z o es r → world z o (es ++ e ∷ []) ≡ r'.world → Kept z o (es ++ e ∷ []) r'
@@ -115,3 +116,7 @@ mirrors_hold z o opening es ok = (whole_holds z o opening es ok).kept.mirrors
 -- and says of draws and answers what they say
 pub reads_mirrored : (z : Sizes) (o : Opening) → IsOpening z o → (es : List Event) → is_valid z o es ≡ true → MirrorsReads z o es (history z o es).history
 reads_mirrored z o opening es ok = (whole_holds z o opening es ok).reads.mirrors
+
+-- and of each get that answered a value whose it is
+pub gets_mirrored : (z : Sizes) (o : Opening) → IsOpening z o → (es : List Event) → is_valid z o es ≡ true → GetsRead z o es (history z o es).history
+gets_mirrored z o opening es ok = gets_read z o es (history z o es).history (inv_holds z o opening es ok).history.laws (reads_mirrored z o opening es ok)

@@ -63,6 +63,10 @@ use Rattle.kw_puts.proofs.OwnScans.{call_first}
 use Rattle.kw_puts.proofs.Rely.{SameAttempt}
 use Rattle.kw_reads.proofs.CellsKeep.{cells_before, value_stands}
 use Rattle.kw_shape.proofs.ShapeOpens.{all_resting}
+use Rattle.std.proofs.Common.{length-append, ◌≤◌}
+use Rattle.kw_core.specs.declared.history.End.{End}
+use Rattle.kw_core.specs.HistoryLaws.{HistoryLaws, Got, shows, answer_of}
+use Rattle.kw_laws.specs.MirrorReads.{AnswersFrom, GetsRead}
 
 -- the draws and the answers of the record; of a scan that is to settle the draw, of one that has settled both; and of a busy seat the
 -- loads of the values that it has gathered
@@ -70,7 +74,7 @@ pub record KeptReads (z : Sizes) (o : Opening) (es : List Event) (r : Run) : Typ
   pub mirrors : MirrorsReads z o es r.history
   pub drawing : (t : ℕ) (l : Local) → slice_get r.world.locals t ≡ Some l → IsSettling l.activity → Acts z o es (r.seats t).drawn t ScanDraw (operation kind.Draw name.Clock (Add 1)) l.drawn
   pub settled : (t : ℕ) (l : Local) → slice_get r.world.locals t ≡ Some l → is_scan l.call ≡ true → HasDrawn l.activity → HasSettled z o es t (r.seats t).drawn l.version
-  pub reads : (t : ℕ) (l : Local) → slice_get r.world.locals t ≡ Some l → IsBusy l.activity → (p : ℕ) → Contains (r.seats t).ids p → HasRead z o es r.history t (called r.history (r.seats t).call).first p
+  pub reads : (t : ℕ) (l : Local) → slice_get r.world.locals t ≡ Some l → IsBusy l.activity → (p : ℕ) → Contains (r.seats t).ids p → HasRead z o es r.history t (called r.history (r.seats t).call).first (length es) p
 
 -- the only one of a list of one
 only : (q p : ℕ) → Contains (q ∷ []) p → q ≡ p
@@ -94,13 +98,14 @@ settled_lasts z o es e s at version t = record {
   entry = t.entry;
 }
 
-read_lasts : (z : Sizes) (o : Opening) (es : List Event) (e : Event) (h h' : History) (og og' : Origins) (s first p : ℕ) → GoesOn h h' og og' → HasRead z o es h s first p → HasRead z o (es ++ e ∷ []) h' s first p
-read_lasts z o es e h h' og og' s first p g t =
+read_lasts : (z : Sizes) (o : Opening) (es : List Event) (e : Event) (h h' : History) (og og' : Origins) (s first last till p : ℕ) → last ≤ till → GoesOn h h' og og' → HasRead z o es h s first last p → HasRead z o (es ++ e ∷ []) h' s first till p
+read_lasts z o es e h h' og og' s first last till p w g t =
     let same = g.attempts p t.within in
     record {
       within = omega (arith, t.within, g.more_attempts);
       at = t.at;
       after = t.after;
+      before = omega (arith, t.before, w);
       found = t.found;
       acts = rw (same.row, same.cell) (acts_lasts z o es e t.at s _ _ _ t.acts);
       value = t.value ∙ sym same.value;
@@ -195,6 +200,10 @@ module _ (z : Sizes) (o : Opening) (es : List Event) (e : Event) (r r' : Run) (l
   goes : GoesOn r.history r'.history r.origin r'.origin
   goes = goes_on_by z r r' e.seat (offered r.world.rows e.choice) l a l' h i
 
+  -- the list is longer
+  longer : length es ≤ length (es ++ e ∷ [])
+  longer = omega (arith, length-append es (e ∷ []))
+
   -- The draw of a scan.
 
   drawing_own : IsSettling l'.activity → Acts z o (es ++ e ∷ []) (r'.seats e.seat).drawn e.seat ScanDraw (operation kind.Draw name.Clock (Add 1)) l'.drawn
@@ -243,17 +252,18 @@ module _ (z : Sizes) (o : Opening) (es : List Event) (e : Event) (r r' : Run) (l
   -- The loads of values.
 
   -- those of the acting seat that were there
-  read_before : IsUnderway a → IsBusy a → (p : ℕ) → Contains (r.seats e.seat).ids p → HasRead z o (es ++ e ∷ []) r'.history e.seat (called r'.history (r'.seats e.seat).call).first p
+  read_before : IsUnderway a → IsBusy a → (p : ℕ) → Contains (r.seats e.seat).ids p → HasRead z o (es ++ e ∷ []) r'.history e.seat (called r'.history (r'.seats e.seat).call).first (length (es ++ e ∷ [])) p
   read_before u b p c =
       rw (call_first z r r' e.seat (offered r.world.rows e.choice) l a l' h.arrow h (lower i) step u)
-      (read_lasts z o es e r.history r'.history r.origin r'.origin e.seat _ p goes (n.reads e.seat l h.knows (subst IsBusy (sym h.activity) b) p c))
+      (read_lasts z o es e r.history r'.history r.origin r'.origin e.seat _ _ _ p longer goes (n.reads e.seat l h.knows (subst IsBusy (sym h.activity) b) p c))
 
   -- the one that it makes now
-  read_now : (is : a ≡ CellValue) (p : ℕ) → unwrap_or (r.origin l.row l.place) 0 ≡ p → HasRead z o (es ++ e ∷ []) r'.history e.seat (called r'.history (r'.seats e.seat).call).first p
-  read_now is p q = subst (HasRead z o (es ++ e ∷ []) r'.history e.seat (called r'.history (r'.seats e.seat).call).first) (sym (ap (λ x. unwrap_or x 0) hand.origin) ∙ q) (record {
+  read_now : (is : a ≡ CellValue) (p : ℕ) → unwrap_or (r.origin l.row l.place) 0 ≡ p → HasRead z o (es ++ e ∷ []) r'.history e.seat (called r'.history (r'.seats e.seat).call).first (length (es ++ e ∷ [])) p
+  read_now is p q = subst (HasRead z o (es ++ e ∷ []) r'.history e.seat (called r'.history (r'.seats e.seat).call).first (length (es ++ e ∷ []))) (sym (ap (λ x. unwrap_or x 0) hand.origin) ∙ q) (record {
     within = omega (arith, place.within, goes.more_attempts);
     at = length r.history.log;
     after = omega (arith, call_first z r r' e.seat (offered r.world.rows e.choice) l a l' h.arrow h (lower i) step (subst IsUnderway (sym is) tt), i.history.past.first (r.seats e.seat).call calling.within);
+    before = omega (arith, k.mirrors.events, length-append es (e ∷ []));
     found = word z r.world (name.Value l.row l.place);
     acts = rw (same.row, same.cell, place.row, place.cell) (acts_here z o es e r r' l l' a h k CellValue (operation kind.LoadValue (name.Value l.row l.place) Load) (word z r.world (name.Value l.row l.place)) is refl refl);
     value = value_stands (lower i) l.row l.place hand.put hand.origin hand.stamped ∙ sym same.value;
@@ -271,26 +281,26 @@ module _ (z : Sizes) (o : Opening) (es : List Event) (e : Event) (r r' : Run) (l
       calling : Calling r.history e.seat l.activity l (r.seats e.seat)
       calling = i.positions.calling e.seat l h.knows (subst IsBusy (sym (h.activity ∙ is)) tt)
 
-  reads_own : IsBusy l'.activity → (p : ℕ) → Contains (r'.seats e.seat).ids p → HasRead z o (es ++ e ∷ []) r'.history e.seat (called r'.history (r'.seats e.seat).call).first p
+  reads_own : IsBusy l'.activity → (p : ℕ) → Contains (r'.seats e.seat).ids p → HasRead z o (es ++ e ∷ []) r'.history e.seat (called r'.history (r'.seats e.seat).call).first (length (es ++ e ∷ [])) p
   reads_own b p c = which (ids_after z (offered r.world.rows e.choice) l (found_at z (word z r.world) a e.seat (offered r.world.rows e.choice) l) l'.activity (r.seats e.seat) r.origin r.history a h.moves)
     where
       has : Contains (seat_after z a (offered r.world.rows e.choice) l (found_at z (word z r.world) a e.seat (offered r.world.rows e.choice) l) l'.activity (r.seats e.seat) r.origin r.history).ids p
       has = subst (λ (g : SeatLog). Contains g.ids p) h.log c
 
-      cases : (is : a ≡ CellValue) → Contains (r.seats e.seat).ids p ⊎ Contains (unwrap_or (r.origin l.row l.place) 0 ∷ []) p → HasRead z o (es ++ e ∷ []) r'.history e.seat (called r'.history (r'.seats e.seat).call).first p
+      cases : (is : a ≡ CellValue) → Contains (r.seats e.seat).ids p ⊎ Contains (unwrap_or (r.origin l.row l.place) 0 ∷ []) p → HasRead z o (es ++ e ∷ []) r'.history e.seat (called r'.history (r'.seats e.seat).call).first (length (es ++ e ∷ [])) p
       cases is (inl x) = read_before (subst IsUnderway (sym is) tt) (subst IsBusy (sym is) tt) p x
       cases is (inr x) = read_now is p (only _ p x)
 
-      which : Ids z (offered r.world.rows e.choice) l (found_at z (word z r.world) a e.seat (offered r.world.rows e.choice) l) l'.activity (r.seats e.seat) r.origin r.history a → HasRead z o (es ++ e ∷ []) r'.history e.seat (called r'.history (r'.seats e.seat).call).first p
+      which : Ids z (offered r.world.rows e.choice) l (found_at z (word z r.world) a e.seat (offered r.world.rows e.choice) l) l'.activity (r.seats e.seat) r.origin r.history a → HasRead z o (es ++ e ∷ []) r'.history e.seat (called r'.history (r'.seats e.seat).call).first (length (es ++ e ∷ [])) p
       which (inl f) = let x = subst (λ ids. Contains ids p) f has in absurd (omega (arith, x.1))
       which (inr (inl f)) = read_before (stays_busy z (word z r.world) e.seat (offered r.world.rows e.choice) l a l' h.arrow f.0 b) f.0 p (subst (λ ids. Contains ids p) f.1 has)
       which (inr (inr f)) = cases f.0 (Contains-append_cases (r.seats e.seat).ids (unwrap_or (r.origin l.row l.place) 0 ∷ []) p (subst (λ ids. Contains ids p) f.1 has))
 
-  pub reads_keep : (t : ℕ) (m : Local) → slice_get r'.world.locals t ≡ Some m → IsBusy m.activity → (p : ℕ) → Contains (r'.seats t).ids p → HasRead z o (es ++ e ∷ []) r'.history t (called r'.history (r'.seats t).call).first p
-  reads_keep = each_seat h (λ t m. IsBusy m.activity → (p : ℕ) → Contains (r'.seats t).ids p → HasRead z o (es ++ e ∷ []) r'.history t (called r'.history (r'.seats t).call).first p) reads_own
+  pub reads_keep : (t : ℕ) (m : Local) → slice_get r'.world.locals t ≡ Some m → IsBusy m.activity → (p : ℕ) → Contains (r'.seats t).ids p → HasRead z o (es ++ e ∷ []) r'.history t (called r'.history (r'.seats t).call).first (length (es ++ e ∷ [])) p
+  reads_keep = each_seat h (λ t m. IsBusy m.activity → (p : ℕ) → Contains (r'.seats t).ids p → HasRead z o (es ++ e ∷ []) r'.history t (called r'.history (r'.seats t).call).first (length (es ++ e ∷ [])) p) reads_own
       (λ t m d g b p c.
       let first = (goes.calls (r.seats t).call (i.positions.calling t m g b).within).first in
-      rw (h.logs t d, first) (read_lasts z o es e r.history r'.history r.origin r'.origin t _ p goes (n.reads t m g b p (subst (λ (q : SeatLog). Contains q.ids p) (h.logs t d) c))))
+      rw (h.logs t d, first) (read_lasts z o es e r.history r'.history r.origin r'.origin t _ _ _ p longer goes (n.reads t m g b p (subst (λ (q : SeatLog). Contains q.ids p) (h.logs t d) c))))
 
   -- The record.
 
@@ -328,19 +338,23 @@ module _ (z : Sizes) (o : Opening) (es : List Event) (e : Event) (r r' : Run) (l
       which (inl v) = old v (over x v)
       which (inr c) = let y : None ≡ Some d = sym (ap (λ (q : CallLog). q.draw) c.is) ∙ g in absurd (cc)
 
-  pub answers_keep : (x p : ℕ) → x < length r'.history.calls → (called r'.history x).answer ≡ Some p → HasRead z o (es ++ e ∷ []) r'.history (called r'.history x).seat (called r'.history x).first p
-  answers_keep x p w g = which (was x w)
+  pub answers_keep : (x p : ℕ) (d : End) → x < length r'.history.calls → (called r'.history x).end ≡ Some d → (called r'.history x).answer ≡ Some p → HasRead z o (es ++ e ∷ []) r'.history (called r'.history x).seat (called r'.history x).first d.at p
+  answers_keep x p d w y g = which (was x w)
     where
-      old : x < length r.history.calls → CallOver r.history r'.history l (r.seats e.seat) a x → HasRead z o (es ++ e ∷ []) r'.history (called r'.history x).seat (called r'.history x).first p
-      old v (goes_on t) = rw (t.seat, t.first) (read_lasts z o es e r.history r'.history r.origin r'.origin _ _ p goes (n.mirrors.answers x p v (sym t.answer ∙ g)))
+      old : x < length r.history.calls → CallOver r.history r'.history l (r.seats e.seat) a x → HasRead z o (es ++ e ∷ []) r'.history (called r'.history x).seat (called r'.history x).first d.at p
+      old v (goes_on t) =
+          let same : d.at ≤ d.at = omega arith in
+          rw (t.seat, t.first) (read_lasts z o es e r.history r'.history r.origin r'.origin _ _ _ _ p same goes (n.mirrors.answers x p d v (sym t.end ∙ y) (sym t.answer ∙ g)))
       old v (is_ended reply is at f) =
           let c = answer_among l.call l (r.seats e.seat) p (sym (ap (λ (c : CallLog). c.answer) f) ∙ g) in
+          let now : length r.history.log ≡ d.at = ap (λ (q : End). q.at) (same_Some _ d (sym (ap (λ (c : CallLog). c.end) f) ∙ y)) in
+          let last : length es ≤ d.at = omega (arith, now, k.mirrors.events) in
           rw (ap (λ (c : CallLog). c.seat) f, ap (λ (c : CallLog). c.first) f, ending_seat x reply is at, at)
-          (read_lasts z o es e r.history r'.history r.origin r'.origin e.seat _ p goes (n.reads e.seat l h.knows (subst IsBusy (sym (h.activity ∙ is)) tt) p c))
+          (read_lasts z o es e r.history r'.history r.origin r'.origin e.seat _ _ _ p last goes (n.reads e.seat l h.knows (subst IsBusy (sym (h.activity ∙ is)) tt) p c))
 
-      which : (x < length r.history.calls) ⊎ IsCallNow r.history r'.history e.seat (offered r.world.rows e.choice) l a x → HasRead z o (es ++ e ∷ []) r'.history (called r'.history x).seat (called r'.history x).first p
+      which : (x < length r.history.calls) ⊎ IsCallNow r.history r'.history e.seat (offered r.world.rows e.choice) l a x → HasRead z o (es ++ e ∷ []) r'.history (called r'.history x).seat (called r'.history x).first d.at p
       which (inl v) = old v (over x v)
-      which (inr c) = let y : None ≡ Some p = sym (ap (λ (q : CallLog). q.answer) c.is) ∙ g in absurd (cc)
+      which (inr c) = let u : None ≡ Some p = sym (ap (λ (q : CallLog). q.answer) c.is) ∙ g in absurd (cc)
 
   -- All of it.
 
@@ -350,8 +364,23 @@ module _ (z : Sizes) (o : Opening) (es : List Event) (e : Event) (r r' : Run) (l
 -- no event
 pub reads_start : (z : Sizes) (o : Opening) → KeptReads z o [] (start z o)
 reads_start z o = record {
-  mirrors = record { draws = λ x d w. absurd (omega (arith, w)); answers = λ x p w. absurd (omega (arith, w)) };
+  mirrors = record { draws = λ x d w. absurd (omega (arith, w)); answers = λ x p d w. absurd (omega (arith, w)) };
   drawing = λ t l g u. absurd (subst (λ (m : Local). IsSettling m.activity) (all_resting o.seats t l g) u);
   settled = λ t l g f u. absurd (subst (λ (m : Local). HasDrawn m.activity) (all_resting o.seats t l g) u);
   reads = λ t l g u. absurd (subst (λ (m : Local). IsBusy m.activity) (all_resting o.seats t l g) u);
 }
+
+-- A get that answered a value: its gap is behind a put, which its answer names, and which shows the value.
+pub gets_read : (z : Sizes) (o : Opening) (es : List Event) (h : History) → HistoryLaws h → MirrorsReads z o es h → GetsRead z o es h
+gets_read z o es h laws m x key at v w ends = which got.gap (got.answer v refl) got.knows.reply
+  where
+    got : Got h x key at (Value v)
+    got = laws.got x key at (Value v) ends
+
+    shown : (p : ℕ) (value : Option ℕ) → (attempt h p).value ≡ value → Value v ≡ answer_of value → (attempt h p).value ≡ Some v
+    shown p (Some u) f g = f ∙ ap Some (let y : Value v ≡ Value u = g in cc)
+    shown p None f g = let y : Value v ≡ Absent = g in absurd (cc)
+
+    which : (gap : Option ℕ) → (called h x).answer ≡ gap → Value v ≡ answer_of (shows h gap) → AnswersFrom z o es h x at v
+    which (Some p) f g = record { put = p; answer = f; shown = shown p (attempt h p).value refl g; reads = m.answers x p _ w ends.1 f }
+    which None f g = let y : Value v ≡ Absent = g in absurd (cc)

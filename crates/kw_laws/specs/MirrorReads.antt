@@ -12,7 +12,9 @@ use Rattle.kw_world.specs.declared.opening.Opening.{Opening}
 use Rattle.kw_world.specs.declared.operation.Action.TheVariants.{Load, Add, Exchange}
 use Rattle.kw_world.specs.declared.operation.Operation.{Operation}
 use Rattle.kw_world.specs.Sizes.{Sizes}
-use Rattle.kw_core.specs.History.{History, attempt, called}
+use Rattle.kw_core.specs.History.{History, Get, Value, attempt, called}
+use Rattle.kw_core.specs.HistoryLaws.{EndsWith}
+use Rattle.kw_core.specs.declared.history.End.{End}
 use Rattle.kw_core.specs.declared.history.Drawn as history
 use Rattle.kw_laws.specs.Mirror.{Acts, operation}
 
@@ -32,18 +34,30 @@ pub record HasSettled (z : Sizes) (o : Opening) (es : List Event) (s at version 
   pub settles : Acts z o es settle s ScanSettle (settling s clock drew) found
   pub entry : (drew ≡ version) × (found ≡ scan_word (Waiting clock)) ⊎ (found ≡ scan_word (Drawn version))
 
--- the seat has read the value of this attempt's cell, after this position
-pub record HasRead (z : Sizes) (o : Opening) (es : List Event) (h : History) (s first p : ℕ) : Type 0 where
+-- the seat has read the value of this attempt's cell, after the first position and before the last
+pub record HasRead (z : Sizes) (o : Opening) (es : List Event) (h : History) (s first last p : ℕ) : Type 0 where
   pub within : p < length h.attempts
   pub at : ℕ
   pub after : first < at
+  pub before : at < last
   pub found : ℕ
   pub acts : Acts z o es at s CellValue (operation kind.LoadValue (name.Value (attempt h p).row (attempt h p).cell) Load) found
   pub value : value_of_word found ≡ (attempt h p).value
+
+-- the put whose value a get answered is one whose cell it read within its call
+pub record AnswersFrom (z : Sizes) (o : Opening) (es : List Event) (h : History) (x at v : ℕ) : Type 0 where
+  pub put : ℕ
+  pub answer : (called h x).answer ≡ Some put
+  pub shown : (attempt h put).value ≡ Some v
+  pub reads : HasRead z o es h (called h x).seat (called h x).first at put
 
 -- the record says of draws and answers what the events say
 pub record MirrorsReads (z : Sizes) (o : Opening) (es : List Event) (h : History) : Type 0 where
   -- a scan drew by its own seat, and settled for the version that it ended with
   pub draws : (x : ℕ) (d : history.Drawn) → x < length h.calls → (called h x).draw ≡ Some d → HasSettled z o es (called h x).seat d.at d.version
-  -- a call with an answer has read the cell of the attempt that it names
-  pub answers : (x p : ℕ) → x < length h.calls → (called h x).answer ≡ Some p → HasRead z o es h (called h x).seat (called h x).first p
+  -- a call that ended with the answer of an attempt has read the attempt's cell
+  pub answers : (x p : ℕ) (e : End) → x < length h.calls → (called h x).end ≡ Some e → (called h x).answer ≡ Some p → HasRead z o es h (called h x).seat (called h x).first e.at p
+
+-- each get that answered a value has it from a put whose cell it read
+abbrev pub GetsRead : Sizes → Opening → List Event → History → Type 0
+GetsRead z o es h = (x key at v : ℕ) → x < length h.calls → EndsWith h x (Get key) at (Value v) → AnswersFrom z o es h x at v

@@ -18,7 +18,7 @@ ghost use Rattle.kw_core.specs.Run.{history};
 ghost use Rattle.kw_laws.specs.Laws.{KeepsLaws};
 ghost use Rattle.kw_laws.specs.Live.{AreLive};
 ghost use Rattle.kw_laws.specs.Mirror.{Mirrors};
-ghost use Rattle.kw_laws.specs.MirrorReads.{MirrorsReads};
+ghost use Rattle.kw_laws.specs.MirrorReads.{GetsRead, MirrorsReads};
 ghost use Rattle.kw_laws.specs.SeatCalls.{calls_seen, seen_after, KeepsTurns, AreApart, AreStill};
 
 /// The empty history keeps the laws, and each event keeps them that may happen as it does.
@@ -41,6 +41,7 @@ pub fn list_laws()
 pub fn mirror_laws()
     ensures events { (z : Sizes) (o : Opening) (events : List Event) → IsOpening z o → is_valid z o events ≡ true → Mirrors z o events (history z o events).history }
     ensures reads { (z : Sizes) (o : Opening) (events : List Event) → IsOpening z o → is_valid z o events ≡ true → MirrorsReads z o events (history z o events).history }
+    ensures gets { (z : Sizes) (o : Opening) (events : List Event) → IsOpening z o → is_valid z o events ≡ true → GetsRead z o events (history z o events).history }
 {}
 
 /// The calls of one seat in a valid list from an opening. No event makes no call, and events of other seats leave the
