@@ -2,7 +2,7 @@
 use Rattle.std.proofs.Common.{ℕ, ◌≡◌, [], length, ◌==◌, Bool, true, false, if◌then◌else◌, Some, None, arith, refl, ap}
 use Rattle.kw_words.specs.Count.{count_of}
 use Rattle.kw_world.specs.declared.activity.Activity.{Activity}
-use Rattle.kw_world.specs.declared.activity.Activity.TheVariants.{Idle, ScanDraw, Look, LookKey, LookClock, LookHelp, LookCount, Cell, CellKey, CellValue, PutAdd, PutClock, Stamp, PutVersion, PutClear, Leave}
+use Rattle.kw_world.specs.declared.activity.Activity.TheVariants.{Idle, ScanDraw, Look, LookKey, LookClock, LookHelp, LookCount, Cell, CellKey, CellValue, PutAdd, PutClock, Stamp, PutVersion, PutClear}
 use Rattle.kw_world.specs.declared.local.Local.{Local}
 use Rattle.kw_world.specs.declared.event.Choice.{Choice}
 use Rattle.kw_world.specs.Sizes.{Sizes}

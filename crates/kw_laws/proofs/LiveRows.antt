@@ -1,18 +1,16 @@
 -- The row of a seat is met from Head now, and so not before anything that the seat did.
-use Rattle.std.proofs.Common.{ℕ, ◌≡◌, ◌≤◌, true, Some, List, arith, refl, sym, ap, subst, length, slice_get}
+use Rattle.std.proofs.Common.{ℕ, ◌≡◌, ◌≤◌, true, List, arith, sym, subst, length}
 use Rattle.std.proofs.lemmas.List.{take_all}
 use Rattle.kw_world.specs.declared.event.Event.{Event}
-use Rattle.kw_world.specs.declared.local.Local.{Local}
 use Rattle.kw_world.specs.declared.opening.Opening.{Opening}
 use Rattle.kw_world.specs.Opening.{IsOpening}
 use Rattle.kw_world.specs.Sizes.{Sizes}
 use Rattle.kw_world.specs.Step.{word}
 use Rattle.kw_core.specs.Events.{world, is_valid, event}
-use Rattle.kw_core.specs.Stages.{IsAtRow}
 use Rattle.kw_shape.proofs.FollowRows.{linked_met}
 use Rattle.kw_shape.proofs.ShapeHolds.{shape_holds}
 use Rattle.kw_shape.specs.MetRows.{IsMet}
-use Rattle.kw_laws.specs.Live.{WasMet, IsLiveRow, AreLive}
+use Rattle.kw_laws.specs.Live.{WasMet, AreLive}
 use Rattle.kw_laws.proofs.Occurs.{occurs_within}
 
 -- a row that is met now, since a position of the list

@@ -1,12 +1,11 @@
 -- That the record says of draws and answers what the events say, kept along a list: beside the mirror, of each seat whose scan has drawn
 -- or settled where it did, and of each busy seat where it read the cells that it has gathered.
-use Rattle.std.proofs.Common.{ℕ, ◌≡◌, ◌≢◌, ◌⊎◌, inl, inr, ◌+◌, ◌<◌, ◌==◌, Bool, true, false, Option, Some, None, List, [], ◌∷◌, ◌++◌, arith, refl, sym, ◌∙◌, ap, subst, length, slice_get, if◌then◌else◌, unwrap_or, Contains}
+use Rattle.std.proofs.Common.{ℕ, ◌≡◌, ◌⊎◌, inl, inr, ◌<◌, ◌==◌, Bool, true, false, Option, Some, None, List, [], ◌∷◌, ◌++◌, arith, refl, sym, ◌∙◌, ap, subst, length, slice_get, if◌then◌else◌, unwrap_or, Contains}
 use Rattle.std.proofs.lemmas.List.Elements.{Contains-append_cases}
 use Rattle.std.proofs.lemmas.Option.{same_Some}
 use Rattle.kw_words.specs.declared.kind.Kind.TheVariants as kind
 use Rattle.kw_words.specs.declared.layout.Name.TheVariants as name
-use Rattle.kw_words.specs.declared.scan.ScanWord.TheVariants.{Waiting, Drawn}
-use Rattle.kw_words.specs.Plain.{value_of_word}
+use Rattle.kw_words.specs.declared.scan.ScanWord.TheVariants.{Waiting}
 use Rattle.kw_words.specs.Scan.{scan_word}
 use Rattle.kw_cells.specs.declared.cell.Cell as kw_cell
 use Rattle.kw_cells.specs.Cells.{best_of}
@@ -22,7 +21,7 @@ use Rattle.kw_world.specs.declared.event.Event.{Event}
 use Rattle.kw_world.specs.declared.limits.TheConstants.{NEWEST}
 use Rattle.kw_world.specs.declared.local.Local.{Local}
 use Rattle.kw_world.specs.declared.opening.Opening.{Opening}
-use Rattle.kw_world.specs.declared.operation.Action.TheVariants.{Load, Add, Exchange}
+use Rattle.kw_world.specs.declared.operation.Action.TheVariants.{Load, Add}
 use Rattle.kw_world.specs.Calls.{is_scan}
 use Rattle.kw_world.specs.RowPut.{has_room}
 use Rattle.kw_world.specs.RowWalk.{offered}
@@ -33,11 +32,10 @@ use Rattle.kw_core.specs.declared.history.CallLog.{CallLog}
 use Rattle.kw_core.specs.declared.history.Drawn as history
 use Rattle.kw_core.specs.declared.seat_log.SeatLog.{SeatLog}
 use Rattle.kw_core.specs.History.{History, attempt, called}
-use Rattle.kw_core.specs.Run.{Run, Origins, seat_after, is_at_cell, log_gathered, best_id, id_at, id_of, answering, drawing}
+use Rattle.kw_core.specs.Run.{Run, Origins, seat_after, is_at_cell, log_gathered, id_at, id_of, answering, drawing}
 use Rattle.kw_core.specs.Stages.{IsBusy, IsUnderway, IsSettling, HasDrawn}
 use Rattle.kw_core.proofs.Changes.{made}
 use Rattle.kw_core.proofs.Happens.{Happens, each_seat}
-use Rattle.kw_core.proofs.SeatLogs.{call_kept, draw_kept}
 use Rattle.kw_shape.specs.Shape.{IsKind, IsReplyOf}
 use Rattle.kw_puts.specs.Puts.{HasCell}
 use Rattle.kw_puts.specs.Positions.{Calling}
@@ -51,7 +49,7 @@ use Rattle.kw_laws.specs.Mirror.{Acts, operation}
 use Rattle.kw_laws.specs.MirrorReads.{HasSettled, HasRead, MirrorsReads, settling}
 use Rattle.kw_laws.proofs.Mirroring.{Kept, acts_here}
 use Rattle.kw_laws.proofs.Occurs.{occurs_within, acts_lasts}
-use Rattle.kw_laws.proofs.Over.{CallOver, SameLog, goes_on, is_ended, IsCallNow, call_over, call_was}
+use Rattle.kw_laws.proofs.Over.{CallOver, goes_on, is_ended, IsCallNow, call_over, call_was}
 use Rattle.std.proofs.Common.{zero, suc, get_or}
 use Rattle.kw_core.specs.Words.{Words}
 use Rattle.kw_core.specs.Step.{Step}
