@@ -1,7 +1,7 @@
 use Rattle.std.proofs.Common.{Option, refl, subst}
 use Rattle.kw_model.specs.declared.call.Call.{Call}
 use Rattle.kw_model.specs.declared.call.Reply.TheVariants.{Pairs, Spent, Stopped}
-use Rattle.kw_live.specs.Following.{held}
+use Rattle.kw_follow.specs.Following.{held}
 use Rattle.kw_map.specs.Scanning.{StoppedAt}
 use Rattle.kw_map.proofs.Ordering.{pass_ordered}
 use Rattle.kw_map.proofs.ScanEnds.{entered_between, entered_spent, leaves_with_pairs}

@@ -1,7 +1,7 @@
 use Rattle.std.proofs.Common.{◌∙◌}
 use Rattle.kw_model.specs.declared.call.Reply.TheVariants.{Done, NoRows}
 use Rattle.kw_live.proofs.Asking.{none_trans}
-use Rattle.kw_live.proofs.PutStages.{goes_trans}
+use Rattle.kw_follow.proofs.OwnEvents.{goes_trans}
 use Rattle.kw_map.proofs.WholeCalls.{full_within, leaves_with, room_within, whole}
 use Rattle.kw_map.proofs.kiwi.Kiwi.update.Goals as goal
 
