@@ -14,7 +14,7 @@ use Rattle.kw_table.specs.declared.pass.Pass.{Pass}
 use Rattle.kw_table.specs.Passes.{view}
 use Rattle.kw_table.specs.Meetings.{AtEach, Gathers, front_seen}
 use Rattle.kw_table.proofs.Prefixes.{prefix_self}
-use Rattle.kw_live.specs.Following.{GoesTo}
+use Rattle.kw_follow.specs.Following.{GoesTo}
 use Rattle.kw_map.specs.declared.kiwi.Kiwi.{Kiwi}
 use Rattle.kw_map.specs.Kiwi.{IsIdle}
 use Rattle.kw_work.specs.declared.line.Line.{Line}

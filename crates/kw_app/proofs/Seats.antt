@@ -16,7 +16,7 @@ use Rattle.kw_table.specs.Views.{Meets}
 use Rattle.kw_table.specs.Meetings.{Gathers}
 use Rattle.kw_table.proofs.Prefixes.{prefix_trans}
 use Rattle.kw_table.proofs.Stepping.{rest_is_others}
-use Rattle.kw_live.specs.Calling.{calls_in, now_in}
+use Rattle.kw_follow.specs.Calling.{calls_in, now_in}
 use Rattle.kw_map.specs.declared.kiwi.Kiwi.{Kiwi}
 use Rattle.kw_work.specs.declared.line.Line.{Line}
 use Rattle.kw_work.specs.declared.line.Answered.{Answered}

@@ -23,9 +23,9 @@ use Rattle.kw_table.specs.declared.pass.Pass.{Pass}
 use Rattle.kw_table.specs.declared.shared.Shared.{Shared}
 use Rattle.kw_table.specs.Passes.{view}
 use Rattle.kw_table.proofs.Prefixes.{prefix_nil, prefix_trans}
-use Rattle.kw_live.specs.Calling.{Calls}
-use Rattle.kw_live.specs.Following.{GoesTo}
-use Rattle.kw_live.specs.Meeting.{MetIn}
+use Rattle.kw_follow.specs.Calling.{Calls}
+use Rattle.kw_follow.specs.Following.{GoesTo}
+use Rattle.kw_follow.specs.OwnEvents.{MetIn}
 use Rattle.kw_map.specs.declared.kiwi.Kiwi.{Kiwi}
 use Rattle.kw_map.specs.Kiwi.{IsIdle}
 use Rattle.kw_work.proofs.Asked.{element_at}

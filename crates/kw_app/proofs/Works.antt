@@ -15,8 +15,8 @@ use Rattle.kw_table.specs.declared.pass.Pass.{Pass}
 use Rattle.kw_table.specs.declared.shared.Shared.{Shared}
 use Rattle.kw_table.specs.Passes.{view}
 use Rattle.kw_table.proofs.Prefixes.{prefix_trans}
-use Rattle.kw_live.specs.Following.{GoesTo}
-use Rattle.kw_live.specs.Calling.{calls_in, now_in, Calls}
+use Rattle.kw_follow.specs.Following.{GoesTo}
+use Rattle.kw_follow.specs.Calling.{calls_in, now_in, Calls}
 use Rattle.kw_map.specs.declared.kiwi.Kiwi.{Kiwi}
 use Rattle.kw_map.specs.Kiwi.{IsIdle}
 use Rattle.kw_work.specs.declared.line.Line.{Line}

@@ -12,7 +12,7 @@ use Rattle.kw_world.specs.declared.opening.Opening.{Opening}
 use Rattle.kw_world.specs.Sizes.{product}
 use Rattle.kw_core.specs.declared.history.End.{End}
 use Rattle.kw_laws.specs.SeatCalls.{CallSeen, calls_seen, begun_at}
-use Rattle.kw_live.specs.Meeting.{MetIn}
+use Rattle.kw_follow.specs.OwnEvents.{MetIn}
 use Rattle.kw_line.specs.declared.answer.Answer.{Answer}
 use Rattle.kw_line.specs.declared.item.Form.{Form}
 use Rattle.kw_line.specs.Answered.{answers_for}

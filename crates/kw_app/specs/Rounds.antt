@@ -8,7 +8,7 @@ use Rattle.kw_world.specs.declared.opening.Opening.{Opening}
 use Rattle.kw_line.specs.declared.answer.Answer.{Answer}
 use Rattle.kw_table.specs.declared.pass.Pass.{Pass}
 use Rattle.kw_table.specs.Passes.{view}
-use Rattle.kw_live.specs.Following.{GoesTo}
+use Rattle.kw_follow.specs.Following.{GoesTo}
 use Rattle.kw_map.specs.declared.kiwi.Kiwi.{Kiwi}
 use Rattle.kw_map.specs.Kiwi.{IsIdle}
 use Rattle.kw_work.specs.declared.line.Line.{Line}

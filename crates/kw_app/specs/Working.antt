@@ -10,7 +10,7 @@ use Rattle.kw_line.specs.declared.item.Form.{Form}
 use Rattle.kw_line.specs.Answered.{IsReplyOf, answer_for}
 use Rattle.kw_table.specs.declared.pass.Pass.{Pass}
 use Rattle.kw_table.specs.Passes.{view}
-use Rattle.kw_live.specs.Calling.{Calls, calls_in, now_in}
+use Rattle.kw_follow.specs.Calling.{Calls, calls_in, now_in}
 use Rattle.kw_live.specs.Meeting.{MetClock}
 use Rattle.kw_work.specs.declared.line.Line.{Line}
 use Rattle.kw_work.specs.declared.line.Answered.{Answered}

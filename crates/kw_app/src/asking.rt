@@ -7,7 +7,7 @@ ghost use Rattle.kw_words.specs.declared.sizes.TheConstants.{VALUE_END};
 ghost use Rattle.kw_line.specs.declared.answer.Answer.TheVariants as answer;
 ghost use Rattle.kw_line.specs.declared.item.Form.TheVariants as form;
 ghost use Rattle.kw_line.specs.Answered.{number_or_nothing};
-ghost use Rattle.kw_live.specs.Following.{GoesTo};
+ghost use Rattle.kw_follow.specs.Following.{GoesTo};
 ghost use Rattle.kw_map.specs.Kiwi.{IsIdle};
 ghost use Rattle.kw_work.specs.Dealing.{IsLine};
 ghost use Rattle.kw_app.specs.Working.{LineAnswered};

@@ -3,7 +3,7 @@
 //! A worker answers its lines one after the other, with one pass. The gate is told of each line before and after; it has no answers, so
 //! it changes nothing of what a worker does.
 ghost use Rattle.std.specs.Prelude.{All, IfOk};
-ghost use Rattle.kw_live.specs.Following.{GoesTo};
+ghost use Rattle.kw_follow.specs.Following.{GoesTo};
 ghost use Rattle.kw_map.specs.Kiwi.{IsIdle};
 ghost use Rattle.kw_work.specs.Dealing.{IsLine};
 ghost use Rattle.kw_app.specs.Working.{Works};

@@ -27,13 +27,13 @@ use Rattle.kw_table.specs.declared.pass.Pass.{Pass}
 use Rattle.kw_table.specs.declared.shared.Shared.{Shared}
 use Rattle.kw_table.specs.Passes.{view, Makes}
 use Rattle.kw_table.specs.Views.{local_in}
-use Rattle.kw_live.specs.Calling.{Keeps}
-use Rattle.kw_live.specs.Following.{Follows, GoesTo, activity_in, bare_activity, carried, held, held_at}
+use Rattle.kw_follow.specs.Calling.{Keeps}
+use Rattle.kw_follow.specs.Following.{Follows, GoesTo, activity_in, bare_activity, carried, held, held_at}
 use Rattle.kw_live.specs.Reading.{HasRead, HasReadAs, Reads, is_reading_cells, unpaired}
 use Rattle.kw_live.proofs.CellStages.{Ended, Goes, IsBelowNext, cell_ahead, cell_goes}
-use Rattle.kw_live.proofs.Growing.{IsStaying}
-use Rattle.kw_live.proofs.OneEvent.{follows_from}
-use Rattle.kw_live.proofs.Resting.{stands}
+use Rattle.kw_follow.proofs.Growing.{IsStaying}
+use Rattle.kw_follow.proofs.OneEvent.{follows_from}
+use Rattle.kw_follow.proofs.Resting.{stands}
 
 -- Where a reader reads cells.
 

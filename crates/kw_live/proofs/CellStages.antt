@@ -22,7 +22,7 @@ use Rattle.kw_world.specs.RowRead.{gathering, row_read, scan_on, scan_ended, to_
 use Rattle.kw_world.specs.Sizes.{Sizes}
 use Rattle.kw_world.specs.Table.{row}
 use Rattle.kw_puts.proofs.Owners.{true_false}
-use Rattle.kw_live.specs.Following.{bare_activity, bare_reply, carried, held_at, pairs_or}
+use Rattle.kw_follow.specs.Following.{bare_activity, bare_reply, carried, held_at, pairs_or}
 use Rattle.kw_live.specs.Reading.{is_reading_cells}
 
 -- how many events of reading cells a reader has yet to make at most, by the cell that it is at

@@ -26,22 +26,13 @@ use Rattle.kw_table.specs.declared.pass.Pass.{Pass}
 use Rattle.kw_table.specs.declared.shared.Shared.{Shared}
 use Rattle.kw_table.specs.Passes.{view}
 use Rattle.kw_table.proofs.Prefixes.{prefix_trans}
-use Rattle.kw_live.specs.Following.{Follows, GoesTo, activity_in, bare_activity, bare_reply}
-use Rattle.kw_live.specs.Meeting.{Met, MetAs, MetIn, MetClock}
+use Rattle.kw_follow.specs.Following.{Follows, GoesTo, activity_in, bare_activity, bare_reply}
+use Rattle.kw_follow.specs.OwnEvents.{Met, MetAs, MetIn}
+use Rattle.kw_follow.proofs.OwnEvents.{met_later, met_earlier}
+use Rattle.kw_live.specs.Meeting.{MetClock}
 use Rattle.kw_live.specs.Stages.{HasEntered}
 
 -- Where an event was met.
-
--- it is among the events of a longer list
-pub met_later : (p q r : Pass) {a : Activity} {c : Choice} {told : ℕ} → Met p q a c told → IsPrefix (view q).seen (view r).seen → Met p r a c told
-met_later p q r m more = record { front = m.front; later = m.later; here = prefix_trans _ _ _ m.here more; activity = m.activity; tells = m.tells }
-
--- and of those after a shorter one
-pub met_earlier : (s : Shared) (p q r : Pass) {a : Activity} {c : Choice} {told : ℕ} → GoesTo s p q → Met q r a c told → Met p r a c told
-met_earlier s p q r {a} {c} {told} goes m =
-    let x : MetIn (view p).opening (view p).number (view q).seen (view r).seen a c told =
-    subst (λ n. MetIn (view p).opening n (view q).seen (view r).seen a c told) goes.number (subst (λ o. MetIn o (view q).number (view q).seen (view r).seen a c told) goes.opening m) in
-    record { front = x.front; later = prefix_trans _ _ _ goes.seen x.later; here = x.here; activity = x.activity; tells = x.tells }
 
 -- the load of a scan's first clock
 pub met_clock : {p q r : Pass} {l : Local} {clock : ℕ} → l.activity ≡ ScanClock → MetAs p q l Go clock → IsPrefix (view q).seen (view r).seen → MetClock p r clock

@@ -1,14 +1,8 @@
 pub mod Asking
 pub mod CellEvent
 pub mod CellStages
-pub mod Fronts
 pub mod LookStages
 pub mod PutStages
 pub mod WalkStages
-pub mod Carrying
 pub mod Drawing
-pub mod Ends
-pub mod Growing
-pub mod OneEvent
-pub mod Resting
 pub mod Starting

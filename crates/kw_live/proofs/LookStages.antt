@@ -19,8 +19,8 @@ use Rattle.kw_world.specs.Table.{row}
 use Rattle.kw_puts.proofs.Owners.{true_false}
 use Rattle.kw_table.specs.declared.pass.Pass.{Pass}
 use Rattle.kw_table.specs.declared.shared.Shared.{Shared}
-use Rattle.kw_live.specs.Calling.{Keeps}
-use Rattle.kw_live.specs.Following.{Follows, GoesTo, held}
+use Rattle.kw_follow.specs.Calling.{Keeps}
+use Rattle.kw_follow.specs.Following.{Follows, GoesTo, held}
 use Rattle.kw_live.specs.Reading.{LooksOn, is_looking}
 
 -- how many events of looking a reader has yet to make at most, by the entry that it is at

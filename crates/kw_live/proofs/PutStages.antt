@@ -28,12 +28,13 @@ use Rattle.kw_table.specs.declared.pass.Pass.{Pass}
 use Rattle.kw_table.specs.declared.shared.Shared.{Shared}
 use Rattle.kw_table.specs.Passes.{view}
 use Rattle.kw_table.proofs.Prefixes.{prefix_trans}
-use Rattle.kw_live.specs.Calling.{Keeps}
-use Rattle.kw_live.specs.Following.{Follows, GoesTo, held}
-use Rattle.kw_live.specs.Meeting.{AsksBelow, AsksNone, IsAsking, MetIn, Met, MetAs, MetCount, MetFull, MetOnly, MetRoom}
+use Rattle.kw_follow.specs.Calling.{Keeps}
+use Rattle.kw_follow.specs.Following.{Follows, GoesTo, held}
+use Rattle.kw_follow.specs.OwnEvents.{MetIn, Met, MetAs, MetOnly}
+use Rattle.kw_live.specs.Meeting.{AsksBelow, AsksNone, IsAsking, MetCount, MetFull, MetRoom}
 use Rattle.kw_live.specs.Putting.{is_putting}
 use Rattle.kw_live.proofs.Asking.{below_trans, none_at, none_below, once_below}
-use Rattle.kw_live.proofs.Fronts.{met_laws, met_local, met_told, met_row_below, local_at}
+use Rattle.kw_follow.proofs.Fronts.{met_laws, met_local, met_told, met_row_below, local_at}
 
 -- What a put has found.
 
@@ -226,7 +227,3 @@ pub record IsTrying (s : Shared) (o p : Pass) (l : Local) : Type 0 where
   pub calls : Keeps o p
   pub held : held p ≡ held o
   pub found : HasFound o p l.activity
-
--- the events of one after the other
-pub goes_trans : (s : Shared) (p q r : Pass) → GoesTo s p q → GoesTo s q r → GoesTo s p r
-goes_trans s p q r a b = record { of_table = b.of_table; number = b.number ∙ a.number; opening = b.opening ∙ a.opening; seen = prefix_trans _ _ _ a.seen b.seen }

@@ -27,12 +27,13 @@ use Rattle.kw_table.specs.declared.pass.Pass.{Pass}
 use Rattle.kw_table.specs.declared.shared.Shared.{Shared}
 use Rattle.kw_table.specs.Passes.{view}
 use Rattle.kw_table.proofs.Prefixes.{prefix_trans}
-use Rattle.kw_live.specs.Calling.{Keeps}
-use Rattle.kw_live.specs.Following.{Follows, GoesTo, held}
-use Rattle.kw_live.specs.Meeting.{AsksNone, Met, MetAs, BeginsWith}
+use Rattle.kw_follow.specs.Calling.{Keeps}
+use Rattle.kw_follow.specs.Following.{Follows, GoesTo, held}
+use Rattle.kw_follow.specs.OwnEvents.{Met, MetAs}
+use Rattle.kw_live.specs.Meeting.{AsksNone, BeginsWith}
 use Rattle.kw_live.specs.Stages.{arrived, guessing}
 use Rattle.kw_live.specs.Walking.{IsUnderWay, WalksOn}
-use Rattle.kw_live.proofs.Fronts.{met_laws, met_local, met_told, local_at}
+use Rattle.kw_follow.proofs.Fronts.{met_laws, met_local, met_told, local_at}
 
 -- how many events a walk has yet to make at most, by the least key that it knows and the key that it wants
 abbrev pub walk_ahead : Activity → ℕ → ℕ → ℕ

@@ -1,5 +1,3 @@
-pub mod Following
-pub mod Calling
 pub mod Meeting
 pub mod Stages
 pub mod Walking

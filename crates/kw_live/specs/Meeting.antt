@@ -7,45 +7,11 @@ use Rattle.kw_world.specs.declared.activity.Activity.TheVariants.{ScanClock, Put
 use Rattle.kw_world.specs.declared.event.Choice.{Choice}
 use Rattle.kw_world.specs.declared.event.Choice.TheVariants.{Go}
 use Rattle.kw_world.specs.declared.event.Event.{Event}
-use Rattle.kw_world.specs.declared.local.Local.{Local}
-use Rattle.kw_world.specs.declared.opening.Opening.{Opening}
-use Rattle.kw_world.specs.Operation.{told_by}
-use Rattle.kw_world.specs.Row.{Row}
 use Rattle.kw_world.specs.RowPut.{given_of}
-use Rattle.kw_world.specs.RowWalk.{offered}
-use Rattle.kw_world.specs.Sizes.{product}
-use Rattle.kw_world.specs.Step.{word, row_of}
-use Rattle.kw_core.specs.Events.{local_of, world, of_seat, event}
+use Rattle.kw_core.specs.Events.{of_seat, event}
 use Rattle.kw_table.specs.declared.pass.Pass.{Pass}
 use Rattle.kw_table.specs.Passes.{view}
-use Rattle.kw_live.specs.Following.{known}
-
--- the line of the table of events by which this seat makes its event with this choice, after these events
-abbrev pub row_after : Opening → List Event → ℕ → Choice → Row
-row_after o es n c = row_of product n (offered o.rows c) (local_of (world product o es) n)
-
--- among the events from the first list to the second is one of this seat, made at this activity with this choice, which was told this
-pub record MetIn (o : Opening) (n : ℕ) (old new : List Event) (a : Activity) (c : Choice) (told : ℕ) : Type 0 where
-  -- the events before it
-  pub front : List Event
-  pub later : IsPrefix old front
-  pub here : IsPrefix (front ++ event n c ∷ []) new
-  pub activity : (local_of (world product o front) n).activity ≡ a
-  pub tells : told ≡ told_by (row_after o front n c).operation.action (word product (world product o front) (row_after o front n c).operation.name)
-
--- among the events that the pass has seen since is such an event of its own
-abbrev pub Met : Pass → Pass → Activity → Choice → ℕ → Type 0
-Met p q a c told = MetIn (view p).opening (view p).number (view p).seen (view q).seen a c told
-
--- there is such an event, made where the seat knew this, and it is the first one of the pass's own since
-pub record MetAs (p q : Pass) (l : Local) (c : Choice) (told : ℕ) : Type 0 where
-  pub met : Met p q l.activity c told
-  pub knew : known (local_of (world product (view p).opening met.front) (view p).number) ≡ known l
-  pub first : of_seat (view p).number met.front ≡ of_seat (view p).number (view p).seen
-
--- the pass made just one event since, at this activity, and it was told this
-abbrev pub MetOnly : Pass → Pass → Activity → ℕ → Type 0
-MetOnly p q a told = (b : Activity) (c : Choice) (n : ℕ) → Met p q b c n → (b ≡ a) × (n ≡ told)
+use Rattle.kw_follow.specs.OwnEvents.{Met}
 
 -- a put or a delete asks its row for a cell: it loads the count, or adds to it
 abbrev pub IsAsking : Activity → Type 0

@@ -13,7 +13,7 @@ use Rattle.kw_world.specs.declared.event.Choice.TheVariants.{Go}
 use Rattle.kw_world.specs.Row.{Outcome}
 use Rattle.kw_world.specs.Sizes.{product}
 use Rattle.kw_world.specs.Step.{next_of}
-use Rattle.kw_live.specs.Following.{carried}
+use Rattle.kw_follow.specs.Following.{carried}
 
 -- the reader looks at the entries of the row
 abbrev pub is_looking : Activity → Bool

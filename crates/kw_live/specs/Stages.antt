@@ -8,17 +8,6 @@ use Rattle.kw_world.specs.declared.activity.Activity.TheVariants.{Idle, Start, L
 use Rattle.kw_world.specs.declared.event.Choice.{Choice}
 use Rattle.kw_world.specs.declared.event.Choice.TheVariants.{Go, Guess}
 
--- the seat is in the middle of a call, and its next event neither ends the call or a scan nor reads a cell
-abbrev pub IsWithinCall : Activity → Type 0
-IsWithinCall Idle = ⊥
-IsWithinCall LookCount = ⊥
-IsWithinCall (Cell j) = ⊥
-IsWithinCall CellKey = ⊥
-IsWithinCall CellValue = ⊥
-IsWithinCall (ClearScan reply) = ⊥
-IsWithinCall (Leave reply) = ⊥
-IsWithinCall _ = Unit {0}
-
 -- where a call stands once it has entered: on its way to the row of its first key; a scan of no keys is over, and one that found
 -- the versions spent leaves
 abbrev pub HasEntered : Call → Activity → Type 0

@@ -6,14 +6,15 @@ ghost use Rattle.std.specs.Prelude.{◌≡◌, true};
 ghost use Rattle.kw_world.specs.RowEnd.{IsOnward, passed};
 ghost use Rattle.kw_world.specs.RowRead.{get_answered, row_read, row_scanned};
 ghost use Rattle.kw_world.specs.Sizes.{product};
-ghost use Rattle.kw_live.specs.Calling.{Keeps};
-ghost use Rattle.kw_live.specs.Following.{Follows, GoesTo, held};
+ghost use Rattle.kw_follow.specs.Calling.{Keeps};
+ghost use Rattle.kw_follow.specs.Following.{Follows, GoesTo, held};
 ghost use Rattle.kw_live.specs.Reading.{Reads, is_reading_cells, unpaired};
 
 use kw_cells::cell::best;
-use kw_core::step::{operation, read_on};
+use kw_core::step::read_on;
+use kw_follow::ask;
 use kw_model::call::{Call, Reply};
-use kw_table::{Pass, Shared, make};
+use kw_table::{Pass, Shared};
 use kw_world::activity::Activity;
 use kw_world::calls::first_key;
 use kw_world::event::Choice;
@@ -31,12 +32,7 @@ pub(crate) fn read(shared: &Shared, pass: &mut Pass, local: &mut Local)
     ensures reads { Reads local.old local.new (held pass.old) (held pass.new) }
     ensures calls { Keeps pass.old pass.new }
 {
-    let told = make(
-        shared,
-        pass,
-        Choice::Go,
-        operation(pass.number(), local, Choice::Go),
-    );
+    let told = ask(shared, pass, local, Choice::Go);
     read_on(local, told);
     pass_end(local);
 }

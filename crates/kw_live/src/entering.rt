@@ -2,46 +2,46 @@
 ghost use Rattle.std.specs.Prelude.{◌≡◌, ◌↔◌, ◌⊎◌, ◌≤◌, false, true, [], Some, IfSome};
 ghost use Rattle.kw_words.specs.declared.sizes.TheConstants.{SPENT};
 ghost use Rattle.kw_world.specs.Calls.{is_scan};
+ghost use Rattle.kw_world.specs.Local.{resting};
 ghost use Rattle.kw_core.specs.Events.{is_call_in_range};
 ghost use Rattle.kw_table.specs.Passes.{view, IsPassOf};
-ghost use Rattle.kw_live.specs.Calling.{Keeps, Opens, Closes};
-ghost use Rattle.kw_live.specs.Following.{Follows, GoesTo, activity_in, held, bare_reply};
+ghost use Rattle.kw_follow.specs.Calling.{Keeps, Opens, Closes};
+ghost use Rattle.kw_follow.specs.Following.{Follows, GoesTo, activity_in, held, bare_reply};
 ghost use Rattle.kw_live.specs.Meeting.{AsksNone, MetClock};
 ghost use Rattle.kw_live.specs.Stages.{HasEntered};
 
-use crate::going::{begin, clear, end, go};
+use kw_follow::{begin, clear, end, go};
 use kw_model::call::{Call, Reply};
 use kw_table::{Pass, Shared};
 use kw_world::activity::Activity;
 use kw_world::event::Choice;
 use kw_world::local::Local;
-use std::alloc::Global;
 
 /// Begins a call of an idle pass, and makes its events up to the walk to its row.
 ///
 /// The epoch is announced, and a scan gets its version. A scan of no keys then stands at its end, and one whose first clock was at
-/// `SPENT` or above is about to leave with `Spent`; every other call is to begin its walk. A put's value is below `VALUE_END`. Gives what
-/// the seat knows. Takes no memory.
-pub fn enter(shared: &Shared, pass: &mut Pass, alloc: Global, call: Call) -> Local
+/// `SPENT` or above is about to leave with `Spent`; every other call is to begin its walk. A put's value is below `VALUE_END`. The
+/// local is at rest before, and then what the seat knows. Takes no memory.
+pub fn enter(shared: &Shared, pass: &mut Pass, local: &mut Local, call: Call)
     requires table { IsPassOf shared.now pass.old }
     requires idle { activity_in pass.old ≡ Activity.Idle }
+    requires rested { local.old ≡ resting 0 }
     requires range { is_call_in_range call ≡ true }
     ensures goes { GoesTo shared.now pass.old pass.new }
-    ensures follows { Follows shared.now pass.new result }
-    ensures entered { HasEntered call result.activity }
-    ensures call { result.call ≡ Some call }
-    ensures unread { result.has_read ≡ false }
+    ensures follows { Follows shared.now pass.new local.new }
+    ensures entered { HasEntered call local.new.activity }
+    ensures call { local.new.call ≡ Some call }
+    ensures unread { local.new.has_read ≡ false }
     ensures opens { Opens pass.old pass.new call }
     ensures held { held pass.new ≡ [] }
     ensures none { AsksNone pass.old pass.new }
-    ensures spent { is_scan (Some call) ≡ true → (clock : _) × MetClock pass.old pass.new clock × ((result.activity ≡ Activity.Leave Reply.Spent) ↔ (SPENT ≤ clock)) }
+    ensures spent { is_scan (Some call) ≡ true → (clock : _) × MetClock pass.old pass.new clock × ((local.new.activity ≡ Activity.Leave Reply.Spent) ↔ (SPENT ≤ clock)) }
 {
-    let mut local = begin(shared, pass, alloc, call);
-    go(shared, pass, &mut local, Choice::Go);
+    begin(shared, pass, local, call);
+    go(shared, pass, local, Choice::Go);
     if let Activity::ScanClock = local.activity {
-        draw(shared, pass, &mut local);
+        draw(shared, pass, local);
     }
-    local
 }
 
 // A scan gets its version.
@@ -101,12 +101,13 @@ pub fn stop_scan(shared: &Shared, pass: &mut Pass, local: &mut Local)
 
 /// Ends a call that is about to leave: the seat announces no epoch any more, and the pass is idle.
 ///
-/// The answer is the reply that is recorded, without the pairs of a scan.
-pub fn leave(shared: &Shared, pass: &mut Pass, local: Local) -> Reply
-    requires follows { Follows shared.now pass.old local }
-    requires leaving { (reply : Reply) × (local.activity ≡ Activity.Leave reply) }
+/// The answer is the reply that is recorded, without the pairs of a scan. The local is then at rest.
+pub fn leave(shared: &Shared, pass: &mut Pass, local: &mut Local) -> Reply
+    requires follows { Follows shared.now pass.old local.old }
+    requires leaving { (reply : Reply) × (local.old.activity ≡ Activity.Leave reply) }
     ensures goes { GoesTo shared.now pass.old pass.new }
     ensures idle { activity_in pass.new ≡ Activity.Idle }
+    ensures rests { local.new ≡ resting 0 }
     ensures closes { (reply : Reply) → activity_in pass.old ≡ Activity.Leave reply → Closes pass.old pass.new reply × (result ≡ bare_reply reply) }
     ensures none { AsksNone pass.old pass.new }
 {

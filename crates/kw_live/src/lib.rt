@@ -1,17 +1,16 @@
 //! Calls over the table that threads share, from one activity to the next.
 //!
 //! Each function here takes a pass from one activity to another by the core's own events, and says how the calls in what the pass has
-//! seen go on, which of them it found what it answers by, and which pairs a scan has. Code follows its seat with a `Local`, which is
-//! what the seat knows but for the number of its calls and the pairs of a scan; so no call takes memory.
+//! seen go on, which of them it found what it answers by, and which pairs a scan has. Single events are `kw_follow`'s, whose `Local`
+//! follows the pass's seat; no call takes memory.
 //!
-//! `going` makes single events, and `cells` those at the cells of a row; `entering` begins calls, gives a scan its version, and ends both; `walking` finds the row of a key;
+//! `cells` has the events at the cells of a row; `entering` begins calls, gives a scan its version, and ends both; `walking` finds the row of a key;
 //! `putting` puts a cell into it, and `reading` reads it. Whoever stands above puts whole calls together from these, by their
 //! contracts, and knows no event.
 #![tactic(auto)]
 
 mod cells;
 mod entering;
-mod going;
 mod putting;
 mod reading;
 mod walking;

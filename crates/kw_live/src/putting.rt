@@ -2,12 +2,12 @@
 ghost use Rattle.std.specs.Prelude.{◌≡◌};
 ghost use Rattle.kw_words.specs.declared.sizes.TheConstants.{CELLS};
 ghost use Rattle.kw_table.specs.Passes.{view};
-ghost use Rattle.kw_live.specs.Calling.{Keeps};
-ghost use Rattle.kw_live.specs.Following.{Follows, GoesTo, held};
+ghost use Rattle.kw_follow.specs.Calling.{Keeps};
+ghost use Rattle.kw_follow.specs.Following.{Follows, GoesTo, held};
 ghost use Rattle.kw_live.specs.Meeting.{MetFull, MetRoom};
 ghost use Rattle.kw_live.specs.Putting.{Tried, is_putting, reply_of};
 
-use crate::going::go;
+use kw_follow::go;
 use kw_model::call::Reply;
 use kw_table::{Pass, Shared};
 use kw_world::activity::Activity;

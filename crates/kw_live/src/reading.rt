@@ -1,12 +1,12 @@
 //! The events of a get or a scan at a row.
 ghost use Rattle.std.specs.Prelude.{◌≡◌, All};
 ghost use Rattle.kw_words.specs.Plain.{IsValue};
-ghost use Rattle.kw_live.specs.Calling.{Keeps};
-ghost use Rattle.kw_live.specs.Following.{Follows, GoesTo, held};
+ghost use Rattle.kw_follow.specs.Calling.{Keeps};
+ghost use Rattle.kw_follow.specs.Following.{Follows, GoesTo, held};
 ghost use Rattle.kw_live.specs.Reading.{HasRead, LooksOn, is_looking, is_reading_cells};
 
 use crate::cells::read;
-use crate::going::go;
+use kw_follow::go;
 use kw_table::{Pass, Shared};
 use kw_world::activity::Activity;
 use kw_world::event::Choice;

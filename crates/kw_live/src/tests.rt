@@ -2,10 +2,10 @@
 ghost use Rattle.std.specs.Prelude.{◌≡◌, true, IfSome};
 ghost use Rattle.kw_core.specs.Events.{is_call_in_range};
 ghost use Rattle.kw_table.specs.Passes.{IsPassOf};
-ghost use Rattle.kw_live.specs.Following.{Follows, activity_in};
+ghost use Rattle.kw_follow.specs.Following.{Follows, activity_in};
 
 use super::*;
-use crate::going::go;
+use kw_follow::go;
 use crate::putting::is_putting;
 use kw_cells::cell::next_pair;
 use kw_model::call::{Call, Reply};
@@ -32,7 +32,8 @@ fn begin_put(
     requires range { is_call_in_range (Call.Put key value) ≡ true }
     ensures follows { Follows shared.now pass.new result }
 {
-    let mut local = enter(shared, pass, alloc, Call::Put(key, value));
+    let mut local = Local::idle(alloc);
+    enter(shared, pass, &mut local, Call::Put(key, value));
     locate(shared, pass, &mut local, None);
     for _ in 0..events {
         if !is_putting(&local.activity) {
@@ -58,10 +59,11 @@ pub(crate) fn put(
     ensures table { IsPassOf shared.now pass.new }
     ensures idle { activity_in pass.new ≡ Activity.Idle }
 {
-    let mut local = enter(shared, pass, alloc, Call::Put(key, value));
+    let mut local = Local::idle(alloc);
+    enter(shared, pass, &mut local, Call::Put(key, value));
     locate(shared, pass, &mut local, guess);
     try_put(shared, pass, &mut local);
-    leave(shared, pass, local)
+    leave(shared, pass, &mut local)
 }
 
 // The reply of a whole get, whose walk has this guess.
@@ -78,10 +80,11 @@ pub(crate) fn get(
     ensures table { IsPassOf shared.now pass.new }
     ensures idle { activity_in pass.new ≡ Activity.Idle }
 {
-    let mut local = enter(shared, pass, alloc, Call::Get(key));
+    let mut local = Local::idle(alloc);
+    enter(shared, pass, &mut local, Call::Get(key));
     locate(shared, pass, &mut local, guess);
     read_row(shared, pass, &mut local);
-    leave(shared, pass, local)
+    leave(shared, pass, &mut local)
 }
 
 // The get's reply, where the put of another pass has made this many events at its row.
@@ -108,7 +111,8 @@ pub(crate) fn scan_row(
     requires range { is_call_in_range (Call.Scan from upto) ≡ true }
     ensures follows { IfSome result (Follows shared.now pass.new) }
 {
-    let mut local = enter(shared, pass, alloc, Call::Scan(from, upto));
+    let mut local = Local::idle(alloc);
+    enter(shared, pass, &mut local, Call::Scan(from, upto));
     let Activity::Start = local.activity else {
         return None;
     };
@@ -126,7 +130,7 @@ pub(crate) fn finish(shared: &Shared, pass: &mut Pass, local: Local) -> Option<R
         return None;
     };
     end_scan(shared, pass, &mut local);
-    Some(leave(shared, pass, local))
+    Some(leave(shared, pass, &mut local))
 }
 
 // Of the nine events of a put at its row the fifth announces its cell, and the seventh stamps it.

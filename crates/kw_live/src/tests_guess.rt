@@ -4,15 +4,15 @@
 //! that cannot take it by the link to the first row: so the events after the first one show what became of the guess.
 ghost use Rattle.std.specs.Prelude.{◌≡◌, true};
 ghost use Rattle.kw_core.specs.Events.{is_call_in_range};
-ghost use Rattle.kw_live.specs.Following.{Follows, activity_in};
+ghost use Rattle.kw_follow.specs.Following.{Follows, activity_in};
 ghost use Rattle.kw_table.specs.Passes.{IsPassOf};
 
 use crate::entering::enter;
-use crate::going::go;
 use crate::tests::{finish, get, put, scan_row};
 use crate::walking::set_out;
 use kw_cells::cell::next_pair;
 use kw_core::step::operation;
+use kw_follow::go;
 use kw_model::call::{Call, Reply};
 use kw_model::memory::Memory;
 use kw_model::pair_list::PairList;
@@ -67,7 +67,8 @@ fn kinds_on_the_way(
     let Some(mut pass) = passes.pop() else {
         return Ok(None);
     };
-    let mut local = enter(&shared, &mut pass, alloc, call);
+    let mut local = Local::idle(alloc);
+    enter(&shared, &mut pass, &mut local, call);
     let Activity::Start = local.activity else {
         return Ok(None);
     };

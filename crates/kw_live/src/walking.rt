@@ -2,13 +2,13 @@
 ghost use Rattle.std.specs.Prelude.{◌≡◌, Some};
 ghost use Rattle.kw_core.specs.Stages.{IsGoing};
 ghost use Rattle.kw_table.specs.Passes.{view};
-ghost use Rattle.kw_live.specs.Calling.{Keeps};
-ghost use Rattle.kw_live.specs.Following.{Follows, GoesTo, held};
+ghost use Rattle.kw_follow.specs.Calling.{Keeps};
+ghost use Rattle.kw_follow.specs.Following.{Follows, GoesTo, held};
 ghost use Rattle.kw_live.specs.Meeting.{AsksNone, BeginsWith};
 ghost use Rattle.kw_live.specs.Stages.{arrived, guessing};
 ghost use Rattle.kw_live.specs.Walking.{IsUnderWay, WalksOn};
 
-use crate::going::go;
+use kw_follow::go;
 use kw_table::{Pass, Shared};
 use kw_world::activity::Activity;
 use kw_world::event::Choice;

@@ -20,8 +20,8 @@ use Rattle.kw_table.specs.declared.shared.Shared.{Shared}
 use Rattle.kw_table.specs.Passes.{view}
 use Rattle.kw_table.specs.Views.{local_in}
 use Rattle.kw_table.proofs.Prefixes.{prefix_trans}
-use Rattle.kw_live.specs.Calling.{Keeps}
-use Rattle.kw_live.specs.Following.{Follows, GoesTo, held, held_at}
+use Rattle.kw_follow.specs.Calling.{Keeps}
+use Rattle.kw_follow.specs.Following.{Follows, GoesTo, held, held_at}
 use Rattle.kw_live.specs.Reading.{GoesOn}
 use Rattle.kw_map.specs.Gather.{last_key, IsBelow, Takes, TakesPrefix}
 use Rattle.kw_map.specs.Scanning.{IsBetween, StoppedAt, knew}

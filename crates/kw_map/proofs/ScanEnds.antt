@@ -19,10 +19,10 @@ use Rattle.kw_table.specs.declared.pass.Pass.{Pass}
 use Rattle.kw_table.specs.declared.shared.Shared.{Shared}
 use Rattle.kw_table.specs.Passes.{view}
 use Rattle.kw_table.specs.Views.{local_in}
-use Rattle.kw_live.specs.Following.{Follows, activity_in, bare_activity, bare_reply, held, held_at, pairs_or}
+use Rattle.kw_follow.specs.Following.{Follows, activity_in, bare_activity, bare_reply, held, held_at, pairs_or}
 use Rattle.kw_live.specs.Stages.{HasEntered}
-use Rattle.kw_live.proofs.Ends.{leaves_in, same_reply}
-use Rattle.kw_live.proofs.Fronts.{seat_within}
+use Rattle.kw_follow.proofs.Ends.{leaves_in, same_reply}
+use Rattle.kw_follow.proofs.Fronts.{seat_within}
 use Rattle.kw_map.specs.Gather.{IsBelow}
 use Rattle.kw_map.specs.Scanning.{IsBetween}
 use Rattle.kw_map.proofs.TakeLemmas.{IsBelow-le}

@@ -10,13 +10,14 @@ use Rattle.kw_world.specs.declared.local.Local.{Local}
 use Rattle.kw_laws.specs.SeatCalls.{begun_at}
 use Rattle.kw_table.specs.declared.pass.Pass.{Pass}
 use Rattle.kw_table.specs.declared.shared.Shared.{Shared}
-use Rattle.kw_live.specs.Calling.{Opens, Keeps, Closes, Calls, calls_in}
-use Rattle.kw_live.specs.Following.{Follows, GoesTo, activity_in, bare_reply}
-use Rattle.kw_live.specs.Meeting.{AsksNone, Met, MetClock, MetCount, MetFull, MetRoom}
+use Rattle.kw_follow.specs.Calling.{Opens, Keeps, Closes, Calls, calls_in}
+use Rattle.kw_follow.specs.Following.{Follows, GoesTo, activity_in, bare_reply}
+use Rattle.kw_follow.specs.OwnEvents.{Met}
+use Rattle.kw_live.specs.Meeting.{AsksNone, MetClock, MetCount, MetFull, MetRoom}
 use Rattle.kw_live.proofs.Asking.{below_trans, none_below}
-use Rattle.kw_live.proofs.Drawing.{met_earlier, met_later}
-use Rattle.kw_live.proofs.Ends.{leaves_in, same_reply}
-use Rattle.kw_live.proofs.PutStages.{goes_trans}
+use Rattle.kw_follow.proofs.OwnEvents.{met_earlier, met_later}
+use Rattle.kw_follow.proofs.Ends.{leaves_in, same_reply}
+use Rattle.kw_follow.proofs.OwnEvents.{goes_trans}
 
 -- The call.
 

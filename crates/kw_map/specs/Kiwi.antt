@@ -20,8 +20,8 @@ use Rattle.kw_order.specs.Trace.{GivesTops}
 use Rattle.kw_table.specs.declared.pass.Pass.{Pass}
 use Rattle.kw_table.specs.declared.pass.View.{View}
 use Rattle.kw_table.specs.Passes.{IsPassOf}
-use Rattle.kw_live.specs.Calling.{Calls}
-use Rattle.kw_live.specs.Following.{activity_in}
+use Rattle.kw_follow.specs.Calling.{Calls}
+use Rattle.kw_follow.specs.Following.{activity_in}
 use Rattle.kw_live.specs.Meeting.{MetClock}
 use Rattle.kw_map.specs.declared.kiwi.Kiwi.{Kiwi}
 use Rattle.kw_map.specs.declared.kiwi.PutEnd.{PutEnd}

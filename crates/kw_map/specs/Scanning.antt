@@ -11,7 +11,7 @@ use Rattle.kw_core.specs.Events.{local_of, world}
 use Rattle.kw_core.specs.Stages.{IsGoing}
 use Rattle.kw_table.specs.declared.pass.Pass.{Pass}
 use Rattle.kw_table.specs.Passes.{view}
-use Rattle.kw_live.specs.Following.{held_at}
+use Rattle.kw_follow.specs.Following.{held_at}
 use Rattle.kw_map.specs.Gather.{IsBelow, TakesPrefix}
 
 -- the scan is on its way to the row of the key that it wants, and the gatherer took no key from there on; or it has all its pairs

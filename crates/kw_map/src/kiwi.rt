@@ -13,8 +13,8 @@ ghost use Rattle.kw_model.specs.Map.{found};
 ghost use Rattle.kw_table.specs.Meetings.{AtEach, Gathers, front_seen};
 ghost use Rattle.kw_table.specs.Passes.{IsFresh, IsPassOf, view};
 ghost use Rattle.kw_table.specs.Views.{Meets};
-ghost use Rattle.kw_live.specs.Calling.{Calls};
-ghost use Rattle.kw_live.specs.Following.{GoesTo};
+ghost use Rattle.kw_follow.specs.Calling.{Calls};
+ghost use Rattle.kw_follow.specs.Following.{GoesTo};
 ghost use Rattle.kw_live.specs.Meeting.{MetFull, MetRoom};
 ghost use Rattle.kw_map.specs.Gather.{IsBelow};
 ghost use Rattle.kw_map.specs.Kiwi.{IsIdle, IsOrdered, Answers, put_reply};
@@ -26,6 +26,7 @@ use kw_model::call::{Call, Reply};
 use kw_model::memory::Memory;
 use kw_table::{Pass, Shared};
 use kw_world::activity::Activity;
+use kw_world::local::Local;
 use std::alloc::Global;
 use thiserror::Error;
 
@@ -97,10 +98,11 @@ impl Kiwi {
         ensures calls { Calls pass.old pass.new (Call.Get key) (found result) }
         ensures ordered { IsOrdered (view pass.new) }
     {
-        let mut local = enter(&self.shared, pass, self.alloc, Call::Get(key));
+        let mut local = Local::idle(self.alloc);
+        enter(&self.shared, pass, &mut local, Call::Get(key));
         locate(&self.shared, pass, &mut local, None);
         read_row(&self.shared, pass, &mut local);
-        match leave(&self.shared, pass, local) {
+        match leave(&self.shared, pass, &mut local) {
             Reply::Value(value) => Some(value),
             _ => None,
         }
@@ -154,13 +156,14 @@ impl Kiwi {
         ensures answers { Answers G.last G.stands G.stops pass.old pass.new from to into.old into.new result }
         ensures ordered { IsOrdered (view pass.new) }
     {
-        let mut local = enter(&self.shared, pass, self.alloc, Call::Scan(from, to));
+        let mut local = Local::idle(self.alloc);
+        enter(&self.shared, pass, &mut local, Call::Scan(from, to));
         if let Activity::Leave(_) = local.activity {
-            leave(&self.shared, pass, local);
+            leave(&self.shared, pass, &mut local);
             return Err(ScanEnd::Spent);
         }
         let gathered = gather_rows(&self.shared, pass, &mut local, to, into);
-        leave(&self.shared, pass, local);
+        leave(&self.shared, pass, &mut local);
         match gathered {
             Ok(()) => Ok(()),
             Err(Stop) => Err(ScanEnd::Stopped),
@@ -177,10 +180,11 @@ impl Kiwi {
         ensures calls { Calls pass.old pass.new call (put_reply result) }
         ensures cause { MatchResult result (λ done. MetRoom CELLS pass.old pass.new) (λ end. MetFull CELLS pass.old pass.new) }
     {
-        let mut local = enter(&self.shared, pass, self.alloc, call);
+        let mut local = Local::idle(self.alloc);
+        enter(&self.shared, pass, &mut local, call);
         locate(&self.shared, pass, &mut local, None);
         let tried = try_put(&self.shared, pass, &mut local);
-        leave(&self.shared, pass, local);
+        leave(&self.shared, pass, &mut local);
         match tried {
             TryPut::Done => Ok(()),
             TryPut::RowFull(_) => Err(PutEnd::NoRows),

@@ -6,8 +6,8 @@ ghost use Rattle.std.specs.Prelude.{◌≡◌, ◌⊎◌, ◌≤◌, ◌++◌, �
 ghost use Rattle.kw_cells.specs.Cells.{pairs_of};
 ghost use Rattle.kw_core.specs.Stages.{IsGoing};
 ghost use Rattle.kw_io.specs.Counts.{CountRose};
-ghost use Rattle.kw_live.specs.Calling.{Keeps};
-ghost use Rattle.kw_live.specs.Following.{Follows, GoesTo, held};
+ghost use Rattle.kw_follow.specs.Calling.{Keeps};
+ghost use Rattle.kw_follow.specs.Following.{Follows, GoesTo, held};
 ghost use Rattle.kw_live.specs.Reading.{GoesOn};
 ghost use Rattle.kw_map.specs.Gather.{IsBelow, Takes, TakesPrefix};
 ghost use Rattle.kw_map.specs.Scanning.{IsBetween, StoppedAt};

@@ -14,7 +14,7 @@ use Rattle.kw_laws.proofs.Worlds.{world-rows, world-local, world_sane}
 use Rattle.kw_table.specs.declared.pass.Pass.{Pass}
 use Rattle.kw_table.specs.declared.pass.View.{View}
 use Rattle.kw_table.specs.declared.shared.Shared.{Shared}
-use Rattle.kw_table.specs.Passes.{view, IsPassOf, Makes, Advances}
+use Rattle.kw_table.specs.Passes.{view, IsPassOf, Makes}
 use Rattle.kw_table.specs.Views.{local_in, row_in}
 
 -- what the seat knows is in range
@@ -32,15 +32,9 @@ line_is s p c l n o of knows number offers =
     ∙ (ap (λ k. row_of product (view p).number k l) (offers ∙ ap (λ (q : Opening). offered q.rows c) (sym of.1))
     ∙ ap (λ k. row_of product (view p).number (offered (view p).opening.rows c) k) knows)
 
--- what follows for the seat is what the core's `resume` gives
-pub follows : (s : Shared) (p q : Pass) (c : Choice) (l after : Local) (done : StepDone) (o : Choice) (told : ℕ) → IsPassOf s p → l ≡ local_in (view p) → o ≡ offered s.opening.rows c
-    → Makes s p c told q → outcome after done ≡ next_of product o l told → Advances s p c after done q
-follows s p q c l after done o told of knows offers makes is = record {
-  told = told;
-  makes = makes;
-  goes = is ∙ (sym (row_of-next product (view p).number o l told) ∙ ap (λ (r : Row). r.next told) (line_is s p c l (view p).number o of knows refl offers));
-}
-
--- so the seat then knows this
-pub knows_after : (s : Shared) (p q : Pass) (c : Choice) (after : Local) (done : StepDone) → Advances s p c after done q → after ≡ local_in (view q)
-knows_after s p q c after done a = ap (λ (x : Outcome). x.local) a.goes ∙ sym a.makes.step.local
+-- what the seat then knows is what the core's `resume` gives
+pub knows_after : (s : Shared) (p q : Pass) (c : Choice) (l after : Local) (done : StepDone) (o : Choice) (told : ℕ) → IsPassOf s p → l ≡ local_in (view p) → o ≡ offered s.opening.rows c
+    → Makes s p c told q → outcome after done ≡ next_of product o l told → after ≡ local_in (view q)
+knows_after s p q c l after done o told of knows offers makes is =
+    ap (λ (x : Outcome). x.local) (is ∙ (sym (row_of-next product (view p).number o l told) ∙ ap (λ (r : Row). r.next told) (line_is s p c l (view p).number o of knows refl offers)))
+    ∙ sym makes.step.local

@@ -3,12 +3,9 @@ use Rattle.std.specs.Prelude.{◌≡◌, ℕ, true, false, []}
 use Rattle.kw_words.specs.declared.kind.Kind.{Kind}
 use Rattle.kw_words.specs.declared.layout.Name.{Name}
 use Rattle.kw_world.specs.declared.event.Choice.{Choice}
-use Rattle.kw_world.specs.declared.event.StepDone.{StepDone}
-use Rattle.kw_world.specs.declared.local.Local.{Local}
 use Rattle.kw_world.specs.declared.operation.Action.{Action}
 use Rattle.kw_world.specs.declared.operation.Operation.{Operation}
 use Rattle.kw_world.specs.Local.{resting}
-use Rattle.kw_world.specs.Row.{outcome}
 use Rattle.kw_world.specs.Step.{is_skipped}
 use Rattle.kw_core.specs.Events.{may_begin}
 use Rattle.kw_table.specs.Views.{local_in, mine_in, row_in, Steps}
@@ -47,9 +44,3 @@ pub record Asks (s : Shared) (p : Pass) (c : Choice) (does : Operation) : Type 0
 pub record Makes (s : Shared) (p : Pass) (c : Choice) (told : ℕ) (q : Pass) : Type 0 where
   pub of_table : IsPassOf s q
   pub step : Steps (view p) c told (view q)
-
--- the pass has made its next event, which did this and after which its seat knows l
-pub record Advances (s : Shared) (p : Pass) (c : Choice) (l : Local) (done : StepDone) (q : Pass) : Type 0 where
-  pub told : ℕ
-  pub makes : Makes s p c told q
-  pub goes : outcome l done ≡ (row_in (view p) c).next told

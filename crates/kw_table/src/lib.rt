@@ -5,13 +5,12 @@
 //! number, the events that it has seen, its own ones among them, what its seat knows after them, and the opening of the run. All of it
 //! but the number is for the proofs alone and takes no time and no room.
 //!
-//! `opening` makes a table and its passes, `kinds` has one step for each kind of event and `steps` the one that takes any, `following`
-//! takes what a seat knows along with its steps, and `meeting` lets passes see what others have seen. `pass` and `shared` hold the two
-//! types, and `rule` the rule and what a step tells its caller. Each step is one atomic operation on one word. Whoever stands above
-//! needs the contracts of these calls alone, and goes on by the laws over valid lists of events.
+//! `opening` makes a table and its passes, `kinds` has one step for each kind of event and `steps` the one that takes any, and
+//! `meeting` lets passes see what others have seen. `pass` and `shared` hold the two types, and `rule` the rule and what a step tells
+//! its caller. Each step is one atomic operation on one word. Whoever stands above needs the contracts of these calls alone, and goes
+//! on by the laws over valid lists of events.
 #![tactic(auto)]
 
-mod following;
 mod kinds;
 mod meeting;
 mod numbers;
@@ -23,7 +22,6 @@ mod steps;
 #[cfg(test)]
 mod tests;
 
-pub use following::advance;
 pub use kinds::{
     add_count, announce, clear_pass, clear_pend, clear_scan, draw, help_stamp, load_clock,
     load_count, load_epoch, load_head, load_key, load_link, load_min, load_pend, load_state,

@@ -1,13 +1,16 @@
 //! Passes that make whole calls, one event after the other, and meet.
 //!
 //! A test here follows each seat with a local of its own, so that the events are those that the core names.
-ghost use Rattle.std.specs.Prelude.{◌≡◌, true, IfOk};
+ghost use Rattle.std.specs.Prelude.{◌≡◌, true, false, IfOk};
 ghost use Rattle.kw_world.specs.Local.{resting};
-ghost use Rattle.kw_core.specs.Events.{is_call_in_range};
+ghost use Rattle.kw_world.specs.Sane.{CanBegin};
+ghost use Rattle.kw_world.specs.Step.{is_skipped};
+ghost use Rattle.kw_core.specs.Events.{is_call_in_range, may_begin};
 ghost use Rattle.kw_table.specs.Passes.{view, IsPassOf};
 ghost use Rattle.kw_table.specs.Views.{local_in};
 
 use super::*;
+use kw_core::step::{operation, resume};
 use kw_model::call::{Call, Reply};
 use kw_model::memory::Memory;
 use kw_model::pair_list::PairList;
@@ -18,6 +21,27 @@ use std::test::Fail;
 
 // More events than any call of these tests makes.
 const ALL: u32 = 1000;
+
+// Makes the next event of a pass with this choice, and brings the local of its seat up to it. The answer is what the event did.
+fn advance(
+    shared: &Shared,
+    pass: &mut Pass,
+    local: &mut Local,
+    choice: Choice,
+) -> Result<StepDone, Memory>
+    requires table { IsPassOf shared.now pass.old }
+    requires knows { local.old ≡ local_in (view pass.old) }
+    requires begins { may_begin choice ≡ true }
+    requires counts { CanBegin choice local.old }
+    requires moves { is_skipped local.old.activity choice ≡ false }
+    ensures table { IsPassOf shared.now pass.new }
+    ensures knows { IfOk result (λ _. local.new ≡ local_in (view pass.new)) }
+{
+    let offered = choice.offered(shared.rows());
+    let does = operation(pass.number(), local, offered);
+    let told = make(shared, pass, choice, does);
+    resume(local, offered, told)
+}
 
 // Begins the first call of a pass, which is one event. Gives what its seat knows.
 fn begin(alloc: Global, shared: &Shared, pass: &mut Pass, call: Call) -> Result<Local, Memory>

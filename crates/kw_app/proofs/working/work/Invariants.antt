@@ -1,5 +1,5 @@
 use Rattle.std.proofs.Common.{take}
-use Rattle.kw_live.specs.Following.{GoesTo}
+use Rattle.kw_follow.specs.Following.{GoesTo}
 use Rattle.kw_map.specs.Kiwi.{IsIdle}
 use Rattle.kw_app.specs.Working.{Works}
 use Rattle.kw_app.proofs.working.work.Given as goal

@@ -1,10 +1,10 @@
 use Rattle.std.proofs.Common.{ap, subst, sym}
 use Rattle.kw_world.specs.declared.local.Local.{Local}
 use Rattle.kw_table.proofs.Prefixes.{prefix_self, prefix_trans}
-use Rattle.kw_live.specs.Stages.{IsWithinCall}
+use Rattle.kw_follow.specs.Within.{IsWithinCall}
 use Rattle.kw_live.proofs.Asking.{none_at, none_trans}
 use Rattle.kw_live.proofs.Drawing.{draws, met_clock, settles_on, settles_spent, waits}
-use Rattle.kw_live.proofs.PutStages.{goes_trans}
+use Rattle.kw_follow.proofs.OwnEvents.{goes_trans}
 use Rattle.kw_live.proofs.entering.draw.Goals as goal
 
 pub go-requires-in-ScanWait-2-clause-within : goal.go-requires-in-ScanWait-2-clause-within

@@ -1,5 +1,6 @@
 use Rattle.std.proofs.Common.{◌∙◌, refl, sym}
-use Rattle.kw_live.proofs.PutStages.{put_goes, goes_trans}
+use Rattle.kw_follow.proofs.OwnEvents.{goes_trans}
+use Rattle.kw_live.proofs.PutStages.{put_goes}
 use Rattle.kw_live.proofs.putting.try_put.Goals as goal
 
 pub loop-pass-smaller : goal.loop-pass-smaller

@@ -1,5 +1,5 @@
 use Rattle.std.proofs.Common.{◌∙◌, refl, sym}
-use Rattle.kw_live.proofs.PutStages.{goes_trans}
+use Rattle.kw_follow.proofs.OwnEvents.{goes_trans}
 use Rattle.kw_live.proofs.LookStages.{look_goes, looks_trans}
 use Rattle.kw_live.proofs.reading.look_at_entries.Goals as goal
 

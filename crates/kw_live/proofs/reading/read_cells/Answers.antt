@@ -1,5 +1,5 @@
 use Rattle.std.proofs.Common.{◌∙◌, sym}
-use Rattle.kw_live.proofs.PutStages.{goes_trans}
+use Rattle.kw_follow.proofs.OwnEvents.{goes_trans}
 use Rattle.kw_live.proofs.CellEvent.{cells_fewer, reads_on}
 use Rattle.kw_live.proofs.reading.read_cells.Goals as goal
 

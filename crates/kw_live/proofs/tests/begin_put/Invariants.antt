@@ -1,4 +1,4 @@
-use Rattle.kw_live.specs.Following.{Follows}
+use Rattle.kw_follow.specs.Following.{Follows}
 use Rattle.kw_live.proofs.tests.begin_put.Given as goal
 
 abbrev pub invariant-loop : goal.invariant-loop

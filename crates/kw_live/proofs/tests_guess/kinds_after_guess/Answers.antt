@@ -1,4 +1,4 @@
-use Rattle.kw_live.proofs.OneEvent.{follows_ranges}
+use Rattle.kw_follow.proofs.OneEvent.{follows_ranges}
 use Rattle.kw_live.proofs.tests_guess.kinds_after_guess.Goals as goal
 
 pub operation-requires : goal.operation-requires

@@ -1,6 +1,6 @@
 use Rattle.std.proofs.Common.{subst}
 use Rattle.kw_table.specs.declared.pass.Pass.{Pass}
-use Rattle.kw_live.specs.Following.{GoesTo}
+use Rattle.kw_follow.specs.Following.{GoesTo}
 use Rattle.kw_live.specs.Meeting.{AsksNone}
 use Rattle.kw_live.proofs.Asking.{none_trans}
 use Rattle.kw_live.proofs.WalkStages.{begins_on}

@@ -1,6 +1,6 @@
 use Rattle.std.proofs.Common.{◌∙◌, refl, sym}
 use Rattle.kw_live.proofs.Asking.{none_trans, walks_asking_none}
-use Rattle.kw_live.proofs.PutStages.{goes_trans}
+use Rattle.kw_follow.proofs.OwnEvents.{goes_trans}
 use Rattle.kw_live.proofs.WalkStages.{walk_goes, walks_trans}
 use Rattle.kw_live.proofs.walking.walk.Goals as goal
 

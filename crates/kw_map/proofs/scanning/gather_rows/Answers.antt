@@ -1,6 +1,6 @@
 use Rattle.std.proofs.Common.{◌∙◌, arith, subst, sym}
 use Rattle.kw_model.specs.Map.{Pairs}
-use Rattle.kw_live.proofs.PutStages.{goes_trans}
+use Rattle.kw_follow.proofs.OwnEvents.{goes_trans}
 use Rattle.kw_map.specs.Gather.{Takes, TakesPrefix}
 use Rattle.kw_map.proofs.RowStages.{between_rows, prefix_behind, stopped_here, wanted_above}
 use Rattle.kw_map.proofs.TakeLemmas.{Takes-append}

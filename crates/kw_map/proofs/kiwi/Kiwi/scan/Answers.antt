@@ -1,7 +1,8 @@
-use Rattle.std.proofs.Common.{Option, refl, subst}
+use Rattle.std.proofs.Common.{rules, Option, refl, subst}
 use Rattle.kw_model.specs.declared.call.Call.{Call}
 use Rattle.kw_model.specs.declared.call.Reply.TheVariants.{Pairs, Spent, Stopped}
-use Rattle.kw_live.specs.Following.{held}
+use Rattle.kw_follow.specs.Following.{held}
+use Rattle.kw_follow.proofs.OwnEvents.{goes_trans}
 use Rattle.kw_map.specs.Scanning.{StoppedAt}
 use Rattle.kw_map.proofs.Ordering.{pass_ordered}
 use Rattle.kw_map.proofs.ScanEnds.{entered_between, entered_spent, leaves_with_pairs}
@@ -11,15 +12,15 @@ use Rattle.kw_map.proofs.kiwi.Kiwi.scan.Goals as goal
 
 pub gather_rows-gathered-requires-clause-between : goal.gather_rows-gathered-requires-clause-between
 gather_rows-gathered-requires-clause-between g c =
-    entered_between g.G.Gather.last c.args.into.now c.args.self.now.shared c.enter-local.new.pass c.enter-local.result c.args.from c.args.to c.enter-local.ensures.follows c.enter-local.ensures.call c.enter-local.ensures.entered c.in_default.not-Leave c.requires.above
+    entered_between g.G.Gather.last c.args.into.now c.args.self.now.shared c.enter.new.pass c.enter.new.local c.args.from c.args.to c.enter.ensures.follows c.enter.ensures.call c.enter.ensures.entered c.in_default.not-Leave c.requires.above
 
 pub returns-in-Leave-clause-answers : goal.returns-in-Leave-clause-answers
 returns-in-Leave-clause-answers g c =
-    let is = entered_spent c.args.from c.args.to c.enter-local.result c.in-Leave.field-0 c.in-Leave.is c.enter-local.ensures.entered in
-    let spent = c.enter-local.ensures.spent refl in
+    let is = entered_spent c.args.from c.args.to c.enter.new.local c.in-Leave.field-0 c.in-Leave.is c.enter.ensures.entered in
+    let spent = c.enter.ensures.spent refl in
     record {
       reply = Spent;
-      calls = whole c.enter-local.ensures.opens refl (c.leave.ensures.closes Spent (leaves_with Spent c.enter-local.ensures.follows is (λ e. cc e))).0;
+      calls = whole c.enter.ensures.opens refl (c.leave.ensures.closes Spent (leaves_with Spent c.enter.ensures.follows is (λ e. cc e))).0;
       took = (refl, refl);
       clock = spent.0;
       met = clock_later spent.1 c.leave.ensures.goes;
@@ -32,11 +33,11 @@ returns-in-Leave-clause-ordered g c = pass_ordered c.leave.new.pass
 pub returns-in-Ok-clause-answers : goal.returns-in-Ok-clause-answers
 returns-in-Ok-clause-answers g c =
     let gathered = c.in-Ok.ensures in
-    let spent = c.enter-local.ensures.spent refl in
+    let spent = c.enter.ensures.spent refl in
     let pairs = held c.gather_rows-gathered.new.pass in
     record {
       reply = Pairs pairs;
-      calls = whole c.enter-local.ensures.opens gathered.calls (c.leave-2.ensures.closes (Pairs pairs) (leaves_with_pairs _ _ _ gathered.follows gathered.leaves)).0;
+      calls = whole c.enter.ensures.opens gathered.calls (c.leave-2.ensures.closes (Pairs pairs) (leaves_with_pairs _ _ _ gathered.follows gathered.leaves)).0;
       took = (pairs, refl, gathered.all);
       clock = spent.0;
       met = clock_later (clock_later spent.1 gathered.goes) c.leave-2.ensures.goes;
@@ -46,19 +47,21 @@ returns-in-Ok-clause-answers g c =
 pub returns-in-Ok-clause-ordered : goal.returns-in-Ok-clause-ordered
 returns-in-Ok-clause-ordered g c = pass_ordered c.leave-2.new.pass
 
-pub returns-in-Err-clause-answers : goal.returns-in-Err-clause-answers
-returns-in-Err-clause-answers g c =
+pub returns : goal.returns
+returns g c =
     let gathered = c.in-Err.ensures in
-    let spent = c.enter-local.ensures.spent refl in
-    let stopped = subst (λ (x : Option Call). StoppedAt g.G.Gather.last g.G.Gather.stands c.enter-local.new.pass c.gather_rows-gathered.new.pass x c.args.into.now c.gather_rows-gathered.new.into) c.enter-local.ensures.call gathered.prefix in
+    let spent = c.enter.ensures.spent refl in
+    let stopped = subst (λ (x : Option Call). StoppedAt g.G.Gather.last g.G.Gather.stands c.enter.new.pass c.gather_rows-gathered.new.pass x c.args.into.now c.gather_rows-gathered.new.into) c.enter.ensures.call gathered.prefix in
     record {
-      reply = Stopped;
-      calls = whole c.enter-local.ensures.opens gathered.calls (c.leave-2.ensures.closes Stopped (leaves_with Stopped gathered.follows gathered.leaves (λ e. cc e))).0;
-      took = (refl, gathered.stopped, stopped_within g.G.Gather.last g.G.Gather.stands _ _ _ _ _ _ _ _ c.enter-local.ensures.goes c.leave-2.ensures.goes stopped);
-      clock = spent.0;
-      met = clock_later (clock_later spent.1 gathered.goes) c.leave-2.ensures.goes;
-      spent = (λ e. absurd (cc e), λ e. absurd (c.in_default.not-Leave Spent (spent.2.1 e)));
+      idle = search rules;
+      goes = goes_trans _ _ _ _ c.enter.ensures.goes (goes_trans _ _ _ _ gathered.goes c.leave-2.ensures.goes);
+      answers = record {
+        reply = Stopped;
+        calls = whole c.enter.ensures.opens gathered.calls (c.leave-2.ensures.closes Stopped (leaves_with Stopped gathered.follows gathered.leaves (λ e. cc e))).0;
+        took = (refl, gathered.stopped, stopped_within g.G.Gather.last g.G.Gather.stands _ _ _ _ _ _ _ _ c.enter.ensures.goes c.leave-2.ensures.goes stopped);
+        clock = spent.0;
+        met = clock_later (clock_later spent.1 gathered.goes) c.leave-2.ensures.goes;
+        spent = (λ e. absurd (cc e), λ e. absurd (c.in_default.not-Leave Spent (spent.2.1 e)));
+      };
+      ordered = pass_ordered c.leave-2.new.pass;
     }
-
-pub returns-in-Err-clause-ordered : goal.returns-in-Err-clause-ordered
-returns-in-Err-clause-ordered g c = pass_ordered c.leave-2.new.pass

@@ -22,9 +22,9 @@ use Rattle.kw_table.specs.declared.pass.Pass.{Pass}
 use Rattle.kw_table.specs.declared.shared.Shared.{Shared}
 use Rattle.kw_table.specs.Passes.{view, Asks, IsPassOf, Makes}
 use Rattle.kw_table.specs.Views.{local_in}
-use Rattle.kw_live.specs.Following.{Follows, activity_in, bare_activity, bare_reply, carried, held, held_at}
-use Rattle.kw_live.proofs.OneEvent.{Went, seat_goes, follows_from}
-use Rattle.kw_live.proofs.Resting.{idle_rests}
+use Rattle.kw_follow.specs.Following.{Follows, activity_in, bare_activity, bare_reply, carried, held, held_at}
+use Rattle.kw_follow.proofs.OneEvent.{Went, seat_goes, follows_from}
+use Rattle.kw_follow.proofs.Resting.{idle_rests}
 use Rattle.kw_world.proofs.Rows.{row_of-next}
 
 -- The end of a scan.
@@ -92,6 +92,10 @@ module _ {s : Shared} {p q : Pass} {l after : Local} {done : StepDone} {told : �
 -- what resume gives at the end of a call
 pub ends : (l after : Local) (done : StepDone) (told : ℕ) (reply : Reply) → l.activity ≡ Leave reply → outcome after done ≡ next_of product Go l told → done ≡ Ended reply
 ends l after done told reply is goes = ap (λ (x : Outcome). x.done) (goes ∙ left l told reply is)
+
+-- a local that has left is at rest, but for the number of its calls
+pub end_rests : (l after : Local) (done : StepDone) (told : ℕ) (reply : Reply) → l.activity ≡ Leave reply → outcome after done ≡ next_of product Go l told → record after { number = 0 } ≡ resting 0
+end_rests l after done told reply is goes = ap (λ (x : Outcome). record x.local { number = 0 }) (goes ∙ left l told reply is)
 
 -- The begin of a call.
 

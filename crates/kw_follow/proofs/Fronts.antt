@@ -22,8 +22,8 @@ use Rattle.kw_laws.proofs.Worlds.{world-local}
 use Rattle.kw_table.specs.declared.pass.Pass.{Pass}
 use Rattle.kw_table.specs.declared.shared.Shared.{Shared}
 use Rattle.kw_table.specs.Passes.{view}
-use Rattle.kw_live.specs.Following.{GoesTo}
-use Rattle.kw_live.specs.Meeting.{Met, row_after}
+use Rattle.kw_follow.specs.Following.{GoesTo}
+use Rattle.kw_follow.specs.OwnEvents.{Met, row_after}
 
 -- what the pass's seat knows after these events
 abbrev pub local_at : Pass → List Event → Local

@@ -1,8 +1,8 @@
 use Rattle.std.proofs.Common.{ap, ◌∙◌}
 use Rattle.std.proofs.lemmas.Result.{IfOk-weaker}
 use Rattle.kw_world.specs.RowWalk.{offered}
-use Rattle.kw_table.proofs.Carried.{known_in, follows, knows_after}
-use Rattle.kw_table.proofs.following.advance.Goals as goal
+use Rattle.kw_table.proofs.Carried.{known_in, knows_after}
+use Rattle.kw_table.proofs.tests.advance.Goals as goal
 
 pub operation-does-requires : goal.operation-does-requires
 operation-does-requires c = (known_in c.args.pass.now c.args.local.now c.requires.knows).ranges
@@ -13,10 +13,7 @@ resume-requires-clause-ranges c = (known_in c.args.pass.now c.args.local.now c.r
 pub resume-requires-clause-room : goal.resume-requires-clause-room
 resume-requires-clause-room c = (known_in c.args.pass.now c.args.local.now c.requires.knows).room
 
-pub returns-clause-advances : goal.returns-clause-advances
-returns-clause-advances c =
-    let offers = c.offered-offered.ensures.value ∙ ap (λ n. offered n c.args.choice) c.rows.ensures in
-    IfOk-weaker c.resume.result _ _ (λ done goes. follows _ _ _ c.args.choice c.args.local.now _ done _ _ c.requires.table c.requires.knows offers c.make-told.ensures goes) c.resume.ensures.ok
-
 pub returns-clause-knows : goal.returns-clause-knows
-returns-clause-knows c = IfOk-weaker c.resume.result _ _ (λ done advances. knows_after _ _ _ _ _ done advances) (returns-clause-advances c)
+returns-clause-knows c =
+    let offers = c.offered-offered.ensures.value ∙ ap (λ n. offered n c.args.choice) c.rows.ensures in
+    IfOk-weaker c.resume.result _ _ (λ done goes. knows_after _ _ _ c.args.choice c.args.local.now _ done _ _ c.requires.table c.requires.knows offers c.make-told.ensures goes) c.resume.ensures.ok

@@ -19,8 +19,8 @@ use Rattle.kw_table.specs.declared.pass.Pass.{Pass}
 use Rattle.kw_table.specs.declared.shared.Shared.{Shared}
 use Rattle.kw_table.specs.Passes.{view, Makes}
 use Rattle.kw_table.specs.Views.{local_in}
-use Rattle.kw_live.specs.Calling.{Closes, Keeps, Opens, calls_in, now_in}
-use Rattle.kw_live.specs.Following.{activity_in}
+use Rattle.kw_follow.specs.Calling.{Closes, Keeps, Opens, calls_in, now_in}
+use Rattle.kw_follow.specs.Following.{activity_in}
 
 -- a list that is added and leaves the length is empty
 adds_none : {A : Type 0} (xs ys zs : List A) → xs ++ (ys ++ zs) ≡ xs ++ zs → ys ≡ []

@@ -33,7 +33,7 @@ use Rattle.kw_world.specs.RowWalk.{arrive, guess_met, is_stop, is_stopped, link_
 use Rattle.kw_world.specs.Sizes.{Sizes}
 use Rattle.kw_world.specs.Table.{row}
 use Rattle.kw_core.specs.Stages.{IsEarly}
-use Rattle.kw_live.specs.Following.{carried, bare_activity, bare_reply, held_at}
+use Rattle.kw_follow.specs.Following.{carried, bare_activity, bare_reply, held_at}
 
 -- p is what follows for code where o follows for the seat: it carries what the seat then knows, and the call goes on. The seat's pairs
 -- are then these, unless the choice is to stop

@@ -28,12 +28,12 @@ use Rattle.kw_table.specs.Passes.{view, Asks, IsPassOf, Makes}
 use Rattle.kw_table.specs.Views.{local_in}
 use Rattle.kw_table.proofs.Carried.{known_in}
 use Rattle.kw_table.proofs.Prefixes.{prefix_self}
-use Rattle.kw_live.specs.Following.{Follows, activity_in, bare_activity, bare_reply, carried, held, held_at, known}
-use Rattle.kw_live.specs.Meeting.{MetAs}
-use Rattle.kw_live.specs.Stages.{IsWithinCall}
-use Rattle.kw_live.proofs.Carrying.{Carries, IsGoingOn, carries, operates}
-use Rattle.kw_live.proofs.Growing.{IsStaying, first_own}
-use Rattle.kw_live.proofs.Resting.{early_pairs}
+use Rattle.kw_follow.specs.Following.{Follows, activity_in, bare_activity, bare_reply, carried, held, held_at, known}
+use Rattle.kw_follow.specs.OwnEvents.{MetAs}
+use Rattle.kw_follow.specs.Within.{IsWithinCall}
+use Rattle.kw_follow.proofs.Carrying.{Carries, IsGoingOn, carries, operates}
+use Rattle.kw_follow.proofs.Growing.{IsStaying, first_own}
+use Rattle.kw_follow.proofs.Resting.{early_pairs}
 
 -- What code carries.
 

@@ -1,0 +1,4 @@
+pub mod Following
+pub mod Calling
+pub mod OwnEvents
+pub mod Within

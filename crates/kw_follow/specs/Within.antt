@@ -1,0 +1,14 @@
+-- The middle of a call.
+use Rattle.kw_world.specs.declared.activity.Activity.{Activity}
+use Rattle.kw_world.specs.declared.activity.Activity.TheVariants.{Idle, LookCount, Cell, CellKey, CellValue, ClearScan, Leave}
+
+-- the seat is in the middle of a call, and its next event neither ends the call or a scan nor reads a cell
+abbrev pub IsWithinCall : Activity → Type 0
+IsWithinCall Idle = ⊥
+IsWithinCall LookCount = ⊥
+IsWithinCall (Cell j) = ⊥
+IsWithinCall CellKey = ⊥
+IsWithinCall CellValue = ⊥
+IsWithinCall (ClearScan reply) = ⊥
+IsWithinCall (Leave reply) = ⊥
+IsWithinCall _ = Unit {0}

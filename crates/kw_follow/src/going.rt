@@ -1,0 +1,139 @@
+//! Single events of a pass, and the local that follows its seat.
+//!
+//! An event is put together in `event`, once: the core's `operation`, a step of the table, and the core's `resume`. All that the
+//! crates above know of events they know by the contracts of this file.
+ghost use Rattle.std.specs.Prelude.{◌≡◌, ℕ, true, false, [], Some};
+ghost use Rattle.kw_core.specs.Events.{is_call_in_range, may_begin};
+ghost use Rattle.kw_world.specs.Local.{resting};
+ghost use Rattle.kw_world.specs.Row.{outcome};
+ghost use Rattle.kw_world.specs.RowEnd.{MayEndRow};
+ghost use Rattle.kw_world.specs.RowScan.{reply_or_stopped};
+ghost use Rattle.kw_world.specs.RowWalk.{offered, is_stop};
+ghost use Rattle.kw_world.specs.Sane.{IsLocal, HasRoom, CanBegin};
+ghost use Rattle.kw_world.specs.Sizes.{product};
+ghost use Rattle.kw_world.specs.Step.{next_of, row_of};
+ghost use Rattle.kw_table.specs.Passes.{view, Asks, IsPassOf, Makes};
+ghost use Rattle.kw_follow.specs.Calling.{Keeps, Opens, Closes};
+ghost use Rattle.kw_follow.specs.Following.{Follows, GoesTo, activity_in, held, bare_reply};
+ghost use Rattle.kw_follow.specs.OwnEvents.{MetAs, MetOnly};
+ghost use Rattle.kw_follow.specs.Within.{IsWithinCall};
+
+use kw_core::step::{operation, resume};
+use kw_model::call::{Call, Reply};
+use kw_table::{Pass, Shared, make};
+use kw_world::activity::Activity;
+use kw_world::event::{Choice, StepDone};
+use kw_world::local::Local;
+
+/// Makes the operation of the pass's next event with this choice, which is the one that the local names. The answer is what the event
+/// was told. Takes no memory.
+#[inline(always)]
+pub fn ask(shared: &Shared, pass: &mut Pass, local: &Local, choice: Choice) -> u64
+    requires ranges { IsLocal product local.now }
+    requires asks { Asks shared.now pass.old choice (row_of product (view pass.old).number (offered shared.now.opening.rows choice) local.now).operation }
+    ensures { Makes shared.now pass.old choice result pass.new }
+{
+    let offered = choice.offered(shared.rows());
+    make(
+        shared,
+        pass,
+        choice,
+        operation(pass.number(), local, offered),
+    )
+}
+
+// What an event was told, and what it did.
+#[derive(Drop)]
+struct Happened {
+    told: u64,
+    done: StepDone,
+}
+
+// Makes the next event of the pass with this choice, and brings the local up to it. It is not the last event of a scan at a row.
+#[inline(always)]
+fn event(shared: &Shared, pass: &mut Pass, local: &mut Local, choice: Choice) -> Happened
+    requires ranges { IsLocal product local.old }
+    requires room { HasRoom product local.old }
+    requires begins { CanBegin (offered shared.now.opening.rows choice) local.old }
+    requires on { MayEndRow local.old → ⊥ }
+    requires asks { Asks shared.now pass.old choice (row_of product (view pass.old).number (offered shared.now.opening.rows choice) local.old).operation }
+    ensures makes { Makes shared.now pass.old choice result.told pass.new }
+    ensures line { outcome local.new result.done ≡ next_of product (offered shared.now.opening.rows choice) local.old result.told }
+{
+    let told = ask(shared, pass, local, choice);
+    match resume(local, choice.offered(shared.rows()), told) {
+        Ok(done) => Happened { told, done },
+        Err(_) => unreachable!(),
+    }
+}
+
+/// Begins a call: the first event of it. The local is at rest before. Takes no memory.
+pub fn begin(shared: &Shared, pass: &mut Pass, local: &mut Local, call: Call)
+    requires table { IsPassOf shared.now pass.old }
+    requires idle { activity_in pass.old ≡ Activity.Idle }
+    requires rested { local.old ≡ resting 0 }
+    requires range { is_call_in_range call ≡ true }
+    ensures goes { GoesTo shared.now pass.old pass.new }
+    ensures follows { Follows shared.now pass.new local.new }
+    ensures activity { local.new.activity ≡ Activity.Enter }
+    ensures call { local.new.call ≡ Some call }
+    ensures unread { local.new.has_read ≡ false }
+    ensures opens { Opens pass.old pass.new call }
+    ensures held { held pass.new ≡ [] }
+    ensures only { (told : ℕ) × MetOnly pass.old pass.new (activity_in pass.old) told }
+{
+    event(shared, pass, local, Choice::Begin(call));
+}
+
+/// Makes the next event in the middle of a call, other than one that reads cells or ends a scan. The answer is what the event was told.
+/// Takes no memory.
+pub fn go(shared: &Shared, pass: &mut Pass, local: &mut Local, choice: Choice) -> u64
+    requires follows { Follows shared.now pass.old local.old }
+    requires within { IsWithinCall local.old.activity }
+    requires choice { may_begin choice ≡ true }
+    ensures goes { GoesTo shared.now pass.old pass.new }
+    ensures follows { Follows shared.now pass.new local.new }
+    ensures line { outcome local.new StepDone.Moved ≡ next_of product (offered (view pass.old).opening.rows choice) local.old result }
+    ensures met { MetAs pass.old pass.new local.old choice result }
+    ensures only { MetOnly pass.old pass.new local.old.activity result }
+    ensures calls { Keeps pass.old pass.new }
+    ensures held { is_stop choice ≡ false → held pass.new ≡ held pass.old }
+{
+    let happened = event(shared, pass, local, choice);
+    happened.told
+}
+
+/// Ends a scan: it is then about to leave, with its pairs, or with `Stopped` where the choice is to stop. Takes no memory.
+pub fn clear(shared: &Shared, pass: &mut Pass, local: &mut Local, choice: Choice)
+    requires follows { Follows shared.now pass.old local.old }
+    requires over { (reply : Reply) × (local.old.activity ≡ Activity.ClearScan reply) }
+    requires choice { may_begin choice ≡ true }
+    ensures goes { GoesTo shared.now pass.old pass.new }
+    ensures follows { Follows shared.now pass.new local.new }
+    ensures leaves { (reply : Reply) → activity_in pass.old ≡ Activity.ClearScan reply → activity_in pass.new ≡ Activity.Leave (reply_or_stopped reply choice) }
+    ensures activity { (reply : Reply) → local.old.activity ≡ Activity.ClearScan reply → local.new.activity ≡ Activity.Leave (reply_or_stopped reply choice) }
+    ensures calls { Keeps pass.old pass.new }
+    ensures held { is_stop choice ≡ false → held pass.new ≡ held pass.old }
+{
+    event(shared, pass, local, choice);
+}
+
+/// Ends the call: its last event. The local is then at rest. The answer is the reply, without the pairs of a scan. Takes no memory.
+pub fn end(shared: &Shared, pass: &mut Pass, local: &mut Local) -> Reply
+    requires follows { Follows shared.now pass.old local.old }
+    requires leaving { (reply : Reply) × (local.old.activity ≡ Activity.Leave reply) }
+    ensures goes { GoesTo shared.now pass.old pass.new }
+    ensures idle { activity_in pass.new ≡ Activity.Idle }
+    ensures rests { local.new ≡ resting 0 }
+    ensures closes { (reply : Reply) → activity_in pass.old ≡ Activity.Leave reply → Closes pass.old pass.new reply × (result ≡ bare_reply reply) }
+    ensures only { (told : ℕ) × MetOnly pass.old pass.new (activity_in pass.old) told }
+{
+    let happened = event(shared, pass, local, Choice::Go);
+    // code counts no calls
+    local.number = 0;
+    match happened.done {
+        StepDone::Ended(reply) => reply,
+        StepDone::Moved => unreachable!(),
+        StepDone::Skipped => unreachable!(),
+    }
+}

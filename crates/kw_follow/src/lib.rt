@@ -1,0 +1,15 @@
+//! What follows a call over the table that threads share: one event of it at a time.
+//!
+//! Code follows a seat with a `Local`, which is what the seat knows but for the number of its calls and the pairs of a scan. The
+//! functions here make one event of a pass each, and bring the local up to it by the core's `operation` and `resume`: `begin` a
+//! call's first one, `go` those in the middle of it, `clear` the one at the end of a scan, and `end` the last one. `ask` makes the
+//! operation alone, for whoever goes on by a part of the core's `resume` of its own.
+//!
+//! `specs/Following.antt` says what it is to follow a pass and what it is that a pass went on, `specs/Calling.antt` how the calls of
+//! a pass go on, and `specs/OwnEvents.antt` which events it made. The crates that put stages of a call together from single events
+//! stand beside each other on this one, and know the table by these contracts alone. Nothing here takes memory.
+#![tactic(auto)]
+
+mod going;
+
+pub use going::{ask, begin, clear, end, go};
