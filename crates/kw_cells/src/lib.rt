@@ -7,6 +7,9 @@
 #![tactic(auto)]
 
 pub mod cell;
+pub mod keep;
+pub mod limits;
 pub mod memory;
+pub mod pack;
 pub mod plain;
 pub mod plain_pairs;
