@@ -1,5 +1,5 @@
 -- Where rows start, and how many there are at most.
-use Rattle.std.proofs.Common.{ℕ, zero, suc, ◌≡◌, ◌<◌, ◌≤◌, ◌+◌, ◌-◌, ◌*◌, List, [], ◌∷◌, ◌++◌, refl, sym, ap, subst, ◌∙◌, arith, length, get_or, inl, inr, ◌⊎◌}
+use Rattle.std.proofs.Common.{ℕ, zero, suc, ◌≡◌, ◌<◌, ◌≤◌, ◌+◌, ◌-◌, ◌*◌, List, [], ◌∷◌, ◌++◌, refl, sym, ap, ◌∙◌, arith, length, get_or, inl, inr, ◌⊎◌}
 use Rattle.std.proofs.lemmas.List.{length_push, get_or_append_left, get_or_default, get_or_past}
 use Rattle.std.proofs.Math.Nat.{suc-mul}
 use Rattle.std.proofs.Math.Seq.{get_or-append_seam}
@@ -26,8 +26,8 @@ first_here kept rising first l other k d g =
         at (inr h) = absurd (o (omega arith))
 
 -- the first place of the key that the cell has with which the row would be too long is where the next row starts
-pub next_start : (built : ℕ) (kept : List Cell) → AreRising kept → HasFew built kept → (start next : ℕ) → start + built < length kept → next ≤ start + built → ((d : Cell) → (get_or kept (start + built) d).key ≡ (get_or kept next d).key) → ((k : ℕ) (d : Cell) → k < next → (get_or kept k d).key < (get_or kept next d).key) → IsNextStart built kept start next
-next_start built kept rising few start next within fits full first = record { later = later (cases_lt start next); fits = fits; first = first; within = within; full = full }
+pub is_next_start : (built : ℕ) (kept : List Cell) → AreRising kept → HasFew built kept → (start next : ℕ) → start + built < length kept → next ≤ start + built → ((d : Cell) → (get_or kept (start + built) d).key ≡ (get_or kept next d).key) → ((k : ℕ) (d : Cell) → k < next → (get_or kept k d).key < (get_or kept next d).key) → IsNextStart built kept start next
+is_next_start built kept rising few start next within fits full first = record { later = later (cases_lt start next); fits = fits; first = first; within = within; full = full }
   where
     later : ((start < next) ⊎ (next ≤ start)) → start < next
     later (inl h) = h
@@ -111,12 +111,6 @@ has_room built most gathered kept starts start rising small enough so more = go 
     go : ((length starts < most) ⊎ (most ≤ length starts)) → length starts < most
     go (inl h) = h
     go (inr h) = full (let m = so.bounded in omega arith)
-
--- a turn that finds the row too long has room for one start more, and finds where the next row starts
-pub turn : (built most gathered : ℕ) (kept cells : List Cell) (starts : List ℕ) (start next : ℕ) → cells ≡ kept → AreRising kept → HasFew built kept → length cells ≤ gathered → AreEnough gathered built most → AreStartsSoFar built most cells starts start → start + built < length cells → next ≤ start + built → ((d : Cell) → (get_or cells (start + built) d).key ≡ (get_or cells next d).key) → ((k : ℕ) (d : Cell) → k < next → (get_or cells k d).key < (get_or cells next d).key) → (length starts < most) × IsNextStart built cells start next
-turn built most gathered kept cells starts start next same rising few small enough so more fits full first =
-    let r : AreRising cells = subst AreRising (sym same) rising in
-    (has_room built most gathered cells starts start r small enough so more, next_start built cells r (subst (HasFew built) (sym same) few) start next more fits full first)
 
 -- where the cells behind the last start fill no more than its row, these are the starts
 pub starts_all : (built most : ℕ) (kept : List Cell) (starts : List ℕ) (start : ℕ) → AreStartsSoFar built most kept starts start → length kept ≤ start + built → AreStarts built kept starts

@@ -13,3 +13,5 @@ pub mod memory;
 pub mod pack;
 pub mod plain;
 pub mod plain_pairs;
+#[cfg(test)]
+mod tests;

@@ -2,10 +2,9 @@
 //!
 //! The kept cells of a rebuild stand by rising key in one list, which is cut into rows here. All cells of a key go into
 //! one row, so that whoever looks for a key reads one row. Nothing here takes memory.
-ghost use Rattle.std.specs.Prelude.{ℕ, ◌≡◌, ◌≤◌, ◌<◌, length, slice_index_or};
-ghost use Rattle.kw_cells.specs.Cuts.{AreFilled, AreStarts};
+ghost use Rattle.std.specs.Prelude.{◌+◌, ◌≤◌, ◌<◌, length};
+ghost use Rattle.kw_cells.specs.Cuts.{AreFilled, AreStarts, IsNextStart};
 ghost use Rattle.kw_cells.specs.Kept.{AreRising, HasFew};
-ghost use Rattle.kw_cells.specs.declared.cell.Cell.{Cell};
 ghost use Rattle.kw_cells.specs.declared.limits.TheConstants.{MOST_STARTS};
 ghost use Rattle.kw_words.specs.declared.sizes.TheConstants.{BUILT};
 
@@ -35,23 +34,24 @@ pub fn pack_rows(kept: &Kept) -> RowCuts
     starts.push(0);
     let mut start = 0;
     while cells.len() - start > BUILT {
-        start = first_of_key(cells, start + BUILT);
+        start = next_start(cells, start);
         starts.push(start);
     }
     starts
 }
 
-/// The first place of the key that the cell at this place has.
-fn first_of_key(kept: &[Cell], place: usize) -> usize
-    requires place { place < length kept.now }
-    requires rising { AreRising kept.now }
-    ensures below { result ≤ place }
-    ensures of_key { (d : Cell) → (slice_index_or kept.now place d).key ≡ (slice_index_or kept.now result d).key }
-    ensures first { (k : ℕ) (d : Cell) → k < result → (slice_index_or kept.now k d).key < (slice_index_or kept.now result d).key }
+/// Where the row starts that follows one which starts here and cannot take all cells that are left: at the first cell of the
+/// key with which it would have too many.
+fn next_start(cells: &[Cell], start: usize) -> usize
+    requires rising { AreRising cells.now }
+    requires few { HasFew BUILT cells.now }
+    requires more { start + BUILT < length cells.now }
+    ensures { IsNextStart BUILT cells.now start result }
 {
-    let mut first = place;
-    while first > 0 && kept[first - 1].key == kept[place].key {
-        first -= 1;
+    let key = cells[start + BUILT].key;
+    let mut next = start + BUILT;
+    while next > 0 && cells[next - 1].key == key {
+        next -= 1;
     }
-    first
+    next
 }
