@@ -14,7 +14,8 @@ use Rattle.kw_cells.specs.declared.cell.Cell.{Cell}
 abbrev pub IsShowing : List Cell → List ℕ → ℕ → ℕ → Cell → Type 0
 IsShowing s needed i key x = (x.key ≡ key) × IsChosen s needed x × (is_some x.value ≡ true) × ((m : ℕ) (d : Cell) → i ≤ m → m < length s → x.key ≡ (get_or s m d).key → x.version ≤ (get_or s m d).version)
 
--- what holds where the cells before a place have been gone through
+-- what holds where the cells before a place have been gone through. A cell may stand twice; one that stands at the place again
+-- is not picked before it, so what holds of the cells gone through has a case for the cell at the place
 pub record IsSoFar (s : List Cell) (needed : List ℕ) (i : ℕ) (shown : Option ℕ) (kept : List Cell) : Type 0 where
   pub few : length kept ≤ i
   pub rising : AreRising kept
@@ -24,9 +25,11 @@ pub record IsSoFar (s : List Cell) (needed : List ℕ) (i : ℕ) (shown : Option
   pub shows : IfSome shown (λ k. Any (IsShowing s needed i k) s)
   pub showed : (j : ℕ) (d : Cell) → j < i → i < length s → IsChosen s needed (get_or s j d) → is_some (get_or s j d).value ≡ true → (get_or s j d).key ≡ (get_or s i d).key → (shown ≡ Some (get_or s i d).key) ⊎ (get_or s i d ≡ get_or s j d)
 
+-- what the test of equality says where it fails
 not_equal : (a b : ℕ) → eqb a b ≡ false → a ≡ b → ⊥
 not_equal a b e f = grind (arith, nat_tests)
 
+-- what it says where it holds
 equal : (a b : ℕ) → eqb a b ≡ true → a ≡ b
 equal a b e = grind (arith, nat_tests)
 

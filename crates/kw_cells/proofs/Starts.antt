@@ -125,6 +125,7 @@ module _ (built : ℕ) (kept : List Cell) (starts : List ℕ) (rising : AreRisin
   end_last : (i : ℕ) → length starts ≤ i + 1 → end_of kept starts i ≡ length kept
   end_last i l = get_or_past starts (i + 1) (length kept) l
 
+  -- no row has too many cells
   row_most : (i : ℕ) → i < length starts → end_of kept starts i ≤ get_or starts i 0 + built
   row_most i l = go (cases_lt (i + 1) (length starts))
     where
@@ -132,6 +133,7 @@ module _ (built : ℕ) (kept : List Cell) (starts : List ℕ) (rising : AreRisin
       go (inl h) = let f = (are.next i h).fits in rw (end_before i h) f
       go (inr h) = let e : length starts - 1 ≡ i = omega arith in let b = are.last in let c : length kept ≤ get_or starts i 0 + built = rw e at b in rw (end_last i h) c
 
+  -- two neighbours have more than one row may have
   rows_least : (i : ℕ) → i + 1 < length starts → get_or starts i 0 + built < end_of kept starts (i + 1)
   rows_least i l = go (cases_lt (i + 2) (length starts))
     where
@@ -142,6 +144,7 @@ module _ (built : ℕ) (kept : List Cell) (starts : List ℕ) (rising : AreRisin
       go (inl h) = rw (end_before (i + 1) (omega arith), e) (two_rows built kept starts rising are.next i h)
       go (inr h) = rw (end_last (i + 1) (omega arith)) (are.next i l).within
 
+  -- the keys before a start are below those from it on
   rows_between : (i k m : ℕ) (d : Cell) → i < length starts → k < get_or starts i 0 → get_or starts i 0 ≤ m → m < length kept → (get_or kept k d).key < (get_or kept m d).key
   rows_between zero k m d l g h n = absurd (let f = are.first in omega arith)
   rows_between (suc j) k m d l g h n =
