@@ -3,6 +3,13 @@ pub mod Ranges
 pub mod Best
 pub mod Least
 pub mod Next
+pub mod Rising
+pub mod Shown
+pub mod Passing
+pub mod Moved
+pub mod Few
+pub mod Starts
+pub mod Rooms
 pub mod Entries
 pub mod Tree
 pub mod Scans

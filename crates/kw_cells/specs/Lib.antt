@@ -1,3 +1,6 @@
 pub mod Pairs
 pub mod Cells
+pub mod Kept
+pub mod Ordered
+pub mod Cuts
 pub mod Plain

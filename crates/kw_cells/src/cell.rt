@@ -4,17 +4,24 @@
 //! slice and asks here: a get for the best cell of its key, a scan for one pair after the other. Nothing here takes
 //! memory or changes a cell.
 ghost use Rattle.std.specs.Prelude.{ℕ, ◌≡◌, ◌+◌, ◌≤◌, ◌<◌, [], ◌∷◌, IsTrue, IsNone, IfSome, IfNone, All, MatchOption, if◌then◌else◌, ◌↔◌};
+ghost use Rattle.std.specs.Ordering.{is_lt};
 ghost use Rattle.kw_cells.specs.Cells.{is_later, fits, best_of, IsBest, shown_at, pairs_of, IsLeastKey, IsNextPair};
+ghost use Rattle.kw_cells.specs.Ordered.{is_before};
+
+use std::cmp::Ordering;
 
 /// One version of one key in a row.
+///
+/// The fields stand in an order that leaves no gaps: a `u64` lies at a multiple of 8 bytes, so that two `u32` beside each
+/// other take as much room as one alone. A cell has 32 bytes, and would have 40 with the version before the place.
 #[derive(Clone, Copy, Debug, Default, PartialEq, Eq)]
 pub struct Cell {
     /// The key, any `u32`.
     pub key: u32,
-    /// The version, any `u64`.
-    pub version: u64,
     /// The place in the row, which orders cells of one key and version.
     pub place: u32,
+    /// The version, any `u64`.
+    pub version: u64,
     /// The value, or None in a tombstone, by which a delete hides the older cells of its key.
     pub value: Option<u64>,
 }
@@ -25,6 +32,19 @@ impl Cell {
         ensures { result ≡ is_later self.now other.now }
     {
         self.version > other.version || self.version == other.version && self.place > other.place
+    }
+
+    /// By key, then version, then place.
+    pub(crate) fn order(&self, other: &Cell) -> Ordering
+        ensures { is_lt result ≡ is_before self.now other.now }
+    {
+        if self.key != other.key {
+            return self.key.cmp(&other.key);
+        }
+        if self.version != other.version {
+            return self.version.cmp(&other.version);
+        }
+        self.place.cmp(&other.place)
     }
 
     /// Whether this is a cell of the key with a version at most `version`.
@@ -117,8 +137,8 @@ mod tests {
     fn put(key: u32, version: u64, place: u32, value: u64) -> Cell {
         Cell {
             key,
-            version,
             place,
+            version,
             value: Some(value),
         }
     }
@@ -126,8 +146,8 @@ mod tests {
     fn tombstone(key: u32, version: u64, place: u32) -> Cell {
         Cell {
             key,
-            version,
             place,
+            version,
             value: None,
         }
     }

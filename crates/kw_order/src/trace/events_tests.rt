@@ -297,7 +297,7 @@ const TWO_PUTS: &str = "\
 2 get 5 2: Start, number 1, want 5, call Get(5), Pass(2) = 1
 2 go 11: Cell(0), count 2
 2 go 3: CellValue, place 1, place_key 5
-2 go 1: Leave(Value(20)), gathered [Cell { key: 5, version: 1, place: 1, value: Some(20) }]
+2 go 1: Leave(Value(20)), gathered [Cell { key: 5, place: 1, version: 1, value: Some(20) }]
 2 go 1: Idle, Ended(Value(20)), want 0, count 0, place 0, place_key 0, no call, gathered [], Pass(2) = 0
 0 go 1: PutValue, Key(0, 0) = 5
 0 go 1: Announce, Value(0, 0) = 9223372036854775818
@@ -310,9 +310,9 @@ const TWO_PUTS: &str = "\
 2 get 5 2: Start, number 2, want 5, call Get(5), Pass(2) = 1
 2 go 11: Cell(0), count 2
 2 go 2: CellValue, place_key 5
-2 go 1: Cell(1), gathered [Cell { key: 5, version: 1, place: 0, value: Some(10) }]
+2 go 1: Cell(1), gathered [Cell { key: 5, place: 0, version: 1, value: Some(10) }]
 2 go 2: CellValue, place 1
-2 go 1: Leave(Value(20)), gathered [Cell { key: 5, version: 1, place: 0, value: Some(10) }, Cell { key: 5, version: 1, place: 1, value: Some(20) }]
+2 go 1: Leave(Value(20)), gathered [Cell { key: 5, place: 0, version: 1, value: Some(10) }, Cell { key: 5, place: 1, version: 1, value: Some(20) }]
 2 go 1: Idle, Ended(Value(20)), want 0, count 0, place 0, place_key 0, no call, gathered [], Pass(2) = 0
 ";
 
@@ -343,7 +343,7 @@ const STAMPED_BY_A_SCAN: &str = "\
 1 go 1: Look(1), remembered [Mark { cell: 0, version: 2 }], Pend(0, 0) = 65538
 1 go 8: Cell(0), count 1
 1 go 2: CellValue, place_version 2, place_key 5
-1 go 1: ClearScan(Pairs(PairList { pairs: [] })), has read, gathered [Cell { key: 5, version: 2, place: 0, value: Some(10) }]
+1 go 1: ClearScan(Pairs(PairList { pairs: [] })), has read, gathered [Cell { key: 5, place: 0, version: 2, value: Some(10) }]
 1 go 1: Leave(Pairs(PairList { pairs: [] })), Scan(1) = 0
 1 go 1: Idle, Ended(Pairs(PairList { pairs: [] })), helping 1, count 0, place_version 1, place_key 0, no call, has not read, remembered [], gathered [], Pass(1) = 0
 1 scan 0 9 2: ScanClock, number 2, call Scan(0, 9), Pass(1) = 1
@@ -353,7 +353,7 @@ const STAMPED_BY_A_SCAN: &str = "\
 1 go 1: Start, version 2, Scan(1) = 10
 1 go 11: Cell(0), count 1, remembered [Mark { cell: 0, version: 2 }]
 1 go 2: CellValue, place_version 2, place_key 5
-1 go 1: ClearScan(Pairs(PairList { pairs: [(5, 10)] })), has read, gathered [Cell { key: 5, version: 2, place: 0, value: Some(10) }]
+1 go 1: ClearScan(Pairs(PairList { pairs: [(5, 10)] })), has read, gathered [Cell { key: 5, place: 0, version: 2, value: Some(10) }]
 1 go 1: Leave(Pairs(PairList { pairs: [(5, 10)] })), Scan(1) = 0
 1 go 1: Idle, Ended(Pairs(PairList { pairs: [(5, 10)] })), waiting 1, drawn 1, version 1, count 0, place_version 1, place_key 0, no call, has not read, remembered [], gathered [], Pass(1) = 0
 0 go 2: PutClear, version 2, Version(0, 0) = 2
@@ -386,7 +386,7 @@ const STAMPED_BEHIND_A_DRAW: &str = "\
 1 go 1: Start, Scan(1) = 6
 1 go 11: Cell(0), count 1, remembered [Mark { cell: 0, version: 1 }]
 1 go 2: CellValue, place_key 5
-1 go 1: ClearScan(Pairs(PairList { pairs: [(5, 10)] })), has read, gathered [Cell { key: 5, version: 1, place: 0, value: Some(10) }]
+1 go 1: ClearScan(Pairs(PairList { pairs: [(5, 10)] })), has read, gathered [Cell { key: 5, place: 0, version: 1, value: Some(10) }]
 1 go 1: Leave(Pairs(PairList { pairs: [(5, 10)] })), Scan(1) = 0
 1 go 1: Idle, Ended(Pairs(PairList { pairs: [(5, 10)] })), count 0, place_key 0, no call, has not read, remembered [], gathered [], Pass(1) = 0
 0 go 1: PutClear, Version(0, 0) = 1
@@ -483,10 +483,10 @@ const STOPS: &str = "\
 1 stop 1: Look(0)
 1 stop 1: Look(1)
 1 go 9: CellKey, count 1
-1 go 2: ClearScan(Pairs(PairList { pairs: [(5, 10)] })), place_key 5, has read, gathered [Cell { key: 5, version: 1, place: 0, value: Some(10) }]
+1 go 2: ClearScan(Pairs(PairList { pairs: [(5, 10)] })), place_key 5, has read, gathered [Cell { key: 5, place: 0, version: 1, value: Some(10) }]
 1 stop 1: Leave(Stopped), Scan(1) = 0
 1 stop 1: Idle, Ended(Stopped), count 0, place_key 0, no call, has not read, gathered [], Pass(1) = 0
-1 scan 0 9 20: ClearScan(Pairs(PairList { pairs: [(5, 10)] })), number 2, waiting 2, drawn 2, version 2, count 1, place_key 5, call Scan(0, 9), has read, gathered [Cell { key: 5, version: 1, place: 0, value: Some(10) }], Clock = 3, Pass(1) = 1, Scan(1) = 10
+1 scan 0 9 20: ClearScan(Pairs(PairList { pairs: [(5, 10)] })), number 2, waiting 2, drawn 2, version 2, count 1, place_key 5, call Scan(0, 9), has read, gathered [Cell { key: 5, place: 0, version: 1, value: Some(10) }], Clock = 3, Pass(1) = 1, Scan(1) = 10
 1 go 1: Leave(Pairs(PairList { pairs: [(5, 10)] })), Scan(1) = 0
 1 stop 1: Idle, Ended(Pairs(PairList { pairs: [(5, 10)] })), waiting 1, drawn 1, version 1, count 0, place_key 0, no call, has not read, gathered [], Pass(1) = 0
 ";

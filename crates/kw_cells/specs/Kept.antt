@@ -1,0 +1,38 @@
+-- Which cells a rebuild of rows keeps, as a relation, and what the kept cells show.
+use Rattle.std.specs.Prelude.{ℕ, ◌≡◌, ◌≤◌, ◌==◌, ◌&&◌, ◌||◌, ◌⊎◌, ◌↔◌, nat_lt, Bool, true, false, List, None, IsSome, All, AllPairs, Any, Contains, count_by}
+use Rattle.kw_cells.specs.Cells.{is_later, IsBest, best_of, shown_at}
+use Rattle.kw_cells.specs.declared.cell.Cell.{Cell}
+
+-- by key, then version
+abbrev pub is_below : Cell → Cell → Bool
+is_below c d = nat_lt c.key d.key || (c.key == d.key && nat_lt c.version d.version)
+
+-- strictly rising by key and version
+abbrev pub AreRising : List Cell → Type 0
+AreRising cells = AllPairs (λ c d. is_below c d ≡ true) cells
+
+-- no cell of its key is later
+abbrev pub IsNewest : List Cell → Cell → Type 0
+IsNewest cells c = All (λ d. d.key ≡ c.key → is_later d c ≡ false) cells
+
+-- one of the cells: the newest of its key, or the best of its key at a needed version
+abbrev pub IsChosen : List Cell → List ℕ → Cell → Type 0
+IsChosen cells needed c = Contains cells c × (IsNewest cells c ⊎ Any (λ u. IsBest cells c.key u c) needed)
+
+-- chosen, and a chosen cell of its key that is not above it has a value: just those are left where the oldest chosen cell
+-- of a key is dropped again and again, as long as it is a tombstone
+abbrev pub IsKept : List Cell → List ℕ → Cell → Type 0
+IsKept cells needed c = IsChosen cells needed c × Any (λ d. (d.key ≡ c.key) × (d.version ≤ c.version) × IsChosen cells needed d × IsSome d.value) cells
+
+-- the kept cells, strictly rising by key and version; at most one list is so
+pub record IsKeptList (cells : List Cell) (needed : List ℕ) (kept : List Cell) : Type 0 where
+  pub rising : AreRising kept
+  pub exactly : (c : Cell) → Contains kept c ↔ IsKept cells needed c
+
+-- the key has the same best cell at this version in both lists, or shows no value in both
+abbrev pub ShowsTheSame : List Cell → List Cell → ℕ → ℕ → Type 0
+ShowsTheSame cells kept key version = (best_of kept key version ≡ best_of cells key version) ⊎ ((shown_at kept version key ≡ None) × (shown_at cells version key ≡ None))
+
+-- no key has more than so many of the cells
+abbrev pub HasFew : ℕ → List Cell → Type 0
+HasFew most cells = (key : ℕ) → count_by (λ c. c.key == key) cells ≤ most
