@@ -1,0 +1,26 @@
+use Rattle.std.proofs.Common.{rules, ◌≡◌, refl, sym, ap, subst, arith}
+use Rattle.kw_index.specs.Entries.{IsLawful}
+use Rattle.kw_index.proofs.Lawful.{lawful_without}
+use Rattle.kw_index.proofs.Placed.{taken_out, none_out}
+use Rattle.kw_index.proofs.entries.Entries.remove.Goals as goal
+
+-- the entry of the row stood at the place, and the others are as lawful as before
+pub invariant_of-self : goal.invariant_of-self
+invariant_of-self c =
+    let lawful = c.self.invariant.lawful in
+    let out = taken_out c.self.inside.list.items lawful.distinct c.args.row c.in-Some.at (search rules) in
+    record {
+      lawful = rw (c.remove.ensures.items, out) (lawful_without _ _ lawful c.args.row);
+      room = rw c.remove.ensures.capacity c.self.invariant.room;
+    }
+
+pub returns-in-Some : goal.returns-in-Some
+returns-in-Some c =
+    let out = taken_out c.self.inside.list.items c.self.invariant.lawful.distinct c.args.row c.in-Some.at (search rules) in
+    rw (← c.self.view_is, c.remove.ensures.items, out) refl
+
+-- no entry has the row
+pub returns-in_default : goal.returns-in_default
+returns-in_default c =
+    let out = none_out c.self.inside.list.items c.self.invariant.lawful.distinct c.args.row (search rules) in
+    rw (← c.self.view_is) (ap (λ list. record { rows = c.self.inside.rows; list = list }) out)
