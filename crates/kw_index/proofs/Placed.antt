@@ -7,6 +7,7 @@ use Rattle.std.proofs.lemmas.Bool.Decides.{nat_tests}
 use Rattle.std.proofs.lemmas.List.{get_or_default}
 use Rattle.std.proofs.lemmas.List.Quantifiers.{position-Some}
 use Rattle.std.proofs.lemmas.List.Sums.{fails_before_first}
+use Rattle.std.proofs.lemmas.List.Elements.{All-weaker, filter_passes}
 use Rattle.kw_index.specs.declared.entries.Entry.{Entry}
 use Rattle.kw_index.specs.Entries.{IsLawful, without, with_entry}
 use Rattle.kw_index.proofs.Filtered.{filter_all, filter_front, filter_back, filter_one_out, set_parts}
@@ -58,3 +59,7 @@ module _ (list : List Entry) (distinct : AllPairs (λ e f. e.row ≢ f.row) list
     where
       none_found : (k : ℕ) → k < length list → k < position_or_len (λ e. e.row == row) list
       none_found k below = grind (arith, nat_tests)
+
+-- no entry has a row that was taken out
+pub absent_without : (row : ℕ) (list : List Entry) → All (λ e. e.row ≢ row) (without row list)
+absent_without row list = All-weaker (λ e. not (e.row == row) ≡ true) (λ e. e.row ≢ row) (λ e passes. grind (arith, nat_tests)) (without row list) (filter_passes (λ e. not (e.row == row)) list)

@@ -16,3 +16,8 @@ IsShownCopy rows old new result = (turn : Option Listing) × MatchOption turn ((
 -- the entries that a turn took out of the slot come back, or the given ones where it gained no right
 abbrev pub IsExchanged : ℕ → Listing → Published → Type 0
 IsExchanged rows given result = (turn : Option Listing) × MatchOption turn (result ≡ Published.Busy given) (λ shown. IsOf rows shown × (result ≡ Published.Done shown))
+
+-- the entries that a publication handed back
+abbrev pub handed_back : Published → Listing
+handed_back (Published.Done entries) = entries
+handed_back (Published.Busy entries) = entries

@@ -79,7 +79,8 @@ impl Entries {
 
     /// Drops the entry of a row, if there is one. Takes no memory.
     pub fn remove(&mut self, row: u32)
-        ensures { self.new ≡ record { rows = self.old.rows; list = without row self.old.list } }
+        ensures list { self.new ≡ record { rows = self.old.rows; list = without row self.old.list } }
+        ensures absent { All (λ e. e.row ≢ row) self.new.list }
     {
         if let Some(at) = place_of(&self.list, row) {
             self.list.remove(at);

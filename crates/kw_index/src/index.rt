@@ -6,10 +6,10 @@
 //! without the index. So nothing here waits for another thread.
 //!
 //! The rule of the slot is that what stands in it are entries with room for as many rows as the map has.
-ghost use Rattle.std.specs.Prelude.{ℕ, ◌≡◌, ◌<◌, ◌≤◌, ◌%◌, IfOk, IfSome, IsTrue};
+ghost use Rattle.std.specs.Prelude.{ℕ, ◌≡◌, ◌<◌, ◌≤◌, ◌%◌, [], ◌∷◌, IfOk, IfSome, IsTrue};
 ghost use Rattle.counted_slot.specs.Counting.{readers, IsTurn, Gains};
 ghost use Rattle.kw_index.specs.Entries.{IsOf};
-ghost use Rattle.kw_index.specs.Turns.{IsShownGuess, IsShownCopy, IsExchanged};
+ghost use Rattle.kw_index.specs.Turns.{IsShownGuess, IsShownCopy, IsExchanged, handed_back};
 
 use crate::entries::{Entries, Entry};
 use crate::memory::Memory;
@@ -19,9 +19,6 @@ use std::marker::Model;
 
 /// How often a turn is tried.
 pub const TRIES: u32 = 64;
-
-/// The most rows that a map has.
-pub const MOST_ROWS: u32 = 65_536;
 
 impl Fits for Entries {
     type Tag = u32;
@@ -62,15 +59,15 @@ impl Model for Index {
     ghost invariant = { λ index. index.slot ≡ index.rows };
 }
 
-// The first row, whose range begins with the least key.
+// The first row of a map, whose range begins with the least key.
 const FIRST: Entry = Entry { min: 0, row: 0 };
 
 impl Index {
-    /// The index of a map of this many rows, 1 to `MOST_ROWS`, with the one entry of the least key 0 and row 0.
+    /// The index of a map of this many rows, at least 1, with the one entry of the least key 0 and row 0.
     ///
     /// All memory of the index is taken here, and the only error is the want of it.
     pub fn new(alloc: Global, rows: u32) -> Result<Index, Memory>
-        requires { (1 ≤ rows) × (rows ≤ MOST_ROWS) }
+        requires { 1 ≤ rows }
         ensures { IfOk result (λ index. index ≡ rows) }
     {
         // A slot is made closed to readers, and a writer who opens it leaves entries of its own.
@@ -126,7 +123,8 @@ impl Index {
     /// `Busy` comes only where the turn gained no right to write, and hands back the argument. Takes no memory.
     pub fn publish(&self, entries: Entries) -> Published
         requires { entries.rows ≡ self.now }
-        ensures { IsExchanged self.now entries result }
+        ensures exchanged { IsExchanged self.now entries result }
+        ensures rows { (handed_back result).rows ≡ self.now }
     {
         // what may stand in the slot has to be lawful, as all entries are
         let _ = entries.list();
@@ -209,9 +207,11 @@ fn is_unread(word: u64) -> bool
     word % STATES != TAKEN && word % LOW_HALF / ONE_READER == 0
 }
 
+// The one entry with which an index begins.
 fn first_entries(alloc: Global, rows: u32) -> Result<Entries, Memory>
     requires { 1 ≤ rows }
-    ensures { IfOk result (λ first. IsOf rows first) }
+    ensures list { IfOk result (λ first. first ≡ record { rows = rows; list = record { min = 0; row = 0 } ∷ [] }) }
+    ensures lawful { IfOk result (IsOf rows) }
 {
     let mut first = Entries::new(alloc, rows)?;
     first.insert(FIRST);

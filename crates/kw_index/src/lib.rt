@@ -11,5 +11,7 @@
 
 pub mod entries;
 pub mod index;
-
 pub mod memory;
+
+#[cfg(test)]
+mod tests;

@@ -1,7 +1,7 @@
 use Rattle.std.proofs.Common.{rules, ◌≡◌, refl, sym, ap, subst, arith}
 use Rattle.kw_index.specs.Entries.{IsLawful}
 use Rattle.kw_index.proofs.Lawful.{lawful_without}
-use Rattle.kw_index.proofs.Placed.{taken_out, none_out}
+use Rattle.kw_index.proofs.Placed.{taken_out, none_out, absent_without}
 use Rattle.kw_index.proofs.entries.Entries.remove.Goals as goal
 
 -- the entry of the row stood at the place, and the others are as lawful as before
@@ -14,13 +14,24 @@ invariant_of-self c =
       room = rw c.remove.ensures.capacity c.self.invariant.room;
     }
 
-pub returns-in-Some : goal.returns-in-Some
-returns-in-Some c =
+pub returns-in-Some-clause-list : goal.returns-in-Some-clause-list
+returns-in-Some-clause-list c =
     let out = taken_out c.self.inside.list.items c.self.invariant.lawful.distinct c.args.row c.in-Some.at (search rules) in
     rw (← c.self.view_is, c.remove.ensures.items, out) refl
 
 -- no entry has the row
-pub returns-in_default : goal.returns-in_default
-returns-in_default c =
+pub returns-in_default-clause-list : goal.returns-in_default-clause-list
+returns-in_default-clause-list c =
     let out = none_out c.self.inside.list.items c.self.invariant.lawful.distinct c.args.row (search rules) in
     rw (← c.self.view_is) (ap (λ list. record { rows = c.self.inside.rows; list = list }) out)
+
+-- so no entry is left that has it
+pub returns-in-Some-clause-absent : goal.returns-in-Some-clause-absent
+returns-in-Some-clause-absent c =
+    let out = taken_out c.self.inside.list.items c.self.invariant.lawful.distinct c.args.row c.in-Some.at (search rules) in
+    rw (c.remove.ensures.items, out) (absent_without c.args.row c.self.inside.list.items)
+
+pub returns-in_default-clause-absent : goal.returns-in_default-clause-absent
+returns-in_default-clause-absent c =
+    let out = none_out c.self.inside.list.items c.self.invariant.lawful.distinct c.args.row (search rules) in
+    rw (← c.self.view_is, out) (absent_without c.args.row c.self.inside.list.items)
