@@ -1,5 +1,5 @@
 -- Lists that a test cuts in two at a place, and what a filter leaves of them.
-use Rattle.std.proofs.Common.{◌≡◌, ◌≢◌, ℕ, zero, suc, ◌+◌, ◌<◌, ◌≤◌, Bool, true, false, not, List, [], ◌∷◌, ◌++◌, length, get_or, set, take, drop, filter, refl, ap, arith}
+use Rattle.std.proofs.Common.{◌≡◌, ℕ, zero, suc, ◌<◌, ◌≤◌, Bool, true, false, List, [], ◌∷◌, ◌++◌, length, get_or, set, take, drop, filter, refl, ap, arith}
 use Rattle.std.specs.List.{AllWithin, remove}
 
 -- what holds from a place on in a list holds one place lower in its tail

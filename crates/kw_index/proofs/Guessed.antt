@@ -1,12 +1,11 @@
 -- The guess of entries, by the place of the first entry above the key.
-use Rattle.std.proofs.Common.{◌≡◌, ◌≢◌, ℕ, zero, suc, ◌+◌, ◌-◌, ◌<◌, ◌≤◌, Bool, true, false, List, [], ◌∷◌, length, get_or, All, AllPairs, Option, Some, None, refl, ap, sym, arith}
+use Rattle.std.proofs.Common.{◌≡◌, ℕ, ◌-◌, ◌<◌, ◌≤◌, true, false, List, length, get_or, All, AllPairs, ap, sym, arith}
 use Rattle.std.specs.Prelude.{nat_le}
 use Rattle.std.specs.List.Sorted.{IsPartitionPoint}
 use Rattle.std.proofs.lemmas.Bool.Decides.{nat_tests}
 use Rattle.std.proofs.lemmas.List.{get_or_default}
-use Rattle.std.proofs.lemmas.List.Elements.{Contains-get_or}
 use Rattle.kw_index.specs.declared.entries.Entry.{Entry}
-use Rattle.kw_index.specs.Entries.{IsGuess, IsNearest}
+use Rattle.kw_index.specs.Entries.{IsNearest}
 
 module _ (list : List Entry) (rising : AllPairs (λ e f. e.min < f.min) list) (key at : ℕ) (in_range : at ≤ length list)
     (parted : IsPartitionPoint (λ e. nat_le e.min key ≡ true) (λ e. nat_le e.min key ≡ false) list at) where
@@ -20,6 +19,6 @@ module _ (list : List Entry) (rising : AllPairs (λ e f. e.min < f.min) list) (k
     among = (at - 1, omega (arith, some, in_range), sym read);
     at_most = grind (arith, nat_tests, parted.0 (at - 1) e (omega arith) (omega arith), ap (λ f. f.min) read);
     greatest = λ k d below at_most.
-      let last = get_or_default list (at - 1) e d (omega arith) in
-      grind (arith, nat_tests, parted.1 k d, rising k (at - 1) d, ap (λ f. f.min) read, ap (λ f. f.min) last, λ (same : k ≡ at - 1). ap (λ n. (get_or list n d).min) same);
+        let last = get_or_default list (at - 1) e d (omega arith) in
+        grind (arith, nat_tests, parted.1 k d, rising k (at - 1) d, ap (λ f. f.min) read, ap (λ f. f.min) last, λ (same : k ≡ at - 1). ap (λ n. (get_or list n d).min) same);
   }

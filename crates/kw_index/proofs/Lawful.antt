@@ -1,5 +1,5 @@
 -- Entries that are edited stay lawful, and there are never more of them than rows.
-use Rattle.std.proofs.Common.{◌≡◌, ◌≢◌, ℕ, zero, suc, ◌+◌, ◌<◌, ◌≤◌, Bool, true, false, not, eqb, List, [], ◌∷◌, ◌++◌, length, get_or, set, map, take, drop, filter, All, AllPairs, refl, ap, sym, subst, arith, ◌⊎◌, inl, inr}
+use Rattle.std.proofs.Common.{◌≡◌, ◌≢◌, ℕ, suc, ◌<◌, ◌≤◌, true, false, not, eqb, List, [], ◌∷◌, ◌++◌, length, get_or, map, filter, All, AllPairs, refl, ap, sym, arith}
 use Rattle.std.specs.List.{list_any, IsDistinct, AllByRecursion}
 use Rattle.std.specs.List.Sorted.{IsNonDecreasingBy}
 use Rattle.std.specs.Prelude.{nat_lt, ◌==◌}
@@ -24,8 +24,8 @@ pub pairs_append : {X : Type 0} (R : X → X → Type 0) (xs ys : List X) → Al
 pairs_append R [] ys left right across = right
 pairs_append R (x ∷ xs) ys left right across =
     AllPairs-cons R x (xs ++ ys)
-      (All-append (R x) xs ys (pairs_head R x xs left) (All-head (λ z. All (R z) ys) x xs across))
-      (pairs_append R xs ys (pairs_tail R x xs left) right (All-tail (λ z. All (R z) ys) x xs across))
+    (All-append (R x) xs ys (pairs_head R x xs left) (All-head (λ z. All (R z) ys) x xs across))
+    (pairs_append R xs ys (pairs_tail R x xs left) right (All-tail (λ z. All (R z) ys) x xs across))
 
 -- minima that rise do not fall
 pub rising_by : (list : List Entry) → AllPairs (λ e f. e.min < f.min) list → IsNonDecreasingBy (λ e. e.min) list
@@ -64,28 +64,32 @@ module _ (rows : ℕ) (list : List Entry) (lawful : IsLawful rows list) where
     rows_across =
         let others = All-filter (λ e. nat_lt e.min new.min) (λ e. All (λ f. e.min < f.min → e.row ≢ f.row) list) list apart in
         λ i d below j e below' same.
-          omega (arith, lesser_below i d below, greater_above j e below',
-            All-filter (λ f. nat_lt new.min f.min) (λ f. (get_or lesser i d).min < f.min → (get_or lesser i d).row ≢ f.row) list (others i d below) j e below' (omega (arith, lesser_below i d below, greater_above j e below')) same)
+        omega (
+          arith,
+          lesser_below i d below,
+          greater_above j e below',
+          All-filter (λ f. nat_lt new.min f.min) (λ f. (get_or lesser i d).min < f.min → (get_or lesser i d).row ≢ f.row) list (others i d below) j e below' (omega (arith, lesser_below i d below, greater_above j e below')) same,
+        )
 
     -- the entries with a new one in its place are lawful
     pub lawful_with_entry : IsLawful rows (with_entry new list)
     lawful_with_entry = record {
       rising = pairs_append (λ e f. e.min < f.min) lesser (new ∷ greater)
-        (AllPairs-filter (λ e f. e.min < f.min) _ list lawful.rising)
-        (AllPairs-cons (λ e f. e.min < f.min) new greater greater_above (AllPairs-filter (λ e f. e.min < f.min) _ list lawful.rising))
-        (λ i d below. All-cons (λ f. (get_or lesser i d).min < f.min) new greater (lesser_below i d below)
+          (AllPairs-filter (λ e f. e.min < f.min) _ list lawful.rising)
+          (AllPairs-cons (λ e f. e.min < f.min) new greater greater_above (AllPairs-filter (λ e f. e.min < f.min) _ list lawful.rising))
+          (λ i d below. All-cons (λ f. (get_or lesser i d).min < f.min) new greater (lesser_below i d below)
           (λ j e below'. omega (arith, lesser_below i d below, greater_above j e below')));
       distinct = pairs_append (λ e f. e.row ≢ f.row) lesser (new ∷ greater)
-        (AllPairs-filter (λ e f. e.row ≢ f.row) _ list lawful.distinct)
-        (AllPairs-cons (λ e f. e.row ≢ f.row) new greater
+          (AllPairs-filter (λ e f. e.row ≢ f.row) _ list lawful.distinct)
+          (AllPairs-cons (λ e f. e.row ≢ f.row) new greater
           (λ j e below same. All-filter (λ f. nat_lt new.min f.min) (λ f. f.row ≢ new.row) list row_is_new j e below (sym same))
           (AllPairs-filter (λ e f. e.row ≢ f.row) _ list lawful.distinct))
-        (λ i d below. All-cons (λ f. (get_or lesser i d).row ≢ f.row) new greater
+          (λ i d below. All-cons (λ f. (get_or lesser i d).row ≢ f.row) new greater
           (All-filter (λ e. nat_lt e.min new.min) (λ e. e.row ≢ new.row) list row_is_new i d below)
           (rows_across i d below));
       in_range = All-append (λ e. e.row < rows) lesser (new ∷ greater)
-        (All-filter _ (λ e. e.row < rows) list lawful.in_range)
-        (All-cons (λ e. e.row < rows) new greater row_in_range (All-filter _ (λ e. e.row < rows) list lawful.in_range));
+          (All-filter _ (λ e. e.row < rows) list lawful.in_range)
+          (All-cons (λ e. e.row < rows) new greater row_in_range (All-filter _ (λ e. e.row < rows) list lawful.in_range));
     }
 
 -- a row that no entry has is not among the rows

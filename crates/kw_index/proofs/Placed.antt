@@ -1,15 +1,14 @@
 -- What an edit at the place that a search found makes of the entries.
-use Rattle.std.proofs.Common.{◌≡◌, ◌≢◌, ℕ, zero, suc, ◌+◌, ◌<◌, ◌≤◌, Bool, true, false, not, List, [], ◌∷◌, ◌++◌, length, get_or, set, take, drop, filter, All, AllPairs, Option, Some, None, refl, ap, sym, arith}
+use Rattle.std.proofs.Common.{◌≡◌, ◌≢◌, ℕ, suc, ◌<◌, ◌≤◌, true, false, not, List, length, get_or, set, take, filter, All, AllPairs, Some, None, refl, ap, sym, arith}
 use Rattle.std.specs.Prelude.{nat_lt, ◌==◌, position}
 use Rattle.std.specs.List.{AllWithin, insert, remove, position_or_len}
 use Rattle.std.specs.List.Sorted.{IsPartitionPoint}
 use Rattle.std.proofs.lemmas.Bool.Decides.{nat_tests}
-use Rattle.std.proofs.lemmas.List.{get_or_default}
 use Rattle.std.proofs.lemmas.List.Quantifiers.{position-Some}
 use Rattle.std.proofs.lemmas.List.Sums.{fails_before_first}
 use Rattle.std.proofs.lemmas.List.Elements.{All-weaker, filter_passes}
 use Rattle.kw_index.specs.declared.entries.Entry.{Entry}
-use Rattle.kw_index.specs.Entries.{IsLawful, without, with_entry}
+use Rattle.kw_index.specs.Entries.{without, with_entry}
 use Rattle.kw_index.proofs.Filtered.{filter_all, filter_front, filter_back, filter_one_out, set_parts}
 
 module _ (list : List Entry) (rising : AllPairs (λ e f. e.min < f.min) list) (new : Entry) (at : ℕ) (in_range : at ≤ length list)
@@ -24,16 +23,16 @@ module _ (list : List Entry) (rising : AllPairs (λ e f. e.min < f.min) list) (n
   pub put_in : ((d : Entry) → at < length list → (get_or list at d).min ≢ new.min) → insert list at new ≡ with_entry new list
   put_in other =
       let all_greater : AllWithin (λ e. nat_lt new.min e.min ≡ true) list at (length list) = λ k d above below.
-        grind (arith, nat_tests, parted.1 at d (omega arith) (omega arith), other d (omega arith), rising at k d, λ (same : at ≡ k). ap (λ n. (get_or list n d).min) same) in
+      grind (arith, nat_tests, parted.1 at d (omega arith) (omega arith), other d (omega arith), rising at k d, λ (same : at ≡ k). ap (λ n. (get_or list n d).min) same) in
       rw (lesser, filter_back (λ e. nat_lt new.min e.min) list at in_range none_greater_before all_greater) refl
 
   -- where the entry at the place has the minimum, they are those with it in that one's place
   pub put_over : at < length list → ((d : Entry) → (get_or list at d).min ≡ new.min) → set list at new ≡ with_entry new list
   put_over here same_min =
       let none_greater : AllWithin (λ e. nat_lt new.min e.min ≡ false) list 0 (suc at) = λ k d above below.
-        grind (arith, nat_tests, none_greater_before k d, same_min d, λ (same : at ≡ k). ap (λ n. (get_or list n d).min) same) in
+      grind (arith, nat_tests, none_greater_before k d, same_min d, λ (same : at ≡ k). ap (λ n. (get_or list n d).min) same) in
       let all_greater : AllWithin (λ e. nat_lt new.min e.min ≡ true) list (suc at) (length list) = λ k d above below.
-        grind (arith, nat_tests, same_min d, rising at k d (omega arith) below) in
+      grind (arith, nat_tests, same_min d, rising at k d (omega arith) below) in
       rw (lesser, filter_back (λ e. nat_lt new.min e.min) list (suc at) (omega arith) none_greater all_greater) (set_parts list at new here)
 
 module _ (list : List Entry) (distinct : AllPairs (λ e f. e.row ≢ f.row) list) (row : ℕ) where
@@ -48,9 +47,9 @@ module _ (list : List Entry) (distinct : AllPairs (λ e f. e.row ≢ f.row) list
   taken_out at found =
       let facts = row_at at found in
       sym (filter_one_out (λ e. not (e.row == row)) list at (in_range_of at found)
-        (λ k d above below. let earlier = (facts d).2 k below in rw earlier refl)
-        (λ d. let here = (facts d).1 in rw here refl)
-        (λ k d above below. grind (arith, nat_tests, (facts d).1, distinct at k d (omega arith) below)))
+      (λ k d above below. let earlier = (facts d).2 k below in rw earlier refl)
+      (λ d. let here = (facts d).1 in rw here refl)
+      (λ k d above below. grind (arith, nat_tests, (facts d).1, distinct at k d (omega arith) below)))
 
   -- and where it found none, no entry has the row
   pub none_out : position (λ e. e.row == row) list ≡ None → list ≡ without row list

@@ -1,6 +1,6 @@
 -- What a turn at the slot of an index shows, and what a call that takes one answers.
 -- A turn that gained its right shows the entries that stood in the slot at that moment, and one that gained none shows nothing.
-use Rattle.std.specs.Prelude.{ℕ, ◌≡◌, Option, Some, None, MatchOption}
+use Rattle.std.specs.Prelude.{ℕ, ◌≡◌, Option, None, MatchOption}
 use Rattle.kw_index.specs.Entries.{Listing, IsOf, IsGuess}
 use Rattle.kw_index.specs.declared.index.Copied.{Copied}
 use Rattle.kw_index.specs.declared.index.Published.{Published}

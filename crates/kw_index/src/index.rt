@@ -197,7 +197,11 @@ fn one_reader_more(word: u64) -> Option<u64>
     ensures { IfSome result (λ counted. IsTurn word counted × (readers word < readers counted) × (counted % 4 < 3)) }
 {
     let is_open = word % STATES == PRESENT && word % LOW_HALF / ONE_READER < MOST_READERS;
-    if is_open { Some(word + ONE_READER) } else { None }
+    if is_open {
+        Some(word + ONE_READER)
+    } else {
+        None
+    }
 }
 
 // Whether a writer may come: nobody reads or writes.

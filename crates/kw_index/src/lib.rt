@@ -12,6 +12,5 @@
 pub mod entries;
 pub mod index;
 pub mod memory;
-
 #[cfg(test)]
 mod tests;

@@ -1,4 +1,4 @@
-use Rattle.std.proofs.Common.{rules, ap, arith}
+use Rattle.std.proofs.Common.{arith}
 use Rattle.kw_index.proofs.Lawful.{length_at_most}
 use Rattle.kw_index.proofs.entries.Entries.copy_from.Goals as goal
 

@@ -1,7 +1,7 @@
-use Rattle.std.proofs.Common.{rules, ◌≡◌, ◌≢◌, ◌<◌, All, refl, sym, ap, subst, arith, ◌∙◌}
+use Rattle.std.proofs.Common.{rules, ◌≡◌, ◌≢◌, ◌<◌, All, sym, ap, subst, arith, ◌∙◌}
 use Rattle.std.specs.List.{insert}
 use Rattle.std.proofs.lemmas.List.Edits.{length-insert}
-use Rattle.kw_index.specs.Entries.{IsLawful, with_entry}
+use Rattle.kw_index.specs.Entries.{IsLawful}
 use Rattle.kw_index.proofs.Lawful.{lawful_with_entry, length_at_most}
 use Rattle.kw_index.proofs.Placed.{put_in, put_over}
 use Rattle.kw_index.proofs.entries.Entries.insert.Goals as goal

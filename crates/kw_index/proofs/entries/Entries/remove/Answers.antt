@@ -1,5 +1,4 @@
-use Rattle.std.proofs.Common.{rules, ◌≡◌, refl, sym, ap, subst, arith}
-use Rattle.kw_index.specs.Entries.{IsLawful}
+use Rattle.std.proofs.Common.{rules, refl, ap}
 use Rattle.kw_index.proofs.Lawful.{lawful_without}
 use Rattle.kw_index.proofs.Placed.{taken_out, none_out, absent_without}
 use Rattle.kw_index.proofs.entries.Entries.remove.Goals as goal
