@@ -1,4 +1,5 @@
 //! Words in, figures out.
+use crate::index_timing::GuessFigure;
 use crate::lines::LineFigure;
 use crate::timing::Figure;
 use std::{env, io};
@@ -14,7 +15,7 @@ pub fn given_calls(rt: &HostRuntime) -> io::Result<Option<u32>> {
 /// Says how the program is used.
 pub fn print_usage(rt: &HostRuntime) -> io::Result<()> {
     println!(rt;
-        "kw_bench N: makes N calls of each kind on maps of one row, reads and prints N lines, and prints what each took"
+        "kw_bench N: makes N calls of each kind on maps of one row, reads and prints N lines, asks indexes for N keys, and prints what each took"
     )
 }
 
@@ -35,5 +36,25 @@ pub fn print_lines(rt: &HostRuntime, figure: LineFigure) -> io::Result<()> {
     println!(rt;
         "lines: {lines} of {} bytes; {read} ns a line to read, {printed} ns an answer to print",
         figure.bytes
+    )
+}
+
+/// Prints what a guess took, and how many hundredths of a search in a plain slice that is.
+pub fn print_guesses(rt: &HostRuntime, figure: GuessFigure) -> io::Result<()> {
+    let calls = u128::from(figure.calls).max(1);
+    let by_one = figure.one.saturating_mul(100) / figure.slice.max(1);
+    let by_four = figure.four.saturating_mul(100) / figure.slice_by_four.max(1);
+    let rows = if figure.agree { "the same" } else { "other" };
+    println!(rt;
+        "guess, {} entries: {} ns by one thread, {by_one} in 100 of a search in a slice, for {rows} rows",
+        figure.entries,
+        figure.one / calls
+    )?;
+    println!(rt;
+        "  {} ns by each of four threads, {by_four} in 100; {} of {} keys were told a row, beside {} publications",
+        figure.four / calls,
+        figure.crowd.rows,
+        u64::from(figure.calls).saturating_mul(4),
+        figure.crowd.published
     )
 }

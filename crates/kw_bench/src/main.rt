@@ -1,18 +1,22 @@
-//! How fast the map's calls are, by one thread and by two on one map, and how fast lines are read and answers printed.
+//! How fast the map's calls are, by one thread and by two on one map, how fast lines are read and answers printed, and how fast an index is.
 //!
 //! With a number N the program makes N calls of each kind on maps of one row and prints what a call took, in nanoseconds, and how many
 //! calls two threads made in the time in which one made a hundred. Then it reads an input of N lines, or of as many as an input may have, and
-//! prints an answer to each, with no map. All figures of a run come from that run, so its ratios can be
+//! prints an answer to each, with no map. At last it asks an index of few entries, one of some and one of many for N keys, and plain slices
+//! of the same entries, by one thread and by four. All figures of a run come from that run, so its ratios can be
 //! compared where its times cannot. Without a number it says how it is used. Nothing is promised of the figures; the calls
-//! are those of `kw_map` and `kw_line`, by their contracts.
+//! are those of `kw_map`, `kw_line` and `kw_index`, by their contracts.
 #![tactic(auto)]
 
 mod asking;
 mod figures;
+mod guessing;
+mod index_timing;
 mod lines;
 mod timing;
 
-use crate::figures::{given_calls, print_figure, print_lines, print_usage};
+use crate::figures::{given_calls, print_figure, print_guesses, print_lines, print_usage};
+use crate::index_timing::time_guesses;
 use crate::lines::time_lines;
 use crate::timing::{time_gets, time_puts, time_scans};
 use std::io;
@@ -34,5 +38,8 @@ fn run<T: Threads + Sync>(rt: &HostRuntime, threads: &T) -> io::Result<()> {
     print_figure(rt, "get", time_gets(rt, threads, calls)?)?;
     print_figure(rt, "scan", time_scans(rt, threads, calls)?)?;
     print_figure(rt, "put", time_puts(rt, threads, calls)?)?;
-    print_lines(rt, time_lines(rt, calls)?)
+    print_lines(rt, time_lines(rt, calls)?)?;
+    print_guesses(rt, time_guesses(rt, threads, 10, calls)?)?;
+    print_guesses(rt, time_guesses(rt, threads, 1_000, calls)?)?;
+    print_guesses(rt, time_guesses(rt, threads, 16_384, calls)?)
 }

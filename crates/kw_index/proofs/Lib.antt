@@ -1,0 +1,4 @@
+pub mod Filtered
+pub mod Lawful
+pub mod Placed
+pub mod Guessed

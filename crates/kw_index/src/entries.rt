@@ -1,0 +1,139 @@
+//! The entries of an index, as one thread edits them.
+//!
+//! An entry names a row and the least key of its range. Entries are a list by strictly rising minima in which no row comes twice, so the
+//! row for a key is found by binary search. Their room is taken when they are made: as the rows differ and are rows of the map, there are
+//! never more entries than rows, and no edit takes memory. `index` publishes them.
+ghost use Rattle.std.specs.Prelude.{MatchBool, ◌≡◌, ◌≢◌, ◌≤◌, ◌<◌, ◌==◌, nat_lt, true, false, [], length, position, IfOk, All, AllPairs};
+ghost use Rattle.std.specs.List.Sorted.{IsPartitionPoint};
+ghost use Rattle.kw_index.specs.Entries.{IsLawful, IsGuess, HasMinAt, HasNotMinAt, without, with_entry};
+
+use crate::memory::Memory;
+use std::alloc::Global;
+use std::marker::Model;
+
+/// A row of the map, and the least key of its range.
+#[derive(Clone, Copy, Debug, PartialEq, Eq)]
+pub struct Entry {
+    /// The least key, any `u32`.
+    pub min: u32,
+    /// The row, below the number of rows of the map.
+    pub row: u32,
+}
+
+/// Entries by strictly rising minima, whose rows differ, with room for as many as the map has rows.
+///
+/// Seen as that number of rows and the list of the entries.
+#[derive(Drop)]
+pub struct Entries {
+    rows: u32,
+    list: Vec<Entry>,
+}
+
+impl Model for Entries {
+    ghost use Rattle.kw_index.specs.Entries.{Listing, IsHeld};
+    ghost use Rattle.std.specs.Prelude.{vec_capacity};
+
+    ghost Value = { Listing };
+
+    ghost view = { λ e. record { rows = e.rows; list = e.list.items } };
+
+    ghost invariant = { λ e. IsHeld e.rows e.list.items (vec_capacity e.list) };
+}
+
+impl Entries {
+    /// No entries, with room for those of a map of this many rows. The only error is the want of memory.
+    pub fn new(alloc: Global, rows: u32) -> Result<Entries, Memory>
+        ensures { IfOk result (λ made. made ≡ record { rows = rows; list = [] }) }
+    {
+        let list = Vec::with_capacity(alloc, rows as usize)?;
+        Ok(Entries { rows, list })
+    }
+
+    /// The number of rows of the map, which is how many entries there is room for. Takes no memory.
+    pub fn rows(&self) -> u32
+        ensures { result ≡ self.now.rows }
+    {
+        self.rows
+    }
+
+    /// The entries by rising minima. Takes no memory.
+    pub fn list(&self) -> &[Entry]
+        ensures list { result.now ≡ self.now.list }
+        ensures lawful { IsLawful self.now.rows self.now.list }
+    {
+        &self.list
+    }
+
+    /// The row of the entry with the greatest minimum that is at most the key. None where each minimum is above the key.
+    ///
+    /// The row is below the number of rows. Takes no memory, and as many steps as the logarithm of the number of entries.
+    pub fn guess(&self, key: u32) -> Option<u32>
+        ensures { IsGuess self.now.list key result }
+    {
+        let at = self.list.partition_point(|entry| entry.min <= key);
+        if at == 0 {
+            return None;
+        }
+        Some(self.list[at - 1].row)
+    }
+
+    /// Drops the entry of a row, if there is one. Takes no memory.
+    pub fn remove(&mut self, row: u32)
+        ensures list { self.new ≡ record { rows = self.old.rows; list = without row self.old.list } }
+        ensures absent { All (λ e. e.row ≢ row) self.new.list }
+    {
+        if let Some(at) = place_of(&self.list, row) {
+            self.list.remove(at);
+        }
+    }
+
+    /// Puts an entry in its place, in place of the one with the same minimum, if there is one.
+    ///
+    /// The entry's row is below the number of rows, and no entry has it. Takes no memory.
+    pub fn insert(&mut self, entry: Entry)
+        requires in_range { entry.row < self.old.rows }
+        requires new_row { All (λ e. e.row ≢ entry.row) self.old.list }
+        ensures { self.new ≡ record { rows = self.old.rows; list = with_entry entry self.old.list } }
+    {
+        let at = count_below(&self.list, entry.min);
+        if has_min_at(&self.list, at, entry.min) {
+            self.list[at] = entry;
+        } else if self.list.insert(at, entry).is_err() {
+            unreachable!()
+        }
+    }
+
+    /// Makes these entries those of another of as many rows. Takes no memory.
+    pub fn copy_from(&mut self, from: &Entries)
+        requires { from.now.rows ≡ self.old.rows }
+        ensures { self.new ≡ from.now }
+    {
+        self.list.clear();
+        if self.list.extend_from_slice(&from.list).is_err() {
+            unreachable!()
+        }
+    }
+}
+
+// The place of the entry of a row, if there is one.
+fn place_of(list: &[Entry], row: u32) -> Option<usize>
+    ensures { result ≡ position (λ e. e.row == row) list.now }
+{
+    list.iter().position(|entry| entry.row == row)
+}
+
+// How many entries have a lesser minimum, which are the first ones.
+fn count_below(list: &[Entry], min: u32) -> usize
+    requires { AllPairs (λ e f. e.min < f.min) list.now }
+    ensures bound { result ≤ length list.now }
+    ensures parted { IsPartitionPoint (λ e. nat_lt e.min min ≡ true) (λ e. nat_lt e.min min ≡ false) list.now result }
+{
+    list.partition_point(|entry| entry.min < min)
+}
+
+// Whether an entry stands at the place and has the minimum.
+fn has_min_at(list: &[Entry], at: usize, min: u32) -> bool
+    ensures { MatchBool result (HasMinAt list.now at min) (HasNotMinAt list.now at min) }
+{
+    at < list.len() && list[at].min == min
+}

@@ -1,0 +1,185 @@
+//! What edits leave of entries, what an index shows, and two threads on one index.
+ghost use Rattle.std.specs.Prelude.{◌≡◌, ◌<◌, IfOk};
+ghost use Rattle.kw_index.specs.Turns.{handed_back};
+
+use crate::entries::{Entries, Entry};
+use crate::index::{Copied, Index, Published};
+use crate::memory::Memory;
+use std::alloc::Global;
+use std::sync::atomic::{AtomicBool, Ordering};
+use std::test::Fail;
+use std::thread;
+
+/// The greatest key.
+const LAST_KEY: u32 = 4_294_967_295;
+
+/// How often a thread of a test tries before it gives up.
+const MOST_TRIES: u32 = 1_000_000;
+
+fn entry(min: u32, row: u32) -> Entry {
+    Entry { min, row }
+}
+
+/// Makes this the one entry of its row.
+fn put(entries: &mut Entries, min: u32, row: u32)
+    requires { row < entries.old.rows }
+    ensures { entries.new.rows ≡ entries.old.rows }
+{
+    entries.remove(row);
+    entries.insert(Entry { min, row });
+}
+
+/// Entries of a map of four rows: row 0 from key 0 on, and this one from key 100 on.
+fn two_rows(alloc: Global, second: u32) -> Result<Entries, Memory>
+    requires { second < 4 }
+    ensures { IfOk result (λ entries. entries.rows ≡ 4) }
+{
+    let mut entries = Entries::new(alloc, 4)?;
+    put(&mut entries, 0, 0);
+    put(&mut entries, 100, second);
+    Ok(entries)
+}
+
+/// Whether the entries were published, and the entries that came back.
+fn parts(published: Published) -> (bool, Entries)
+    ensures { result.1 ≡ handed_back published }
+{
+    match published {
+        Published::Done(back) => (true, back),
+        Published::Busy(back) => (false, back),
+    }
+}
+
+#[test]
+fn an_entry_stands_at_its_minimum(rt: HostRuntime) -> Result<(), Fail> {
+    let mut entries = Entries::new(rt.alloc(), 8)?;
+    assert_eq!(rt; (entries.rows(), entries.list()), (8, [].as_slice()));
+    put(&mut entries, 20, 5);
+    put(&mut entries, 0, 0);
+    put(&mut entries, 10, 3);
+    let three = [entry(0, 0), entry(10, 3), entry(20, 5)];
+    assert_eq!(rt; entries.list(), three.as_slice());
+    put(&mut entries, 10, 6);
+    let replaced = [entry(0, 0), entry(10, 6), entry(20, 5)];
+    assert_eq!(rt; entries.list(), replaced.as_slice());
+    entries.remove(0);
+    entries.remove(7);
+    let left = [entry(10, 6), entry(20, 5)];
+    assert_eq!(rt; entries.list(), left.as_slice());
+    Ok(())
+}
+
+#[test]
+fn there_is_room_for_an_entry_of_each_row(rt: HostRuntime) -> Result<(), Fail> {
+    let mut entries = Entries::new(rt.alloc(), 3)?;
+    put(&mut entries, 9, 2);
+    put(&mut entries, 7, 1);
+    put(&mut entries, 8, 0);
+    let all = [entry(7, 1), entry(8, 0), entry(9, 2)];
+    assert_eq!(rt; entries.list(), all.as_slice());
+    Ok(())
+}
+
+#[test]
+fn a_guess_is_the_nearest_row_to_the_left(rt: HostRuntime) -> Result<(), Fail> {
+    let mut entries = Entries::new(rt.alloc(), 8)?;
+    assert_eq!(rt; entries.guess(LAST_KEY), None);
+    put(&mut entries, 5, 2);
+    put(&mut entries, 10, 6);
+    put(&mut entries, LAST_KEY, 4);
+    let low = (entries.guess(0), entries.guess(4), entries.guess(5));
+    assert_eq!(rt; low, (None, None, Some(2)));
+    let middle = (entries.guess(9), entries.guess(10), entries.guess(11));
+    assert_eq!(rt; middle, (Some(2), Some(6), Some(6)));
+    let high = (entries.guess(LAST_KEY - 1), entries.guess(LAST_KEY));
+    assert_eq!(rt; high, (Some(6), Some(4)));
+    Ok(())
+}
+
+#[test]
+fn a_new_index_shows_the_first_row(rt: HostRuntime) -> Result<(), Fail> {
+    let index = Index::new(rt.alloc(), 4)?;
+    let mut entries = Entries::new(rt.alloc(), 4)?;
+    assert_eq!(rt; index.copy(&mut entries), Copied::Done);
+    assert_eq!(rt; entries.list(), [entry(0, 0)].as_slice());
+    assert_eq!(rt; (index.rows(), index.guess(7)), (4, Some(0)));
+    let (done, _) = parts(index.publish(entries));
+    assert_eq!(rt; done, true);
+    Ok(())
+}
+
+#[test]
+fn what_is_published_is_guessed_and_copied(rt: HostRuntime) -> Result<(), Fail> {
+    let index = Index::new(rt.alloc(), 4)?;
+    let entries = two_rows(rt.alloc(), 3)?;
+    let (done, mut spare) = parts(index.publish(entries));
+    assert_eq!(rt; (done, spare.list()), (true, [entry(0, 0)].as_slice()));
+    let guesses = (index.guess(0), index.guess(99), index.guess(100));
+    assert_eq!(rt; guesses, (Some(0), Some(0), Some(3)));
+    assert_eq!(rt; index.copy(&mut spare), Copied::Done);
+    assert_eq!(rt; spare.list(), [entry(0, 0), entry(100, 3)].as_slice());
+    let (done, _) = parts(index.publish(Entries::new(rt.alloc(), 4)?));
+    assert_eq!(rt; (done, index.guess(LAST_KEY)), (true, None));
+    Ok(())
+}
+
+/// Which rows a thread was told.
+#[derive(Clone, Copy, Debug, Default, PartialEq, Eq)]
+struct Sightings {
+    first: bool,
+    second: bool,
+    other: bool,
+}
+
+/// Guesses the row of key 100 until both rows came, and then sets the flag.
+fn guess_until_both(index: &Index, flag: &AtomicBool) -> Sightings {
+    let mut seen = Sightings::default();
+    for _ in 0..MOST_TRIES {
+        match index.guess(100) {
+            Some(1) => seen.first = true,
+            Some(2) => seen.second = true,
+            Some(_) => seen.other = true,
+            None => thread::yield_now(),
+        }
+        if seen.first && seen.second {
+            break;
+        }
+    }
+    flag.store(true, Ordering::SeqCst);
+    seen
+}
+
+/// Publishes two lists in turn until the flag is set, and tells whether it ever did.
+fn publish_in_turn(index: &Index, entries: Entries, flag: &AtomicBool) -> bool
+    requires { entries.rows ≡ index.now }
+{
+    let mut spare = entries;
+    let mut ever = false;
+    for _ in 0..MOST_TRIES {
+        if flag.load(Ordering::SeqCst) {
+            break;
+        }
+        let (done, back) = parts(index.publish(spare));
+        spare = back;
+        ever = ever || done;
+        thread::yield_now();
+    }
+    ever
+}
+
+#[test]
+fn one_thread_guesses_what_another_publishes(rt: HostRuntime) -> Result<(), Fail> {
+    let index = Index::new(rt.alloc(), 4)?;
+    let first = two_rows(rt.alloc(), 1)?;
+    let second = two_rows(rt.alloc(), 2)?;
+    let (opened, _) = parts(index.publish(first));
+    let flag = AtomicBool::new(false);
+    let (published, seen) = thread::join(
+        &rt,
+        || publish_in_turn(&index, second, &flag),
+        || guess_until_both(&index, &flag),
+    );
+    assert_eq!(rt; (opened, published), (true, true));
+    assert_eq!(rt; (seen.first, seen.second, seen.other), (true, true, false));
+    Ok(())
+}
