@@ -18,11 +18,11 @@ use Rattle.kw_words.specs.State.{state_of}
 use Rattle.kw_words.specs.Link.{link_of}
 use Rattle.kw_words.specs.Plain.{key_of_word, value_of_word, version_of_word}
 use Rattle.kw_cells.specs.Cells.{shown_at}
-use Rattle.kw_model.specs.Map.{found}
 use Rattle.kw_model.specs.declared.call.Call.{Call}
 use Rattle.kw_model.specs.declared.call.Call.TheVariants.{Put, Del, Get, Scan}
-use Rattle.kw_model.specs.declared.call.Reply.{Reply}
-use Rattle.kw_model.specs.declared.call.Reply.TheVariants.{Done, Pairs, Spent, Stopped}
+use Rattle.kw_world.specs.declared.answer.Answer.{Answer}
+use Rattle.kw_world.specs.declared.answer.Answer.TheVariants.{Done, Pairs, Spent, Stopped}
+use Rattle.kw_world.specs.Answers.{answer_found}
 use Rattle.kw_world.specs.declared.activity.Activity.{Activity}
 use Rattle.kw_world.specs.declared.activity.Activity.TheVariants.{Idle, Enter, ScanClock, ScanWait, ScanDraw, ScanSettle, Start, Head, GuessMin, Walk, WalkMin, Look, LookKey, LookClock, LookHelp, LookCount, Cell, CellKey, CellValue, ClearScan, PutCount, PutAdd, PutKey, PutValue, Announce, PutClock, Stamp, PutVersion, PutClear, Leave}
 use Rattle.kw_world.specs.declared.local.Local.{Local}
@@ -32,12 +32,12 @@ use Rattle.kw_world.specs.declared.event.Choice.TheVariants.{Begin, Go, Guess, S
 use Rattle.kw_world.specs.Sizes.{Sizes}
 use Rattle.kw_world.specs.Local.{resting}
 use Rattle.kw_world.specs.Calls.{first_key, last_key, is_in_range, is_scan, is_range_empty}
-use Rattle.kw_world.specs.Row.{Outcome, to, leave, row_linked, row_or_first}
-use Rattle.kw_world.specs.RowScan.{begun, entered, version_settled, reply_or_stopped}
-use Rattle.kw_world.specs.RowWalk.{start_row, guess_met, arrive, link_met, walk_row, is_stopped}
-use Rattle.kw_world.specs.RowRead.{to_look, look_met, help_met, remembering, count_read, to_cell, row_read, get_answered, scan_ended, scan_on, with_pairs, row_scanned, version_in_hand, version_met, gathering}
-use Rattle.kw_world.specs.RowPut.{full, has_room, given_of, stamp_met}
-use Rattle.kw_world.specs.Table.{row}
+use Rattle.kw_world.specs.Transition.{Outcome, to, leave, row_linked, row_or_first}
+use Rattle.kw_world.specs.ScanTransitions.{begun, entered, version_settled, answer_or_stopped}
+use Rattle.kw_world.specs.WalkTransitions.{start_transition, guess_met, arrive, link_met, walk_transition, is_stopped}
+use Rattle.kw_world.specs.ReadTransitions.{to_look, look_met, help_met, remembering, count_read, to_cell, row_read, get_answered, scan_ended, scan_on, with_pairs, row_scanned, version_in_hand, version_met, gathering}
+use Rattle.kw_world.specs.PutTransitions.{full, has_room, given_of, stamp_met}
+use Rattle.kw_world.specs.Table.{transition}
 use Rattle.kw_world.specs.Step.{followed, is_skipped}
 use Rattle.kw_core.specs.Words.{Words, next_in, least_in}
 use Rattle.kw_core.specs.Stages.{is_put}
@@ -51,7 +51,7 @@ pub data NextLook (z : Sizes) (j : ℕ) : Activity → Type 0 where
 -- what a seat that reads knows after the cells below j: it reads the next one, or the row is read
 pub data NextCell (l : Local) (j : ℕ) : Local → Type 0 where
   reads_cell : j < l.count → NextCell l j (record l { activity = Cell j })
-  answers : l.count ≤ j → is_scan l.call ≡ false → NextCell l j (leave (found (shown_at l.gathered NEWEST (first_key l.call))) l).local
+  answers : l.count ≤ j → is_scan l.call ≡ false → NextCell l j (leave (answer_found (shown_at l.gathered NEWEST (first_key l.call))) l).local
   ends_scan : l.count ≤ j → is_scan l.call ≡ true → (l.next ≡ None) ⊎ (last_key l.call < l.upper) → NextCell l j (scan_ended (with_pairs (last_key l.call) l)).local
   scans_on : (r : ℕ) → l.count ≤ j → is_scan l.call ≡ true → l.next ≡ Some r → l.upper ≤ last_key l.call →
       NextCell l j (record (with_pairs (last_key l.call) l) { row = r; lower = l.upper; want = l.upper; next = None; upper = 0; activity = Walk })
@@ -74,7 +74,7 @@ pub record IsNotOwn (cell w : ℕ) : Type 0 where
 -- from an activity to what the seat knows next
 pub data Arrow (z : Sizes) (v : Words) (s : ℕ) (choice : Choice) (l : Local) : Activity → Local → Type 0 where
   -- a call begins
-  begins : (call : Call) → choice ≡ Begin call → IsBegun (Begin call) → Arrow z v s choice l Idle (record l { call = Some call; number = l.number + 1; epoch = v name.Epoch; activity = Enter })
+  begins : (call : Call) → choice ≡ Begin call → IsBegun Idle (Begin call) → Arrow z v s choice l Idle (record l { call = Some call; number = l.number + 1; epoch = v name.Epoch; activity = Enter })
   enters : is_scan l.call ≡ false → Arrow z v s choice l Enter (record l { want = first_key l.call; activity = Start })
   enters_scan : is_scan l.call ≡ true → Arrow z v s choice l Enter (record l { activity = ScanClock })
   -- a scan gets its version
@@ -82,7 +82,7 @@ pub data Arrow (z : Sizes) (v : Words) (s : ℕ) (choice : Choice) (l : Local) :
   waits : v name.Clock < SPENT → Arrow z v s choice l ScanClock (record l { waiting = v name.Clock; activity = ScanWait })
   stores_waiting : Arrow z v s choice l ScanWait (record l { activity = ScanDraw })
   draws : Arrow z v s choice l ScanDraw (record l { drawn = v name.Clock; activity = ScanSettle })
-  settles_empty : is_range_empty l.call ≡ true → Arrow z v s choice l ScanSettle (record l { version = version_settled (scan_of (v (name.Scan s))) l.drawn; activity = ClearScan (Pairs []) })
+  settles_empty : is_range_empty l.call ≡ true → Arrow z v s choice l ScanSettle (record l { version = version_settled (scan_of (v (name.Scan s))) l.drawn; activity = ClearScan Pairs })
   settles : is_range_empty l.call ≡ false → Arrow z v s choice l ScanSettle (record l { version = version_settled (scan_of (v (name.Scan s))) l.drawn; want = first_key l.call; activity = Start })
   -- the walk
   starts_at_head : Arrow z v s choice l Start (record l { row = row_or_first (row_linked (link_of (v name.Head))); lower = 0; activity = Walk })
@@ -116,7 +116,7 @@ pub data Arrow (z : Sizes) (v : Words) (s : ℕ) (choice : Choice) (l : Local) :
   has_other_key : (next : Local) → is_in_range l.call (key_of_word (v (name.Key l.row l.place))) ≡ false → NextCell l (l.place + 1) next → Arrow z v s choice l CellKey next
   gathers : (next : Local) → NextCell (gathering (value_of_word (v (name.Value l.row l.place))) l) (l.place + 1) next → Arrow z v s choice l CellValue next
   -- a scan is over
-  clears_scan : (reply : Reply) → Arrow z v s choice l (ClearScan reply) (leave (reply_or_stopped reply choice) l).local
+  clears_scan : (answer : Answer) → Arrow z v s choice l (ClearScan answer) (leave (answer_or_stopped answer choice) l).local
   -- a put or a delete
   finds_room : has_room z (count_of (v (name.Count l.row))) ≡ true → Arrow z v s choice l PutCount (record l { activity = PutAdd })
   finds_none : has_room z (count_of (v (name.Count l.row))) ≡ false → Arrow z v s choice l PutCount (full l).local
@@ -133,7 +133,7 @@ pub data Arrow (z : Sizes) (v : Words) (s : ℕ) (choice : Choice) (l : Local) :
   stores_version : Arrow z v s choice l PutVersion (record l { activity = PutClear })
   clears : Arrow z v s choice l PutClear (leave Done l).local
   -- the call ends
-  leaves : (reply : Reply) → Arrow z v s choice l (Leave reply) (resting l.number)
+  leaves : (answer : Answer) → Arrow z v s choice l (Leave answer) (resting l.number)
 
 -- Tests of the table.
 
@@ -190,7 +190,7 @@ next_cell l j = met (nat_lt j l.count) refl
     met true e = reads_cell (below j l.count e)
     met false e = read_arrow l j l.call (not_below j l.count e) refl
 
-module _ (z : Sizes) (v : Words) (s : ℕ) (choice : Choice) (l : Local) where
+module _ (z : Sizes) (rows : ℕ) (v : Words) (s : ℕ) (choice : Choice) (l : Local) where
   enter_arrow : (c : Option Call) → l.call ≡ c → Arrow z v s choice l Enter (entered c l).local
   enter_arrow (Some (Put key value)) e = enters (ap is_scan e)
   enter_arrow (Some (Del key)) e = enters (ap is_scan e)
@@ -198,7 +198,7 @@ module _ (z : Sizes) (v : Words) (s : ℕ) (choice : Choice) (l : Local) where
   enter_arrow (Some (Scan from upto)) e = enters_scan (ap is_scan e)
   enter_arrow None e = enters (ap is_scan e)
 
-  begin_arrow : (c : Choice) → choice ≡ c → IsBegun c → is_skipped Idle c ≡ false → Arrow z v s choice l Idle (begun c (v name.Epoch) l).local
+  begin_arrow : (c : Choice) → choice ≡ c → IsBegun Idle c → is_skipped Idle c ≡ false → Arrow z v s choice l Idle (begun c (v name.Epoch) l).local
   begin_arrow (Begin call) e b m = begins call e b
   begin_arrow Go e b m = let x : true ≡ false = m in absurd (cc)
   begin_arrow (Guess r) e b m = let x : true ≡ false = m in absurd (cc)
@@ -213,7 +213,7 @@ module _ (z : Sizes) (v : Words) (s : ℕ) (choice : Choice) (l : Local) where
   guess_arrow r (Some (Retired number)) c e = guess_fails
   guess_arrow r None c e = guess_fails
 
-  start_arrow : (c : Choice) → choice ≡ c → Arrow z v s choice l Start (followed (start_row c l) (v (start_row c l).operation.name)).local
+  start_arrow : (c : Choice) → choice ≡ c → Arrow z v s choice l Start (followed rows (start_transition c l) (v (start_transition c l).operation.name)).local
   start_arrow (Begin call) e = starts_at_head
   start_arrow Go e = starts_at_head
   start_arrow (Guess r) e = guess_arrow r (state_of (v (name.State r))) e refl
@@ -238,7 +238,7 @@ module _ (z : Sizes) (v : Words) (s : ℕ) (choice : Choice) (l : Local) where
   link_arrow None e = arrive_last l.call refl e
   link_arrow (Some q) e = meets_next q e
 
-  walk_arrow : (b : Bool) → is_stopped choice l ≡ b → Arrow z v s choice l Walk (followed (walk_row b s l) (v (walk_row b s l).operation.name)).local
+  walk_arrow : (b : Bool) → is_stopped choice l ≡ b → Arrow z v s choice l Walk (followed rows (walk_transition b s l) (v (walk_transition b s l).operation.name)).local
   walk_arrow true e = stops e
   walk_arrow false e = link_arrow (next_in v l.row) refl
 
@@ -285,7 +285,7 @@ module _ (z : Sizes) (v : Words) (s : ℕ) (choice : Choice) (l : Local) where
   stamp_arrow None e = is_not_own (record { pending = λ q. let y : None ≡ Some (pend.Pending l.cell) = sym e ∙ q in cc; stamped = λ u q. let y : None ≡ Some (pend.Stamped l.cell u) = sym e ∙ q in cc })
 
   -- every event that is not skipped takes an arrow
-  pub arrow : (a : Activity) → IsBegun choice → is_skipped a choice ≡ false → Arrow z v s choice l a (followed (row z a s choice l) (v (row z a s choice l).operation.name)).local
+  pub arrow : (a : Activity) → IsBegun a choice → is_skipped a choice ≡ false → Arrow z v s choice l a (followed rows (transition z a s choice l) (v (transition z a s choice l).operation.name)).local
   arrow Idle b m = begin_arrow choice refl b m
   arrow Enter b m = enter_arrow l.call refl
   arrow ScanClock b m = met (nat_le SPENT (v name.Clock)) refl
@@ -297,7 +297,7 @@ module _ (z : Sizes) (v : Words) (s : ℕ) (choice : Choice) (l : Local) where
   arrow ScanDraw b m = draws
   arrow ScanSettle b m = met (is_range_empty l.call) refl
     where
-      met : (b : Bool) → is_range_empty l.call ≡ b → Arrow z v s choice l ScanSettle (let x : Outcome = if b then to (ClearScan (Pairs [])) (record l { version = version_settled (scan_of (v (name.Scan s))) l.drawn }) else to Start (record l { version = version_settled (scan_of (v (name.Scan s))) l.drawn; want = first_key l.call }) in x).local
+      met : (b : Bool) → is_range_empty l.call ≡ b → Arrow z v s choice l ScanSettle (let x : Outcome = if b then to (ClearScan Pairs) (record l { version = version_settled (scan_of (v (name.Scan s))) l.drawn }) else to Start (record l { version = version_settled (scan_of (v (name.Scan s))) l.drawn; want = first_key l.call }) in x).local
       met true e = settles_empty e
       met false e = settles e
   arrow Start b m = start_arrow choice refl
@@ -325,7 +325,7 @@ module _ (z : Sizes) (v : Words) (s : ℕ) (choice : Choice) (l : Local) where
       met true e = has_key e
       met false e = has_other_key _ e (next_cell l (l.place + 1))
   arrow CellValue b m = gathers _ (next_cell (gathering (value_of_word (v (name.Value l.row l.place))) l) (l.place + 1))
-  arrow (ClearScan reply) b m = clears_scan reply
+  arrow (ClearScan answer) b m = clears_scan answer
   arrow PutCount b m = met (has_room z (count_of (v (name.Count l.row)))) refl
     where
       met : (b : Bool) → has_room z (count_of (v (name.Count l.row))) ≡ b → Arrow z v s choice l PutCount (let x : Outcome = if b then to PutAdd l else full l in x).local
@@ -347,4 +347,4 @@ module _ (z : Sizes) (v : Words) (s : ℕ) (choice : Choice) (l : Local) where
   arrow Stamp b m = stamp_arrow (pend_of (v (name.Pend l.row s))) refl
   arrow PutVersion b m = stores_version
   arrow PutClear b m = clears
-  arrow (Leave reply) b m = leaves reply
+  arrow (Leave answer) b m = leaves answer

@@ -5,7 +5,8 @@ use Rattle.kw_words.specs.declared.pend.Pend.TheVariants as pend
 use Rattle.kw_words.specs.Pend.{pend_word}
 use Rattle.kw_words.specs.Count.{count_of}
 use Rattle.kw_model.specs.declared.call.Call.{Call}
-use Rattle.kw_model.specs.declared.call.Reply.{Reply}
+use Rattle.kw_world.specs.declared.answer.Answer.{Answer}
+use Rattle.kw_world.specs.Answers.{reply_of}
 use Rattle.kw_world.specs.declared.activity.Activity.{Activity}
 use Rattle.kw_world.specs.declared.activity.Activity.TheVariants.{Idle, LookHelp, PutAdd, Announce, Stamp, Leave}
 use Rattle.kw_world.specs.declared.local.Local.{Local}
@@ -13,7 +14,7 @@ use Rattle.kw_world.specs.declared.event.Choice.{Choice}
 use Rattle.kw_world.specs.declared.event.Choice.TheVariants.{Begin, Go, Guess, Stop}
 use Rattle.kw_world.specs.Sizes.{Sizes}
 use Rattle.kw_world.specs.Calls.{first_key, put_value}
-use Rattle.kw_world.specs.RowPut.{has_room, given_of}
+use Rattle.kw_world.specs.PutTransitions.{has_room, given_of}
 use Rattle.kw_core.specs.Noted.{Change, Nothing, Begins, Adds, Announces, Stamps, Ends}
 use Rattle.kw_core.specs.Run.{SeatLog, Origins, change_of, beginning, helping, answering, drawing}
 use Rattle.kw_core.specs.Words.{Words}
@@ -28,7 +29,7 @@ pub data Makes (z : Sizes) (v : Words) (s : ℕ) (choice : Choice) (l : Local) (
   makes_announce : v (name.Pend l.row s) ≡ pend_word pend.Idle → Makes z v s choice l g o Announce (Announces g.own)
   makes_stamp : v (name.Pend l.row s) ≡ pend_word (pend.Pending l.cell) → Makes z v s choice l g o Stamp (Stamps g.own l.version g.loaded)
   makes_help : (p : ℕ) → v (name.Pend l.row l.looked) ≡ pend_word (pend.Pending l.met) → o l.row l.met ≡ Some p → Makes z v s choice l g o LookHelp (Stamps p l.helping g.loaded)
-  makes_end : (reply : Reply) → Makes z v s choice l g o (Leave reply) (Ends g.call reply (answering l.call l g) (drawing reply l g))
+  makes_end : (answer : Answer) → Makes z v s choice l g o (Leave answer) (Ends g.call (reply_of answer l.pairs) (answering l.call l g) (drawing answer l g))
 
 -- every event makes one of these changes
 pub made : (z : Sizes) (v : Words) (s : ℕ) (choice : Choice) (l : Local) (g : SeatLog) (o : Origins) (a : Activity) → Makes z v s choice l g o a (change_of z a s choice l (found_at z v a s choice l) g o)
@@ -63,5 +64,5 @@ made z v s choice l g o LookHelp = met (v (name.Pend l.row l.looked) == pend_wor
     met : (b : Bool) → (v (name.Pend l.row l.looked) == pend_word (pend.Pending l.met)) ≡ b → Makes z v s choice l g o LookHelp (if b then helping (o l.row l.met) l.helping g.loaded else Nothing)
     met true e = helps (o l.row l.met) refl (eq_from _ _ e)
     met false e = makes_nothing LookHelp
-made z v s choice l g o (Leave reply) = makes_end reply
+made z v s choice l g o (Leave answer) = makes_end answer
 made z v s choice l g o a = makes_nothing a

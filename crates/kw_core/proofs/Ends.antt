@@ -1,5 +1,5 @@
 -- Only the last event of a call ends it: at every other activity the line of the table answers that the call goes on.
-use Rattle.std.proofs.Common.{ℕ, ◌≡◌, refl, sym, ◌∙◌, ◌+◌, Option, Some, None, Bool, true, false, nat_lt, nat_le, ◌==◌, [], if◌then◌else◌}
+use Rattle.std.proofs.Common.{ℕ, ◌≡◌, refl, sym, ◌∙◌, ◌+◌, Option, Some, None, Bool, true, false, nat_lt, nat_le, ◌==◌, if◌then◌else◌}
 use Rattle.kw_words.specs.declared.pend.Pend.{Pend}
 use Rattle.kw_words.specs.declared.pend.Pend.TheVariants as pend
 use Rattle.kw_words.specs.declared.state.State.{State}
@@ -11,7 +11,9 @@ use Rattle.kw_words.specs.Plain.{version_of_word, key_of_word, value_of_word}
 use Rattle.kw_words.specs.Count.{count_of}
 use Rattle.kw_words.specs.Scan.{scan_of}
 use Rattle.kw_words.specs.declared.sizes.TheConstants.{SPENT}
-use Rattle.kw_model.specs.declared.call.Reply.TheVariants.{Pairs, Spent}
+use Rattle.kw_world.specs.declared.answer.Answer.{Answer}
+use Rattle.kw_world.specs.declared.answer.Answer.TheVariants.{Pairs, Spent}
+use Rattle.kw_world.specs.Answers.{reply_of}
 use Rattle.kw_world.specs.Calls.{is_in_range, is_range_empty}
 use Rattle.kw_model.specs.declared.call.Call.{Call}
 use Rattle.kw_model.specs.declared.call.Call.TheVariants.{Put, Del, Get, Scan}
@@ -21,12 +23,12 @@ use Rattle.kw_world.specs.declared.local.Local.{Local}
 use Rattle.kw_world.specs.declared.event.Choice.{Choice}
 use Rattle.kw_world.specs.declared.event.Choice.TheVariants.{Begin, Go, Guess, Stop}
 use Rattle.kw_world.specs.Sizes.{Sizes}
-use Rattle.kw_world.specs.Row.{Outcome, row_linked, to, leave}
-use Rattle.kw_world.specs.RowPut.{stamp_met, full, has_room, given_of}
-use Rattle.kw_world.specs.RowRead.{to_look, look_met, help_met, scan_on, row_read, to_cell, version_met, version_in_hand, with_pairs, remembering, gathering, count_read}
-use Rattle.kw_world.specs.RowScan.{begun, entered, settled, to_start, version_settled}
-use Rattle.kw_world.specs.RowWalk.{guess_met, start_row, walk_row, is_stopped, link_met, walk_min, arrive}
-use Rattle.kw_world.specs.Table.{row}
+use Rattle.kw_world.specs.Transition.{Outcome, row_linked, to, leave}
+use Rattle.kw_world.specs.PutTransitions.{stamp_met, full, has_room, given_of}
+use Rattle.kw_world.specs.ReadTransitions.{to_look, look_met, help_met, scan_on, row_read, to_cell, version_met, version_in_hand, with_pairs, remembering, gathering, count_read}
+use Rattle.kw_world.specs.ScanTransitions.{begun, entered, settled, to_start, version_settled}
+use Rattle.kw_world.specs.WalkTransitions.{guess_met, start_transition, walk_transition, is_stopped, link_met, walk_min, arrive}
+use Rattle.kw_world.specs.Table.{transition}
 use Rattle.kw_world.specs.Step.{is_skipped}
 use Rattle.kw_world.specs.declared.event.StepDone.TheVariants.{Moved, Ended}
 use Rattle.kw_model.specs.declared.call.Reply.{Reply}
@@ -103,15 +105,15 @@ guess_goes r (Some (Follower leader)) l = record { moved = refl }
 guess_goes r (Some (Retired number)) l = record { moved = refl }
 guess_goes r None l = record { moved = refl }
 
-start_goes : (choice : Choice) (l : Local) (told : ℕ) → Goes ((start_row choice l).next told)
-start_goes (Begin call) l told = record { moved = refl }
-start_goes Go l told = record { moved = refl }
-start_goes (Guess r) l told = guess_goes r (state_of told) l
-start_goes Stop l told = record { moved = refl }
+start_goes : (choice : Choice) (l : Local) (rows told : ℕ) → Goes ((start_transition choice l).next rows told)
+start_goes (Begin call) l rows told = record { moved = refl }
+start_goes Go l rows told = record { moved = refl }
+start_goes (Guess r) l rows told = guess_goes r (state_of told) l
+start_goes Stop l rows told = record { moved = refl }
 
-walk_goes : (stopped : Bool) (s : ℕ) (l : Local) (told : ℕ) → Goes ((walk_row stopped s l).next told)
-walk_goes true s l told = record { moved = refl }
-walk_goes false s l told = link_goes (row_linked (link_of told)) l
+walk_goes : (stopped : Bool) (s : ℕ) (l : Local) (rows told : ℕ) → Goes ((walk_transition stopped s l).next rows told)
+walk_goes true s l rows told = record { moved = refl }
+walk_goes false s l rows told = link_goes (row_linked (link_of told)) l
 
 begin_goes : (choice : Choice) (epoch : ℕ) (l : Local) → is_skipped Idle choice ≡ false → Goes (begun choice epoch l)
 begin_goes (Begin call) epoch l e = record { moved = refl }
@@ -127,45 +129,45 @@ enter_goes (Some (Scan from upto)) l = record { moved = refl }
 enter_goes None l = record { moved = refl }
 
 settle_goes : (version : ℕ) (l : Local) → Goes (settled version l)
-settle_goes version l = either (is_range_empty l.call) (to (ClearScan (Pairs [])) (record l { version = version })) (to_start (record l { version = version })) (record { moved = refl }) (record { moved = refl })
+settle_goes version l = either (is_range_empty l.call) (to (ClearScan Pairs) (record l { version = version })) (to_start (record l { version = version })) (record { moved = refl }) (record { moved = refl })
 
 walk_min_goes : (least : ℕ) (l : Local) → Goes (walk_min least l)
 walk_min_goes least l = either (nat_le least l.want) (to Walk (record l { row = l.candidate; lower = least })) (arrive l.call (record l { next = Some l.candidate; upper = least })) (record { moved = refl }) (arrive_goes l.call (record l { next = Some l.candidate; upper = least }))
 
 -- a seat that is not about to leave goes on, whatever it was told
-pub goes_on : (z : Sizes) (a : Activity) (s : ℕ) (choice : Choice) (l : Local) (told : ℕ) → is_skipped a choice ≡ false → IsStaying a → Goes ((row z a s choice l).next told)
-goes_on z Idle s choice l told e n = begin_goes choice told l e
-goes_on z Enter s choice l told e n = enter_goes l.call l
-goes_on z ScanClock s choice l told e n = either (nat_le SPENT told) (leave Spent l) (to ScanWait (record l { waiting = told })) (record { moved = refl }) (record { moved = refl })
-goes_on z ScanWait s choice l told e n = record { moved = refl }
-goes_on z ScanDraw s choice l told e n = record { moved = refl }
-goes_on z ScanSettle s choice l told e n = settle_goes (version_settled (scan_of told) l.drawn) l
-goes_on z Start s choice l told e n = start_goes choice l told
-goes_on z Head s choice l told e n = record { moved = refl }
-goes_on z GuessMin s choice l told e n = either (nat_le (key_of_word told) l.want) (to Walk (record l { lower = key_of_word told })) (to Head l) (record { moved = refl }) (record { moved = refl })
-goes_on z Walk s choice l told e n = walk_goes (is_stopped choice l) s l told
-goes_on z WalkMin s choice l told e n = walk_min_goes (key_of_word told) l
-goes_on z (Look i) s choice l told e n = look_goes z i (pend_of told) l
-goes_on z LookKey s choice l told e n = either (is_in_range l.call (key_of_word told)) (to LookClock l) (to_look z (l.looked + 1) l) (record { moved = refl }) (looks z (l.looked + 1) l)
-goes_on z LookClock s choice l told e n = record { moved = refl }
-goes_on z LookHelp s choice l told e n = help_goes z (pend_of told) l
-goes_on z LookCount s choice l told e n = cells 0 (record l { count = count_read z (count_of told) })
-goes_on z (Cell j) s choice l told e n = version_goes j (version_in_hand j (version_of_word told) l) l
-goes_on z CellKey s choice l told e n = either (is_in_range l.call (key_of_word told)) (to CellValue (record l { place_key = key_of_word told })) (to_cell (l.place + 1) l) (record { moved = refl }) (cells (l.place + 1) l)
-goes_on z CellValue s choice l told e n = cells (l.place + 1) (gathering (value_of_word told) l)
-goes_on z (ClearScan reply) s choice l told e n = record { moved = refl }
-goes_on z PutCount s choice l told e n = either (has_room z (count_of told)) (to PutAdd l) (full l) (record { moved = refl }) (record { moved = refl })
-goes_on z PutAdd s choice l told e n = either (has_room z (count_of told)) (to PutKey (record l { cell = given_of (count_of told) })) (full l) (record { moved = refl }) (record { moved = refl })
-goes_on z PutKey s choice l told e n = record { moved = refl }
-goes_on z PutValue s choice l told e n = record { moved = refl }
-goes_on z Announce s choice l told e n = either (told == pend_word pend.Idle) (to PutClock l) (full l) (record { moved = refl }) (record { moved = refl })
-goes_on z PutClock s choice l told e n = record { moved = refl }
-goes_on z Stamp s choice l told e n = stamp_goes (pend_of told) l
-goes_on z PutVersion s choice l told e n = record { moved = refl }
-goes_on z PutClear s choice l told e n = record { moved = refl }
-goes_on z (Leave reply) s choice l told e n = absurd n
+pub goes_on : (z : Sizes) (a : Activity) (s : ℕ) (choice : Choice) (l : Local) (rows told : ℕ) → is_skipped a choice ≡ false → IsStaying a → Goes ((transition z a s choice l).next rows told)
+goes_on z Idle s choice l rows told e n = begin_goes choice told l e
+goes_on z Enter s choice l rows told e n = enter_goes l.call l
+goes_on z ScanClock s choice l rows told e n = either (nat_le SPENT told) (leave Spent l) (to ScanWait (record l { waiting = told })) (record { moved = refl }) (record { moved = refl })
+goes_on z ScanWait s choice l rows told e n = record { moved = refl }
+goes_on z ScanDraw s choice l rows told e n = record { moved = refl }
+goes_on z ScanSettle s choice l rows told e n = settle_goes (version_settled (scan_of told) l.drawn) l
+goes_on z Start s choice l rows told e n = start_goes choice l rows told
+goes_on z Head s choice l rows told e n = record { moved = refl }
+goes_on z GuessMin s choice l rows told e n = either (nat_le (key_of_word told) l.want) (to Walk (record l { lower = key_of_word told })) (to Head l) (record { moved = refl }) (record { moved = refl })
+goes_on z Walk s choice l rows told e n = walk_goes (is_stopped choice l) s l rows told
+goes_on z WalkMin s choice l rows told e n = walk_min_goes (key_of_word told) l
+goes_on z (Look i) s choice l rows told e n = look_goes z i (pend_of told) l
+goes_on z LookKey s choice l rows told e n = either (is_in_range l.call (key_of_word told)) (to LookClock l) (to_look z (l.looked + 1) l) (record { moved = refl }) (looks z (l.looked + 1) l)
+goes_on z LookClock s choice l rows told e n = record { moved = refl }
+goes_on z LookHelp s choice l rows told e n = help_goes z (pend_of told) l
+goes_on z LookCount s choice l rows told e n = cells 0 (record l { count = count_read z (count_of told) })
+goes_on z (Cell j) s choice l rows told e n = version_goes j (version_in_hand j (version_of_word told) l) l
+goes_on z CellKey s choice l rows told e n = either (is_in_range l.call (key_of_word told)) (to CellValue (record l { place_key = key_of_word told })) (to_cell (l.place + 1) l) (record { moved = refl }) (cells (l.place + 1) l)
+goes_on z CellValue s choice l rows told e n = cells (l.place + 1) (gathering (value_of_word told) l)
+goes_on z (ClearScan answer) s choice l rows told e n = record { moved = refl }
+goes_on z PutCount s choice l rows told e n = either (has_room z (count_of told)) (to PutAdd l) (full l) (record { moved = refl }) (record { moved = refl })
+goes_on z PutAdd s choice l rows told e n = either (has_room z (count_of told)) (to PutKey (record l { cell = given_of (count_of told) })) (full l) (record { moved = refl }) (record { moved = refl })
+goes_on z PutKey s choice l rows told e n = record { moved = refl }
+goes_on z PutValue s choice l rows told e n = record { moved = refl }
+goes_on z Announce s choice l rows told e n = either (told == pend_word pend.Idle) (to PutClock l) (full l) (record { moved = refl }) (record { moved = refl })
+goes_on z PutClock s choice l rows told e n = record { moved = refl }
+goes_on z Stamp s choice l rows told e n = stamp_goes (pend_of told) l
+goes_on z PutVersion s choice l rows told e n = record { moved = refl }
+goes_on z PutClear s choice l rows told e n = record { moved = refl }
+goes_on z (Leave answer) s choice l rows told e n = absurd n
 
--- so an event that ends a call with this reply is one of a seat that was about to leave with it
-pub ends_leaving : (z : Sizes) (a : Activity) (s : ℕ) (choice : Choice) (l : Local) (told : ℕ) (reply : Reply) → is_skipped a choice ≡ false → ((row z a s choice l).next told).done ≡ Ended reply → a ≡ Leave reply
-ends_leaving z (Leave other) s choice l told reply e d = let x : Ended other ≡ Ended reply = d in cc
-ends_leaving z a s choice l told reply e d = let x : Moved ≡ Ended reply = sym (goes_on z a s choice l told e tt).moved ∙ d in absurd (cc)
+-- so an event that ends a call with this reply is one of a seat that was about to leave with an answer that makes it
+pub ends_leaving : (z : Sizes) (a : Activity) (s : ℕ) (choice : Choice) (l : Local) (rows told : ℕ) (reply : Reply) → is_skipped a choice ≡ false → ((transition z a s choice l).next rows told).done ≡ Ended reply → (answer : Answer) × (a ≡ Leave answer) × (reply ≡ reply_of answer l.pairs)
+ends_leaving z (Leave answer) s choice l rows told reply e d = (answer, refl, (let x : Ended (reply_of answer l.pairs) ≡ Ended reply = d in cc))
+ends_leaving z a s choice l rows told reply e d = let x : Moved ≡ Ended reply = sym (goes_on z a s choice l rows told e tt).moved ∙ d in absurd (cc)

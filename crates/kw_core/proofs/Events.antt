@@ -1,11 +1,13 @@
 -- Lists of events: their ends, their fronts, and what one seat sees of them.
-use Rattle.std.proofs.Common.{◌≡◌, ◌≢◌, ℕ, ◌<◌, ◌==◌, Bool, true, false, not, ◌&&◌, nat_lt, List, [], ◌∷◌, ◌++◌, Option, Some, None, refl, sym, ap, ◌∙◌, subst, eq-eqb, ne_eqb, slice_get, get_or-set_other}
+use Rattle.std.proofs.Common.{◌≡◌, ◌≢◌, ℕ, ◌<◌, ◌==◌, Bool, true, false, not, nat_lt, List, [], ◌∷◌, ◌++◌, Option, Some, None, refl, sym, ap, ◌∙◌, subst, eq-eqb, ne_eqb, slice_get, get_or-set_other}
 use Rattle.std.proofs.lemmas.Bool.{and_parts, and_from, cases_eq, lt-ltb, ltb-true}
 use mathlib.Core.Logic.{⊎_elim}
 use Rattle.kw_model.specs.declared.call.Call.{Call}
 use Rattle.kw_model.specs.declared.call.Call.TheVariants.{Put, Del, Get, Scan}
+use Rattle.kw_world.specs.declared.activity.Activity.{Activity}
+use Rattle.kw_world.specs.declared.activity.Activity.TheVariants.{Idle}
 use Rattle.kw_world.specs.declared.event.Choice.{Choice}
-use Rattle.kw_world.specs.declared.event.Choice.TheVariants.{Begin, Go, Guess, Stop}
+use Rattle.kw_world.specs.declared.event.Choice.TheVariants.{Begin}
 use Rattle.kw_world.specs.declared.event.Event.{Event}
 use Rattle.kw_world.specs.declared.opening.Opening.{Opening}
 use Rattle.kw_world.specs.declared.local.Local.{Local}
@@ -16,7 +18,7 @@ use Rattle.kw_world.specs.Sizes.{Sizes}
 use Rattle.kw_world.specs.Local.{resting}
 use Rattle.kw_world.specs.WorldView.{WorldView}
 use Rattle.kw_world.specs.Opening.{opened}
-use Rattle.kw_world.specs.Row.{Row}
+use Rattle.kw_world.specs.Transition.{Transition}
 use Rattle.kw_world.specs.Sane.{IsCall, IsStore}
 use Rattle.kw_world.specs.Step.{step, step_of, is_skipped, followed}
 use Rattle.kw_core.specs.Events.{local_of, walked, world, is_call_in_range, may_begin, is_made, may_step, is_valid_from, is_valid, of_seat, event}
@@ -93,24 +95,20 @@ in_range (Del key) h = ltb-true key _ h
 in_range (Get key) h = ltb-true key _ h
 in_range (Scan from upto) h = let t = and_parts _ _ h in (ltb-true from _ t.0, ltb-true upto _ t.1)
 
--- a call that begins is in range
-abbrev pub IsBegun : Choice → Type 0
-IsBegun (Begin call) = IsCall (Some call)
-IsBegun Go = Unit {0}
-IsBegun (Guess r) = Unit {0}
-IsBegun Stop = Unit {0}
+-- a call that a seat begins at this activity is in range
+abbrev pub IsBegun : Activity → Choice → Type 0
+IsBegun Idle (Begin call) = IsCall (Some call)
+IsBegun _ choice = Unit {0}
 
-begun_in_range : (choice : Choice) → may_begin choice ≡ true → IsBegun choice
-begun_in_range (Begin call) h = in_range call h
-begun_in_range Go h = tt
-begun_in_range (Guess r) h = tt
-begun_in_range Stop h = tt
+begun_in_range : (a : Activity) (choice : Choice) → may_begin a choice ≡ true → IsBegun a choice
+begun_in_range Idle (Begin call) h = in_range call h
+begun_in_range _ choice h = tt
 
 -- what is known of an event that may come
 pub record MayCome (o : Opening) (w : WorldView) (e : Event) : Type 0 where
   pub seat : e.seat < o.seats
-  pub begins : IsBegun e.choice
   pub local : Local
+  pub begins : IsBegun local.activity e.choice
   pub knows : slice_get w.locals e.seat ≡ Some local
   pub moves : is_skipped local.activity e.choice ≡ false
 
@@ -118,22 +116,23 @@ pub record MayCome (o : Opening) (w : WorldView) (e : Event) : Type 0 where
 pub may_come : (o : Opening) (w : WorldView) (e : Event) → may_step o w e ≡ true → MayCome o w e
 unfolding may_step
 may_come o w e may =
-    let t = and_parts (nat_lt e.seat o.seats) (may_begin e.choice && is_made e.choice (slice_get w.locals e.seat)) may in
-    let u = and_parts (may_begin e.choice) (is_made e.choice (slice_get w.locals e.seat)) t.1 in
-    made (ltb-true e.seat o.seats t.0) (begun_in_range e.choice u.0) (slice_get w.locals e.seat) refl u.1
+    let t = and_parts (nat_lt e.seat o.seats) (is_made e.choice (slice_get w.locals e.seat)) may in
+    made (ltb-true e.seat o.seats t.0) (slice_get w.locals e.seat) refl t.1
   where
     goes : (b : Bool) → not b ≡ true → b ≡ false
     goes true h = let x : false ≡ true = h in absurd (cc)
     goes false h = refl
 
-    made : e.seat < o.seats → IsBegun e.choice → (x : Option Local) → slice_get w.locals e.seat ≡ x → is_made e.choice x ≡ true → MayCome o w e
-    made inside begins (Some l) k h = record { seat = inside; begins = begins; local = l; knows = k; moves = goes (is_skipped l.activity e.choice) h }
-    made inside begins None k h = let x : false ≡ true = h in absurd (cc)
+    made : e.seat < o.seats → (x : Option Local) → slice_get w.locals e.seat ≡ x → is_made e.choice x ≡ true → MayCome o w e
+    made inside (Some l) k h =
+        let u = and_parts (not (is_skipped l.activity e.choice)) (may_begin l.activity e.choice) h in
+        record { seat = inside; local = l; begins = begun_in_range l.activity e.choice u.1; knows = k; moves = goes (is_skipped l.activity e.choice) u.0 }
+    made inside None k h = let x : false ≡ true = h in absurd (cc)
 
 -- an event of an existing seat that is not skipped, and whose call is in range, may come
-pub may_step_from : (o : Opening) (w : WorldView) (e : Event) (l : Local) → e.seat < o.seats → may_begin e.choice ≡ true → slice_get w.locals e.seat ≡ Some l → is_skipped l.activity e.choice ≡ false → may_step o w e ≡ true
+pub may_step_from : (o : Opening) (w : WorldView) (e : Event) (l : Local) → e.seat < o.seats → may_begin l.activity e.choice ≡ true → slice_get w.locals e.seat ≡ Some l → is_skipped l.activity e.choice ≡ false → may_step o w e ≡ true
 unfolding may_step
-may_step_from o w e l inside begins knows moves = and_from (nat_lt e.seat o.seats) _ (lt-ltb e.seat o.seats inside) (and_from (may_begin e.choice) _ begins (subst (λ x. is_made e.choice x ≡ true) (sym knows) (ap not moves)))
+may_step_from o w e l inside begins knows moves = and_from (nat_lt e.seat o.seats) _ (lt-ltb e.seat o.seats inside) (subst (λ x. is_made e.choice x ≡ true) (sym knows) (and_from (not (is_skipped l.activity e.choice)) _ (ap not moves) begins))
 
 -- What one seat sees.
 
@@ -189,8 +188,8 @@ local_still z w s (e ∷ es) none = ⊎_elim
     (cases_eq e.seat s)
 
 -- what follows from a store does not depend on the word that was there
-pub followed_store : (r : Row) (found other : ℕ) → IsStore r.operation.action → followed r found ≡ followed r other
-followed_store r found other h = ap r.next (told r.operation.action h)
+pub followed_store : (rows : ℕ) (r : Transition) (found other : ℕ) → IsStore r.operation.action → followed rows r found ≡ followed rows r other
+followed_store rows r found other h = ap (r.next rows) (told r.operation.action h)
   where
     told : (a : Action) → IsStore a → told_by a found ≡ told_by a other
     told Load h = absurd h

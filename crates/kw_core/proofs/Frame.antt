@@ -16,11 +16,11 @@ use Rattle.kw_world.specs.declared.local.Local.{Local}
 use Rattle.kw_world.specs.declared.event.Choice.{Choice}
 use Rattle.kw_world.specs.declared.operation.Action.{Action}
 use Rattle.kw_world.specs.declared.operation.Action.TheVariants.{Load}
-use Rattle.kw_world.specs.Table.{row}
+use Rattle.kw_world.specs.Table.{transition}
 use Rattle.kw_world.specs.declared.event.Choice.TheVariants.{Begin, Go, Guess, Stop}
 use Rattle.kw_world.specs.Sizes.{Sizes}
-use Rattle.kw_world.specs.RowPut.{given_of}
-use Rattle.kw_world.specs.RowWalk.{start_row, walk_row, is_stopped}
+use Rattle.kw_world.specs.PutTransitions.{given_of}
+use Rattle.kw_world.specs.WalkTransitions.{start_transition, walk_transition, is_stopped}
 use Rattle.kw_world.specs.Sane.{IsGiven}
 use Rattle.kw_world.specs.Step.{word}
 use Rattle.kw_core.specs.Run.{Run}
@@ -44,7 +44,7 @@ writes ScanDraw s b l = Some name.Clock
 writes ScanSettle s b l = Some (name.Scan s)
 writes Walk s b l = walk_writes b s
 writes LookHelp s b l = Some (name.Pend l.row l.looked)
-writes (ClearScan reply) s b l = Some (name.Scan s)
+writes (ClearScan answer) s b l = Some (name.Scan s)
 writes PutAdd s b l = Some (name.Count l.row)
 writes PutKey s b l = Some (name.Key l.row l.cell)
 writes PutValue s b l = Some (name.Value l.row l.cell)
@@ -52,7 +52,7 @@ writes Announce s b l = Some (name.Pend l.row s)
 writes Stamp s b l = Some (name.Pend l.row s)
 writes PutVersion s b l = Some (name.Version l.row l.cell)
 writes PutClear s b l = Some (name.Pend l.row s)
-writes (Leave reply) s b l = Some (name.Pass s)
+writes (Leave answer) s b l = Some (name.Pass s)
 writes _ s b l = None
 
 -- the word that an action on this word writes; none where it loads
@@ -61,17 +61,17 @@ written_by Load n = None
 written_by _ n = Some n
 
 -- `writes` has for each activity what the operation of its line writes
-written_is : (z : Sizes) (a : Activity) (s : ℕ) (choice : Choice) (l : Local) → written_by (row z a s choice l).operation.action (row z a s choice l).operation.name ≡ writes a s (is_stopped choice l) l
+written_is : (z : Sizes) (a : Activity) (s : ℕ) (choice : Choice) (l : Local) → written_by (transition z a s choice l).operation.action (transition z a s choice l).operation.name ≡ writes a s (is_stopped choice l) l
 written_is z Start s choice l = starts choice
   where
-    starts : (c : Choice) → written_by (start_row c l).operation.action (start_row c l).operation.name ≡ None
+    starts : (c : Choice) → written_by (start_transition c l).operation.action (start_transition c l).operation.name ≡ None
     starts (Begin call) = refl
     starts Go = refl
     starts (Guess q) = refl
     starts Stop = refl
 written_is z Walk s choice l = walks (is_stopped choice l)
   where
-    walks : (b : Bool) → written_by (walk_row b s l).operation.action (walk_row b s l).operation.name ≡ walk_writes b s
+    walks : (b : Bool) → written_by (walk_transition b s l).operation.action (walk_transition b s l).operation.name ≡ walk_writes b s
     walks true = refl
     walks false = refl
 written_is z _ s choice l = refl
@@ -85,7 +85,7 @@ kept_by _ m n v v' loaded other d = other (λ e. d (ap Some (sym e)))
 module _ {z : Sizes} {r r' : Run} {s : ℕ} {choice : Choice} {l l' : Local} where
   pub unwritten : (a : Activity) → Happens z r r' s choice l l' a → (n : Name) → IsWithin z.seats z.cells r.world.rows n → writes a s (is_stopped choice l) l ≢ Some n → word z r'.world n ≡ word z r.world n
   unwritten a h n i d =
-      let it = row z a s choice l in
+      let it = transition z a s choice l in
       kept_by it.operation.action it.operation.name n (word z r.world) (word z r'.world) h.changed.loaded (h.changed.other n i) (λ e. d (sym (written_is z a s choice l) ∙ e))
 
 -- The rows: no event writes a state, a minimum, a link or the head.
@@ -202,7 +202,7 @@ not_clock _ s b l f e = cc
 not_scan : (a : Activity) (s : ℕ) (b : Bool) (l : Local) (t : ℕ) → t ≢ s → writes a s b l ≢ Some (name.Scan t)
 not_scan ScanWait s b l t d e = d (sym (same_scan s t e))
 not_scan ScanSettle s b l t d e = d (sym (same_scan s t e))
-not_scan (ClearScan reply) s b l t d e = d (sym (same_scan s t e))
+not_scan (ClearScan answer) s b l t d e = d (sym (same_scan s t e))
 not_scan Walk s true l t d e = d (sym (same_scan s t e))
 not_scan Walk s false l t d e = let x : None ≡ Some (name.Scan t) = e in cc
 not_scan _ s b l t d e = cc

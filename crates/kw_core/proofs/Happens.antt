@@ -18,37 +18,38 @@ use Rattle.kw_world.specs.declared.event.Event.{Event}
 use Rattle.kw_world.specs.declared.operation.Action.TheVariants.{Load, Exchange}
 use Rattle.kw_world.specs.Operation.{word_after}
 use Rattle.kw_world.specs.Sizes.{Sizes}
-use Rattle.kw_world.specs.Row.{Row}
-use Rattle.kw_world.specs.RowWalk.{offered}
-use Rattle.kw_world.specs.Table.{row}
+use Rattle.kw_world.specs.Transition.{Transition}
+use Rattle.kw_world.specs.WalkTransitions.{offered}
+use Rattle.kw_world.specs.Table.{transition}
 use Rattle.kw_world.specs.Sane.{IsSane, IsOffered}
-use Rattle.kw_world.specs.Step.{word, row_of, row_at, followed, is_skipped}
+use Rattle.kw_world.specs.Step.{word, transition_of, transition_at, followed, is_skipped}
 use Rattle.kw_world.proofs.Frame.{word-same, word-other, word-loaded}
 use Rattle.kw_world.proofs.Lists.{get-set_same, get-set_other}
-use Rattle.kw_world.proofs.Rows.{in_table, offered_below}
+use Rattle.kw_world.proofs.Transitions.{in_table, offered_below}
 use Rattle.kw_core.specs.declared.history.Logged.{Logged}
 use Rattle.kw_core.specs.declared.history.Change.{Change}
 use Rattle.kw_core.specs.Noted.{noted}
 use Rattle.kw_core.specs.Run.{Run, change_of, seat_after, origins_after, logged, noted_by}
 use Rattle.kw_core.specs.Words.{Words}
+use Rattle.kw_world.proofs.Skipping.{skipped_offered}
 use Rattle.kw_core.proofs.Events.{IsBegun}
 use Rattle.kw_core.proofs.Arrows.{Arrow, arrow}
 use Rattle.kw_core.specs.Stages.{IsReached}
 use Rattle.kw_core.specs.Ledger.{ledger_after}
 
 -- the words changed as a line of the table says
-pub record Changed (z : Sizes) (rows : ℕ) (v v' : Words) (it : Row) : Type 0 where
+pub record Changed (z : Sizes) (rows : ℕ) (v v' : Words) (it : Transition) : Type 0 where
   pub same : v' it.operation.name ≡ word_after it.operation.action (v it.operation.name)
   pub other : (n : Name) → IsWithin z.seats z.cells rows n → n ≢ it.operation.name → v' n ≡ v n
   pub loaded : it.operation.action ≡ Load → (n : Name) → v' n ≡ v n
 
 -- the word that the event of an activity finds
 abbrev pub found_at : Sizes → Words → Activity → ℕ → Choice → Local → ℕ
-found_at z v a s choice l = v (row z a s choice l).operation.name
+found_at z v a s choice l = v (transition z a s choice l).operation.name
 
 -- the entry of an event in the log
 abbrev pub log_entry : Sizes → Run → Activity → ℕ → Choice → Local → Logged
-log_entry z r a s choice l = logged s (row z a s choice l).operation.kind (word z r.world name.Clock)
+log_entry z r a s choice l = logged s (transition z a s choice l).operation.kind (word z r.world name.Clock)
 
 -- the change of an event
 abbrev pub change_at : Sizes → Run → Activity → ℕ → Choice → Local → Change
@@ -61,19 +62,19 @@ pub record Happens (z : Sizes) (r r' : Run) (s : ℕ) (choice : Choice) (l l' : 
   pub reached : IsReached a
   pub knows : slice_get r.world.locals s ≡ Some l
   pub seat : s < z.seats
-  pub begins : IsBegun choice
+  pub begins : IsBegun a choice
   pub moves : is_skipped a choice ≡ false
   pub offers : IsOffered r.world.rows choice
   -- the world
   pub rows : r'.world.rows ≡ r.world.rows
   pub words : length r'.world.words ≡ length r.world.words
   pub locals : r'.world.locals ≡ slice_set r.world.locals s l'
-  pub named : IsWithin z.seats z.cells r.world.rows (row z a s choice l).operation.name
-  pub changed : Changed z r.world.rows (word z r.world) (word z r'.world) (row z a s choice l)
+  pub named : IsWithin z.seats z.cells r.world.rows (transition z a s choice l).operation.name
+  pub changed : Changed z r.world.rows (word z r.world) (word z r'.world) (transition z a s choice l)
   pub arrow : Arrow z (word z r.world) s choice l a l'
-  pub next : l' ≡ (followed (row z a s choice l) (found_at z (word z r.world) a s choice l)).local
+  pub next : l' ≡ (followed r.world.rows (transition z a s choice l) (found_at z (word z r.world) a s choice l)).local
   -- the record
-  pub history : r'.history ≡ noted r.history (logged s (row z a s choice l).operation.kind (word z r.world name.Clock)) (change_of z a s choice l (found_at z (word z r.world) a s choice l) (r.seats s) r.origin)
+  pub history : r'.history ≡ noted r.history (logged s (transition z a s choice l).operation.kind (word z r.world name.Clock)) (change_of z a s choice l (found_at z (word z r.world) a s choice l) (r.seats s) r.origin)
   pub log : r'.seats s ≡ seat_after z a choice l (found_at z (word z r.world) a s choice l) l'.activity (r.seats s) r.origin r.history
   pub logs : (t : ℕ) → t ≢ s → r'.seats t ≡ r.seats t
   pub ledger : r'.ledger ≡ ledger_after z a s l (found_at z (word z r.world) a s choice l) (word z r.world) (length r.history.log) r.ledger
@@ -81,36 +82,30 @@ pub record Happens (z : Sizes) (r r' : Run) (s : ℕ) (choice : Choice) (l l' : 
 
 -- Every event that is noted happens.
 
-skipped_offered : (a : Activity) (rows : ℕ) (choice : Choice) → is_skipped a choice ≡ false → is_skipped a (offered rows choice) ≡ false
-skipped_offered Idle rows (Begin call) h = refl
-skipped_offered Idle rows Go h = h
-skipped_offered Idle rows (Guess q) h = let x : true ≡ false = h in absurd (cc)
-skipped_offered Idle rows Stop h = h
-skipped_offered _ rows choice h = refl
-
-begun_offered : (rows : ℕ) (choice : Choice) → IsBegun choice → IsBegun (offered rows choice)
-begun_offered rows (Begin call) h = h
-begun_offered rows Go h = tt
-begun_offered rows (Guess q) h = met (nat_lt q rows)
+begun_offered : (a : Activity) (rows : ℕ) (choice : Choice) → IsBegun a choice → IsBegun a (offered rows choice)
+begun_offered Idle rows (Begin call) h = h
+begun_offered Idle rows Go h = tt
+begun_offered Idle rows (Guess q) h = met (nat_lt q rows)
   where
-    met : (b : Bool) → IsBegun (if b then Guess q else Go)
+    met : (b : Bool) → IsBegun Idle (if b then Guess q else Go)
     met true = tt
     met false = tt
-begun_offered rows Stop h = tt
+begun_offered Idle rows Stop h = tt
+begun_offered _ rows choice h = tt
 
-pub happens : (z : Sizes) (r : Run) (e : Event) (l : Local) → IsSane z r.world → IsReached l.activity → IsBegun e.choice → slice_get r.world.locals e.seat ≡ Some l → is_skipped l.activity e.choice ≡ false →
-    Happens z r (noted_by z r e l) e.seat (offered r.world.rows e.choice) l (followed (row z l.activity e.seat (offered r.world.rows e.choice) l) (found_at z (word z r.world) l.activity e.seat (offered r.world.rows e.choice) l)).local l.activity
-unfolding row_of
+pub happens : (z : Sizes) (r : Run) (e : Event) (l : Local) → IsSane z r.world → IsReached l.activity → IsBegun l.activity e.choice → slice_get r.world.locals e.seat ≡ Some l → is_skipped l.activity e.choice ≡ false →
+    Happens z r (noted_by z r e l) e.seat (offered r.world.rows e.choice) l (followed r.world.rows (transition z l.activity e.seat (offered r.world.rows e.choice) l) (found_at z (word z r.world) l.activity e.seat (offered r.world.rows e.choice) l)).local l.activity
+unfolding transition_of
 happens z r e l sane reached begins knows moves =
     let inside = slice_get_within r.world.locals e.seat l knows in
     let within = in_table z r.world e l sane inside knows in
-    let it = row_at z r.world e l in
+    let it = transition_at z r.world e l in
     record {
       activity = refl;
       reached = reached;
       knows = knows;
       seat = omega (arith, inside, sane.seats);
-      begins = begun_offered r.world.rows e.choice begins;
+      begins = begun_offered l.activity r.world.rows e.choice begins;
       moves = skipped_offered l.activity r.world.rows e.choice moves;
       offers = offered_below r.world.rows e.choice;
       rows = refl;
@@ -122,7 +117,7 @@ happens z r e l sane reached begins knows moves =
         other = λ n i d. word-other z r.world e.seat it n i within d;
         loaded = λ q n. word-loaded z r.world e.seat it n q;
       };
-      arrow = arrow z (word z r.world) e.seat (offered r.world.rows e.choice) l l.activity (begun_offered r.world.rows e.choice begins) (skipped_offered l.activity r.world.rows e.choice moves);
+      arrow = arrow z r.world.rows (word z r.world) e.seat (offered r.world.rows e.choice) l l.activity (begun_offered l.activity r.world.rows e.choice begins) (skipped_offered l.activity r.world.rows e.choice moves);
       next = refl;
       history = refl;
       log = rw (eq-eqb e.seat e.seat refl) refl;

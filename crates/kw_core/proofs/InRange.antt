@@ -16,8 +16,8 @@ use Rattle.kw_cells.specs.Pairs.{with_shown, pairs_along, pairs_between}
 use Rattle.kw_cells.proofs.Best.{best_is}
 use Rattle.kw_model.specs.declared.call.Call.{Call}
 use Rattle.kw_model.specs.declared.call.Call.TheVariants.{Put, Del, Get, Scan}
-use Rattle.kw_model.specs.declared.call.Reply.{Reply}
-use Rattle.kw_model.specs.Map.{found}
+use Rattle.kw_world.specs.declared.answer.Answer.{Answer}
+use Rattle.kw_world.specs.Answers.{answer_found}
 use Rattle.kw_world.specs.declared.marks.Mark.{Mark}
 use Rattle.kw_world.specs.declared.local.Local.{Local}
 use Rattle.kw_world.specs.declared.event.Choice.{Choice}
@@ -25,10 +25,10 @@ use Rattle.kw_world.specs.declared.event.Choice.TheVariants.{Begin, Go, Guess, S
 use Rattle.kw_world.specs.Sizes.{Sizes}
 use Rattle.kw_world.specs.Calls.{first_key, last_key, put_value}
 use Rattle.kw_world.specs.Marks.{version_marked}
-use Rattle.kw_world.specs.Row.{row_linked}
-use Rattle.kw_world.specs.RowScan.{version_settled, reply_or_stopped}
-use Rattle.kw_world.specs.RowRead.{version_in_hand}
-use Rattle.kw_world.specs.Sane.{IsVersion, IsValueWord, IsLinkBelow, IsRowBelow, IsCall, IsPair, IsReply, IsMark, IsCopy, RisesBetween}
+use Rattle.kw_world.specs.Transition.{row_linked}
+use Rattle.kw_world.specs.ScanTransitions.{version_settled, answer_or_stopped}
+use Rattle.kw_world.specs.ReadTransitions.{version_in_hand}
+use Rattle.kw_world.specs.Sane.{IsVersion, IsValueWord, IsLinkBelow, IsRowBelow, IsCall, IsPair, IsAnswer, IsMark, IsCopy, RisesBetween}
 
 -- The places of cells.
 
@@ -85,10 +85,10 @@ shown_in_range cells version key value h e = met (best_of cells key version) ref
     met None y x = let f : None ≡ Some value = x in absurd (cc)
 
 -- what a get answers is in range
-pub answer_in_range : (cells : List kw_cell.Cell) (version key : ℕ) → All IsCopy cells → IsReply (found (shown_at cells version key))
+pub answer_in_range : (cells : List kw_cell.Cell) (version key : ℕ) → All IsCopy cells → IsAnswer (answer_found (shown_at cells version key))
 answer_in_range cells version key h = met (shown_at cells version key) refl
   where
-    met : (o : Option ℕ) → shown_at cells version key ≡ o → IsReply (found o)
+    met : (o : Option ℕ) → shown_at cells version key ≡ o → IsAnswer (answer_found o)
     met (Some value) e = shown_in_range cells version key value h e
     met None e = tt
 
@@ -148,9 +148,9 @@ pub linked_in_range : (rows r : ℕ) (x : Option Link) → IsLinkBelow rows x �
 linked_in_range rows r (Some link) h e = subst (IsRowBelow rows) e h
 linked_in_range rows r None h e = let x : None ≡ Some r = e in absurd (cc)
 
--- the reply of a scan that may be stopped
-pub reply_in_range : (reply : Reply) (choice : Choice) → IsReply reply → IsReply (reply_or_stopped reply choice)
-reply_in_range reply (Begin call) h = h
-reply_in_range reply Go h = h
-reply_in_range reply (Guess r) h = h
-reply_in_range reply Stop h = tt
+-- the answer of a scan that may be stopped
+pub stopped_in_range : (answer : Answer) (choice : Choice) → IsAnswer answer → IsAnswer (answer_or_stopped answer choice)
+stopped_in_range answer (Begin call) h = h
+stopped_in_range answer Go h = h
+stopped_in_range answer (Guess r) h = h
+stopped_in_range answer Stop h = tt

@@ -1,5 +1,4 @@
 pub mod RoomBelow
-pub mod Skips
 pub mod Attempts
 pub mod GatheredIds
 pub mod Appended

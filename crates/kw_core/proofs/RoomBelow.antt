@@ -2,7 +2,7 @@
 use Rattle.std.proofs.Common.{◌≡◌, ◌<◌, Bool, true, false, nat_lt, if◌then◌else◌, Option, Some, None}
 use Rattle.kw_words.specs.declared.count.Count.{Count as Counted}
 use Rattle.std.proofs.lemmas.Bool.{ltb-true}
-use Rattle.kw_world.specs.RowPut.{has_room, given_of}
+use Rattle.kw_world.specs.PutTransitions.{has_room, given_of}
 use Rattle.kw_world.specs.Sizes.{Sizes}
 
 -- a row that has room has given fewer cells than it has

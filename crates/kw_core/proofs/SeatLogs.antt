@@ -6,7 +6,7 @@ use Rattle.kw_world.specs.declared.activity.Activity.TheVariants.{Idle, ScanDraw
 use Rattle.kw_world.specs.declared.local.Local.{Local}
 use Rattle.kw_world.specs.declared.event.Choice.{Choice}
 use Rattle.kw_world.specs.Sizes.{Sizes}
-use Rattle.kw_world.specs.RowPut.{has_room}
+use Rattle.kw_world.specs.PutTransitions.{has_room}
 use Rattle.kw_core.specs.History.{History}
 use Rattle.kw_core.specs.Run.{SeatLog, Origins, seat_after, log_gathered, is_at_cell}
 use Rattle.kw_core.specs.Stages.{IsPublished, IsReading, IsUnderway}

@@ -7,7 +7,9 @@ use Rattle.kw_words.specs.declared.sizes.TheConstants.{KEY_END, VALUE_END}
 use Rattle.kw_model.specs.declared.call.Call.{Call}
 use Rattle.kw_model.specs.declared.call.Call.TheVariants.{Put, Del, Get, Scan}
 use Rattle.kw_world.specs.declared.event.Choice.{Choice}
-use Rattle.kw_world.specs.declared.event.Choice.TheVariants.{Begin, Go, Guess, Stop}
+use Rattle.kw_world.specs.declared.event.Choice.TheVariants.{Begin}
+use Rattle.kw_world.specs.declared.activity.Activity.{Activity}
+use Rattle.kw_world.specs.declared.activity.Activity.TheVariants.{Idle}
 use Rattle.kw_world.specs.declared.event.Event.{Event}
 use Rattle.kw_world.specs.declared.opening.Opening.{Opening}
 use Rattle.kw_world.specs.declared.local.Local.{Local}
@@ -37,21 +39,19 @@ is_call_in_range (Del key) = nat_lt key KEY_END
 is_call_in_range (Get key) = nat_lt key KEY_END
 is_call_in_range (Scan from upto) = nat_lt from KEY_END && nat_lt upto KEY_END
 
--- a call that begins is in range
-abbrev pub may_begin : Choice → Bool
-may_begin (Begin call) = is_call_in_range call
-may_begin Go = true
-may_begin (Guess r) = true
-may_begin Stop = true
+-- a call that a seat begins at this activity is in range; an idle seat alone begins one
+abbrev pub may_begin : Activity → Choice → Bool
+may_begin Idle (Begin call) = is_call_in_range call
+may_begin _ choice = true
 
--- the event of a seat that knows this is not skipped
+-- the event of a seat that knows this is not skipped, and a call that it begins is in range
 abbrev pub is_made : Choice → Option Local → Bool
-is_made choice (Some l) = not (is_skipped l.activity choice)
+is_made choice (Some l) = not (is_skipped l.activity choice) && may_begin l.activity choice
 is_made choice None = false
 
 -- the event may come next: its seat is one of the run's, it is not skipped, and a call that it begins is in range
 unfoldable pub may_step : Opening → WorldView → Event → Bool
-may_step o w e = nat_lt e.seat o.seats && (may_begin e.choice && is_made e.choice (slice_get w.locals e.seat))
+may_step o w e = nat_lt e.seat o.seats && is_made e.choice (slice_get w.locals e.seat)
 
 -- each event of the list may come where it comes, from this world
 unfoldable pub is_valid_from : Sizes → Opening → WorldView → List Event → Bool

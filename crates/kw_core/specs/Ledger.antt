@@ -54,5 +54,5 @@ with_pass g s since = record g { passes = λ t. if t == s then since else g.pass
 -- that stores its pass is in it from there on, and one that clears it is in none. No event takes, links or unlinks a row
 abbrev pub ledger_after : Sizes → Activity → ℕ → Local → ℕ → Words → ℕ → Ledger → Ledger
 ledger_after z Enter s l found v now g = with_pass g s (Some now)
-ledger_after z (Leave reply) s l found v now g = with_pass g s None
+ledger_after z (Leave answer) s l found v now g = with_pass g s None
 ledger_after z _ s l found v now g = g

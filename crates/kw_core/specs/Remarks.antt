@@ -7,7 +7,7 @@ use Rattle.kw_world.specs.declared.local.Local.{Local}
 use Rattle.kw_world.specs.declared.event.Choice.{Choice}
 use Rattle.kw_world.specs.declared.event.Choice.TheVariants.{Begin, Go, Guess, Stop}
 use Rattle.kw_world.specs.Sizes.{Sizes}
-use Rattle.kw_world.specs.RowPut.{has_room}
+use Rattle.kw_world.specs.PutTransitions.{has_room}
 use Rattle.kw_core.specs.History.{History}
 use Rattle.kw_core.specs.Run.{SeatLog, Origins, log_read}
 use Rattle.kw_core.specs.declared.seat_log.Remark.{Remark}

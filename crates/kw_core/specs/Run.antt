@@ -14,8 +14,9 @@ use Rattle.kw_cells.specs.declared.cell.Cell as kw_cell
 use Rattle.kw_cells.specs.Cells.{best_of}
 use Rattle.kw_model.specs.declared.call.Call.{Call}
 use Rattle.kw_model.specs.declared.call.Call.TheVariants.{Put, Del, Get, Scan}
-use Rattle.kw_model.specs.declared.call.Reply.{Reply}
-use Rattle.kw_model.specs.declared.call.Reply.TheVariants.{Done, Value, Absent, Pairs, NoRows, Spent, Stopped}
+use Rattle.kw_world.specs.declared.answer.Answer.{Answer}
+use Rattle.kw_world.specs.declared.answer.Answer.TheVariants.{Done, Value, Absent, Pairs, NoRows, Spent, Stopped}
+use Rattle.kw_world.specs.Answers.{reply_of}
 use Rattle.kw_world.specs.declared.activity.Activity.{Activity}
 use Rattle.kw_world.specs.declared.activity.Activity.TheVariants.{Idle, ScanClock, ScanDraw, Look, LookClock, LookHelp, LookCount, Cell, CellKey, CellValue, PutAdd, Announce, PutClock, Stamp, Leave}
 use Rattle.kw_world.specs.declared.local.Local.{Local}
@@ -28,9 +29,9 @@ use Rattle.kw_world.specs.Sizes.{Sizes}
 use Rattle.kw_world.specs.WorldView.{WorldView}
 use Rattle.kw_world.specs.Calls.{first_key, put_value}
 use Rattle.kw_world.specs.Opening.{opened}
-use Rattle.kw_world.specs.RowPut.{has_room, given_of}
-use Rattle.kw_world.specs.RowWalk.{offered}
-use Rattle.kw_world.specs.Step.{word, row_at, moved_of, followed, is_skipped}
+use Rattle.kw_world.specs.PutTransitions.{has_room, given_of}
+use Rattle.kw_world.specs.WalkTransitions.{offered}
+use Rattle.kw_world.specs.Step.{word, transition_at, moved_of, followed, is_skipped}
 -- what a seat did last
 pub use Rattle.kw_core.specs.declared.seat_log.SeatLog.{SeatLog}
 use Rattle.kw_core.specs.History.{History, Logged, Drawn}
@@ -97,8 +98,8 @@ answering (Some (Scan from upto)) l g = None
 answering None l g = None
 
 -- where a scan that ends with pairs drew its version
-abbrev pub drawing : Reply → Local → SeatLog → Option Drawn
-drawing (Pairs pairs) l g = Some (record { at = g.drawn; version = l.version })
+abbrev pub drawing : Answer → Local → SeatLog → Option Drawn
+drawing Pairs l g = Some (record { at = g.drawn; version = l.version })
 drawing Done l g = None
 drawing (Value value) l g = None
 drawing Absent l g = None
@@ -113,7 +114,7 @@ change_of z LookHelp s choice l found g o = if found == pend_word (pend.Pending 
 change_of z PutAdd s choice l found g o = if has_room z (count_of found) then Adds g.call s (first_key l.call) (put_value l.call) l.row (given_of (count_of found)) else Nothing
 change_of z Announce s choice l found g o = if found == pend_word pend.Idle then Announces g.own else Nothing
 change_of z Stamp s choice l found g o = if found == pend_word (pend.Pending l.cell) then Stamps g.own l.version g.loaded else Nothing
-change_of z (Leave reply) s choice l found g o = Ends g.call reply (answering l.call l g) (drawing reply l g)
+change_of z (Leave answer) s choice l found g o = Ends g.call (reply_of answer l.pairs) (answering l.call l g) (drawing answer l g)
 change_of z _ s choice l found g o = Nothing
 
 -- What an event adds to the log of its seat.
@@ -172,14 +173,14 @@ logged s kind clock = record { seat = s; kind = kind; clock = clock }
 
 -- the word that the event of a seat that knows l finds
 abbrev pub found_by : Sizes → WorldView → Event → Local → ℕ
-found_by z w e l = word z w (row_at z w e l).operation.name
+found_by z w e l = word z w (transition_at z w e l).operation.name
 
 -- an event that is not skipped, of a seat that knows l
 abbrev pub noted_by : Sizes → Run → Event → Local → Run
 noted_by z r e l = record {
   world = (moved_of z r.world e l).world;
-  history = noted r.history (logged e.seat (row_at z r.world e l).operation.kind (word z r.world Clock)) (change_of z l.activity e.seat (offered r.world.rows e.choice) l (found_by z r.world e l) (r.seats e.seat) r.origin);
-  seats = with_seat r.seats e.seat (seat_after z l.activity (offered r.world.rows e.choice) l (found_by z r.world e l) (followed (row_at z r.world e l) (found_by z r.world e l)).local.activity (r.seats e.seat) r.origin r.history);
+  history = noted r.history (logged e.seat (transition_at z r.world e l).operation.kind (word z r.world Clock)) (change_of z l.activity e.seat (offered r.world.rows e.choice) l (found_by z r.world e l) (r.seats e.seat) r.origin);
+  seats = with_seat r.seats e.seat (seat_after z l.activity (offered r.world.rows e.choice) l (found_by z r.world e l) (followed r.world.rows (transition_at z r.world e l) (found_by z r.world e l)).local.activity (r.seats e.seat) r.origin r.history);
   origin = origins_after z l.activity l (found_by z r.world e l) r.origin r.history;
   ledger = ledger_after z l.activity e.seat l (found_by z r.world e l) (word z r.world) (length r.history.log) r.ledger;
 }

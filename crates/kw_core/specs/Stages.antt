@@ -4,7 +4,7 @@
 use Rattle.std.specs.Prelude.{◌≤◌, Bool, true, false, Option, Some, None}
 use Rattle.kw_model.specs.declared.call.Call.{Call}
 use Rattle.kw_model.specs.declared.call.Call.TheVariants.{Put, Del, Get, Scan}
-use Rattle.kw_model.specs.declared.call.Reply.TheVariants.{Done, Pairs}
+use Rattle.kw_world.specs.declared.answer.Answer.TheVariants.{Done, Pairs}
 use Rattle.kw_world.specs.declared.activity.Activity.{Activity}
 use Rattle.kw_core.specs.declared.stage.Stage.{Stage}
 use Rattle.kw_core.specs.declared.stage.Stage.TheVariants.{Resting, Entering, Drawing, Walking, Looking, Taking, Clearing, Putting, Leaving}
@@ -43,7 +43,7 @@ stage_of LookCount = Looking
 stage_of (Cell j) = Taking
 stage_of CellKey = Taking
 stage_of CellValue = Taking
-stage_of (ClearScan reply) = Clearing
+stage_of (ClearScan answer) = Clearing
 stage_of PutCount = Putting
 stage_of PutAdd = Putting
 stage_of PutKey = Putting
@@ -53,7 +53,7 @@ stage_of PutClock = Putting
 stage_of Stamp = Putting
 stage_of PutVersion = Putting
 stage_of PutClear = Putting
-stage_of (Leave reply) = Leaving
+stage_of (Leave answer) = Leaving
 
 -- a seat may come to this activity
 abbrev pub IsReached : Activity → Type 0
@@ -317,11 +317,11 @@ IsSettling _ = ⊥
 
 -- the scan's word says what it drew
 abbrev pub IsSettled : Activity → Type 0
-IsSettled (ClearScan reply) = Unit {0}
+IsSettled (ClearScan answer) = Unit {0}
 IsSettled a = IsCovering a
 
 -- the scan has its version
 abbrev pub HasDrawn : Activity → Type 0
-HasDrawn (ClearScan reply) = Unit {0}
-HasDrawn (Leave (Pairs pairs)) = Unit {0}
+HasDrawn (ClearScan answer) = Unit {0}
+HasDrawn (Leave Pairs) = Unit {0}
 HasDrawn a = IsCovering a

@@ -5,8 +5,8 @@ use Rattle.kw_words.specs.declared.layout.Name.TheVariants as name
 use Rattle.kw_words.specs.Link.{link_of}
 use Rattle.kw_words.specs.Count.{count_of}
 use Rattle.kw_words.specs.Plain.{key_of_word}
-use Rattle.kw_world.specs.Row.{row_linked}
-use Rattle.kw_world.specs.RowPut.{given_of}
+use Rattle.kw_world.specs.Transition.{row_linked}
+use Rattle.kw_world.specs.PutTransitions.{given_of}
 
 -- the words by name
 abbrev pub Words : Type 0

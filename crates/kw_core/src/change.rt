@@ -10,8 +10,9 @@ ghost use Rattle.kw_words.specs.declared.pend.Pend.TheVariants as pend;
 ghost use Rattle.kw_world.specs.declared.local.Local.{Local};
 ghost use Rattle.kw_world.specs.Sizes.{product};
 ghost use Rattle.kw_world.specs.Calls.{first_key, put_value};
-ghost use Rattle.kw_world.specs.RowPut.{has_room, given_of};
-ghost use Rattle.kw_world.specs.Sane.{IsLocal, IsCall, CanBegin, IsSane};
+ghost use Rattle.kw_world.specs.PutTransitions.{has_room, given_of};
+ghost use Rattle.kw_world.specs.Answers.{reply_of};
+ghost use Rattle.kw_world.specs.Sane.{IsLocal, IsCall, CanBegin, CanBeginAt, IsSane};
 ghost use Rattle.kw_core.specs.Run.{change_of, beginning, helping, answering, drawing, best_id, id_at};
 ghost use Rattle.kw_core.specs.Recording.{origin_in};
 ghost use Rattle.kw_core.specs.Happenings.{happening_at, logged_of};
@@ -20,7 +21,7 @@ use crate::history::{Change, Drawn, Logged};
 use crate::seat_log::SeatLog;
 use crate::step::operation;
 use kw_cells::cell::{Cell, best};
-use kw_model::call::{Call, Reply};
+use kw_model::call::Call;
 use kw_model::memory::Memory;
 use kw_words::count::Count;
 use kw_words::kind::Kind;
@@ -28,6 +29,7 @@ use kw_words::layout::{Layout, Name};
 use kw_words::pend::Pend;
 use kw_words::sizes::{CELL_COUNT, CELLS, SEATS};
 use kw_world::activity::Activity;
+use kw_world::answer::Answer;
 use kw_world::calls::{first_key, put_value};
 use kw_world::event::{Choice, Event};
 use kw_world::limits::NEWEST;
@@ -94,13 +96,13 @@ pub fn change_of(
     requires origins { local.now.row * CELLS + CELLS ≤ length origins.now }
     ensures { IfOk result (λ change. change ≡ change_of product local.now.activity happening.seat happening.choice local.now happening.found log.now (origin_in product origins.now)) }
 {
-    Ok(match &local.activity {
+    Ok(match local.activity {
         Activity::Idle => beginning(happening, local),
         Activity::LookHelp => helping(local, happening.found, log, origins),
         Activity::PutAdd => adding(local, happening, log),
         Activity::Announce => announcing(happening.found, log),
         Activity::Stamp => stamping(local, happening.found, log),
-        Activity::Leave(reply) => ending(local, reply, log)?,
+        Activity::Leave(answer) => ending(local, answer, log)?,
         _ => Change::Nothing,
     })
 }
@@ -126,7 +128,7 @@ pub fn room(found: u64) -> Option<u32>
 
 /// An idle seat begins a call.
 fn beginning(happening: Happening, local: &Local) -> Change
-    requires { CanBegin happening.choice local.now }
+    requires { CanBeginAt Activity.Idle happening.choice local.now }
     ensures { result ≡ beginning happening.choice happening.seat local.now }
 {
     match happening.choice {
@@ -203,15 +205,16 @@ fn stamping(local: &Local, found: u64, log: &SeatLog) -> Change
     }
 }
 
-/// A call ends with this reply.
-fn ending(local: &Local, reply: &Reply, log: &SeatLog) -> Result<Change, Memory>
-    ensures { IfOk result (λ change. change ≡ Change.Ends log.now.call reply.now (answering local.now.call local.now log.now) (drawing reply.now local.now log.now)) }
+/// A call ends with this answer.
+fn ending(local: &Local, answer: Answer, log: &SeatLog) -> Result<Change, Memory>
+    ensures { IfOk result (λ change. change ≡ Change.Ends log.now.call (reply_of answer local.now.pairs) (answering local.now.call local.now log.now) (drawing answer local.now log.now)) }
 {
+    let pairs = local.pairs.clone()?;
     Ok(Change::Ends {
         call: log.call,
-        reply: reply.clone()?,
+        reply: answer.reply(pairs),
         answer: answering(local, log),
-        draw: drawing(local, reply, log),
+        draw: drawing(local, answer, log),
     })
 }
 
@@ -226,11 +229,11 @@ fn answering(local: &Local, log: &SeatLog) -> Option<usize>
 }
 
 /// Where a scan that ends with pairs drew its version.
-fn drawing(local: &Local, reply: &Reply, log: &SeatLog) -> Option<Drawn>
-    ensures { result ≡ drawing reply.now local.now log.now }
+fn drawing(local: &Local, answer: Answer, log: &SeatLog) -> Option<Drawn>
+    ensures { result ≡ drawing answer local.now log.now }
 {
-    match reply {
-        Reply::Pairs(_) => Some(Drawn {
+    match answer {
+        Answer::Pairs => Some(Drawn {
             at: log.drawn,
             version: local.version,
         }),

@@ -1,15 +1,14 @@
 //! One event of a world, whichever it is.
 //!
-//! The events of a walk along the rows are one crate's and all others another's; `is_rows_part` of the acting seat's local
-//! says which, and here the two are one. `step` is the definition of one event, and `kind_of` names what it is for before
+//! Each part of the table is made by a crate of its own; `part` of the acting seat's local says which, and here they are one. `step` is the definition of one event, and `kind_of` names what it is for before
 //! it is made: the laws over lists of events and the simulator stand on these two. `operation` and `resume` are the halves
 //! of an event, before and after its word; the running map puts them around a word of its own table. `read_on` is the
 //! second half at the cells of a row without the end of the row, for whoever passes that itself.
-ghost use Rattle.std.specs.Prelude.{◌≡◌, ◌<◌, None, length, IfOk, IfSome, OnErr};
-ghost use Rattle.kw_world.specs.Row.{outcome};
+ghost use Rattle.std.specs.Prelude.{◌≡◌, ◌<◌, ◌↔◌, None, length, IfOk, IfSome, OnErr};
+ghost use Rattle.kw_world.specs.Transition.{outcome};
 ghost use Rattle.kw_world.specs.Sane.{IsSane, IsLocal, HasRoom, CanStep, CanBegin};
 ghost use Rattle.kw_world.specs.Sizes.{product};
-ghost use Rattle.kw_world.specs.Step.{step, stepped, kind_of, row_of, next_of, IsMade};
+ghost use Rattle.kw_world.specs.Step.{step, stepped, kind_of, transition_of, next_of, IsMade, IsSkipped};
 ghost use Rattle.kw_world.specs.RowEnd.{MayEndRow, MayEndRowAt};
 
 use kw_model::memory::Memory;
@@ -24,12 +23,13 @@ use kw_words::kind::Kind;
 use kw_world::event::{Choice, Event, StepDone};
 use kw_world::local::Local;
 use kw_world::operation::Operation;
+use kw_world::part::Part;
 use kw_world::world::World;
 
 /// Makes one event of the world.
 ///
-/// The event's seat is one of the world's, a value that it puts is below `VALUE_END`, and a seat that begins a call has
-/// begun fewer than `MOST_CALLS`. A choice that the seat's activity does not offer counts as `Go`. The answer is `Skipped`
+/// The event's seat is one of the world's, a value that an idle seat begins to put is below `VALUE_END`, and a seat that
+/// begins a call has begun fewer than `MOST_CALLS`. A choice that the seat's activity does not offer counts as `Go`. The answer is `Skipped`
 /// exactly where the seat is idle and begins nothing. The world is as it was after `Skipped`, and without memory, which
 /// only the pairs of a scan take, at the end of a row.
 pub fn step(world: &mut World, event: Event) -> Result<StepDone, Memory>
@@ -37,14 +37,15 @@ pub fn step(world: &mut World, event: Event) -> Result<StepDone, Memory>
     requires seat { event.seat < length world.old.locals }
     requires begin { CanStep world.old event }
     ensures ok { IfOk result (λ done. stepped world.new done ≡ step product world.old event) }
-    ensures skipped { IfOk result (λ done. done ≡ StepDone.Skipped → world.new ≡ world.old) }
+    ensures skipped { IfOk result (λ done. (done ≡ StepDone.Skipped) ↔ IsSkipped world.old event) }
+    ensures skipped_world { IfOk result (λ done. done ≡ StepDone.Skipped → world.new ≡ world.old) }
     ensures err { OnErr result (world.new ≡ world.old) }
     ensures memory { OnErr result (MayEndRowAt world.old event.seat) }
 {
-    if world.local(event.seat).is_rows_part(event.choice) {
-        rows_step(world, event)
-    } else {
-        put_step(world, event)
+    match world.local(event.seat).part(event.choice) {
+        Part::Put => put_step(world, event),
+        Part::Rows => rows_step(world, event),
+        Part::Rebalance => unreachable!(),
     }
 }
 
@@ -72,30 +73,36 @@ pub fn kind_of(world: &World, event: Event) -> Option<Kind>
 /// A guess has to be at a row of the table, as `Choice::offered` sees to.
 pub fn operation(seat: u32, local: &Local, choice: Choice) -> Operation
     requires { IsLocal product local.now }
-    ensures { result ≡ (row_of product seat choice local.now).operation }
+    ensures { result ≡ (transition_of product seat choice local.now).operation }
 {
-    if local.is_rows_part(choice) {
-        rows_operation(seat, local, choice)
-    } else {
-        put_operation(seat, local, choice)
+    match local.part(choice) {
+        Part::Put => put_operation(seat, local, choice),
+        Part::Rows => rows_operation(seat, local, choice),
+        Part::Rebalance => unreachable!(),
     }
 }
 
-/// What a seat knows after its event, where the operation told it this. It is the same whichever seat it is.
+/// What a seat knows after its event, where the table has so many rows and the operation told it this. It is the same
+/// whichever seat it is.
 ///
 /// Takes memory only where a scan has read a row to its end, for the row's pairs: no other call wants any, and a scan does
 /// at none but the last events of a row. Without it the local is as it was.
-pub fn resume(local: &mut Local, choice: Choice, told: u64) -> Result<StepDone, Memory>
+pub fn resume(
+    local: &mut Local,
+    rows: u32,
+    choice: Choice,
+    told: u64,
+) -> Result<StepDone, Memory>
     requires ranges { IsLocal product local.old }
     requires room { HasRoom product local.old }
     requires begin { CanBegin choice local.old }
-    ensures ok { IfOk result (λ done. outcome local.new done ≡ next_of product choice local.old told) }
+    ensures ok { IfOk result (λ done. outcome local.new done ≡ next_of product rows choice local.old told) }
     ensures err { OnErr result (local.new ≡ local.old) }
     ensures memory { OnErr result (MayEndRow local.old) }
 {
-    if local.is_rows_part(choice) {
-        Ok(rows_resume(local, choice, told))
-    } else {
-        put_resume(local, choice, told)
+    match local.part(choice) {
+        Part::Put => put_resume(local, choice, told),
+        Part::Rows => Ok(rows_resume(local, rows, choice, told)),
+        Part::Rebalance => unreachable!(),
     }
 }

@@ -17,7 +17,7 @@ use Rattle.kw_words.specs.Scan.{scan_of}
 use Rattle.kw_words.specs.State.{state_of}
 use Rattle.kw_model.specs.declared.call.Call.{Call}
 use Rattle.kw_model.specs.declared.call.Call.TheVariants.{Put, Del, Get, Scan}
-use Rattle.kw_model.specs.declared.call.Reply.{Reply}
+use Rattle.kw_world.specs.declared.answer.Answer.{Answer}
 use Rattle.kw_world.specs.declared.activity.Activity.{Activity}
 use Rattle.kw_world.specs.declared.activity.Activity.TheVariants.{Idle, Enter, ScanClock, ScanWait, ScanDraw, ScanSettle, Start, Head, GuessMin, Walk, WalkMin, Look, LookKey, LookClock, LookHelp, LookCount, Cell, CellKey, CellValue, ClearScan, PutCount, PutAdd, PutKey, PutValue, Announce, PutClock, Stamp, PutVersion, PutClear, Leave}
 use Rattle.kw_world.specs.declared.event.Choice.{Choice}
@@ -25,22 +25,21 @@ use Rattle.kw_world.specs.declared.event.Choice.TheVariants.{Begin, Go, Guess, S
 use Rattle.kw_world.specs.declared.event.StepDone.TheVariants.{Moved}
 use Rattle.kw_world.specs.declared.local.Local.{Local}
 use Rattle.kw_world.specs.Calls.{is_in_range, is_range_empty, is_scan}
-use Rattle.kw_world.specs.Row.{Outcome, row_linked, leave}
-use Rattle.kw_world.specs.RowPut.{has_room, stamp_met}
-use Rattle.kw_world.specs.RowRead.{to_look, look_met, help_met, remembering}
-use Rattle.kw_world.specs.RowScan.{entered, reply_or_stopped, settled, version_settled}
-use Rattle.kw_world.specs.RowWalk.{arrive, guess_met, is_stop, is_stopped, link_met, start_row, walk_min, walk_row}
+use Rattle.kw_world.specs.Transition.{Outcome, row_linked, leave}
+use Rattle.kw_world.specs.PutTransitions.{has_room, stamp_met}
+use Rattle.kw_world.specs.ReadTransitions.{to_look, look_met, help_met, remembering}
+use Rattle.kw_world.specs.ScanTransitions.{entered, answer_or_stopped, settled, version_settled}
+use Rattle.kw_world.specs.WalkTransitions.{arrive, guess_met, is_stop, is_stopped, link_met, start_transition, walk_min, walk_transition}
 use Rattle.kw_world.specs.Sizes.{Sizes}
-use Rattle.kw_world.specs.Table.{row}
-use Rattle.kw_core.specs.Stages.{IsEarly}
-use Rattle.kw_follow.specs.Following.{carried, bare_activity, bare_reply, held_at}
+use Rattle.kw_world.specs.Table.{transition}
+use Rattle.kw_follow.specs.Following.{carried}
 
 -- p is what follows for code where o follows for the seat: it carries what the seat then knows, and the call goes on. The seat's pairs
 -- are then these, unless the choice is to stop
 pub record Carries (c : Choice) (pairs : List (ℕ × ℕ)) (o p : Outcome) : Type 0 where
   pub local : p.local ≡ carried o.local
   pub done : p.done ≡ Moved
-  pub held : is_stop c ≡ false → held_at o.local.activity o.local.pairs ≡ pairs
+  pub held : is_stop c ≡ false → o.local.pairs ≡ pairs
 
 module _ (c : Choice) where
   -- both ways of a test
@@ -57,8 +56,8 @@ module _ (c : Choice) where
   enters (Some (Scan from upto)) l = record { local = refl; done = refl; held = λ g. refl }
   enters None l = record { local = refl; done = refl; held = λ g. refl }
 
-  settles : (version : ℕ) (l : Local) → l.pairs ≡ [] → Carries c l.pairs (settled version l) (settled version (carried l))
-  settles version l none = either (is_range_empty l.call) l.pairs _ _ _ _ (record { local = refl; done = refl; held = λ g. sym none }) (record { local = refl; done = refl; held = λ g. refl })
+  settles : (version : ℕ) (l : Local) → Carries c l.pairs (settled version l) (settled version (carried l))
+  settles version l = either (is_range_empty l.call) l.pairs _ _ _ _ (record { local = refl; done = refl; held = λ g. refl }) (record { local = refl; done = refl; held = λ g. refl })
 
   -- The walk.
 
@@ -71,11 +70,11 @@ module _ (c : Choice) where
   guesses r (Some (Retired number)) l = record { local = refl; done = refl; held = λ g. refl }
   guesses r None l = record { local = refl; done = refl; held = λ g. refl }
 
-  starts : (choice : Choice) (l : Local) (told : ℕ) → Carries c l.pairs ((start_row choice l).next told) ((start_row choice (carried l)).next told)
-  starts (Begin call) l told = record { local = refl; done = refl; held = λ g. refl }
-  starts Go l told = record { local = refl; done = refl; held = λ g. refl }
-  starts (Guess r) l told = guesses r (state_of told) l
-  starts Stop l told = record { local = refl; done = refl; held = λ g. refl }
+  starts : (choice : Choice) (l : Local) (rows told : ℕ) → Carries c l.pairs ((start_transition choice l).next rows told) ((start_transition choice (carried l)).next rows told)
+  starts (Begin call) l rows told = record { local = refl; done = refl; held = λ g. refl }
+  starts Go l rows told = record { local = refl; done = refl; held = λ g. refl }
+  starts (Guess r) l rows told = guesses r (state_of told) l
+  starts Stop l rows told = record { local = refl; done = refl; held = λ g. refl }
 
   arrives : (call : Option Call) (l : Local) → Carries c l.pairs (arrive call l) (arrive call (carried l))
   arrives (Some (Put key value)) l = record { local = refl; done = refl; held = λ g. refl }
@@ -88,9 +87,9 @@ module _ (c : Choice) where
   links None l = arrives l.call (record l { next = None; upper = 0 })
   links (Some r) l = record { local = refl; done = refl; held = λ g. refl }
 
-  walks : (b : Bool) (s : ℕ) (l : Local) (told : ℕ) → (is_stop c ≡ false → b ≡ false) → Carries c l.pairs ((walk_row b s l).next told) ((walk_row b s (carried l)).next told)
-  walks true s l told n = record { local = refl; done = refl; held = λ g. let x : true ≡ false = n g in absurd (cc) }
-  walks false s l told n = links (row_linked (link_of told)) l
+  walks : (b : Bool) (s : ℕ) (l : Local) (rows told : ℕ) → (is_stop c ≡ false → b ≡ false) → Carries c l.pairs ((walk_transition b s l).next rows told) ((walk_transition b s (carried l)).next rows told)
+  walks true s l rows told n = record { local = refl; done = refl; held = λ g. let x : true ≡ false = n g in absurd (cc) }
+  walks false s l rows told n = links (row_linked (link_of told)) l
 
   walks_on : (least : ℕ) (l : Local) → Carries c l.pairs (walk_min least l) (walk_min least (carried l))
   walks_on least l = either (nat_le least l.want) l.pairs _ _ _ _ (record { local = refl; done = refl; held = λ g. refl }) (arrives l.call (record l { next = Some l.candidate; upper = least }))
@@ -132,11 +131,11 @@ not_stopped : (c : Choice) (l : Local) → is_stop c ≡ false → is_stopped c 
 not_stopped c l n = ap (λ b. b && (is_scan l.call && l.has_read)) n
 
 -- a scan that is over leaves with its pairs, unless it is stopped
-clears : (c : Choice) (reply : Reply) (l : Local) → Carries c (held_at (ClearScan reply) l.pairs) (leave (reply_or_stopped reply c) l) (leave (reply_or_stopped (bare_reply reply) c) (carried l))
-clears (Begin call) reply l = record { local = refl; done = refl; held = λ g. refl }
-clears Go reply l = record { local = refl; done = refl; held = λ g. refl }
-clears (Guess r) reply l = record { local = refl; done = refl; held = λ g. refl }
-clears Stop reply l = record { local = refl; done = refl; held = λ g. let x : true ≡ false = g in absurd (cc) }
+clears : (c : Choice) (answer : Answer) (l : Local) → Carries c l.pairs (leave (answer_or_stopped answer c) l) (leave (answer_or_stopped answer c) (carried l))
+clears (Begin call) answer l = record { local = refl; done = refl; held = λ g. refl }
+clears Go answer l = record { local = refl; done = refl; held = λ g. refl }
+clears (Guess r) answer l = record { local = refl; done = refl; held = λ g. refl }
+clears Stop answer l = record { local = refl; done = refl; held = λ g. refl }
 
 -- the seat is in the middle of a call, and reads no cell
 abbrev pub IsGoingOn : Activity → Type 0
@@ -145,54 +144,54 @@ IsGoingOn LookCount = ⊥
 IsGoingOn (Cell j) = ⊥
 IsGoingOn CellKey = ⊥
 IsGoingOn CellValue = ⊥
-IsGoingOn (Leave reply) = ⊥
+IsGoingOn (Leave answer) = ⊥
 IsGoingOn _ = Unit {0}
 
 -- what follows from an event there
-pub carries : (z : Sizes) (a : Activity) (s : ℕ) (c : Choice) (l : Local) (told : ℕ) → IsGoingOn a → (IsEarly a → l.pairs ≡ []) → Carries c (held_at a l.pairs) ((row z a s c l).next told) ((row z (bare_activity a) s c (carried l)).next told)
-carries z Idle s c l told u n = absurd u
-carries z Enter s c l told u n = enters c l.call l
-carries z ScanClock s c l told u n = either c (nat_le SPENT told) l.pairs _ _ _ _ (record { local = refl; done = refl; held = λ g. refl }) (record { local = refl; done = refl; held = λ g. refl })
-carries z ScanWait s c l told u n = record { local = refl; done = refl; held = λ g. refl }
-carries z ScanDraw s c l told u n = record { local = refl; done = refl; held = λ g. refl }
-carries z ScanSettle s c l told u n = settles c (version_settled (scan_of told) l.drawn) l (n tt)
-carries z Start s c l told u n = starts c c l told
-carries z Head s c l told u n = record { local = refl; done = refl; held = λ g. refl }
-carries z GuessMin s c l told u n = either c (nat_le (key_of_word told) l.want) l.pairs _ _ _ _ (record { local = refl; done = refl; held = λ g. refl }) (record { local = refl; done = refl; held = λ g. refl })
-carries z Walk s c l told u n = walks c (is_stopped c l) s l told (not_stopped c l)
-carries z WalkMin s c l told u n = walks_on c (key_of_word told) l
-carries z (Look i) s c l told u n = meets c z i (pend_of told) l
-carries z LookKey s c l told u n = either c (is_in_range l.call (key_of_word told)) l.pairs _ _ _ _ (record { local = refl; done = refl; held = λ g. refl }) (looks c z (l.looked + 1) l)
-carries z LookClock s c l told u n = record { local = refl; done = refl; held = λ g. refl }
-carries z LookHelp s c l told u n = helps c z (pend_of told) l
-carries z LookCount s c l told u n = absurd u
-carries z (Cell j) s c l told u n = absurd u
-carries z CellKey s c l told u n = absurd u
-carries z CellValue s c l told u n = absurd u
-carries z (ClearScan reply) s c l told u n = clears c reply l
-carries z PutCount s c l told u n = either c (has_room z (count_of told)) l.pairs _ _ _ _ (record { local = refl; done = refl; held = λ g. refl }) (record { local = refl; done = refl; held = λ g. refl })
-carries z PutAdd s c l told u n = either c (has_room z (count_of told)) l.pairs _ _ _ _ (record { local = refl; done = refl; held = λ g. refl }) (record { local = refl; done = refl; held = λ g. refl })
-carries z PutKey s c l told u n = record { local = refl; done = refl; held = λ g. refl }
-carries z PutValue s c l told u n = record { local = refl; done = refl; held = λ g. refl }
-carries z Announce s c l told u n = either c (told == pend_word pend.Idle) l.pairs _ _ _ _ (record { local = refl; done = refl; held = λ g. refl }) (record { local = refl; done = refl; held = λ g. refl })
-carries z PutClock s c l told u n = record { local = refl; done = refl; held = λ g. refl }
-carries z Stamp s c l told u n = stamps c (pend_of told) l
-carries z PutVersion s c l told u n = record { local = refl; done = refl; held = λ g. refl }
-carries z PutClear s c l told u n = record { local = refl; done = refl; held = λ g. refl }
-carries z (Leave reply) s c l told u n = absurd u
+pub carries : (z : Sizes) (a : Activity) (s : ℕ) (c : Choice) (l : Local) (rows told : ℕ) → IsGoingOn a → Carries c l.pairs ((transition z a s c l).next rows told) ((transition z a s c (carried l)).next rows told)
+carries z Idle s c l rows told u = absurd u
+carries z Enter s c l rows told u = enters c l.call l
+carries z ScanClock s c l rows told u = either c (nat_le SPENT told) l.pairs _ _ _ _ (record { local = refl; done = refl; held = λ g. refl }) (record { local = refl; done = refl; held = λ g. refl })
+carries z ScanWait s c l rows told u = record { local = refl; done = refl; held = λ g. refl }
+carries z ScanDraw s c l rows told u = record { local = refl; done = refl; held = λ g. refl }
+carries z ScanSettle s c l rows told u = settles c (version_settled (scan_of told) l.drawn) l
+carries z Start s c l rows told u = starts c c l rows told
+carries z Head s c l rows told u = record { local = refl; done = refl; held = λ g. refl }
+carries z GuessMin s c l rows told u = either c (nat_le (key_of_word told) l.want) l.pairs _ _ _ _ (record { local = refl; done = refl; held = λ g. refl }) (record { local = refl; done = refl; held = λ g. refl })
+carries z Walk s c l rows told u = walks c (is_stopped c l) s l rows told (not_stopped c l)
+carries z WalkMin s c l rows told u = walks_on c (key_of_word told) l
+carries z (Look i) s c l rows told u = meets c z i (pend_of told) l
+carries z LookKey s c l rows told u = either c (is_in_range l.call (key_of_word told)) l.pairs _ _ _ _ (record { local = refl; done = refl; held = λ g. refl }) (looks c z (l.looked + 1) l)
+carries z LookClock s c l rows told u = record { local = refl; done = refl; held = λ g. refl }
+carries z LookHelp s c l rows told u = helps c z (pend_of told) l
+carries z LookCount s c l rows told u = absurd u
+carries z (Cell j) s c l rows told u = absurd u
+carries z CellKey s c l rows told u = absurd u
+carries z CellValue s c l rows told u = absurd u
+carries z (ClearScan answer) s c l rows told u = clears c answer l
+carries z PutCount s c l rows told u = either c (has_room z (count_of told)) l.pairs _ _ _ _ (record { local = refl; done = refl; held = λ g. refl }) (record { local = refl; done = refl; held = λ g. refl })
+carries z PutAdd s c l rows told u = either c (has_room z (count_of told)) l.pairs _ _ _ _ (record { local = refl; done = refl; held = λ g. refl }) (record { local = refl; done = refl; held = λ g. refl })
+carries z PutKey s c l rows told u = record { local = refl; done = refl; held = λ g. refl }
+carries z PutValue s c l rows told u = record { local = refl; done = refl; held = λ g. refl }
+carries z Announce s c l rows told u = either c (told == pend_word pend.Idle) l.pairs _ _ _ _ (record { local = refl; done = refl; held = λ g. refl }) (record { local = refl; done = refl; held = λ g. refl })
+carries z PutClock s c l rows told u = record { local = refl; done = refl; held = λ g. refl }
+carries z Stamp s c l rows told u = stamps c (pend_of told) l
+carries z PutVersion s c l rows told u = record { local = refl; done = refl; held = λ g. refl }
+carries z PutClear s c l rows told u = record { local = refl; done = refl; held = λ g. refl }
+carries z (Leave answer) s c l rows told u = absurd u
 
 -- the operation is the same for code as for the seat, at every activity
-pub operates : (z : Sizes) (a : Activity) (s : ℕ) (c : Choice) (l : Local) → (row z (bare_activity a) s c (carried l)).operation ≡ (row z a s c l).operation
+pub operates : (z : Sizes) (a : Activity) (s : ℕ) (c : Choice) (l : Local) → (transition z a s c (carried l)).operation ≡ (transition z a s c l).operation
 operates z Start s c l = starting c
   where
-    starting : (x : Choice) → (start_row x (carried l)).operation ≡ (start_row x l).operation
+    starting : (x : Choice) → (start_transition x (carried l)).operation ≡ (start_transition x l).operation
     starting (Begin call) = refl
     starting Go = refl
     starting (Guess r) = refl
     starting Stop = refl
 operates z Walk s c l = walking (is_stopped c l)
   where
-    walking : (b : Bool) → (walk_row b s (carried l)).operation ≡ (walk_row b s l).operation
+    walking : (b : Bool) → (walk_transition b s (carried l)).operation ≡ (walk_transition b s l).operation
     walking true = refl
     walking false = refl
 operates z _ s c l = refl

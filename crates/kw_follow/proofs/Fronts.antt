@@ -6,11 +6,11 @@ use Rattle.kw_world.specs.declared.event.Event.{Event}
 use Rattle.kw_world.specs.declared.local.Local.{Local}
 use Rattle.kw_world.specs.declared.opening.Opening.{Opening}
 use Rattle.kw_world.specs.Operation.{told_by}
-use Rattle.kw_world.specs.Row.{Row}
-use Rattle.kw_world.specs.RowWalk.{offered}
+use Rattle.kw_world.specs.Transition.{Transition}
+use Rattle.kw_world.specs.WalkTransitions.{offered}
 use Rattle.kw_world.specs.Sizes.{product}
-use Rattle.kw_world.specs.Step.{word, row_of}
-use Rattle.kw_world.specs.Table.{row}
+use Rattle.kw_world.specs.Step.{word, transition_of}
+use Rattle.kw_world.specs.Table.{transition}
 use Rattle.kw_world.specs.WorldView.{WorldView}
 use Rattle.kw_core.specs.Events.{local_of, world, is_valid, event}
 use Rattle.kw_laws.specs.Laws.{KeepsLaws}
@@ -23,7 +23,7 @@ use Rattle.kw_table.specs.declared.pass.Pass.{Pass}
 use Rattle.kw_table.specs.declared.shared.Shared.{Shared}
 use Rattle.kw_table.specs.Passes.{view}
 use Rattle.kw_follow.specs.Following.{GoesTo}
-use Rattle.kw_follow.specs.OwnEvents.{Met, row_after}
+use Rattle.kw_follow.specs.OwnEvents.{Met, transition_after}
 
 -- what the pass's seat knows after these events
 abbrev pub local_at : Pass → List Event → Local
@@ -53,16 +53,16 @@ met_local p q a c told m =
     ∙ world-local product (view p).opening m.front (view p).number (seat_within p)
 
 -- the line of the event, by the activity at which it was made
-pub met_row : (p q : Pass) (a : Activity) (c : Choice) (told : ℕ) → (m : Met p q a c told) → row_after (view p).opening m.front (view p).number c ≡ row product a (view p).number (offered (view p).opening.rows c) (local_at p m.front)
-unfolding row_of
-met_row p q a c told m = ap (λ b. row product b (view p).number (offered (view p).opening.rows c) (local_at p m.front)) m.activity
+pub met_transition : (p q : Pass) (a : Activity) (c : Choice) (told : ℕ) → (m : Met p q a c told) → transition_after (view p).opening m.front (view p).number c ≡ transition product a (view p).number (offered (view p).opening.rows c) (local_at p m.front)
+unfolding transition_of
+met_transition p q a c told m = ap (λ b. transition product b (view p).number (offered (view p).opening.rows c) (local_at p m.front)) m.activity
 
 -- what it was told, by that line
-pub met_told : (p q : Pass) (a : Activity) (c : Choice) (told : ℕ) → (m : Met p q a c told) → (r : Row) → row product a (view p).number (offered (view p).opening.rows c) (local_at p m.front) ≡ r
+pub met_told : (p q : Pass) (a : Activity) (c : Choice) (told : ℕ) → (m : Met p q a c told) → (r : Transition) → transition product a (view p).number (offered (view p).opening.rows c) (local_at p m.front) ≡ r
     → told ≡ told_by r.operation.action (word product (history product (view p).opening m.front).world r.operation.name)
 met_told p q a c told m r is =
     m.tells
-    ∙ (ap (λ (x : Row). told_by x.operation.action (word product (world product (view p).opening m.front) x.operation.name)) (met_row p q a c told m ∙ is)
+    ∙ (ap (λ (x : Transition). told_by x.operation.action (word product (world product (view p).opening m.front) x.operation.name)) (met_transition p q a c told m ∙ is)
     ∙ ap (λ (w : WorldView). told_by r.operation.action (word product w r.operation.name)) (sym (history-world product (view p).opening m.front)))
 
 -- its row is one of the table's

@@ -1,7 +1,8 @@
 -- How the calls of a pass go on with one event of it.
 use Rattle.std.proofs.Common.{ℕ, ◌≡◌, ◌+◌, ◌<◌, ◌≤◌, true, List, [], ◌∷◌, ◌++◌, arith, refl, sym, ◌∙◌, ap, subst, length, length-append, append_assoc, append-nil}
 use Rattle.kw_model.specs.declared.call.Call.{Call}
-use Rattle.kw_model.specs.declared.call.Reply.{Reply}
+use Rattle.kw_world.specs.declared.answer.Answer.{Answer}
+use Rattle.kw_world.specs.Answers.{reply_of}
 use Rattle.kw_world.specs.declared.activity.Activity.{Activity}
 use Rattle.kw_world.specs.declared.activity.Activity.TheVariants.{Idle, Leave}
 use Rattle.kw_world.specs.declared.event.Choice.{Choice}
@@ -20,7 +21,7 @@ use Rattle.kw_table.specs.declared.shared.Shared.{Shared}
 use Rattle.kw_table.specs.Passes.{view, Makes}
 use Rattle.kw_table.specs.Views.{local_in}
 use Rattle.kw_follow.specs.Calling.{Closes, Keeps, Opens, calls_in, now_in}
-use Rattle.kw_follow.specs.Following.{activity_in}
+use Rattle.kw_follow.specs.Following.{activity_in, held}
 
 -- a list that is added and leaves the length is empty
 adds_none : {A : Type 0} (xs ys zs : List A) → xs ++ (ys ++ zs) ≡ xs ++ zs → ys ≡ []
@@ -65,14 +66,14 @@ module _ {s : Shared} {p q : Pass} {c : Choice} {told : ℕ} (makes : Makes s p 
       ∙ calls_still product (view p).opening (view p).number (view p).seen makes.step.later.0 p.known.opens (ap (is_valid product (view p).opening) front ∙ valid) others
 
   -- its calls go on by what its seat does
-  pub grows : calls_in q ≡ seen_after (activity_in p) c (local_in (view p)).number (length makes.step.front) (calls_in p)
+  pub grows : calls_in q ≡ seen_after (activity_in p) c (local_in (view p)) (length makes.step.front) (calls_in p)
   grows =
       ap (λ (o : Opening). calls_seen product o (view q).number (view q).seen) makes.step.opening
       ∙ (ap (λ n. calls_seen product (view p).opening n (view q).seen) makes.step.number
       ∙ (ap (calls_seen product (view p).opening (view p).number) makes.step.seen
       ∙ (calls-own product (view p).opening (view p).number makes.step.front c p.known.opens all_valid
-      ∙ (ap (λ (l : Local). seen_after l.activity c l.number (length makes.step.front) (calls_seen product (view p).opening (view p).number makes.step.front)) makes.step.here
-      ∙ ap (seen_after (activity_in p) c (local_in (view p)).number (length makes.step.front)) calls_before))))
+      ∙ (ap (λ (l : Local). seen_after l.activity c l (length makes.step.front) (calls_seen product (view p).opening (view p).number makes.step.front)) makes.step.here
+      ∙ ap (seen_after (activity_in p) c (local_in (view p)) (length makes.step.front)) calls_before))))
 
   -- its event comes after what it had seen, and is the last that it has seen
   begins_after : now_in p ≤ length makes.step.front
@@ -84,13 +85,13 @@ module _ {s : Shared} {p q : Pass} {c : Choice} {told : ℕ} (makes : Makes s p 
 -- the seat is in the middle of a call, which its event does not end
 abbrev pub IsStaying : Activity → Type 0
 IsStaying Idle = ⊥
-IsStaying (Leave reply) = ⊥
+IsStaying (Leave answer) = ⊥
 IsStaying _ = Unit {0}
 
-stays_after : (a : Activity) (c : Choice) (number n : ℕ) (cs : List CallSeen) → IsStaying a → seen_after a c number n cs ≡ cs
-stays_after Idle c number n cs u = absurd u
-stays_after (Leave reply) c number n cs u = absurd u
-stays_after _ c number n cs u = refl
+stays_after : (a : Activity) (c : Choice) (l : Local) (n : ℕ) (cs : List CallSeen) → IsStaying a → seen_after a c l n cs ≡ cs
+stays_after Idle c l n cs u = absurd u
+stays_after (Leave answer) c l n cs u = absurd u
+stays_after _ c l n cs u = refl
 
 module _ {s : Shared} {p q : Pass} {told : ℕ} where
   -- an event in the middle of a call leaves the calls
@@ -103,16 +104,16 @@ module _ {s : Shared} {p q : Pass} {told : ℕ} where
     first = length makes.step.front;
     number = (local_in (view p)).number + 1;
     begins = begins_after makes;
-    calls = grows makes ∙ ap (λ a. seen_after a (Begin call) (local_in (view p)).number (length makes.step.front) (calls_in p)) idle;
+    calls = grows makes ∙ ap (λ a. seen_after a (Begin call) (local_in (view p)) (length makes.step.front) (calls_in p)) idle;
   }
 
   -- a pass that leaves ends its last call
-  pub closes : (reply : Reply) → Makes s p Go told q → activity_in p ≡ Leave reply → Closes p q reply
-  closes reply makes leaves = record {
+  pub closes : (answer : Answer) → Makes s p Go told q → activity_in p ≡ Leave answer → Closes p q (reply_of answer (held p))
+  closes answer makes leaves = record {
     last = length makes.step.front;
     ends = ends_before makes;
     calls = λ earlier c is.
         grows makes
-        ∙ (ap (λ a. seen_after a Go (local_in (view p)).number (length makes.step.front) (calls_in p)) leaves
-        ∙ (ap (end_last (length makes.step.front) reply) is ∙ end_last-snoc (length makes.step.front) reply earlier c));
+        ∙ (ap (λ a. seen_after a Go (local_in (view p)) (length makes.step.front) (calls_in p)) leaves
+        ∙ (ap (end_last (length makes.step.front) (reply_of answer (held p))) is ∙ end_last-snoc (length makes.step.front) (reply_of answer (held p)) earlier c));
   }

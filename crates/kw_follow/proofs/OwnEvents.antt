@@ -12,10 +12,10 @@ use Rattle.kw_world.specs.declared.local.Local.{Local}
 use Rattle.kw_world.specs.declared.opening.Opening.{Opening}
 use Rattle.kw_world.specs.Operation.{told_by}
 use Rattle.kw_world.specs.Parts.{is_walking}
-use Rattle.kw_world.specs.RowPut.{given_of}
-use Rattle.kw_world.specs.RowWalk.{offered}
+use Rattle.kw_world.specs.PutTransitions.{given_of}
+use Rattle.kw_world.specs.WalkTransitions.{offered}
 use Rattle.kw_world.specs.Sizes.{product}
-use Rattle.kw_world.specs.Step.{word, row_of}
+use Rattle.kw_world.specs.Step.{word, transition_of}
 use Rattle.kw_core.specs.Events.{local_of, world, of_seat, event}
 use Rattle.kw_core.proofs.Events.{of_seat-append, of_seat-here, of_seat_own}
 use Rattle.kw_table.specs.declared.pass.Pass.{Pass}
@@ -24,7 +24,7 @@ use Rattle.kw_table.specs.Passes.{view, Makes}
 use Rattle.kw_table.proofs.Prefixes.{prefix_nil, prefix_trans}
 use Rattle.kw_table.proofs.Stepping.{rest_is_others}
 use Rattle.kw_follow.specs.Following.{GoesTo, activity_in}
-use Rattle.kw_follow.specs.OwnEvents.{Met, MetIn, MetOnly, row_after}
+use Rattle.kw_follow.specs.OwnEvents.{Met, MetIn, MetOnly, transition_after}
 use Rattle.kw_follow.proofs.Growing.{first_own}
 
 -- Lists of events.
@@ -84,7 +84,7 @@ cut (x ∷ xs) e zs (y ∷ ys) ws is =
 
 -- what the event of this choice is told after these events
 abbrev tells : Pass → List Event → Choice → ℕ
-tells p es c = told_by (row_after (view p).opening es (view p).number c).operation.action (word product (world product (view p).opening es) (row_after (view p).opening es (view p).number c).operation.name)
+tells p es c = told_by (transition_after (view p).opening es (view p).number c).operation.action (word product (world product (view p).opening es) (transition_after (view p).opening es (view p).number c).operation.name)
 
 module _ {s : Shared} {p q : Pass} {c : Choice} {told : ℕ} (makes : Makes s p c told q) where
   -- whichever event of the pass's own was met since, it is the one that was made
@@ -124,7 +124,7 @@ module _ {s : Shared} {p q : Pass} {c : Choice} {told : ℕ} (makes : Makes s p 
       let same = is_that a d n m in
       let was : told ≡ tells p makes.step.front c =
       subst
-      (λ (l : Local). told ≡ told_by (row_of product k (offered o.rows c) l).operation.action (word product (world product o makes.step.front) (row_of product k (offered o.rows c) l).operation.name))
+      (λ (l : Local). told ≡ told_by (transition_of product k (offered o.rows c) l).operation.action (word product (world product o makes.step.front) (transition_of product k (offered o.rows c) l).operation.name))
       (sym makes.step.here) makes.step.told_there in (
         sym m.activity ∙ (ap (λ es. (local_of (world product o es) k).activity) (sym same.0) ∙ ap (λ (l : Local). l.activity) makes.step.here),
         m.tells ∙ (ap (λ es. tells p es d) (sym same.0) ∙ (ap (tells p makes.step.front) (sym same.1) ∙ sym was)),

@@ -44,7 +44,7 @@ cell_rests l j k (scans_on q w e f g) = tt
 
 -- so it is after every event
 arrow_rests : (z : Sizes) (v : Words) (s : ℕ) (choice : Choice) (l : Local) (a : Activity) (k : Local) → Arrow z v s choice l a k → Rests k.activity k
-arrow_rests z v s choice l a k (leaves reply) = refl
+arrow_rests z v s choice l a k (leaves answer) = refl
 arrow_rests z v s choice l a k (meets_stamped i c version next e n) = look_rests z _ next _ n
 arrow_rests z v s choice l a k (meets_neither i next e n) = look_rests z _ next _ n
 arrow_rests z v s choice l a k (is_passed next e n) = look_rests z _ next _ n
@@ -97,7 +97,3 @@ stands p =
 -- an idle pass's seat rests
 pub idle_rests : (p : Pass) → (local_in (view p)).activity ≡ Idle → local_in (view p) ≡ resting (local_in (view p)).number
 idle_rests p is = subst (λ a. Rests a (local_in (view p))) is ((all_rest product (view p).opening p.known.opens (view p).seen p.known.valid).rest (view p).number (local_in (view p)) (stands p))
-
--- a call that has read no row has no pairs
-pub early_pairs : (p : Pass) → IsEarly (local_in (view p)).activity → (local_in (view p)).pairs ≡ []
-early_pairs p = ((inv_holds product (view p).opening p.known.opens (view p).seen p.known.valid).replies.pairs (view p).number (local_in (view p)) (stands p)).early

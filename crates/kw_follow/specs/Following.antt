@@ -5,53 +5,24 @@
 -- in place of the rest. The pairs that the seat has are `held`.
 use Rattle.std.specs.Prelude.{◌≡◌, ℕ, List, []}
 use mathlib.Core.List.{IsPrefix}
-use Rattle.kw_model.specs.declared.call.Reply.{Reply}
-use Rattle.kw_model.specs.declared.call.Reply.TheVariants.{Done, Value, Absent, Pairs, NoRows, Spent, Stopped}
 use Rattle.kw_world.specs.declared.activity.Activity.{Activity}
-use Rattle.kw_world.specs.declared.activity.Activity.TheVariants.{ClearScan, Leave}
 use Rattle.kw_world.specs.declared.local.Local.{Local}
 use Rattle.kw_table.specs.declared.pass.Pass.{Pass}
 use Rattle.kw_table.specs.declared.shared.Shared.{Shared}
 use Rattle.kw_table.specs.Passes.{view, IsPassOf}
 use Rattle.kw_table.specs.Views.{local_in}
 
--- the reply without its pairs
-abbrev pub bare_reply : Reply → Reply
-bare_reply Done = Done
-bare_reply (Value value) = Value value
-bare_reply Absent = Absent
-bare_reply (Pairs pairs) = Pairs []
-bare_reply NoRows = NoRows
-bare_reply Spent = Spent
-bare_reply Stopped = Stopped
-
--- the activity without the pairs of its reply
-abbrev pub bare_activity : Activity → Activity
-bare_activity (ClearScan reply) = ClearScan (bare_reply reply)
-bare_activity (Leave reply) = Leave (bare_reply reply)
-bare_activity a = a
-
 -- what code knows of what a seat knows
 abbrev pub known : Local → Local
-known l = record l { activity = bare_activity l.activity; number = 0; pairs = [] }
+known l = record l { number = 0; pairs = [] }
 
 -- what code that follows a seat has, where the seat knows this: it has no pairs, and counts the call that it makes as its first one
 abbrev pub carried : Local → Local
-carried l = record l { activity = bare_activity l.activity; number = 1; pairs = [] }
+carried l = record l { number = 1; pairs = [] }
 
--- the pairs of a reply, and others where it has none
-abbrev pub pairs_or : List (ℕ × ℕ) → Reply → List (ℕ × ℕ)
-pairs_or others (Pairs pairs) = pairs
-pairs_or others _ = others
-
--- the pairs that a seat has: those of the reply that it is about to give, else those that it has added
-abbrev pub held_at : Activity → List (ℕ × ℕ) → List (ℕ × ℕ)
-held_at (ClearScan reply) pairs = pairs_or pairs reply
-held_at (Leave reply) pairs = pairs_or pairs reply
-held_at _ pairs = pairs
-
+-- the pairs that the pass's seat has added
 abbrev pub held : Pass → List (ℕ × ℕ)
-held p = held_at (local_in (view p)).activity (local_in (view p)).pairs
+held p = (local_in (view p)).pairs
 
 -- what the pass's seat does next
 abbrev pub activity_in : Pass → Activity

@@ -7,18 +7,18 @@ use Rattle.kw_world.specs.declared.event.Event.{Event}
 use Rattle.kw_world.specs.declared.local.Local.{Local}
 use Rattle.kw_world.specs.declared.opening.Opening.{Opening}
 use Rattle.kw_world.specs.Operation.{told_by}
-use Rattle.kw_world.specs.Row.{Row}
-use Rattle.kw_world.specs.RowWalk.{offered}
+use Rattle.kw_world.specs.Transition.{Transition}
+use Rattle.kw_world.specs.WalkTransitions.{offered}
 use Rattle.kw_world.specs.Sizes.{product}
-use Rattle.kw_world.specs.Step.{word, row_of}
+use Rattle.kw_world.specs.Step.{word, transition_of}
 use Rattle.kw_core.specs.Events.{local_of, world, of_seat, event}
 use Rattle.kw_table.specs.declared.pass.Pass.{Pass}
 use Rattle.kw_table.specs.Passes.{view}
 use Rattle.kw_follow.specs.Following.{known}
 
 -- the line of the table of events by which this seat makes its event with this choice, after these events
-abbrev pub row_after : Opening → List Event → ℕ → Choice → Row
-row_after o es n c = row_of product n (offered o.rows c) (local_of (world product o es) n)
+abbrev pub transition_after : Opening → List Event → ℕ → Choice → Transition
+transition_after o es n c = transition_of product n (offered o.rows c) (local_of (world product o es) n)
 
 -- among the events from the first list to the second is one of this seat, made at this activity with this choice, which was told this
 pub record MetIn (o : Opening) (n : ℕ) (old new : List Event) (a : Activity) (c : Choice) (told : ℕ) : Type 0 where
@@ -27,7 +27,7 @@ pub record MetIn (o : Opening) (n : ℕ) (old new : List Event) (a : Activity) (
   pub later : IsPrefix old front
   pub here : IsPrefix (front ++ event n c ∷ []) new
   pub activity : (local_of (world product o front) n).activity ≡ a
-  pub tells : told ≡ told_by (row_after o front n c).operation.action (word product (world product o front) (row_after o front n c).operation.name)
+  pub tells : told ≡ told_by (transition_after o front n c).operation.action (word product (world product o front) (transition_after o front n c).operation.name)
 
 -- among the events that the pass has seen since is such an event of its own
 abbrev pub Met : Pass → Pass → Activity → Choice → ℕ → Type 0

@@ -3,18 +3,19 @@
 //! An event is put together in `event`, once: the core's `operation`, a step of the table, and the core's `resume`. All that the
 //! crates above know of events they know by the contracts of this file.
 ghost use Rattle.std.specs.Prelude.{◌≡◌, ℕ, true, false, [], Some};
-ghost use Rattle.kw_core.specs.Events.{is_call_in_range, may_begin};
+ghost use Rattle.kw_core.specs.Events.{is_call_in_range};
 ghost use Rattle.kw_world.specs.Local.{resting};
-ghost use Rattle.kw_world.specs.Row.{outcome};
+ghost use Rattle.kw_world.specs.Transition.{outcome};
 ghost use Rattle.kw_world.specs.RowEnd.{MayEndRow};
-ghost use Rattle.kw_world.specs.RowScan.{reply_or_stopped};
-ghost use Rattle.kw_world.specs.RowWalk.{offered, is_stop};
+ghost use Rattle.kw_world.specs.Answers.{reply_of};
+ghost use Rattle.kw_world.specs.ScanTransitions.{answer_or_stopped};
+ghost use Rattle.kw_world.specs.WalkTransitions.{offered, is_stop};
 ghost use Rattle.kw_world.specs.Sane.{IsLocal, HasRoom, CanBegin};
 ghost use Rattle.kw_world.specs.Sizes.{product};
-ghost use Rattle.kw_world.specs.Step.{next_of, row_of};
+ghost use Rattle.kw_world.specs.Step.{next_of, transition_of};
 ghost use Rattle.kw_table.specs.Passes.{view, Asks, IsPassOf, Makes};
 ghost use Rattle.kw_follow.specs.Calling.{Keeps, Opens, Closes};
-ghost use Rattle.kw_follow.specs.Following.{Follows, GoesTo, activity_in, held, bare_reply};
+ghost use Rattle.kw_follow.specs.Following.{Follows, GoesTo, activity_in, held};
 ghost use Rattle.kw_follow.specs.OwnEvents.{MetAs, MetOnly};
 ghost use Rattle.kw_follow.specs.Within.{IsWithinCall};
 
@@ -22,6 +23,7 @@ use kw_core::step::{operation, resume};
 use kw_model::call::{Call, Reply};
 use kw_table::{Pass, Shared, make};
 use kw_world::activity::Activity;
+use kw_world::answer::Answer;
 use kw_world::event::{Choice, StepDone};
 use kw_world::local::Local;
 
@@ -30,7 +32,7 @@ use kw_world::local::Local;
 #[inline(always)]
 pub fn ask(shared: &Shared, pass: &mut Pass, local: &Local, choice: Choice) -> u64
     requires ranges { IsLocal product local.now }
-    requires asks { Asks shared.now pass.old choice (row_of product (view pass.old).number (offered shared.now.opening.rows choice) local.now).operation }
+    requires asks { Asks shared.now pass.old choice (transition_of product (view pass.old).number (offered shared.now.opening.rows choice) local.now).operation }
     ensures { Makes shared.now pass.old choice result pass.new }
 {
     let offered = choice.offered(shared.rows());
@@ -56,12 +58,13 @@ fn event(shared: &Shared, pass: &mut Pass, local: &mut Local, choice: Choice) ->
     requires room { HasRoom product local.old }
     requires begins { CanBegin (offered shared.now.opening.rows choice) local.old }
     requires on { MayEndRow local.old → ⊥ }
-    requires asks { Asks shared.now pass.old choice (row_of product (view pass.old).number (offered shared.now.opening.rows choice) local.old).operation }
+    requires asks { Asks shared.now pass.old choice (transition_of product (view pass.old).number (offered shared.now.opening.rows choice) local.old).operation }
     ensures makes { Makes shared.now pass.old choice result.told pass.new }
-    ensures line { outcome local.new result.done ≡ next_of product (offered shared.now.opening.rows choice) local.old result.told }
+    ensures line { outcome local.new result.done ≡ next_of product shared.now.opening.rows (offered shared.now.opening.rows choice) local.old result.told }
 {
     let told = ask(shared, pass, local, choice);
-    match resume(local, choice.offered(shared.rows()), told) {
+    let rows = shared.rows();
+    match resume(local, rows, choice.offered(rows), told) {
         Ok(done) => Happened { told, done },
         Err(_) => unreachable!(),
     }
@@ -90,10 +93,9 @@ pub fn begin(shared: &Shared, pass: &mut Pass, local: &mut Local, call: Call)
 pub fn go(shared: &Shared, pass: &mut Pass, local: &mut Local, choice: Choice) -> u64
     requires follows { Follows shared.now pass.old local.old }
     requires within { IsWithinCall local.old.activity }
-    requires choice { may_begin choice ≡ true }
     ensures goes { GoesTo shared.now pass.old pass.new }
     ensures follows { Follows shared.now pass.new local.new }
-    ensures line { outcome local.new StepDone.Moved ≡ next_of product (offered (view pass.old).opening.rows choice) local.old result }
+    ensures line { outcome local.new StepDone.Moved ≡ next_of product (view pass.old).opening.rows (offered (view pass.old).opening.rows choice) local.old result }
     ensures met { MetAs pass.old pass.new local.old choice result }
     ensures only { MetOnly pass.old pass.new local.old.activity result }
     ensures calls { Keeps pass.old pass.new }
@@ -106,12 +108,11 @@ pub fn go(shared: &Shared, pass: &mut Pass, local: &mut Local, choice: Choice) -
 /// Ends a scan: it is then about to leave, with its pairs, or with `Stopped` where the choice is to stop. Takes no memory.
 pub fn clear(shared: &Shared, pass: &mut Pass, local: &mut Local, choice: Choice)
     requires follows { Follows shared.now pass.old local.old }
-    requires over { (reply : Reply) × (local.old.activity ≡ Activity.ClearScan reply) }
-    requires choice { may_begin choice ≡ true }
+    requires over { (answer : Answer) × (local.old.activity ≡ Activity.ClearScan answer) }
     ensures goes { GoesTo shared.now pass.old pass.new }
     ensures follows { Follows shared.now pass.new local.new }
-    ensures leaves { (reply : Reply) → activity_in pass.old ≡ Activity.ClearScan reply → activity_in pass.new ≡ Activity.Leave (reply_or_stopped reply choice) }
-    ensures activity { (reply : Reply) → local.old.activity ≡ Activity.ClearScan reply → local.new.activity ≡ Activity.Leave (reply_or_stopped reply choice) }
+    ensures leaves { (answer : Answer) → activity_in pass.old ≡ Activity.ClearScan answer → activity_in pass.new ≡ Activity.Leave (answer_or_stopped answer choice) }
+    ensures activity { (answer : Answer) → local.old.activity ≡ Activity.ClearScan answer → local.new.activity ≡ Activity.Leave (answer_or_stopped answer choice) }
     ensures calls { Keeps pass.old pass.new }
     ensures held { is_stop choice ≡ false → held pass.new ≡ held pass.old }
 {
@@ -121,11 +122,11 @@ pub fn clear(shared: &Shared, pass: &mut Pass, local: &mut Local, choice: Choice
 /// Ends the call: its last event. The local is then at rest. The answer is the reply, without the pairs of a scan. Takes no memory.
 pub fn end(shared: &Shared, pass: &mut Pass, local: &mut Local) -> Reply
     requires follows { Follows shared.now pass.old local.old }
-    requires leaving { (reply : Reply) × (local.old.activity ≡ Activity.Leave reply) }
+    requires leaving { (answer : Answer) × (local.old.activity ≡ Activity.Leave answer) }
     ensures goes { GoesTo shared.now pass.old pass.new }
     ensures idle { activity_in pass.new ≡ Activity.Idle }
     ensures rests { local.new ≡ resting 0 }
-    ensures closes { (reply : Reply) → activity_in pass.old ≡ Activity.Leave reply → Closes pass.old pass.new reply × (result ≡ bare_reply reply) }
+    ensures closes { (answer : Answer) → activity_in pass.old ≡ Activity.Leave answer → Closes pass.old pass.new (reply_of answer (held pass.old)) × (result ≡ reply_of answer []) }
     ensures only { (told : ℕ) × MetOnly pass.old pass.new (activity_in pass.old) told }
 {
     let happened = event(shared, pass, local, Choice::Go);

@@ -13,10 +13,10 @@ use Rattle.kw_world.specs.declared.event.Event.{Event}
 use Rattle.kw_world.specs.declared.event.Choice.{Choice}
 use Rattle.kw_world.specs.declared.event.Choice.TheVariants.{Begin, Go, Guess, Stop}
 use Rattle.kw_world.specs.Sizes.{Sizes}
-use Rattle.kw_world.specs.RowPut.{has_room, given_of}
-use Rattle.kw_world.specs.RowWalk.{offered}
-use Rattle.kw_world.specs.Sane.{RisesBetween, IsKnown, CanBegin, copies_by}
-use Rattle.kw_world.specs.Step.{row_of, is_skipped}
+use Rattle.kw_world.specs.PutTransitions.{has_room, given_of}
+use Rattle.kw_world.specs.WalkTransitions.{offered}
+use Rattle.kw_world.specs.Sane.{RisesBetween, IsKnown, CanBegin, CanBeginAt, copies_by}
+use Rattle.kw_world.specs.Step.{transition_of, is_skipped}
 use Rattle.kw_world.proofs.Rooms.{length-rises}
 use Rattle.kw_core.specs.History.{History}
 use Rattle.kw_core.specs.declared.history.Logged.{Logged}
@@ -125,9 +125,9 @@ room_for z _ choice l found o h g f = tt
 -- All of it.
 
 -- all that the event's entry names is there
-pub can_settle : (z : Sizes) (k : Recording) (r : Run) (e : Event) (l : Local) → Records z k r → Inv z r → IsBegun e.choice → slice_get r.world.locals e.seat ≡ Some l → is_skipped l.activity e.choice ≡ false →
+pub can_settle : (z : Sizes) (k : Recording) (r : Run) (e : Event) (l : Local) → Records z k r → Inv z r → IsBegun l.activity e.choice → slice_get r.world.locals e.seat ≡ Some l → is_skipped l.activity e.choice ≡ false →
     CanSettle z (prepared z k r e l) (entry_of z k l (happening_at z r.world e l))
-unfolding row_of
+unfolding transition_of
 can_settle z k r e l i inv begins knows moves = record {
   some = omega (arith, length-append k.history.log (at ∷ []));
   within = within_appended k.history at _ (subst (λ (h : History). IsWithin h change) (sym i.history) (subst (IsWithin r.history) (sym (change_recorded z k r e l i inv.shape.sane knows)) (within_of r.history at _ inv.history may)));
@@ -158,18 +158,23 @@ can_settle z k r e l i inv begins knows moves = record {
 
 -- a call that may begin does so whether or not the choice is offered
 pub can_offer : (rows : ℕ) (choice : Choice) (l : Local) → CanBegin choice l → CanBegin (offered rows choice) l
-can_offer rows (Begin call) l h = h
-can_offer rows Go l h = tt
-can_offer rows (Guess q) l h = met (nat_lt q rows)
+can_offer rows choice l h = which l.activity choice h
   where
-    met : (b : Bool) → CanBegin (if b then Guess q else Go) l
-    met true = tt
-    met false = tt
-can_offer rows Stop l h = tt
+    which : (a : Activity) (c : Choice) → CanBeginAt a c l → CanBeginAt a (offered rows c) l
+    which Idle (Begin call) g = g
+    which Idle Go g = tt
+    which Idle (Guess q) g = met (nat_lt q rows)
+      where
+        met : (b : Bool) → CanBeginAt Idle (if b then Guess q else Go) l
+        met true = tt
+        met false = tt
+    which Idle Stop g = tt
+    which _ c g = tt
 
 -- the call that begins is in range
-pub begun_of : (choice : Choice) (l : Local) → CanBegin choice l → IsBegun choice
-begun_of (Begin call) l h = h.0
-begun_of Go l h = tt
-begun_of (Guess q) l h = tt
-begun_of Stop l h = tt
+pub begun_of : (choice : Choice) (l : Local) → CanBegin choice l → IsBegun l.activity choice
+begun_of choice l h = which l.activity choice h
+  where
+    which : (a : Activity) (c : Choice) → CanBeginAt a c l → IsBegun a c
+    which Idle (Begin call) g = g.0
+    which _ c g = tt

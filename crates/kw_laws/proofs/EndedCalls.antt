@@ -6,7 +6,7 @@ use Rattle.kw_world.specs.declared.opening.Opening.{Opening}
 use Rattle.kw_world.specs.Sizes.{Sizes}
 use Rattle.kw_world.specs.WorldView.{WorldView}
 use Rattle.kw_world.specs.Opening.{IsOpening, opened}
-use Rattle.kw_world.specs.RowWalk.{offered}
+use Rattle.kw_world.specs.WalkTransitions.{offered}
 use Rattle.kw_world.specs.Step.{step}
 use Rattle.kw_core.specs.History.{History, called}
 use Rattle.kw_core.specs.declared.history.Logged.{Logged}

@@ -83,7 +83,7 @@ laws_from z r i u = record {
   pairs = λ t l g s c. let x = (i.replies.pairs t l g).covers s c in rising_from 0 (first_key l.call) l.pairs (omega arith) (rising (first_key l.call) l.want l.pairs x.rises);
   below = λ t l g s c. let x = i.replies.pairs t l g in record { rises = (x.covers s c).rises; from = x.from s c; upto = x.upto s c };
   covers = λ t l g s c. let d = i.positions.draws t l g in let x = covering_draws l.activity c in record { drawn = d.drawn s x; drawn_first = d.drawn_first s x; covers = (i.replies.pairs t l g).covers s c };
-  covered = λ t l pairs g s a. let d = i.positions.draws t l g in let x : HasDrawn l.activity = subst HasDrawn (sym a) tt in record { drawn = d.drawn s x; drawn_first = d.drawn_first s x; covers = subst (λ q. IsCovered q r.history l (r.seats t)) a (i.replies.pairs t l g).covered };
+  covered = λ t l g s a. let d = i.positions.draws t l g in let x : HasDrawn l.activity = subst HasDrawn (sym a) tt in record { drawn = d.drawn s x; drawn_first = d.drawn_first s x; covers = subst (λ q. IsCovered q r.history l (r.seats t)) a (i.replies.pairs t l g).covered };
   early = λ t l g. (i.replies.pairs t l g).early;
   unfrozen = u;
   announces = λ t l g a. idle_or_frozen _ (u.announces t l g a);

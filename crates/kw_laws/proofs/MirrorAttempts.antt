@@ -11,7 +11,7 @@ use Rattle.kw_world.specs.declared.local.Local.{Local}
 use Rattle.kw_world.specs.declared.event.Event.{Event}
 use Rattle.kw_world.specs.declared.opening.Opening.{Opening}
 use Rattle.kw_world.specs.Sizes.{Sizes}
-use Rattle.kw_world.specs.RowWalk.{offered}
+use Rattle.kw_world.specs.WalkTransitions.{offered}
 use Rattle.kw_world.specs.Step.{word}
 use Rattle.kw_core.specs.declared.history.Attempt.{Attempt}
 use Rattle.kw_core.specs.declared.history.End.{End}
@@ -131,7 +131,7 @@ module _ (z : Sizes) (o : Opening) (es : List Event) (e : Event) (r r' : Run) (l
 
       which : CallOver r.history r'.history l (r.seats e.seat) a (r.seats e.seat).call → ⊥
       which (goes_on t) = none_some (called r.history (r.seats e.seat).call).end d call.runs (sym t.end ∙ g)
-      which (is_ended reply f c t) = let x : PutAdd ≡ Leave reply = sym is ∙ f in cc
+      which (is_ended answer f c t) = let x : PutAdd ≡ Leave answer = sym is ∙ f in cc
 
   new_attempt : (p : ℕ) → IsNew z r r' e.seat l a p → MirrorsAttempt z o (es ++ e ∷ []) r'.history p
   new_attempt p n = record {

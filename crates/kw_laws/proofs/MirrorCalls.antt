@@ -9,6 +9,8 @@ use Rattle.kw_words.specs.declared.layout.Name.TheVariants as name
 use Rattle.kw_words.specs.Count.{count_of}
 use Rattle.kw_model.specs.declared.call.Call.{Call}
 use Rattle.kw_model.specs.declared.call.Reply.{Reply}
+use Rattle.kw_world.specs.declared.answer.Answer.{Answer}
+use Rattle.kw_world.specs.Answers.{reply_of}
 use Rattle.kw_world.specs.declared.activity.Activity.{Activity}
 use Rattle.kw_world.specs.declared.activity.Activity.TheVariants.{Idle, ScanDraw, Start, Walk, PutAdd, Leave}
 use Rattle.kw_world.specs.declared.local.Local.{Local}
@@ -21,12 +23,12 @@ use Rattle.kw_world.specs.declared.operation.Action.TheVariants.{Add}
 use Rattle.kw_world.specs.declared.operation.Operation.{Operation}
 use Rattle.kw_world.specs.Sizes.{Sizes}
 use Rattle.kw_world.specs.WorldView.{WorldView}
-use Rattle.kw_world.specs.Row.{Row}
-use Rattle.kw_world.specs.RowPut.{has_room}
-use Rattle.kw_world.specs.RowWalk.{offered, start_row, walk_row, is_stopped}
-use Rattle.kw_world.specs.Table.{row}
-use Rattle.kw_world.specs.Step.{word, step, row_at}
-use Rattle.kw_world.proofs.Steps.{row_of-row}
+use Rattle.kw_world.specs.Transition.{Transition}
+use Rattle.kw_world.specs.PutTransitions.{has_room}
+use Rattle.kw_world.specs.WalkTransitions.{offered, start_transition, walk_transition, is_stopped}
+use Rattle.kw_world.specs.Table.{transition}
+use Rattle.kw_world.specs.Step.{word, step, transition_at}
+use Rattle.kw_world.proofs.Steps.{transition_of-transition}
 use Rattle.kw_core.specs.Events.{world, event}
 use Rattle.kw_core.specs.History.{History, called}
 use Rattle.kw_core.specs.declared.history.Logged.{Logged}
@@ -56,18 +58,18 @@ use Rattle.kw_laws.proofs.MirrorSeats.{number_begun}
 -- Draws.
 
 -- a line whose kind is that of a draw adds one to the clock
-draw_line : (z : Sizes) (a : Activity) (s : ℕ) (choice : Choice) (l : Local) → IsDraw (row z a s choice l).operation.kind → (row z a s choice l).operation ≡ operation kind.Draw name.Clock (Add 1)
+draw_line : (z : Sizes) (a : Activity) (s : ℕ) (choice : Choice) (l : Local) → IsDraw (transition z a s choice l).operation.kind → (transition z a s choice l).operation ≡ operation kind.Draw name.Clock (Add 1)
 draw_line z ScanDraw s choice l d = refl
 draw_line z Start s choice l d = absurd (starts choice d)
   where
-    starts : (c : Choice) → IsDraw (start_row c l).operation.kind → ⊥
+    starts : (c : Choice) → IsDraw (start_transition c l).operation.kind → ⊥
     starts (Begin call) x = x
     starts Go x = x
     starts (Guess q) x = x
     starts Stop x = x
 draw_line z Walk s choice l d = absurd (walks (is_stopped choice l) d)
   where
-    walks : (b : Bool) → IsDraw (walk_row b s l).operation.kind → ⊥
+    walks : (b : Bool) → IsDraw (walk_transition b s l).operation.kind → ⊥
     walks true x = x
     walks false x = x
 draw_line z a s choice l d = absurd d
@@ -94,13 +96,13 @@ drawn_there z o es h log d t = record {
     it : IsLogged z o es d.at (record { seat = t.stands.seat; kind = t.kind; clock = d.version })
     it = log d.at _ t.stands.logged
 
-    line : (row_at z it.acts.before (event t.stands.seat it.acts.choice) it.acts.local).operation ≡ (row z it.acts.local.activity t.stands.seat (offered it.acts.before.rows it.acts.choice) it.acts.local).operation
-    line = ap (λ (x : Row). x.operation) (row_of-row z t.stands.seat (offered it.acts.before.rows it.acts.choice) it.acts.local)
+    line : (transition_at z it.acts.before (event t.stands.seat it.acts.choice) it.acts.local).operation ≡ (transition z it.acts.local.activity t.stands.seat (offered it.acts.before.rows it.acts.choice) it.acts.local).operation
+    line = ap (λ (x : Transition). x.operation) (transition_of-transition z t.stands.seat (offered it.acts.before.rows it.acts.choice) it.acts.local)
 
 -- a seat that asks for a cell asks the row that it is at
-add_line : (z : Sizes) (w : WorldView) (s : ℕ) (choice : Choice) (l : Local) (q : ℕ) → l.activity ≡ PutAdd → (row_at z w (event s choice) l).operation ≡ operation kind.AddCount (name.Count q) (Add 1) → l.row ≡ q
+add_line : (z : Sizes) (w : WorldView) (s : ℕ) (choice : Choice) (l : Local) (q : ℕ) → l.activity ≡ PutAdd → (transition_at z w (event s choice) l).operation ≡ operation kind.AddCount (name.Count q) (Add 1) → l.row ≡ q
 add_line z w s choice l q is op =
-    let line : operation kind.AddCount (name.Count l.row) (Add 1) ≡ operation kind.AddCount (name.Count q) (Add 1) = sym (ap (λ (x : Row). x.operation) (row_of-row z s (offered w.rows choice) l ∙ ap (λ b. row z b s (offered w.rows choice) l) is)) ∙ op in
+    let line : operation kind.AddCount (name.Count l.row) (Add 1) ≡ operation kind.AddCount (name.Count q) (Add 1) = sym (ap (λ (x : Transition). x.operation) (transition_of-transition z s (offered w.rows choice) l ∙ ap (λ b. transition z b s (offered w.rows choice) l) is)) ∙ op in
     let n : name.Count l.row ≡ name.Count q = ap (λ (p : Operation). p.name) line in
     cc
 
@@ -126,8 +128,8 @@ module _ (z : Sizes) (o : Opening) (es : List Event) (e : Event) (r r' : Run) (l
   not_ended x w n m reply s d =
       let f = leaves_here z o es e r r' l l' a h k reply (subst (λ (v : WorldView). (step z v e).done ≡ Ended reply) k.world d) in
       let c : (r.seats e.seat).call ≡ x = (k.running x e.seat l w n (sym s) h.knows).1 in
-      let g = ended_here z o es e r r' l l' a h k reply f (subst (λ q. q < length r.history.calls) (sym c) w) in
-      none_some (called r'.history x).end (record { at = length r.history.log; reply = reply }) m (subst (λ q. (called r'.history q).end ≡ Some (record { at = length r.history.log; reply = reply })) c g)
+      let g = ended_here z o es e r r' l l' a h k f.0 f.1 (subst (λ q. q < length r.history.calls) (sym c) w) in
+      none_some (called r'.history x).end (record { at = length r.history.log; reply = reply_of f.0 l.pairs }) m (subst (λ q. (called r'.history q).end ≡ Some (record { at = length r.history.log; reply = reply_of f.0 l.pairs })) c g)
 
   -- a call that goes on, or had ended
   call_goes_on : (x : ℕ) → x < length r.history.calls → SameLog (called r.history x) (called r'.history x) → MirrorsCall z o (es ++ e ∷ []) r'.history x
@@ -143,15 +145,15 @@ module _ (z : Sizes) (o : Opening) (es : List Event) (e : Event) (r r' : Run) (l
       }
 
   -- a call that ends
-  call_ends : (x : ℕ) → x < length r.history.calls → (reply : Reply) → a ≡ Leave reply → x ≡ (r.seats e.seat).call → (c : CallLog) → called r'.history x ≡ c → c.seat ≡ (called r.history x).seat → c.number ≡ (called r.history x).number → c.call ≡ (called r.history x).call → c.first ≡ (called r.history x).first → c.end ≡ Some (record { at = length r.history.log; reply = reply }) →
-      (step z r.world e).done ≡ Ended reply → MirrorsCall z o (es ++ e ∷ []) r'.history x
-  call_ends x w reply is at c f s n q b d done =
+  call_ends : (x : ℕ) → x < length r.history.calls → (answer : Answer) → a ≡ Leave answer → x ≡ (r.seats e.seat).call → (c : CallLog) → called r'.history x ≡ c → c.seat ≡ (called r.history x).seat → c.number ≡ (called r.history x).number → c.call ≡ (called r.history x).call → c.first ≡ (called r.history x).first → c.end ≡ Some (record { at = length r.history.log; reply = reply_of answer l.pairs }) →
+      (step z r.world e).done ≡ Ended (reply_of answer l.pairs) → MirrorsCall z o (es ++ e ∷ []) r'.history x
+  call_ends x w answer is at c f s n q b d done =
       let m = k.mirrors.calls x w in
       let seat : (called r'.history x).seat ≡ (called r.history x).seat = ap (λ (y : CallLog). y.seat) f ∙ s in
       let first : (called r'.history x).first ≡ (called r.history x).first = ap (λ (y : CallLog). y.first) f ∙ b in
       let call : (called r'.history x).call ≡ (called r.history x).call = ap (λ (y : CallLog). y.call) f ∙ q in
       let number : (called r'.history x).number ≡ (called r.history x).number = ap (λ (y : CallLog). y.number) f ∙ n in
-      let end : (called r'.history x).end ≡ Some (record { at = length r.history.log; reply = reply }) = ap (λ (y : CallLog). y.end) f ∙ d in
+      let end : (called r'.history x).end ≡ Some (record { at = length r.history.log; reply = reply_of answer l.pairs }) = ap (λ (y : CallLog). y.end) f ∙ d in
       record {
         begins = rw (first, seat, call) (begins_lasts z o es e _ _ _ m.begins);
         number = rw (number, seat, first) (m.number ∙ ap (begun z o (called r.history x).seat) (sym (front (called r.history x).first (past x w))));
@@ -170,7 +172,7 @@ module _ (z : Sizes) (o : Opening) (es : List Event) (e : Event) (r r' : Run) (l
       runs : (called r.history x).end ≡ None
       runs = ap (λ y. (called r.history y).end) at ∙ calling.runs
 
-      ends_now : (y : End) → record { at = length r.history.log; reply = reply } ≡ y → (called r'.history x).seat ≡ e.seat → EndsCall z o (es ++ e ∷ []) y.at (called r'.history x).seat y.reply
+      ends_now : (y : End) → record { at = length r.history.log; reply = reply_of answer l.pairs } ≡ y → (called r'.history x).seat ≡ e.seat → EndsCall z o (es ++ e ∷ []) y.at (called r'.history x).seat y.reply
       ends_now y g v = rw v (subst (λ (u : End). EndsCall z o (es ++ e ∷ []) u.at e.seat u.reply) g (record { before = r.world; choice = e.choice; occurs = occurs_here z o es e r r' l l' a h k; ends = done }))
 
   -- a call that begins
@@ -204,7 +206,8 @@ module _ (z : Sizes) (o : Opening) (es : List Event) (e : Event) (r r' : Run) (l
           which : EndsCall z o es u e.seat reply ⊎ ((u ≡ length es) × (e.seat ≡ e.seat) × ((step z (world z o es) e).done ≡ Ended reply)) → ⊥
           which (inl y) = omega (arith, occurs_within z o es u y.before _ y.occurs, f, k.mirrors.events)
           which (inr y) =
-              let v : Idle ≡ Leave reply = sym n.idle ∙ leaves_here z o es e r r' l l' a h k reply (subst (λ (q : WorldView). (step z q e).done ≡ Ended reply) k.world y.2) in
+              let u = leaves_here z o es e r r' l l' a h k reply (subst (λ (q : WorldView). (step z q e).done ≡ Ended reply) k.world y.2) in
+              let v : Idle ≡ Leave u.0 = sym n.idle ∙ u.1 in
               cc
 
   pub calls_keep : (x : ℕ) → x < length r'.history.calls → MirrorsCall z o (es ++ e ∷ []) r'.history x
@@ -212,7 +215,7 @@ module _ (z : Sizes) (o : Opening) (es : List Event) (e : Event) (r r' : Run) (l
     where
       old : x < length r.history.calls → CallOver r.history r'.history l (r.seats e.seat) a x → MirrorsCall z o (es ++ e ∷ []) r'.history x
       old v (goes_on t) = call_goes_on x v t
-      old v (is_ended reply is at f) = call_ends x v reply is at _ f refl refl refl refl refl (ends_here z o es e r r' l l' a h k reply is)
+      old v (is_ended answer is at f) = call_ends x v answer is at _ f refl refl refl refl refl (ends_here z o es e r r' l l' a h k answer is)
 
       which : (x < length r.history.calls) ⊎ IsCallNow r.history r'.history e.seat (offered r.world.rows e.choice) l a x → MirrorsCall z o (es ++ e ∷ []) r'.history x
       which (inl v) = old v (over x v)
@@ -227,8 +230,8 @@ module _ (z : Sizes) (o : Opening) (es : List Event) (e : Event) (r r' : Run) (l
       -- the event begins it
       now : a ≡ Idle → offered r.world.rows e.choice ≡ Begin call → x ≡ length r.history.log → IsCallOf r'.history x
       now is chosen at =
-          let f = subst (λ b. r'.history ≡ noted r.history (logged e.seat (row z a e.seat (offered r.world.rows e.choice) l).operation.kind (word z r.world name.Clock)) (change_of z b e.seat (offered r.world.rows e.choice) l (found_at z (word z r.world) a e.seat (offered r.world.rows e.choice) l) (r.seats e.seat) r.origin)) is h.history in
-          let g = subst (λ c. r'.history ≡ noted r.history (logged e.seat (row z a e.seat (offered r.world.rows e.choice) l).operation.kind (word z r.world name.Clock)) (beginning c e.seat l)) chosen f in
+          let f = subst (λ b. r'.history ≡ noted r.history (logged e.seat (transition z a e.seat (offered r.world.rows e.choice) l).operation.kind (word z r.world name.Clock)) (change_of z b e.seat (offered r.world.rows e.choice) l (found_at z (word z r.world) a e.seat (offered r.world.rows e.choice) l) (r.seats e.seat) r.origin)) is h.history in
+          let g = subst (λ c. r'.history ≡ noted r.history (logged e.seat (transition z a e.seat (offered r.world.rows e.choice) l).operation.kind (word z r.world name.Clock)) (beginning c e.seat l)) chosen f in
           let cs = ap (λ (q : History). q.calls) g in
           record {
             place = length r.history.calls;

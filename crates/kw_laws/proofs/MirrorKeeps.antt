@@ -8,7 +8,7 @@ use Rattle.kw_world.specs.declared.opening.Opening.{Opening}
 use Rattle.kw_world.specs.Sizes.{Sizes}
 use Rattle.kw_world.specs.WorldView.{WorldView}
 use Rattle.kw_world.specs.Opening.{IsOpening, opened}
-use Rattle.kw_world.specs.RowWalk.{offered}
+use Rattle.kw_world.specs.WalkTransitions.{offered}
 use Rattle.kw_world.specs.Step.{step}
 use Rattle.kw_core.specs.Events.{world, may_step, is_valid_from, is_valid}
 use Rattle.kw_core.specs.Run.{Run, goes_on, noted_by, run, start, history}

@@ -11,8 +11,9 @@ use Rattle.kw_cells.specs.declared.cell.Cell as kw_cell
 use Rattle.kw_cells.specs.Cells.{best_of}
 use Rattle.kw_model.specs.declared.call.Call.{Call}
 use Rattle.kw_model.specs.declared.call.Call.TheVariants.{Put, Del, Get, Scan}
-use Rattle.kw_model.specs.declared.call.Reply.{Reply}
-use Rattle.kw_model.specs.declared.call.Reply.TheVariants.{Done, Value, Absent, Pairs, NoRows, Spent, Stopped}
+use Rattle.kw_world.specs.declared.answer.Answer.{Answer}
+use Rattle.kw_model.specs.declared.call.Reply.TheVariants as reply
+use Rattle.kw_world.specs.declared.answer.Answer.TheVariants.{Done, Value, Absent, Pairs, NoRows, Spent, Stopped}
 use Rattle.kw_world.specs.declared.activity.Activity.{Activity}
 use Rattle.kw_world.specs.declared.activity.Activity.TheVariants.{Idle, ScanDraw, ScanSettle, Look, LookCount, Cell, CellKey, CellValue, PutAdd, Leave}
 use Rattle.kw_world.specs.declared.event.Choice.{Choice}
@@ -23,8 +24,8 @@ use Rattle.kw_world.specs.declared.local.Local.{Local}
 use Rattle.kw_world.specs.declared.opening.Opening.{Opening}
 use Rattle.kw_world.specs.declared.operation.Action.TheVariants.{Load, Add}
 use Rattle.kw_world.specs.Calls.{is_scan}
-use Rattle.kw_world.specs.RowPut.{has_room}
-use Rattle.kw_world.specs.RowWalk.{offered}
+use Rattle.kw_world.specs.PutTransitions.{has_room}
+use Rattle.kw_world.specs.WalkTransitions.{offered}
 use Rattle.kw_world.specs.Sizes.{Sizes}
 use Rattle.kw_world.specs.Step.{word, is_skipped}
 use Rattle.kw_words.specs.Count.{count_of}
@@ -36,7 +37,7 @@ use Rattle.kw_core.specs.Run.{Run, Origins, seat_after, is_at_cell, log_gathered
 use Rattle.kw_core.specs.Stages.{IsBusy, IsUnderway, IsSettling, HasDrawn}
 use Rattle.kw_core.proofs.Changes.{made}
 use Rattle.kw_core.proofs.Happens.{Happens, each_seat}
-use Rattle.kw_shape.specs.Shape.{IsKind, IsReplyOf}
+use Rattle.kw_shape.specs.Shape.{IsKind, IsAnswerOf}
 use Rattle.kw_puts.specs.Puts.{HasCell}
 use Rattle.kw_puts.specs.Positions.{Calling}
 use Rattle.kw_puts.proofs.OwnScans.{drawn_from, not_idle_drawn, draws_no_more, drawn_underway, settling_no_draw, settling_waits, was_scan, drawn_kept, settle, has_drawn}
@@ -173,7 +174,7 @@ module _ (z : Sizes) (choice : Choice) (l : Local) (found : ℕ) (next : Activit
 -- a seat that makes a call before and after its event is in it
 stays_busy : (z : Sizes) (v : Words) (s : ℕ) (choice : Choice) (l : Local) (a : Activity) (k : Local) → Arrow z v s choice l a k → IsBusy a → IsBusy k.activity → IsUnderway a
 stays_busy z v s choice l a k (begins call e m) b c = absurd b
-stays_busy z v s choice l a k (leaves reply) b c = absurd c
+stays_busy z v s choice l a k (leaves answer) b c = absurd c
 stays_busy z v s choice l a k _ b c = tt
 
 -- the activity of a scan that settles
@@ -181,13 +182,13 @@ settling_is : (a : Activity) → IsSettling a → a ≡ ScanSettle
 settling_is ScanSettle x = refl
 settling_is _ x = absurd x
 
--- pairs are the reply of a scan
-pairs_of_scan : (c : Option Call) (pairs : List (ℕ × ℕ)) → IsReplyOf c (Pairs pairs) → is_scan c ≡ true
-pairs_of_scan (Some (Put key value)) pairs h = absurd h
-pairs_of_scan (Some (Del key)) pairs h = absurd h
-pairs_of_scan (Some (Get key)) pairs h = absurd h
-pairs_of_scan (Some (Scan from upto)) pairs h = refl
-pairs_of_scan None pairs h = absurd h
+-- pairs are the answer of a scan
+pairs_of_scan : (c : Option Call) → IsAnswerOf c Pairs → is_scan c ≡ true
+pairs_of_scan (Some (Put key value)) h = absurd h
+pairs_of_scan (Some (Del key)) h = absurd h
+pairs_of_scan (Some (Get key)) h = absurd h
+pairs_of_scan (Some (Scan from upto)) h = refl
+pairs_of_scan None h = absurd h
 
 -- One more event.
 
@@ -309,15 +310,15 @@ module _ (z : Sizes) (o : Opening) (es : List Event) (e : Event) (r r' : Run) (l
   was x w = call_was r.history r'.history _ z (word z r.world) e.seat (offered r.world.rows e.choice) l (r.seats e.seat) r.origin a _ (made z (word z r.world) e.seat (offered r.world.rows e.choice) l (r.seats e.seat) r.origin a) h.history x w
 
   -- the seat of a call that ends
-  ending_seat : (x : ℕ) (reply : Reply) → a ≡ Leave reply → x ≡ (r.seats e.seat).call → (called r.history x).seat ≡ e.seat
-  ending_seat x reply is at = ap (λ y. (called r.history y).seat) at ∙ (i.positions.calling e.seat l h.knows (subst IsBusy (sym (h.activity ∙ is)) tt)).seat
+  ending_seat : (x : ℕ) (answer : Answer) → a ≡ Leave answer → x ≡ (r.seats e.seat).call → (called r.history x).seat ≡ e.seat
+  ending_seat x answer is at = ap (λ y. (called r.history y).seat) at ∙ (i.positions.calling e.seat l h.knows (subst IsBusy (sym (h.activity ∙ is)) tt)).seat
 
   -- where a scan that ends drew and settled
-  drew_at_end : (reply : Reply) (d : history.Drawn) → a ≡ Leave reply → drawing reply l (r.seats e.seat) ≡ Some d → HasSettled z o (es ++ e ∷ []) e.seat d.at d.version
-  drew_at_end (Pairs pairs) d is g =
-      let kind : IsReplyOf l.call (Pairs pairs) = subst (λ q. IsKind q l) (h.activity ∙ is) (i.shape.kinds e.seat l h.knows).kind in
+  drew_at_end : (answer : Answer) (d : history.Drawn) → a ≡ Leave answer → drawing answer l (r.seats e.seat) ≡ Some d → HasSettled z o (es ++ e ∷ []) e.seat d.at d.version
+  drew_at_end Pairs d is g =
+      let kind : IsAnswerOf l.call Pairs = subst (λ q. IsKind q l) (h.activity ∙ is) (i.shape.kinds e.seat l h.knows).kind in
       subst (λ (q : history.Drawn). HasSettled z o (es ++ e ∷ []) e.seat q.at q.version) (same_Some _ d g)
-      (settled_lasts z o es e e.seat _ _ (n.settled e.seat l h.knows (pairs_of_scan l.call pairs kind) (subst HasDrawn (sym (h.activity ∙ is)) tt)))
+      (settled_lasts z o es e e.seat _ _ (n.settled e.seat l h.knows (pairs_of_scan l.call kind) (subst HasDrawn (sym (h.activity ∙ is)) tt)))
   drew_at_end Done d is g = let x : None ≡ Some d = g in absurd (cc)
   drew_at_end (Value v) d is g = let x : None ≡ Some d = g in absurd (cc)
   drew_at_end Absent d is g = let x : None ≡ Some d = g in absurd (cc)
@@ -330,7 +331,7 @@ module _ (z : Sizes) (o : Opening) (es : List Event) (e : Event) (r r' : Run) (l
     where
       old : x < length r.history.calls → CallOver r.history r'.history l (r.seats e.seat) a x → HasSettled z o (es ++ e ∷ []) (called r'.history x).seat d.at d.version
       old v (goes_on t) = rw t.seat (settled_lasts z o es e _ _ _ (n.mirrors.draws x d v (sym t.draw ∙ g)))
-      old v (is_ended reply is at f) = rw (ap (λ (c : CallLog). c.seat) f, ending_seat x reply is at) (drew_at_end reply d is (sym (ap (λ (c : CallLog). c.draw) f) ∙ g))
+      old v (is_ended answer is at f) = rw (ap (λ (c : CallLog). c.seat) f, ending_seat x answer is at) (drew_at_end answer d is (sym (ap (λ (c : CallLog). c.draw) f) ∙ g))
 
       which : (x < length r.history.calls) ⊎ IsCallNow r.history r'.history e.seat (offered r.world.rows e.choice) l a x → HasSettled z o (es ++ e ∷ []) (called r'.history x).seat d.at d.version
       which (inl v) = old v (over x v)
@@ -343,11 +344,11 @@ module _ (z : Sizes) (o : Opening) (es : List Event) (e : Event) (r r' : Run) (l
       old v (goes_on t) =
           let same : d.at ≤ d.at = omega arith in
           rw (t.seat, t.first) (read_lasts z o es e r.history r'.history r.origin r'.origin _ _ _ _ p same goes (n.mirrors.answers x p d v (sym t.end ∙ y) (sym t.answer ∙ g)))
-      old v (is_ended reply is at f) =
+      old v (is_ended answer is at f) =
           let c = answer_among l.call l (r.seats e.seat) p (sym (ap (λ (c : CallLog). c.answer) f) ∙ g) in
           let now : length r.history.log ≡ d.at = ap (λ (q : End). q.at) (same_Some _ d (sym (ap (λ (c : CallLog). c.end) f) ∙ y)) in
           let last : length es ≤ d.at = omega (arith, now, k.mirrors.events) in
-          rw (ap (λ (c : CallLog). c.seat) f, ap (λ (c : CallLog). c.first) f, ending_seat x reply is at, at)
+          rw (ap (λ (c : CallLog). c.seat) f, ap (λ (c : CallLog). c.first) f, ending_seat x answer is at, at)
           (read_lasts z o es e r.history r'.history r.origin r'.origin e.seat _ _ _ p last goes (n.reads e.seat l h.knows (subst IsBusy (sym (h.activity ∙ is)) tt) p c))
 
       which : (x < length r.history.calls) ⊎ IsCallNow r.history r'.history e.seat (offered r.world.rows e.choice) l a x → HasRead z o (es ++ e ∷ []) r'.history (called r'.history x).seat (called r'.history x).first d.at p
@@ -372,13 +373,13 @@ reads_start z o = record {
 pub gets_read : (z : Sizes) (o : Opening) (es : List Event) (h : History) → HistoryLaws h → MirrorsReads z o es h → GetsRead z o es h
 gets_read z o es h laws m x key at v w ends = which got.gap (got.answer v refl) got.knows.reply
   where
-    got : Got h x key at (Value v)
-    got = laws.got x key at (Value v) ends
+    got : Got h x key at (reply.Value v)
+    got = laws.got x key at (reply.Value v) ends
 
-    shown : (p : ℕ) (value : Option ℕ) → (attempt h p).value ≡ value → Value v ≡ answer_of value → (attempt h p).value ≡ Some v
-    shown p (Some u) f g = f ∙ ap Some (let y : Value v ≡ Value u = g in cc)
-    shown p None f g = let y : Value v ≡ Absent = g in absurd (cc)
+    shown : (p : ℕ) (value : Option ℕ) → (attempt h p).value ≡ value → reply.Value v ≡ answer_of value → (attempt h p).value ≡ Some v
+    shown p (Some u) f g = f ∙ ap Some (let y : reply.Value v ≡ reply.Value u = g in cc)
+    shown p None f g = let y : reply.Value v ≡ reply.Absent = g in absurd (cc)
 
-    which : (gap : Option ℕ) → (called h x).answer ≡ gap → Value v ≡ answer_of (shows h gap) → AnswersFrom z o es h x at v
+    which : (gap : Option ℕ) → (called h x).answer ≡ gap → reply.Value v ≡ answer_of (shows h gap) → AnswersFrom z o es h x at v
     which (Some p) f g = record { put = p; answer = f; shown = shown p (attempt h p).value refl g; reads = m.answers x p _ w ends.1 f }
-    which None f g = let y : Value v ≡ Absent = g in absurd (cc)
+    which None f g = let y : reply.Value v ≡ reply.Absent = g in absurd (cc)

@@ -6,6 +6,7 @@ use Rattle.kw_words.specs.Count.{count_of}
 use Rattle.kw_words.specs.declared.kind.Kind.TheVariants as kind
 use Rattle.kw_words.specs.declared.layout.Name.TheVariants as name
 use Rattle.kw_model.specs.declared.call.Call.{Call}
+use Rattle.kw_world.specs.Answers.{reply_of}
 use Rattle.kw_world.specs.declared.activity.Activity.{Activity}
 use Rattle.kw_world.specs.declared.activity.Activity.TheVariants.{Idle, ScanClock, Start, Walk, Look, LookClock, LookCount, Cell, CellKey, CellValue, PutAdd, PutClock, Leave}
 use Rattle.kw_world.specs.declared.local.Local.{Local}
@@ -17,9 +18,9 @@ use Rattle.kw_world.specs.declared.operation.Action.TheVariants.{Load}
 use Rattle.kw_world.specs.Sizes.{Sizes}
 use Rattle.kw_world.specs.WorldView.{WorldView}
 use Rattle.kw_world.specs.Opening.{opened}
-use Rattle.kw_world.specs.RowPut.{has_room}
-use Rattle.kw_world.specs.RowWalk.{offered, start_row, walk_row, is_stopped}
-use Rattle.kw_world.specs.Table.{row}
+use Rattle.kw_world.specs.PutTransitions.{has_room}
+use Rattle.kw_world.specs.WalkTransitions.{offered, start_transition, walk_transition, is_stopped}
+use Rattle.kw_world.specs.Table.{transition}
 use Rattle.kw_world.specs.Step.{word, step, kind_of}
 use Rattle.kw_core.specs.Events.{world, walked, event}
 use Rattle.kw_core.specs.History.{History, called}
@@ -96,7 +97,7 @@ next_look_busy z j next (counts w) = tt
 
 -- a seat that does not leave is in a call afterwards
 pub arrow_busy : (z : Sizes) (v : Words) (s : ℕ) (choice : Choice) (l : Local) (a : Activity) (k : Local) → Arrow z v s choice l a k → IsStaying a → IsBusy k.activity
-arrow_busy z v s choice l a k (leaves reply) u = absurd u
+arrow_busy z v s choice l a k (leaves answer) u = absurd u
 arrow_busy z v s choice l a k (meets_stamped i c version next e n) u = next_look_busy z _ next n
 arrow_busy z v s choice l a k (meets_neither i next e n) u = next_look_busy z _ next n
 arrow_busy z v s choice l a k (is_passed next e n) u = next_look_busy z _ next n
@@ -159,7 +160,7 @@ arrow_help z v s choice l a k _ u = absurd u
 
 -- the event loads no clock and leaves this, or it is set to now
 abbrev LoadedOver : Sizes → ℕ → Choice → Local → ℕ → Activity → SeatLog → Origins → History → Activity → Type 0
-LoadedOver z s choice l found next g o h a = ((seat_after z a choice l found next g o h).loaded ≡ g.loaded) × ((row z a s choice l).operation.kind ≢ kind.LoadClock) ⊎ ((seat_after z a choice l found next g o h).loaded ≡ length h.log)
+LoadedOver z s choice l found next g o h a = ((seat_after z a choice l found next g o h).loaded ≡ g.loaded) × ((transition z a s choice l).operation.kind ≢ kind.LoadClock) ⊎ ((seat_after z a choice l found next g o h).loaded ≡ length h.log)
 
 loaded_over : (z : Sizes) (s : ℕ) (choice : Choice) (l : Local) (found : ℕ) (next : Activity) (g : SeatLog) (o : Origins) (h : History) (a : Activity) → LoadedOver z s choice l found next g o h a
 loaded_over z s choice l found next g o h Idle = inl (begun choice, λ e. cc)
@@ -174,14 +175,14 @@ loaded_over z s choice l found next g o h LookClock = inr refl
 loaded_over z s choice l found next g o h PutClock = inr refl
 loaded_over z s choice l found next g o h Start = inl (refl, starts choice)
   where
-    starts : (c : Choice) → (start_row c l).operation.kind ≢ kind.LoadClock
+    starts : (c : Choice) → (start_transition c l).operation.kind ≢ kind.LoadClock
     starts (Begin call) e = cc
     starts Go e = cc
     starts (Guess q) e = cc
     starts Stop e = cc
 loaded_over z s choice l found next g o h Walk = inl (refl, walks (is_stopped choice l))
   where
-    walks : (b : Bool) → (walk_row b s l).operation.kind ≢ kind.LoadClock
+    walks : (b : Bool) → (walk_transition b s l).operation.kind ≢ kind.LoadClock
     walks true e = cc
     walks false e = cc
 loaded_over z s choice l found next g o h (Look i) = inl (either (λ (q : SeatLog). q.loaded) (i == 0) (record g { looked = length h.log; ids = []; read = None }) g g.loaded refl refl, λ e. cc)
@@ -286,9 +287,9 @@ module _ (z : Sizes) (o : Opening) (es : List Event) (e : Event) (r r' : Run) (l
     where
       which : (b : Activity) → a ≡ b → IsUnderway b × IsStaying b
       which Idle i = absurd (subst IsBusy (h.activity ∙ i) b)
-      which (Leave reply) i =
-          let f = ended_here z o es e r r' l l' a h k reply i (subst (λ q. q < length r.history.calls) (sym c) w) in
-          absurd (none_some (called r'.history x).end _ n (subst (λ q. (called r'.history q).end ≡ Some (record { at = length r.history.log; reply = reply })) c f))
+      which (Leave answer) i =
+          let f = ended_here z o es e r r' l l' a h k answer i (subst (λ q. q < length r.history.calls) (sym c) w) in
+          absurd (none_some (called r'.history x).end _ n (subst (λ q. (called r'.history q).end ≡ Some (record { at = length r.history.log; reply = reply_of answer l.pairs })) c f))
       which b i = (tt, tt)
 
   pub running_keeps : (x t : ℕ) (m : Local) → x < length r'.history.calls → (called r'.history x).end ≡ None → (called r'.history x).seat ≡ t → slice_get r'.world.locals t ≡ Some m → IsBusy m.activity × ((r'.seats t).call ≡ x)
@@ -301,7 +302,7 @@ module _ (z : Sizes) (o : Opening) (es : List Event) (e : Event) (r r' : Run) (l
 
       -- a call that was there
       old : (v : x < length r.history.calls) → CallOver r.history r'.history l (r.seats e.seat) a x → IsBusy m.activity × ((r'.seats t).call ≡ x)
-      old v (is_ended reply i c f) = absurd (none_some (called r'.history x).end (record { at = length r.history.log; reply = reply }) n (ap (λ (q : CallLog). q.end) f))
+      old v (is_ended answer i c f) = absurd (none_some (called r'.history x).end (record { at = length r.history.log; reply = reply_of answer l.pairs }) n (ap (λ (q : CallLog). q.end) f))
       old v (goes_on c) = which (cases_eq t e.seat)
         where
           which : (t ≡ e.seat) ⊎ (t ≡ e.seat → ⊥) → IsBusy m.activity × ((r'.seats t).call ≡ x)

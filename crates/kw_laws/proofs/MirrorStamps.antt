@@ -15,10 +15,10 @@ use Rattle.kw_world.specs.declared.operation.Action.TheVariants.{Exchange}
 use Rattle.kw_world.specs.declared.operation.Operation.{Operation}
 use Rattle.kw_world.specs.Sizes.{Sizes}
 use Rattle.kw_world.specs.WorldView.{WorldView}
-use Rattle.kw_world.specs.Row.{Row}
-use Rattle.kw_world.specs.RowWalk.{offered, start_row, walk_row, is_stopped}
-use Rattle.kw_world.specs.Table.{row}
-use Rattle.kw_world.specs.Step.{word, row_at}
+use Rattle.kw_world.specs.Transition.{Transition}
+use Rattle.kw_world.specs.WalkTransitions.{offered, start_transition, walk_transition, is_stopped}
+use Rattle.kw_world.specs.Table.{transition}
+use Rattle.kw_world.specs.Step.{word, transition_at}
 use Rattle.kw_core.specs.Events.{world, event}
 use Rattle.kw_core.specs.History.{History}
 use Rattle.kw_core.specs.declared.history.Logged.{Logged}
@@ -35,7 +35,7 @@ use Rattle.kw_core.proofs.NotedLaws.{attempt_set_same}
 use Rattle.kw_reads.proofs.Relying.{goes_on_by}
 use Rattle.kw_puts.proofs.Rely.{GoesOn}
 use Rattle.kw_laws.proofs.Occurs.{occurs_was}
-use Rattle.kw_laws.proofs.Mirroring.{Kept, acting_local, row_here}
+use Rattle.kw_laws.proofs.Mirroring.{Kept, acting_local, transition_here}
 
 -- Which lines exchange an entry.
 
@@ -48,7 +48,7 @@ pending_apart : (c : ℕ) → pend_word pend.Idle ≡ pend_word (pend.Pending c)
 pending_apart c e = omega (arith, e)
 
 -- only a put that stamps its cell, or a reader that helps, exchanges a pending entry
-stamp_line : (z : Sizes) (v : Words) (s : ℕ) (choice : Choice) (l : Local) (a : Activity) (q t c w : ℕ) → (row z a s choice l).operation.name ≡ name.Pend q t → (row z a s choice l).operation.action ≡ Exchange (pend_word (pend.Pending c)) w → v (name.Pend q t) ≡ pend_word (pend.Pending c) →
+stamp_line : (z : Sizes) (v : Words) (s : ℕ) (choice : Choice) (l : Local) (a : Activity) (q t c w : ℕ) → (transition z a s choice l).operation.name ≡ name.Pend q t → (transition z a s choice l).operation.action ≡ Exchange (pend_word (pend.Pending c)) w → v (name.Pend q t) ≡ pend_word (pend.Pending c) →
     (a ≡ Stamp) × (v (name.Pend l.row s) ≡ pend_word (pend.Pending l.cell)) ⊎ (a ≡ LookHelp) × (v (name.Pend l.row l.looked) ≡ pend_word (pend.Pending l.met))
 stamp_line z v s choice l Stamp q t c w n x f = inl (refl, ap v n ∙ f ∙ sym (same_exchange _ _ _ _ x))
 stamp_line z v s choice l LookHelp q t c w n x f = inr (refl, ap v n ∙ f ∙ sym (same_exchange _ _ _ _ x))
@@ -56,20 +56,20 @@ stamp_line z v s choice l Announce q t c w n x f = absurd (pending_apart c (same
 stamp_line z v s choice l ScanSettle q t c w n x f = let y : name.Scan s ≡ name.Pend q t = n in absurd (cc)
 stamp_line z v s choice l Start q t c w n x f = absurd (starts choice x)
   where
-    starts : (d : Choice) → (start_row d l).operation.action ≡ Exchange (pend_word (pend.Pending c)) w → ⊥
+    starts : (d : Choice) → (start_transition d l).operation.action ≡ Exchange (pend_word (pend.Pending c)) w → ⊥
     starts (Begin call) y = cc
     starts Go y = cc
     starts (Guess u) y = cc
     starts Stop y = cc
 stamp_line z v s choice l Walk q t c w n x f = absurd (walks (is_stopped choice l) x)
   where
-    walks : (b : Bool) → (walk_row b s l).operation.action ≡ Exchange (pend_word (pend.Pending c)) w → ⊥
+    walks : (b : Bool) → (walk_transition b s l).operation.action ≡ Exchange (pend_word (pend.Pending c)) w → ⊥
     walks true y = cc
     walks false y = cc
 stamp_line z v s choice l a q t c w n x f = absurd (cc)
 
 -- only a put that announces its cell exchanges an idle entry
-announce_line : (z : Sizes) (v : Words) (s : ℕ) (choice : Choice) (l : Local) (a : Activity) (q t w : ℕ) → (row z a s choice l).operation.name ≡ name.Pend q t → (row z a s choice l).operation.action ≡ Exchange (pend_word pend.Idle) w → v (name.Pend q t) ≡ pend_word pend.Idle →
+announce_line : (z : Sizes) (v : Words) (s : ℕ) (choice : Choice) (l : Local) (a : Activity) (q t w : ℕ) → (transition z a s choice l).operation.name ≡ name.Pend q t → (transition z a s choice l).operation.action ≡ Exchange (pend_word pend.Idle) w → v (name.Pend q t) ≡ pend_word pend.Idle →
     (a ≡ Announce) × (v (name.Pend l.row s) ≡ pend_word pend.Idle)
 announce_line z v s choice l Announce q t w n x f = (refl, ap v n ∙ f)
 announce_line z v s choice l Stamp q t w n x f = absurd (pending_apart l.cell (sym (same_exchange _ _ _ _ x)))
@@ -77,14 +77,14 @@ announce_line z v s choice l LookHelp q t w n x f = absurd (pending_apart l.met 
 announce_line z v s choice l ScanSettle q t w n x f = let y : name.Scan s ≡ name.Pend q t = n in absurd (cc)
 announce_line z v s choice l Start q t w n x f = absurd (starts choice x)
   where
-    starts : (d : Choice) → (start_row d l).operation.action ≡ Exchange (pend_word pend.Idle) w → ⊥
+    starts : (d : Choice) → (start_transition d l).operation.action ≡ Exchange (pend_word pend.Idle) w → ⊥
     starts (Begin call) y = cc
     starts Go y = cc
     starts (Guess u) y = cc
     starts Stop y = cc
 announce_line z v s choice l Walk q t w n x f = absurd (walks (is_stopped choice l) x)
   where
-    walks : (b : Bool) → (walk_row b s l).operation.action ≡ Exchange (pend_word pend.Idle) w → ⊥
+    walks : (b : Bool) → (walk_transition b s l).operation.action ≡ Exchange (pend_word pend.Idle) w → ⊥
     walks true y = cc
     walks false y = cc
 announce_line z v s choice l a q t w n x f = absurd (cc)
@@ -97,7 +97,7 @@ module _ (z : Sizes) (o : Opening) (es : List Event) (e : Event) (r r' : Run) (l
 
   -- the entry of the event in the log
   abbrev it : Logged
-  it = logged e.seat (row z a e.seat (offered r.world.rows e.choice) l).operation.kind (word z r.world name.Clock)
+  it = logged e.seat (transition z a e.seat (offered r.world.rows e.choice) l).operation.kind (word z r.world name.Clock)
 
   -- the record after it, by its activity
   noted_here : (b : Activity) → a ≡ b → r'.history ≡ noted r.history it (change_of z b e.seat (offered r.world.rows e.choice) l (found_at z (word z r.world) b e.seat (offered r.world.rows e.choice) l) (r.seats e.seat) r.origin)
@@ -140,11 +140,11 @@ module _ (z : Sizes) (o : Opening) (es : List Event) (e : Event) (r r' : Run) (l
       (noted_here LookHelp f.0 ∙ ap (noted r.history it) (chosen (word z r.world (name.Pend l.row l.looked)) (pend_word (pend.Pending l.met)) (helping (r.origin l.row l.met) l.helping (r.seats e.seat).loaded) Nothing f.1 ∙ ap (λ (p : Option ℕ). helping p l.helping (r.seats e.seat).loaded) helped.origin))
 
   -- an operation that stands at the end is that of the event's line, and the word is the one that it found
-  line_here : (s : ℕ) (b : Activity) (op : Operation) (found : ℕ) (t : Acts z o (es ++ e ∷ []) (length es) s b op found) → e ≡ event s t.choice → world z o es ≡ t.before → ((row z a e.seat (offered r.world.rows e.choice) l).operation ≡ op) × (word z r.world op.name ≡ found)
+  line_here : (s : ℕ) (b : Activity) (op : Operation) (found : ℕ) (t : Acts z o (es ++ e ∷ []) (length es) s b op found) → e ≡ event s t.choice → world z o es ≡ t.before → ((transition z a e.seat (offered r.world.rows e.choice) l).operation ≡ op) × (word z r.world op.name ≡ found)
   line_here s b op found t f g =
       let same : l ≡ t.local = acting_local z o es e r r' l l' a h k t.before s t.choice t.local f g t.knows in
       let before : r.world ≡ t.before = sym k.world ∙ g in (
-        sym (ap (λ (x : Row). x.operation) (row_here z o es e r r' l l' a h k)) ∙ subst (λ (d : Event). (row_at z r.world d l).operation ≡ op) (sym f) (rw (before, same) t.operates),
+        sym (ap (λ (x : Transition). x.operation) (transition_here z o es e r r' l l' a h k)) ∙ subst (λ (d : Event). (transition_at z r.world d l).operation ≡ op) (sym f) (rw (before, same) t.operates),
         ap (λ (w : WorldView). word z w op.name) before ∙ t.finds,
       )
 

@@ -5,6 +5,8 @@ use Rattle.kw_words.specs.declared.kind.Kind.TheVariants as kind
 use Rattle.kw_words.specs.declared.layout.Name.TheVariants as name
 use Rattle.kw_model.specs.declared.call.Call.{Call}
 use Rattle.kw_model.specs.declared.call.Reply.{Reply}
+use Rattle.kw_world.specs.declared.answer.Answer.{Answer}
+use Rattle.kw_world.specs.Answers.{reply_of}
 use Rattle.kw_world.specs.declared.activity.Activity.{Activity}
 use Rattle.kw_world.specs.declared.activity.Activity.TheVariants.{Idle, PutClock, LookClock, Leave}
 use Rattle.kw_world.specs.declared.local.Local.{Local}
@@ -18,11 +20,11 @@ use Rattle.kw_world.specs.declared.operation.Operation.{Operation}
 use Rattle.kw_world.specs.Operation.{told_by}
 use Rattle.kw_world.specs.Sizes.{Sizes}
 use Rattle.kw_world.specs.WorldView.{WorldView}
-use Rattle.kw_world.specs.Row.{Row}
-use Rattle.kw_world.specs.RowWalk.{offered}
-use Rattle.kw_world.specs.Table.{row}
-use Rattle.kw_world.specs.Step.{word, row_at, step, Stepped, is_skipped, followed, kind_of}
-use Rattle.kw_world.proofs.Steps.{step-moved, kind_of-moved, row_of-row}
+use Rattle.kw_world.specs.Transition.{Transition}
+use Rattle.kw_world.specs.WalkTransitions.{offered}
+use Rattle.kw_world.specs.Table.{transition}
+use Rattle.kw_world.specs.Step.{word, transition_at, step, Stepped, is_skipped, followed, kind_of}
+use Rattle.kw_world.proofs.Steps.{step-moved, kind_of-moved, transition_of-transition}
 use Rattle.kw_core.specs.Events.{world, event}
 use Rattle.kw_core.specs.declared.history.Logged.{Logged}
 use Rattle.kw_core.specs.declared.history.CallLog.{CallLog}
@@ -76,11 +78,11 @@ module _ (z : Sizes) (o : Opening) (es : List Event) (e : Event) (r r' : Run) (l
       same_Some l m (sym h.knows ∙ x)
 
   -- its line
-  pub row_here : row_at z r.world e l ≡ row z a e.seat (offered r.world.rows e.choice) l
-  row_here = row_of-row z e.seat (offered r.world.rows e.choice) l ∙ ap (λ b. row z b e.seat (offered r.world.rows e.choice) l) h.activity
+  pub transition_here : transition_at z r.world e l ≡ transition z a e.seat (offered r.world.rows e.choice) l
+  transition_here = transition_of-transition z e.seat (offered r.world.rows e.choice) l ∙ ap (λ b. transition z b e.seat (offered r.world.rows e.choice) l) h.activity
 
   -- it makes the operation of its line
-  pub acts_here : (b : Activity) (op : Operation) (found : ℕ) → a ≡ b → (row z b e.seat (offered r.world.rows e.choice) l).operation ≡ op → word z r.world op.name ≡ found → Acts z o (es ++ e ∷ []) (length r.history.log) e.seat b op found
+  pub acts_here : (b : Activity) (op : Operation) (found : ℕ) → a ≡ b → (transition z b e.seat (offered r.world.rows e.choice) l).operation ≡ op → word z r.world op.name ≡ found → Acts z o (es ++ e ∷ []) (length r.history.log) e.seat b op found
   acts_here b op found is f g = record {
     before = r.world;
     choice = e.choice;
@@ -88,7 +90,7 @@ module _ (z : Sizes) (o : Opening) (es : List Event) (e : Event) (r r' : Run) (l
     occurs = occurs_here;
     knows = h.knows;
     activity = h.activity ∙ is;
-    operates = ap (λ (x : Row). x.operation) (row_here ∙ ap (λ b. row z b e.seat (offered r.world.rows e.choice) l) is) ∙ f;
+    operates = ap (λ (x : Transition). x.operation) (transition_here ∙ ap (λ b. transition z b e.seat (offered r.world.rows e.choice) l) is) ∙ f;
     finds = g;
   }
 
@@ -111,25 +113,25 @@ module _ (z : Sizes) (o : Opening) (es : List Event) (e : Event) (r r' : Run) (l
       moved b Stop g = g
 
   -- what it answers is what its line says
-  pub step_here : (step z r.world e).done ≡ (followed (row z a e.seat (offered r.world.rows e.choice) l) (found_at z (word z r.world) a e.seat (offered r.world.rows e.choice) l)).done
-  step_here = ap (λ (x : Stepped). x.done) (step-moved z r.world e l h.knows moves_here) ∙ ap (λ (x : Row). (followed x (word z r.world x.operation.name)).done) row_here
+  pub step_here : (step z r.world e).done ≡ (followed r.world.rows (transition z a e.seat (offered r.world.rows e.choice) l) (found_at z (word z r.world) a e.seat (offered r.world.rows e.choice) l)).done
+  step_here = ap (λ (x : Stepped). x.done) (step-moved z r.world e l h.knows moves_here) ∙ ap (λ (x : Transition). (followed r.world.rows x (word z r.world x.operation.name)).done) transition_here
 
   -- its kind
-  pub kind_here : kind_of z r.world e ≡ Some (row z a e.seat (offered r.world.rows e.choice) l).operation.kind
-  kind_here = kind_of-moved z r.world e l h.knows moves_here ∙ ap (λ (x : Row). Some x.operation.kind) row_here
+  pub kind_here : kind_of z r.world e ≡ Some (transition z a e.seat (offered r.world.rows e.choice) l).operation.kind
+  kind_here = kind_of-moved z r.world e l h.knows moves_here ∙ ap (λ (x : Transition). Some x.operation.kind) transition_here
 
   -- an event that ends a call is of a seat that was about to leave
-  pub leaves_here : (reply : Reply) → (step z r.world e).done ≡ Ended reply → a ≡ Leave reply
-  leaves_here reply d = ends_leaving z a e.seat (offered r.world.rows e.choice) l (told_by (row z a e.seat (offered r.world.rows e.choice) l).operation.action (found_at z (word z r.world) a e.seat (offered r.world.rows e.choice) l)) reply h.moves (sym step_here ∙ d)
+  pub leaves_here : (reply : Reply) → (step z r.world e).done ≡ Ended reply → (answer : Answer) × (a ≡ Leave answer) × (reply ≡ reply_of answer l.pairs)
+  leaves_here reply d = ends_leaving z a e.seat (offered r.world.rows e.choice) l r.world.rows (told_by (transition z a e.seat (offered r.world.rows e.choice) l).operation.action (found_at z (word z r.world) a e.seat (offered r.world.rows e.choice) l)) reply h.moves (sym step_here ∙ d)
 
   -- the event of a seat that was about to leave ends its call
-  pub ends_here : (reply : Reply) → a ≡ Leave reply → (step z r.world e).done ≡ Ended reply
-  ends_here reply is = step_here ∙ ap (λ b. (followed (row z b e.seat (offered r.world.rows e.choice) l) (found_at z (word z r.world) b e.seat (offered r.world.rows e.choice) l)).done) is
+  pub ends_here : (answer : Answer) → a ≡ Leave answer → (step z r.world e).done ≡ Ended (reply_of answer l.pairs)
+  ends_here answer is = step_here ∙ ap (λ b. (followed r.world.rows (transition z b e.seat (offered r.world.rows e.choice) l) (found_at z (word z r.world) b e.seat (offered r.world.rows e.choice) l)).done) is
 
   -- and the seat's call has ended then
-  pub ended_here : (reply : Reply) → a ≡ Leave reply → (r.seats e.seat).call < length r.history.calls → (called r'.history (r.seats e.seat).call).end ≡ Some (record { at = length r.history.log; reply = reply })
-  ended_here reply is w =
-      let f = subst (λ b. r'.history ≡ noted r.history (logged e.seat (row z a e.seat (offered r.world.rows e.choice) l).operation.kind (word z r.world name.Clock)) (change_of z b e.seat (offered r.world.rows e.choice) l (found_at z (word z r.world) a e.seat (offered r.world.rows e.choice) l) (r.seats e.seat) r.origin)) is h.history in
+  pub ended_here : (answer : Answer) → a ≡ Leave answer → (r.seats e.seat).call < length r.history.calls → (called r'.history (r.seats e.seat).call).end ≡ Some (record { at = length r.history.log; reply = reply_of answer l.pairs })
+  ended_here answer is w =
+      let f = subst (λ b. r'.history ≡ noted r.history (logged e.seat (transition z a e.seat (offered r.world.rows e.choice) l).operation.kind (word z r.world name.Clock)) (change_of z b e.seat (offered r.world.rows e.choice) l (found_at z (word z r.world) a e.seat (offered r.world.rows e.choice) l) (r.seats e.seat) r.origin)) is h.history in
       ap (λ (c : CallLog). c.end) (called_set_same r.history r'.history (r.seats e.seat).call _ (ap (λ x. x.calls) f) w)
 
   -- The log.
@@ -138,7 +140,7 @@ module _ (z : Sizes) (o : Opening) (es : List Event) (e : Event) (r r' : Run) (l
   pub events_keep : length r'.history.log ≡ length (es ++ e ∷ [])
   events_keep =
       let x = ap (λ x. length x.log) h.history in
-      omega (arith, x, length-append r.history.log (logged e.seat (row z a e.seat (offered r.world.rows e.choice) l).operation.kind (word z r.world name.Clock) ∷ []), length-append es (e ∷ []), k.mirrors.events)
+      omega (arith, x, length-append r.history.log (logged e.seat (transition z a e.seat (offered r.world.rows e.choice) l).operation.kind (word z r.world name.Clock) ∷ []), length-append es (e ∷ []), k.mirrors.events)
 
   -- each entry is that of its event
   pub log_keeps : (x : ℕ) (q : Logged) → slice_get r'.history.log x ≡ Some q → IsLogged z o (es ++ e ∷ []) x q
@@ -146,13 +148,13 @@ module _ (z : Sizes) (o : Opening) (es : List Event) (e : Event) (r r' : Run) (l
   log_keeps x q g = which (get_was r.history.log _ x q (subst (λ qs. slice_get qs x ≡ Some q) (ap (λ x. x.log) h.history) g))
     where
       it : Logged
-      it = logged e.seat (row z a e.seat (offered r.world.rows e.choice) l).operation.kind (word z r.world name.Clock)
+      it = logged e.seat (transition z a e.seat (offered r.world.rows e.choice) l).operation.kind (word z r.world name.Clock)
 
       which : (slice_get r.history.log x ≡ Some q) ⊎ ((x ≡ length r.history.log) × (it ≡ q)) → IsLogged z o (es ++ e ∷ []) x q
       which (inl f) = logged_lasts z o es e x q (k.mirrors.log x q f)
       which (inr f) = subst (λ y. IsLogged z o (es ++ e ∷ []) y q) (sym f.0) (subst (IsLogged z o (es ++ e ∷ []) (length r.history.log)) f.1 (record {
         activity = a;
-        op = (row z a e.seat (offered r.world.rows e.choice) l).operation;
+        op = (transition z a e.seat (offered r.world.rows e.choice) l).operation;
         found = found_at z (word z r.world) a e.seat (offered r.world.rows e.choice) l;
         acts = acts_here a _ _ refl refl refl;
         kind = refl;

@@ -7,6 +7,8 @@ use Rattle.kw_words.specs.Count.{count_of}
 use Rattle.kw_words.specs.Pend.{pend_word}
 use Rattle.kw_model.specs.declared.call.Call.{Call}
 use Rattle.kw_model.specs.declared.call.Reply.{Reply}
+use Rattle.kw_world.specs.declared.answer.Answer.{Answer}
+use Rattle.kw_world.specs.Answers.{reply_of}
 use Rattle.kw_world.specs.declared.activity.Activity.{Activity}
 use Rattle.kw_world.specs.declared.activity.Activity.TheVariants.{Idle, LookHelp, Announce, Stamp, Leave}
 use Rattle.kw_world.specs.declared.local.Local.{Local}
@@ -14,7 +16,7 @@ use Rattle.kw_world.specs.declared.event.Choice.{Choice}
 use Rattle.kw_world.specs.declared.event.Choice.TheVariants.{Begin}
 use Rattle.kw_world.specs.Sizes.{Sizes}
 use Rattle.kw_world.specs.Calls.{first_key, put_value}
-use Rattle.kw_world.specs.RowPut.{given_of}
+use Rattle.kw_world.specs.PutTransitions.{given_of}
 use Rattle.kw_core.specs.History.{History, attempt, called}
 use Rattle.kw_core.specs.declared.history.Logged.{Logged}
 use Rattle.kw_core.specs.declared.history.Attempt.{Attempt}
@@ -62,7 +64,7 @@ attempt_over h h' e z v s choice l g o a c (makes_help q m k) n p w = which (cas
     which : (p ≡ q) ⊎ (p ≡ q → ⊥) → AttemptOver v h h' s l g o LookHelp p
     which (inl i) = is_helped refl (k ∙ ap Some (sym i)) m (set_now h h' p q _ (ap (λ (x : History). x.attempts) n) i w ∙ ap (λ x. record (attempt h x) { is_stamped = true; version = l.helping; load = g.loaded; at = length h.log }) (sym i))
     which (inr d) = stays (attempt_left h h' e p (Stamps q l.helping g.loaded) d n w)
-attempt_over h h' e z v s choice l g o a c (makes_end reply) n p w = stays (attempt_left h h' e p (Ends g.call reply (answering l.call l g) (drawing reply l g)) tt n w)
+attempt_over h h' e z v s choice l g o a c (makes_end answer) n p w = stays (attempt_left h h' e p (Ends g.call (reply_of answer l.pairs) (answering l.call l g) (drawing answer l g)) tt n w)
 
 -- all of a call but its put is as it was
 pub record SameLog (c d : CallLog) : Type 0 where
@@ -81,8 +83,8 @@ same_log c d e = record { seat = ap (λ (q : CallLog). q.seat) e; number = ap (�
 -- a call over an event of seat s: it goes on, maybe with a put; or it is the seat's, and ends
 pub data CallOver (h h' : History) (l : Local) (g : SeatLog) (a : Activity) (x : ℕ) : Type 0 where
   goes_on : SameLog (called h x) (called h' x) → CallOver h h' l g a x
-  is_ended : (reply : Reply) → a ≡ Leave reply → x ≡ g.call →
-      called h' x ≡ record (called h x) { end = Some (record { at = length h.log; reply = reply }); answer = answering l.call l g; draw = drawing reply l g } → CallOver h h' l g a x
+  is_ended : (answer : Answer) → a ≡ Leave answer → x ≡ g.call →
+      called h' x ≡ record (called h x) { end = Some (record { at = length h.log; reply = reply_of answer l.pairs }); answer = answering l.call l g; draw = drawing answer l g } → CallOver h h' l g a x
 
 -- a call that may get a put
 with_put : (h h' : History) (x y : ℕ) (put : Option ℕ) → h'.calls ≡ set h.calls y (record (called h y) { put = put }) → x < length h.calls → SameLog (called h x) (called h' x)
@@ -101,12 +103,12 @@ call_over h h' e z v s choice l g o a c (makes_add m) n x w = goes_on (same_log 
 call_over h h' e z v s choice l g o a c (makes_announce m) n x w = goes_on (same_log _ _ (called_same h h' x (ap (λ (y : History). y.calls) n)))
 call_over h h' e z v s choice l g o a c (makes_stamp m) n x w = goes_on (with_put h h' x _ _ (ap (λ (y : History). y.calls) n) w)
 call_over h h' e z v s choice l g o a c (makes_help q m k) n x w = goes_on (with_put h h' x _ _ (ap (λ (y : History). y.calls) n) w)
-call_over h h' e z v s choice l g o a c (makes_end reply) n x w = which (cases_eq x g.call)
+call_over h h' e z v s choice l g o a c (makes_end answer) n x w = which (cases_eq x g.call)
   where
-    which : (x ≡ g.call) ⊎ (x ≡ g.call → ⊥) → CallOver h h' l g (Leave reply) x
+    which : (x ≡ g.call) ⊎ (x ≡ g.call → ⊥) → CallOver h h' l g (Leave answer) x
     which (inl i) =
-        let f : called h' g.call ≡ record (called h g.call) { end = Some (record { at = length h.log; reply = reply }); answer = answering l.call l g; draw = drawing reply l g } = called_set_same h h' g.call _ (ap (λ (y : History). y.calls) n) (subst (λ q. q < length h.calls) i w) in
-        is_ended reply refl i (subst (λ q. called h' q ≡ record (called h q) { end = Some (record { at = length h.log; reply = reply }); answer = answering l.call l g; draw = drawing reply l g }) (sym i) f)
+        let f : called h' g.call ≡ record (called h g.call) { end = Some (record { at = length h.log; reply = reply_of answer l.pairs }); answer = answering l.call l g; draw = drawing answer l g } = called_set_same h h' g.call _ (ap (λ (y : History). y.calls) n) (subst (λ q. q < length h.calls) i w) in
+        is_ended answer refl i (subst (λ q. called h' q ≡ record (called h q) { end = Some (record { at = length h.log; reply = reply_of answer l.pairs }); answer = answering l.call l g; draw = drawing answer l g }) (sym i) f)
     which (inr d) = goes_on (same_log _ _ (called_set_other h h' g.call x _ (ap (λ (y : History). y.calls) n) d))
 
 -- a call that was not there begins now, with the event
@@ -133,4 +135,4 @@ call_was h h' e z v s choice l g o a c (makes_add m) n x w = inl (omega (arith, 
 call_was h h' e z v s choice l g o a c (makes_announce m) n x w = inl (omega (arith, w, ap (λ (y : History). length y.calls) n))
 call_was h h' e z v s choice l g o a c (makes_stamp m) n x w = inl (omega (arith, w, ap (λ (y : History). length y.calls) n, length-set {A = CallLog}))
 call_was h h' e z v s choice l g o a c (makes_help q m k) n x w = inl (omega (arith, w, ap (λ (y : History). length y.calls) n, length-set {A = CallLog}))
-call_was h h' e z v s choice l g o a c (makes_end reply) n x w = inl (omega (arith, w, ap (λ (y : History). length y.calls) n, length-set {A = CallLog}))
+call_was h h' e z v s choice l g o a c (makes_end answer) n x w = inl (omega (arith, w, ap (λ (y : History). length y.calls) n, length-set {A = CallLog}))

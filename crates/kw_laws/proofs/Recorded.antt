@@ -16,10 +16,10 @@ use Rattle.kw_world.specs.declared.event.Event.{Event}
 use Rattle.kw_world.specs.declared.event.Choice.{Choice}
 use Rattle.kw_world.specs.declared.event.Choice.TheVariants.{Begin, Go, Guess, Stop}
 use Rattle.kw_world.specs.Sizes.{Sizes}
-use Rattle.kw_world.specs.RowPut.{has_room, given_of}
-use Rattle.kw_world.specs.RowWalk.{offered}
+use Rattle.kw_world.specs.PutTransitions.{has_room, given_of}
+use Rattle.kw_world.specs.WalkTransitions.{offered}
 use Rattle.kw_world.specs.Sane.{IsSane, IsKnown}
-use Rattle.kw_world.specs.Step.{followed, row_at, is_skipped, step, Stepped, stepped, moved_of}
+use Rattle.kw_world.specs.Step.{followed, transition_at, is_skipped, step, Stepped, stepped, moved_of}
 use Rattle.kw_world.specs.declared.event.StepDone.{StepDone}
 use Rattle.kw_world.specs.WorldView.{WorldView}
 use Rattle.kw_world.proofs.Steps.{step-moved}
@@ -182,7 +182,7 @@ prepared z k r e l = record k { history = appended k.history (logged_of (happeni
 
 -- what the seat does next
 abbrev pub next_activity : Sizes → Run → Event → Local → Activity
-next_activity z r e l = (followed (row_at z r.world e l) (found_by z r.world e l)).local.activity
+next_activity z r e l = (followed r.world.rows (transition_at z r.world e l) (found_by z r.world e l)).local.activity
 
 -- the logs with one that was set
 logs_set : (logs : List SeatLog) (seats : ℕ → SeatLog) (t : ℕ) (g h : SeatLog) → t < length logs → g ≡ h → ((s : ℕ) → s < length logs → get_or logs s no_log ≡ seats s) → (s : ℕ) → s < length logs → get_or (set logs t g) s no_log ≡ with_seat seats t h s
@@ -207,7 +207,7 @@ records_on z k r e l i sane knows = record {
   history = settled_noted k.history (appended k.history at change) _ at change refl refl refl refl ∙ ap (λ (h : History). noted h at change) i.history ∙ ap (λ (c : Change). noted r.history at c) (change_recorded z k r e l i sane knows);
   seats = length-set k.logs e.seat _ ∙ i.seats ∙ sym (length-set r.world.locals e.seat _);
   cells = origins_long z change _ k.origins ∙ i.cells;
-  logs = λ s w. logs_set k.logs r.seats e.seat _ _ (omega (arith, inside, i.seats)) log (λ t u. i.logs t (omega (arith, u, i.seats))) s (omega (arith, w, i.seats, length-set r.world.locals e.seat (followed (row_at z r.world e l) found).local));
+  logs = λ s w. logs_set k.logs r.seats e.seat _ _ (omega (arith, inside, i.seats)) log (λ t u. i.logs t (omega (arith, u, i.seats))) s (omega (arith, w, i.seats, length-set r.world.locals e.seat (followed r.world.rows (transition_at z r.world e l) found).local));
   origins = λ q c v w. ap (λ (xs : List (Option ℕ)). origin_in z xs q c) (origins_last z k.history at change k.origins) ∙
       origins_noted z l.activity e.seat choice l found (log_of k e.seat) (origin_in z k.origins) r.origin r.history (length k.history.attempts) k.origins r.world.rows (ap (λ (h : History). length h.attempts) i.history) i.cells known.below.row i.origins q c v w;
 }
@@ -245,5 +245,5 @@ goes_on-skipped z r e l knows skipped = rw (knows, skipped) refl
 pub next_known : (z : Sizes) (r : Run) (e : Event) (l m : Local) (w : WorldView) (done : StepDone) → slice_get r.world.locals e.seat ≡ Some l → is_skipped l.activity e.choice ≡ false → stepped w done ≡ step z r.world e → slice_get w.locals e.seat ≡ Some m → m.activity ≡ next_activity z r e l
 next_known z r e l m w done knows moves is after =
     let world : w ≡ (moved_of z r.world e l).world = ap (λ (x : Stepped). x.world) (is ∙ step-moved z r.world e l knows moves) in
-    let set : slice_get (slice_set r.world.locals e.seat (followed (row_at z r.world e l) (found_by z r.world e l)).local) e.seat ≡ Some m = subst (λ (x : WorldView). slice_get x.locals e.seat ≡ Some m) world after in
+    let set : slice_get (slice_set r.world.locals e.seat (followed r.world.rows (transition_at z r.world e l) (found_by z r.world e l)).local) e.seat ≡ Some m = subst (λ (x : WorldView). slice_get x.locals e.seat ≡ Some m) world after in
     ap (λ (x : Local). x.activity) (same_Some m _ (sym set ∙ get-set_same r.world.locals e.seat _ (slice_get_within r.world.locals e.seat l knows)))

@@ -13,8 +13,8 @@ use Rattle.kw_world.specs.Sizes.{Sizes}
 use Rattle.kw_world.specs.Local.{resting}
 use Rattle.kw_world.specs.WorldView.{WorldView}
 use Rattle.kw_world.specs.Opening.{IsOpening, opened}
-use Rattle.kw_world.specs.RowWalk.{offered}
-use Rattle.kw_world.specs.Table.{row}
+use Rattle.kw_world.specs.WalkTransitions.{offered}
+use Rattle.kw_world.specs.Table.{transition}
 use Rattle.kw_world.specs.Step.{word, step, followed}
 use Rattle.kw_core.specs.Events.{local_of, walked, world, may_step, is_valid_from, is_valid, of_seat, event}
 use Rattle.kw_core.specs.Run.{Run, goes_on, noted_by, run, start, history}
@@ -51,7 +51,7 @@ module _ (z : Sizes) (o : Opening) (r : Run) (e : Event) (may : may_step o r.wor
 
   -- what its seat knows then
   next : Local
-  next = (followed (row z come.local.activity e.seat (offered r.world.rows e.choice) come.local) (found_at z (word z r.world) come.local.activity e.seat (offered r.world.rows e.choice) come.local)).local
+  next = (followed r.world.rows (transition z come.local.activity e.seat (offered r.world.rows e.choice) come.local) (found_at z (word z r.world) come.local.activity e.seat (offered r.world.rows e.choice) come.local)).local
 
   it : Happens z r (noted_by z r e come.local) e.seat (offered r.world.rows e.choice) come.local next come.local.activity
   unfolding next
@@ -69,7 +69,7 @@ module _ (z : Sizes) (o : Opening) (r : Run) (e : Event) (may : may_step o r.wor
   one_else t d = ap (λ (q : Run). seen_by t q.history.calls) is_noted ∙ seen_else z r (noted_by z r e come.local) e.seat (offered r.world.rows e.choice) come.local next come.local.activity it x.inv t d
 
   -- the calls of its own seat go by its activity
-  one_own : seen_by e.seat (goes_on z r e).history.calls ≡ seen_after come.local.activity (offered r.world.rows e.choice) come.local.number (length r.history.log) (seen_by e.seat r.history.calls)
+  one_own : seen_by e.seat (goes_on z r e).history.calls ≡ seen_after come.local.activity (offered r.world.rows e.choice) come.local (length r.history.log) (seen_by e.seat r.history.calls)
   one_own = ap (λ (q : Run). seen_by e.seat q.history.calls) is_noted ∙ seen_own z r (noted_by z r e come.local) e.seat (offered r.world.rows e.choice) come.local next come.local.activity it x.inv x.latest
 
   -- the calls of every seat go on
@@ -115,16 +115,16 @@ unfolding is_valid_from
 valid_last z o w e ok = (and_parts (may_step o w e) true ok).0
 
 -- a guess that is not offered begins no call either
-seen_offered : (a : Activity) (rows : ℕ) (choice : Choice) (number n : ℕ) (cs : List CallSeen) → seen_after a (offered rows choice) number n cs ≡ seen_after a choice number n cs
-seen_offered Idle rows (Begin call) number n cs = refl
-seen_offered Idle rows Go number n cs = refl
-seen_offered Idle rows (Guess q) number n cs = met (nat_lt q rows)
+seen_offered : (a : Activity) (rows : ℕ) (choice : Choice) (l : Local) (n : ℕ) (cs : List CallSeen) → seen_after a (offered rows choice) l n cs ≡ seen_after a choice l n cs
+seen_offered Idle rows (Begin call) l n cs = refl
+seen_offered Idle rows Go l n cs = refl
+seen_offered Idle rows (Guess q) l n cs = met (nat_lt q rows)
   where
-    met : (b : Bool) → seen_after Idle (if b then Guess q else Go) number n cs ≡ cs
+    met : (b : Bool) → seen_after Idle (if b then Guess q else Go) l n cs ≡ cs
     met true = refl
     met false = refl
-seen_offered Idle rows Stop number n cs = refl
-seen_offered _ rows choice number n cs = refl
+seen_offered Idle rows Stop l n cs = refl
+seen_offered _ rows choice l n cs = refl
 
 -- events of other seats
 still_along : (z : Sizes) (o : Opening) (s : ℕ) (r : Run) (w : WorldView) (ys : List Event) → r.world ≡ w → is_valid_from z o w ys ≡ true → Turns z r → of_seat s ys ≡ [] → seen_by s (run z r ys).history.calls ≡ seen_by s r.history.calls
@@ -165,7 +165,7 @@ calls_still z o s xs ys opening ok none =
 
 -- an event of the seat
 pub calls-own : (z : Sizes) (o : Opening) (s : ℕ) (xs : List Event) (choice : Choice) → IsOpening z o → is_valid z o (xs ++ event s choice ∷ []) ≡ true →
-    calls_seen z o s (xs ++ event s choice ∷ []) ≡ seen_after (local_of (world z o xs) s).activity choice (local_of (world z o xs) s).number (length xs) (calls_seen z o s xs)
+    calls_seen z o s (xs ++ event s choice ∷ []) ≡ seen_after (local_of (world z o xs) s).activity choice (local_of (world z o xs) s) (length xs) (calls_seen z o s xs)
 calls-own z o s xs choice opening ok =
     let front = valid_front z o xs (event s choice ∷ []) ok in
     let r = history z o xs in
@@ -175,10 +175,10 @@ calls-own z o s xs choice opening ok =
     let l : local_of (world z o xs) s ≡ c.local = ap (λ w. local_of w s) (sym (history-world z o xs)) ∙ get_or_from_slice_get r.world.locals s c.local (resting 0) c.knows in
     let n : length r.history.log ≡ length xs = (mirrors_hold z o opening xs front).events in
     seen_of z o s (xs ++ event s choice ∷ []) ∙ ap (λ (q : Run). seen_by s q.history.calls) (history-snoc z o xs (event s choice)) ∙
-    one_own z o r (event s choice) may x ∙ seen_offered c.local.activity r.world.rows choice c.local.number (length r.history.log) (seen_by s r.history.calls) ∙
-    ap (λ (m : Local). seen_after m.activity choice m.number (length r.history.log) (seen_by s r.history.calls)) (sym l) ∙
-    ap (λ k. seen_after (local_of (world z o xs) s).activity choice (local_of (world z o xs) s).number k (seen_by s r.history.calls)) n ∙
-    ap (λ cs. seen_after (local_of (world z o xs) s).activity choice (local_of (world z o xs) s).number (length xs) cs) (sym (seen_of z o s xs))
+    one_own z o r (event s choice) may x ∙ seen_offered c.local.activity r.world.rows choice c.local (length r.history.log) (seen_by s r.history.calls) ∙
+    ap (λ (m : Local). seen_after m.activity choice m (length r.history.log) (seen_by s r.history.calls)) (sym l) ∙
+    ap (λ k. seen_after (local_of (world z o xs) s).activity choice (local_of (world z o xs) s) k (seen_by s r.history.calls)) n ∙
+    ap (λ cs. seen_after (local_of (world z o xs) s).activity choice (local_of (world z o xs) s) (length xs) cs) (sym (seen_of z o s xs))
 
 -- the seat's calls lie in turn
 pub calls_in_turn : (z : Sizes) (o : Opening) (s : ℕ) (es : List Event) → IsOpening z o → is_valid z o es ≡ true → s < o.seats → KeepsTurns (length es) (local_of (world z o es) s) (calls_seen z o s es)

@@ -4,14 +4,16 @@ use Rattle.std.proofs.lemmas.Bool.{cases_eq}
 use Rattle.kw_words.specs.declared.layout.Name.TheVariants as name
 use Rattle.kw_model.specs.declared.call.Call.{Call}
 use Rattle.kw_model.specs.declared.call.Reply.{Reply}
+use Rattle.kw_world.specs.declared.answer.Answer.{Answer}
+use Rattle.kw_world.specs.Answers.{reply_of}
 use Rattle.kw_world.specs.declared.activity.Activity.{Activity}
 use Rattle.kw_world.specs.declared.activity.Activity.TheVariants.{Idle, Enter, Leave}
 use Rattle.kw_world.specs.declared.local.Local.{Local}
 use Rattle.kw_world.specs.declared.event.Choice.{Choice}
 use Rattle.kw_world.specs.declared.event.Choice.TheVariants.{Begin, Go, Guess, Stop}
 use Rattle.kw_world.specs.Sizes.{Sizes}
-use Rattle.kw_world.specs.RowScan.{begun}
-use Rattle.kw_world.specs.Table.{row}
+use Rattle.kw_world.specs.ScanTransitions.{begun}
+use Rattle.kw_world.specs.Table.{transition}
 use Rattle.kw_world.specs.Step.{word, followed, is_skipped}
 use Rattle.kw_core.specs.History.{History, called}
 use Rattle.kw_core.specs.declared.history.Logged.{Logged}
@@ -56,7 +58,7 @@ same_number h h' e z v s choice l g o a c (makes_add m) u n = ap (λ (y : Histor
 same_number h h' e z v s choice l g o a c (makes_announce m) u n = ap (λ (y : History). length y.calls) n
 same_number h h' e z v s choice l g o a c (makes_stamp m) u n = ap (λ (y : History). length y.calls) n ∙ length-set h.calls _ _
 same_number h h' e z v s choice l g o a c (makes_help q m k) u n = ap (λ (y : History). length y.calls) n ∙ length-set h.calls _ _
-same_number h h' e z v s choice l g o a c (makes_end reply) u n = ap (λ (y : History). length y.calls) n ∙ length-set h.calls _ _
+same_number h h' e z v s choice l g o a c (makes_end answer) u n = ap (λ (y : History). length y.calls) n ∙ length-set h.calls _ _
 
 -- a call that got a put at most looks the same
 same_seen : (s : ℕ) (c d : CallLog) → SameLog c d → AreAlike s c d
@@ -74,7 +76,7 @@ module _ (z : Sizes) (r r' : Run) (s : ℕ) (choice : Choice) (l l' : Local) (a 
 
   -- the record's change, at this activity
   calls_by_change : (b : Activity) → a ≡ b → r'.history.calls ≡ calls_after r.history (change_of z b s choice l (found_at z (word z r.world) a s choice l) (r.seats s) r.origin)
-  calls_by_change b e = ap (λ (x : History). x.calls) (subst (λ b. r'.history ≡ noted r.history (logged s (row z a s choice l).operation.kind (word z r.world name.Clock)) (change_of z b s choice l (found_at z (word z r.world) a s choice l) (r.seats s) r.origin)) e h.history)
+  calls_by_change b e = ap (λ (x : History). x.calls) (subst (λ b. r'.history ≡ noted r.history (logged s (transition z a s choice l).operation.kind (word z r.world name.Clock)) (change_of z b s choice l (found_at z (word z r.world) a s choice l) (r.seats s) r.origin)) e h.history)
 
   -- the call that an idle seat begins
   new : Call → CallLog
@@ -85,7 +87,7 @@ module _ (z : Sizes) (r r' : Run) (s : ℕ) (choice : Choice) (l l' : Local) (a 
   calls_begun call e c = calls_by_change Idle e ∙ ap (λ q. calls_after r.history (beginning q s l)) c
 
   -- calls that the event does not end
-  seen_alike : IsBusy a → (t : ℕ) → ((reply : Reply) → a ≡ Leave reply → (called r.history (r.seats s).call).seat ≢ t) → seen_by t r'.history.calls ≡ seen_by t r.history.calls
+  seen_alike : IsBusy a → (t : ℕ) → ((answer : Answer) → a ≡ Leave answer → (called r.history (r.seats s).call).seat ≢ t) → seen_by t r'.history.calls ≡ seen_by t r.history.calls
   unfolding called
   seen_alike u t f = seen_by-alike t r.history.calls r'.history.calls
       (same_number r.history r'.history _ z (word z r.world) s choice l (r.seats s) r.origin a _ (made z (word z r.world) s choice l (r.seats s) r.origin a) u h.history)
@@ -93,8 +95,8 @@ module _ (z : Sizes) (r r' : Run) (s : ℕ) (choice : Choice) (l l' : Local) (a 
     where
       which : (y : ℕ) → CallOver r.history r'.history l (r.seats s) a y → AreAlike t (call_at r.history.calls y) (call_at r'.history.calls y)
       which y (goes_on x) = same_seen t _ _ x
-      which y (is_ended reply e at x) =
-          let n : (called r.history y).seat ≢ t = λ q. f reply e (ap (λ j. (called r.history j).seat) (sym at) ∙ q) in
+      which y (is_ended answer e at x) =
+          let n : (called r.history y).seat ≢ t = λ q. f answer e (ap (λ j. (called r.history j).seat) (sym at) ∙ q) in
           inl (n, λ q. n (ap (λ (c : CallLog). c.seat) (sym x) ∙ q))
 
   -- The calls of another seat.
@@ -108,44 +110,44 @@ module _ (z : Sizes) (r r' : Run) (s : ℕ) (choice : Choice) (l l' : Local) (a 
           let c = begins_call choice (subst (λ b. is_skipped b choice ≡ false) e h.moves) in
           ap (seen_by t) (calls_begun c.0 e c.1) ∙ seen_by-push t r.history.calls (new c.0) ∙
           ap (λ q. seen_by t r.history.calls ++ q) (seen_by-other t (new c.0) [] (λ q. d (sym q))) ∙ append-nil _
-      which b e = let u : IsBusy a = subst IsBusy (sym e) tt in seen_alike u t (λ reply j q. d (sym q ∙ (calling u).seat))
+      which b e = let u : IsBusy a = subst IsBusy (sym e) tt in seen_alike u t (λ answer j q. d (sym q ∙ (calling u).seat))
 
   -- The calls of the acting seat.
 
-  pub seen_own : AreLatest r → seen_by s r'.history.calls ≡ seen_after a choice l.number (length r.history.log) (seen_by s r.history.calls)
+  pub seen_own : AreLatest r → seen_by s r'.history.calls ≡ seen_after a choice l (length r.history.log) (seen_by s r.history.calls)
   unfolding new called
   seen_own latest = which a refl
     where
       stays : (b : Activity) → a ≡ b → IsUnderway b → IsBusy b → seen_by s r'.history.calls ≡ seen_by s r.history.calls
-      stays b e u v = seen_alike (subst IsBusy (sym e) v) s (λ reply j q. subst IsUnderway (sym e ∙ j) u)
+      stays b e u v = seen_alike (subst IsBusy (sym e) v) s (λ answer j q. subst IsUnderway (sym e ∙ j) u)
 
-      ends : (reply : Reply) → a ≡ Leave reply → seen_by s r'.history.calls ≡ end_last (length r.history.log) reply (seen_by s r.history.calls)
-      ends reply e =
+      ends : (answer : Answer) → a ≡ Leave answer → seen_by s r'.history.calls ≡ end_last (length r.history.log) (reply_of answer l.pairs) (seen_by s r.history.calls)
+      ends answer e =
           let u : IsBusy a = subst IsBusy (sym e) tt in
           let x = calling u in
           let c = called r.history (r.seats s).call in
-          let y = seen_by-last s r.history.calls (r.seats s).call (record c { end = Some (record { at = length r.history.log; reply = reply }); answer = answering l.call l (r.seats s); draw = drawing reply l (r.seats s) })
+          let y = seen_by-last s r.history.calls (r.seats s).call (record c { end = Some (record { at = length r.history.log; reply = reply_of answer l.pairs }); answer = answering l.call l (r.seats s); draw = drawing answer l (r.seats s) })
           x.within x.seat x.seat (latest s l h.knows (subst IsBusy (sym h.activity) u)) in
-          ap (seen_by s) (calls_by_change (Leave reply) e) ∙ y.is ∙ sym (ap (end_last (length r.history.log) reply) y.was ∙ end_last-snoc (length r.history.log) reply y.before (seen c))
+          ap (seen_by s) (calls_by_change (Leave answer) e) ∙ y.is ∙ sym (ap (end_last (length r.history.log) (reply_of answer l.pairs)) y.was ∙ end_last-snoc (length r.history.log) (reply_of answer l.pairs) y.before (seen c))
 
-      which : (b : Activity) → a ≡ b → seen_by s r'.history.calls ≡ seen_after b choice l.number (length r.history.log) (seen_by s r.history.calls)
+      which : (b : Activity) → a ≡ b → seen_by s r'.history.calls ≡ seen_after b choice l (length r.history.log) (seen_by s r.history.calls)
       which Idle e =
           let c = begins_call choice (subst (λ b. is_skipped b choice ≡ false) e h.moves) in
-          subst (λ q. seen_by s r'.history.calls ≡ seen_after Idle q l.number (length r.history.log) (seen_by s r.history.calls)) (sym c.1)
+          subst (λ q. seen_by s r'.history.calls ≡ seen_after Idle q l (length r.history.log) (seen_by s r.history.calls)) (sym c.1)
           (ap (seen_by s) (calls_begun c.0 e c.1) ∙ seen_by-push s r.history.calls (new c.0) ∙ ap (λ q. seen_by s r.history.calls ++ q) (seen_by-own s (new c.0) [] refl))
-      which (Leave reply) e = ends reply e
+      which (Leave answer) e = ends answer e
       which b e = stays b e tt tt
 
   -- What is kept.
 
   -- a seat that has left is idle
-  left_idle : (reply : Reply) → a ≡ Leave reply → l'.activity ≡ Idle
-  left_idle reply e = ap (λ (m : Local). m.activity) (subst (λ b. l' ≡ (followed (row z b s choice l) (found_at z (word z r.world) a s choice l)).local) e h.next)
+  left_idle : (answer : Answer) → a ≡ Leave answer → l'.activity ≡ Idle
+  left_idle answer e = ap (λ (m : Local). m.activity) (subst (λ b. l' ≡ (followed r.world.rows (transition z b s choice l) (found_at z (word z r.world) a s choice l)).local) e h.next)
 
   -- what a seat knows that has begun a call
   begun_local : (call : Call) → a ≡ Idle → choice ≡ Begin call → (epoch : ℕ) × (l' ≡ (begun (Begin call) epoch l).local)
   begun_local call e c =
-      let x = subst (λ b. l' ≡ (followed (row z b s choice l) (found_at z (word z r.world) a s choice l)).local) e h.next in
+      let x = subst (λ b. l' ≡ (followed r.world.rows (transition z b s choice l) (found_at z (word z r.world) a s choice l)).local) e h.next in
       (found_at z (word z r.world) a s choice l, x ∙ ap (λ q. (begun q (found_at z (word z r.world) a s choice l) l).local) c)
 
   pub latest_keeps : AreLatest r → AreLatest r'
@@ -153,7 +155,7 @@ module _ (z : Sizes) (r r' : Run) (s : ℕ) (choice : Choice) (l l' : Local) (a 
     where
       seat : (y : ℕ) → CallOver r.history r'.history l (r.seats s) a y → (called r'.history y).seat ≡ (called r.history y).seat
       seat y (goes_on x) = x.seat
-      seat y (is_ended reply e at x) = ap (λ (c : CallLog). c.seat) x
+      seat y (is_ended answer e at x) = ap (λ (c : CallLog). c.seat) x
 
       others : (t : ℕ) (m : Local) → t ≢ s → slice_get r.world.locals t ≡ Some m → IsBusy m.activity → (y : ℕ) → y < length r'.history.calls → (called r'.history y).seat ≡ t → y ≤ (r'.seats t).call
       others t m d g u y w e = which (was y w)
@@ -182,7 +184,7 @@ module _ (z : Sizes) (r r' : Run) (s : ℕ) (choice : Choice) (l l' : Local) (a 
               let n = ap (λ (q : SeatLog). q.call) k in
               let m = ap length (calls_begun c.0 j c.1) ∙ length-append r.history.calls (new c.0 ∷ []) in
               omega (arith, n, m, w)
-          which (Leave reply) j = absurd (subst IsBusy (left_idle reply j) u)
+          which (Leave answer) j = absurd (subst IsBusy (left_idle answer j) u)
           which b j = stays b j tt tt
 
   -- the calls of each seat stay in turn
@@ -191,7 +193,7 @@ module _ (z : Sizes) (r r' : Run) (s : ℕ) (choice : Choice) (l l' : Local) (a 
   turns_keep latest turns = each_seat h (λ t m. KeepsTurns (length r'.history.log) m (seen_by t r'.history.calls)) (which a refl) others
     where
       longer : length r'.history.log ≡ length r.history.log + 1
-      longer = ap (λ (x : History). length x.log) h.history ∙ length-append r.history.log (logged s (row z a s choice l).operation.kind (word z r.world name.Clock) ∷ [])
+      longer = ap (λ (x : History). length x.log) h.history ∙ length-append r.history.log (logged s (transition z a s choice l).operation.kind (word z r.world name.Clock) ∷ [])
 
       n : length r.history.log ≤ length r'.history.log
       n = omega (arith, longer)
@@ -210,8 +212,8 @@ module _ (z : Sizes) (r r' : Run) (s : ℕ) (choice : Choice) (l l' : Local) (a 
       mine : KeepsTurns (length r.history.log) l (seen_by s r.history.calls)
       mine = turns s l h.knows
 
-      own : (b : Activity) → a ≡ b → seen_by s r'.history.calls ≡ seen_after b choice l.number (length r.history.log) (seen_by s r.history.calls)
-      own b e = subst (λ b. seen_by s r'.history.calls ≡ seen_after b choice l.number (length r.history.log) (seen_by s r.history.calls)) e (seen_own latest)
+      own : (b : Activity) → a ≡ b → seen_by s r'.history.calls ≡ seen_after b choice l (length r.history.log) (seen_by s r.history.calls)
+      own b e = subst (λ b. seen_by s r'.history.calls ≡ seen_after b choice l (length r.history.log) (seen_by s r.history.calls)) e (seen_own latest)
 
       begins : a ≡ Idle → (c : (call : Call) × (choice ≡ Begin call)) → (x : (epoch : ℕ) × (l' ≡ (begun (Begin c.0) epoch l).local)) → KeepsTurns (length r'.history.log) l' (seen_by s r'.history.calls)
       begins e c x =
@@ -221,7 +223,7 @@ module _ (z : Sizes) (r r' : Run) (s : ℕ) (choice : Choice) (l l' : Local) (a 
             makes = λ u. record {
               before = seen_by s r.history.calls;
               last = begun_at (length r.history.log) (l.number + 1) c.0;
-              is = subst (λ q. seen_by s r'.history.calls ≡ seen_after Idle q l.number (length r.history.log) (seen_by s r.history.calls)) c.1 (own Idle e);
+              is = subst (λ q. seen_by s r'.history.calls ≡ seen_after Idle q l (length r.history.log) (seen_by s r.history.calls)) c.1 (own Idle e);
               in_turn = mine.rests (h.activity ∙ e);
               first = omega (arith, longer);
               runs = refl;
@@ -230,11 +232,11 @@ module _ (z : Sizes) (r r' : Run) (s : ℕ) (choice : Choice) (l l' : Local) (a 
             };
           }
 
-      ends : (reply : Reply) → a ≡ Leave reply → HasLast (length r.history.log) l (seen_by s r.history.calls) → KeepsTurns (length r'.history.log) l' (seen_by s r'.history.calls)
-      ends reply e x = record {
-        rests = λ f. subst (λ cs. AreInTurn 0 cs (length r'.history.log)) (sym (own (Leave reply) e ∙ ap (end_last (length r.history.log) reply) x.is ∙ end_last-snoc (length r.history.log) reply x.before x.last))
-            (in_turn-snoc 0 x.before x.last.first (ended_at (length r.history.log) reply x.last) (record { at = length r.history.log; reply = reply }) (length r'.history.log) x.in_turn (omega arith) refl x.first (omega (arith, longer)));
-        makes = λ u. absurd (subst IsBusy (left_idle reply e) u);
+      ends : (answer : Answer) → a ≡ Leave answer → HasLast (length r.history.log) l (seen_by s r.history.calls) → KeepsTurns (length r'.history.log) l' (seen_by s r'.history.calls)
+      ends answer e x = record {
+        rests = λ f. subst (λ cs. AreInTurn 0 cs (length r'.history.log)) (sym (own (Leave answer) e ∙ ap (end_last (length r.history.log) (reply_of answer l.pairs)) x.is ∙ end_last-snoc (length r.history.log) (reply_of answer l.pairs) x.before x.last))
+            (in_turn-snoc 0 x.before x.last.first (ended_at (length r.history.log) (reply_of answer l.pairs) x.last) (record { at = length r.history.log; reply = reply_of answer l.pairs }) (length r'.history.log) x.in_turn (omega arith) refl x.first (omega (arith, longer)));
+        makes = λ u. absurd (subst IsBusy (left_idle answer e) u);
       }
 
       stays : (b : Activity) → a ≡ b → IsUnderway b → IsBusy b → IsStaying b → seen_by s r'.history.calls ≡ seen_by s r.history.calls → KeepsTurns (length r'.history.log) l' (seen_by s r'.history.calls)
@@ -250,7 +252,7 @@ module _ (z : Sizes) (r r' : Run) (s : ℕ) (choice : Choice) (l l' : Local) (a 
       which Idle e =
           let c = begins_call choice (subst (λ b. is_skipped b choice ≡ false) e h.moves) in
           begins e c (begun_local c.0 e c.1)
-      which (Leave reply) e = ends reply e (mine.makes (subst IsBusy (sym (h.activity ∙ e)) tt))
+      which (Leave answer) e = ends answer e (mine.makes (subst IsBusy (sym (h.activity ∙ e)) tt))
       which b e = stays b e tt tt tt (own b e)
 
   -- Longer lists.
@@ -259,7 +261,7 @@ module _ (z : Sizes) (r r' : Run) (s : ℕ) (choice : Choice) (l l' : Local) (a 
   pub still_own : AreLatest r → AllInTurn r → AreStill (seen_by s r.history.calls) (seen_by s r'.history.calls)
   still_own latest turns = subst (AreStill (seen_by s r.history.calls)) (sym (seen_own latest)) (which a refl)
     where
-      begins : (c : Choice) → AreStill (seen_by s r.history.calls) (seen_after Idle c l.number (length r.history.log) (seen_by s r.history.calls))
+      begins : (c : Choice) → AreStill (seen_by s r.history.calls) (seen_after Idle c l (length r.history.log) (seen_by s r.history.calls))
       begins (Begin call) = still-push _ _
       begins Go = still-same _
       begins (Guess q) = still-same _
@@ -269,9 +271,9 @@ module _ (z : Sizes) (r r' : Run) (s : ℕ) (choice : Choice) (l l' : Local) (a 
       ends reply x = rw (x.is, end_last-snoc (length r.history.log) reply x.before x.last)
           (still-last x.before x.last (ended_at (length r.history.log) reply x.last) (record { number = refl; call = refl; first = refl; end = λ e f. let y : None ≡ Some e = sym x.runs ∙ f in absurd (cc) }))
 
-      which : (b : Activity) → a ≡ b → AreStill (seen_by s r.history.calls) (seen_after b choice l.number (length r.history.log) (seen_by s r.history.calls))
+      which : (b : Activity) → a ≡ b → AreStill (seen_by s r.history.calls) (seen_after b choice l (length r.history.log) (seen_by s r.history.calls))
       which Idle e = begins choice
-      which (Leave reply) e = ends reply ((turns s l h.knows).makes (subst IsBusy (sym (h.activity ∙ e)) tt))
+      which (Leave answer) e = ends (reply_of answer l.pairs) ((turns s l h.knows).makes (subst IsBusy (sym (h.activity ∙ e)) tt))
       which b e = still-same _
 
   -- the calls of every seat go on

@@ -23,7 +23,7 @@ use Rattle.kw_core.specs.Words.{next_in, least_in}
 use Rattle.kw_shape.specs.Shape.{IsLinked, HoldsKey, Walks}
 use Rattle.kw_reads.specs.Readers.{IsDue, IsCopyOf}
 use Rattle.kw_reads.specs.Replies.{RisesBelow, Covers}
-use Rattle.kw_model.specs.declared.call.Reply.TheVariants.{Pairs}
+use Rattle.kw_world.specs.declared.answer.Answer.TheVariants.{Pairs}
 use Rattle.kw_words.specs.declared.kind.Kind.TheVariants.{Draw}
 use Rattle.kw_laws.specs.Unfrozen.{IsUnfrozen}
 
@@ -98,7 +98,7 @@ pub record KeepsLaws (z : Sizes) (r : Run) : Type 0 where
   -- those of its range at this version, up to the key that it would have wanted next
   pub covers : (t : ℕ) (l : Local) → slice_get r.world.locals t ≡ Some l → is_scan l.call ≡ true → IsCovering l.activity → IsDrawnCover r t l l.want l.pairs
   -- a scan that is over, and has not been stopped, has those of its whole range
-  pub covered : (t : ℕ) (l : Local) (pairs : List (ℕ × ℕ)) → slice_get r.world.locals t ≡ Some l → is_scan l.call ≡ true → l.activity ≡ ClearScan (Pairs pairs) → IsDrawnCover r t l (last_key l.call + 1) pairs
+  pub covered : (t : ℕ) (l : Local) → slice_get r.world.locals t ≡ Some l → is_scan l.call ≡ true → l.activity ≡ ClearScan Pairs → IsDrawnCover r t l (last_key l.call + 1) l.pairs
   -- a call that has read no row has no pairs
   pub early : (t : ℕ) (l : Local) → slice_get r.world.locals t ≡ Some l → IsEarly l.activity → l.pairs ≡ []
   -- no count is frozen and no entry, as long as no row is rebalanced

@@ -25,8 +25,8 @@ use Rattle.kw_world.specs.declared.operation.Operation.{Operation}
 use Rattle.kw_world.specs.Sizes.{Sizes}
 use Rattle.kw_world.specs.WorldView.{WorldView}
 use Rattle.kw_world.specs.Opening.{opened}
-use Rattle.kw_world.specs.RowPut.{has_room, given_of}
-use Rattle.kw_world.specs.Step.{word, row_at, step, kind_of}
+use Rattle.kw_world.specs.PutTransitions.{has_room, given_of}
+use Rattle.kw_world.specs.Step.{word, transition_at, step, kind_of}
 use Rattle.kw_core.specs.History.{History, Call, Reply, attempt, called}
 use Rattle.kw_core.specs.declared.history.Logged.{Logged}
 use Rattle.kw_core.specs.declared.history.Attempt.{Attempt}
@@ -54,7 +54,7 @@ pub record Acts (z : Sizes) (o : Opening) (es : List Event) (x s : ℕ) (a : Act
   pub occurs : Occurs z o es x before (event s choice)
   pub knows : slice_get before.locals s ≡ Some local
   pub activity : local.activity ≡ a
-  pub operates : (row_at z before (event s choice) local).operation ≡ op
+  pub operates : (transition_at z before (event s choice) local).operation ≡ op
   pub finds : word z before op.name ≡ found
 
 -- the entry of the log for position x has the seat of the event there, its kind, and the clock before it

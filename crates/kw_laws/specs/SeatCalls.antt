@@ -12,6 +12,7 @@ use Rattle.kw_world.specs.declared.event.Choice.TheVariants.{Begin, Go, Guess, S
 use Rattle.kw_world.specs.declared.event.Event.{Event}
 use Rattle.kw_world.specs.declared.local.Local.{Local}
 use Rattle.kw_world.specs.declared.opening.Opening.{Opening}
+use Rattle.kw_world.specs.Answers.{reply_of}
 use Rattle.kw_world.specs.Sizes.{Sizes}
 use Rattle.kw_core.specs.History.{History}
 use Rattle.kw_core.specs.declared.history.CallLog.{CallLog}
@@ -64,13 +65,13 @@ end_last n reply (c ∷ d ∷ cs) = c ∷ end_last n reply (d ∷ cs)
 
 -- the calls of a seat that has begun `number` calls, after its event at place n, at this activity and with this choice: an idle seat
 -- begins a call, and one that leaves ends its last call
-abbrev pub seen_after : Activity → Choice → ℕ → ℕ → List CallSeen → List CallSeen
-seen_after Idle (Begin call) number n cs = cs ++ begun_at n (number + 1) call ∷ []
-seen_after Idle Go number n cs = cs
-seen_after Idle (Guess r) number n cs = cs
-seen_after Idle Stop number n cs = cs
-seen_after (Leave reply) choice number n cs = end_last n reply cs
-seen_after _ choice number n cs = cs
+abbrev pub seen_after : Activity → Choice → Local → ℕ → List CallSeen → List CallSeen
+seen_after Idle (Begin call) l n cs = cs ++ begun_at n (l.number + 1) call ∷ []
+seen_after Idle Go l n cs = cs
+seen_after Idle (Guess r) l n cs = cs
+seen_after Idle Stop l n cs = cs
+seen_after (Leave answer) choice l n cs = end_last n (reply_of answer l.pairs) cs
+seen_after _ choice l n cs = cs
 
 -- How the calls lie.
 

@@ -13,7 +13,7 @@ use Rattle.kw_world.specs.declared.activity.Activity.TheVariants.{Announce, Stam
 use Rattle.kw_world.specs.declared.local.Local.{Local}
 use Rattle.kw_world.specs.Sizes.{Sizes}
 use Rattle.kw_world.specs.WorldView.{WorldView}
-use Rattle.kw_world.specs.RowPut.{has_room}
+use Rattle.kw_world.specs.PutTransitions.{has_room}
 use Rattle.kw_world.specs.Step.{word}
 use Rattle.kw_core.specs.Words.{given_in}
 

@@ -51,7 +51,7 @@ pub fn mirror_laws()
 pub fn seat_calls_laws()
     ensures none { (z : Sizes) (o : Opening) (s : ℕ) → calls_seen z o s [] ≡ [] }
     ensures still { (z : Sizes) (o : Opening) (s : ℕ) (xs ys : List Event) → IsOpening z o → is_valid z o (xs ++ ys) ≡ true → of_seat s ys ≡ [] → calls_seen z o s (xs ++ ys) ≡ calls_seen z o s xs }
-    ensures own { (z : Sizes) (o : Opening) (s : ℕ) (xs : List Event) (choice : Choice) → IsOpening z o → is_valid z o (xs ++ event s choice ∷ []) ≡ true → calls_seen z o s (xs ++ event s choice ∷ []) ≡ seen_after (local_of (world z o xs) s).activity choice (local_of (world z o xs) s).number (length xs) (calls_seen z o s xs) }
+    ensures own { (z : Sizes) (o : Opening) (s : ℕ) (xs : List Event) (choice : Choice) → IsOpening z o → is_valid z o (xs ++ event s choice ∷ []) ≡ true → calls_seen z o s (xs ++ event s choice ∷ []) ≡ seen_after (local_of (world z o xs) s).activity choice (local_of (world z o xs) s) (length xs) (calls_seen z o s xs) }
     ensures turns { (z : Sizes) (o : Opening) (s : ℕ) (events : List Event) → IsOpening z o → is_valid z o events ≡ true → s < o.seats → KeepsTurns (length events) (local_of (world z o events) s) (calls_seen z o s events) }
     ensures apart { (z : Sizes) (o : Opening) (s : ℕ) (events : List Event) → IsOpening z o → is_valid z o events ≡ true → s < o.seats → AreApart (length events) (calls_seen z o s events) }
     ensures lasts { (z : Sizes) (o : Opening) (s : ℕ) (xs ys : List Event) → IsOpening z o → is_valid z o (xs ++ ys) ≡ true → AreStill (calls_seen z o s xs) (calls_seen z o s (xs ++ ys)) }

@@ -12,10 +12,10 @@ use Rattle.kw_world.specs.declared.local.Local.{Local}
 use Rattle.kw_world.specs.declared.opening.Opening.{Opening}
 use Rattle.kw_world.specs.Operation.{told_by}
 use Rattle.kw_world.specs.Parts.{is_walking}
-use Rattle.kw_world.specs.RowPut.{given_of}
-use Rattle.kw_world.specs.RowWalk.{offered}
+use Rattle.kw_world.specs.PutTransitions.{given_of}
+use Rattle.kw_world.specs.WalkTransitions.{offered}
 use Rattle.kw_world.specs.Sizes.{product}
-use Rattle.kw_world.specs.Step.{word, row_of}
+use Rattle.kw_world.specs.Step.{word, transition_of}
 use Rattle.kw_core.specs.Events.{local_of, world, of_seat, event}
 use Rattle.kw_core.proofs.Events.{of_seat-append, of_seat-here, of_seat_own}
 use Rattle.kw_table.specs.declared.pass.Pass.{Pass}
@@ -24,7 +24,7 @@ use Rattle.kw_table.specs.Passes.{view, Makes}
 use Rattle.kw_table.proofs.Prefixes.{prefix_nil}
 use Rattle.kw_table.proofs.Stepping.{rest_is_others}
 use Rattle.kw_follow.specs.Following.{GoesTo, activity_in}
-use Rattle.kw_follow.specs.OwnEvents.{Met, MetIn, MetOnly, row_after}
+use Rattle.kw_follow.specs.OwnEvents.{Met, MetIn, MetOnly, transition_after}
 use Rattle.kw_follow.proofs.OwnEvents.{meets_none, met_on_one}
 use Rattle.kw_live.specs.Meeting.{AsksBelow, AsksNone, IsAsking}
 use Rattle.kw_follow.proofs.Growing.{first_own}

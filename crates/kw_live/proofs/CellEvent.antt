@@ -10,13 +10,13 @@ use Rattle.kw_world.specs.declared.activity.Activity.TheVariants.{Walk, LookCoun
 use Rattle.kw_world.specs.declared.event.Choice.TheVariants.{Go}
 use Rattle.kw_world.specs.declared.local.Local.{Local}
 use Rattle.kw_world.specs.Calls.{first_key, is_in_range, is_scan}
-use Rattle.kw_world.specs.Row.{Outcome}
+use Rattle.kw_world.specs.Transition.{Outcome}
 use Rattle.kw_world.specs.RowEnd.{IsInCells, passed, read_at, read_on, version_read}
-use Rattle.kw_world.specs.RowRead.{version_in_hand}
+use Rattle.kw_world.specs.ReadTransitions.{version_in_hand}
 use Rattle.kw_world.specs.Sizes.{Sizes, product}
-use Rattle.kw_world.specs.Step.{next_of, row_of}
-use Rattle.kw_world.specs.Table.{row}
-use Rattle.kw_world.proofs.Rows.{row_of-next}
+use Rattle.kw_world.specs.Step.{next_of, transition_of}
+use Rattle.kw_world.specs.Table.{transition}
+use Rattle.kw_world.proofs.Transitions.{transition_of-next}
 use Rattle.kw_laws.specs.Laws.{KeepsLaws}
 use Rattle.kw_reads.specs.Replies.{RisesBelow}
 use Rattle.kw_core.specs.Run.{history}
@@ -28,8 +28,8 @@ use Rattle.kw_table.specs.declared.shared.Shared.{Shared}
 use Rattle.kw_table.specs.Passes.{view, Makes}
 use Rattle.kw_table.specs.Views.{local_in}
 use Rattle.kw_follow.specs.Calling.{Keeps}
-use Rattle.kw_follow.specs.Following.{Follows, GoesTo, activity_in, bare_activity, carried, held, held_at}
-use Rattle.kw_live.specs.Reading.{HasRead, HasReadAs, Reads, is_reading_cells, unpaired}
+use Rattle.kw_follow.specs.Following.{Follows, GoesTo, activity_in, carried, held}
+use Rattle.kw_live.specs.Reading.{HasRead, HasReadAs, Reads, is_reading_cells}
 use Rattle.kw_live.proofs.CellStages.{Ended, Goes, IsBelowNext, cell_ahead, cell_goes}
 use Rattle.kw_follow.proofs.Growing.{IsStaying}
 use Rattle.kw_follow.proofs.OneEvent.{follows_from}
@@ -65,22 +65,9 @@ cells_at_row CellKey u = tt
 cells_at_row CellValue u = tt
 cells_at_row _ u = true_false u refl
 
--- the pairs that its seat then has are those that it has added
-cells_held : (a : Activity) (pairs : List (ℕ × ℕ)) → is_reading_cells a ≡ true → held_at a pairs ≡ pairs
-cells_held LookCount pairs u = refl
-cells_held (Cell j) pairs u = refl
-cells_held CellKey pairs u = refl
-cells_held CellValue pairs u = refl
-cells_held _ pairs u = true_false u refl
-
--- code is at the same place
-cells_bare : (a : Activity) → is_reading_cells (bare_activity a) ≡ is_reading_cells a
-cells_bare (ClearScan reply) = refl
-cells_bare (Leave reply) = refl
-cells_bare _ = refl
-
+-- its seat does so where code does
 pub reading_in : (s : Shared) (p : Pass) (l : Local) → Follows s p l → is_reading_cells l.activity ≡ true → is_reading_cells (activity_in p) ≡ true
-reading_in s p l f u = sym (cells_bare (activity_in p)) ∙ (sym (ap (λ (k : Local). is_reading_cells k.activity) f.carries) ∙ u)
+reading_in s p l f u = sym (ap (λ (k : Local). is_reading_cells k.activity) f.carries) ∙ u
 
 -- The first part of an event leaves the number of calls and the pairs.
 
@@ -100,13 +87,13 @@ reads_apart z CellValue l told = (refl, refl)
 reads_apart z _ l told = (refl, refl)
 
 -- both parts together are what code carries of the line
-pub line_is : (s : Shared) (p : Pass) (l k m : Local) (told : ℕ) → Follows s p l → k ≡ read_on product l told → passed k ≡ next_of product Go l told → m ≡ unpaired k (passed k) → m ≡ carried (next_of product Go l told).local
-line_is s p l k m told f reads passes is =
+pub line_is : (s : Shared) (p : Pass) (l k m : Local) (told rows : ℕ) → Follows s p l → k ≡ read_on product l told → passed k ≡ next_of product rows Go l told → m ≡ record (passed k).local { number = k.number; pairs = k.pairs } → m ≡ carried (next_of product rows Go l told).local
+line_is s p l k m told rows f reads passes is =
     let apart = reads_apart product l.activity l told in
     let number : k.number ≡ 1 = ap (λ (x : Local). x.number) reads ∙ (apart.0 ∙ ap (λ (x : Local). x.number) f.carries) in
     let pairs : k.pairs ≡ [] = ap (λ (x : Local). x.pairs) reads ∙ (apart.1 ∙ ap (λ (x : Local). x.pairs) f.carries) in
     let o : Outcome = passed k in
-    is ∙ (ap (λ n. record (carried o.local) { number = n; pairs = k.pairs }) number
+    is ∙ (ap (λ n. record o.local { number = n; pairs = k.pairs }) number
     ∙ (ap (λ (ps : List (ℕ × ℕ)). record (carried o.local) { pairs = ps }) pairs
     ∙ ap (λ (x : Outcome). carried x.local) passes))
 
@@ -145,15 +132,6 @@ has_read None want version m before after below e = tt
 abbrev pub cells_ahead : Local → ℕ
 cells_ahead l = cell_ahead product l.activity l.place l.count
 
--- as many for code
-bare_ahead : (l : Local) → cells_ahead (carried l) ≡ cells_ahead l
-bare_ahead l = met l.activity
-  where
-    met : (a : Activity) → cell_ahead product (bare_activity a) l.place l.count ≡ cell_ahead product a l.place l.count
-    met (ClearScan reply) = refl
-    met (Leave reply) = refl
-    met _ = refl
-
 -- all laws hold of what a pass has seen
 laws_in : (p : Pass) → KeepsLaws product (history product (view p).opening (view p).seen)
 laws_in p = laws_hold product (view p).opening p.known.opens (view p).seen p.known.valid
@@ -163,32 +141,26 @@ below_next : (p : Pass) → is_reading_cells (activity_in p) ≡ true → IsBelo
 below_next p u = (((laws_in p).walks (view p).number (local_in (view p)) (stands p)).at (cells_at_row (activity_in p) u)).below
 
 -- a scan that walks has pairs of keys below the one that it wants
-walk_bare : (a : Activity) → bare_activity a ≡ Walk → a ≡ Walk
-walk_bare Walk e = refl
-walk_bare (ClearScan reply) e = absurd (cc)
-walk_bare (Leave reply) e = absurd (cc)
-walk_bare _ e = e
-
 below_wanted : (q : Pass) → is_scan (local_in (view q)).call ≡ true → activity_in q ≡ Walk → RisesBelow (first_key (local_in (view q)).call) (local_in (view q)).want (held q)
 below_wanted q scan is =
     let covers : IsCovering (activity_in q) = subst IsCovering (sym is) tt in
     let rises = ((laws_in q).below (view q).number (local_in (view q)) (stands q) scan covers).rises in
-    subst (λ a. RisesBelow (first_key (local_in (view q)).call) (local_in (view q)).want (held_at a (local_in (view q)).pairs)) (sym is) rises
+    rises
 
-module _ (s : Shared) (p q : Pass) (l m : Local) (told : ℕ) (f : Follows s p l) (makes : Makes s p Go told q) (reading : is_reading_cells l.activity ≡ true) (line : m ≡ carried (next_of product Go l told).local) where
+module _ (s : Shared) (p q : Pass) (l m : Local) (told : ℕ) (f : Follows s p l) (makes : Makes s p Go told q) (reading : is_reading_cells l.activity ≡ true) (line : m ≡ carried (next_of product (view p).opening.rows Go l told).local) where
   -- the seat goes on by the table
-  seat : local_in (view q) ≡ (next_of product Go (local_in (view p)) told).local
-  seat = makes.step.local ∙ ap (λ (x : Outcome). x.local) (row_of-next product (view p).number Go (local_in (view p)) told)
+  seat : local_in (view q) ≡ (next_of product (view p).opening.rows Go (local_in (view p)) told).local
+  seat = makes.step.local ∙ ap (λ (x : Outcome). x.local) (transition_of-next product (view p).opening.rows (view p).number Go (local_in (view p)) told)
 
   -- and so does code
   both : Goes product (local_in (view p)).call (local_in (view p)).want (local_in (view p)).version (local_in (view p)).pairs (cell_ahead product (activity_in p) (local_in (view p)).place (local_in (view p)).count)
-      (next_of product Go (local_in (view p)) told) (next_of product Go (carried (local_in (view p))) told)
-  unfolding row_of
-  both = cell_goes product (activity_in p) (local_in (view p)) told (reading_in s p l f reading) (below_next p (reading_in s p l f reading))
+      (next_of product (view p).opening.rows Go (local_in (view p)) told) (next_of product (view p).opening.rows Go (carried (local_in (view p))) told)
+  unfolding transition_of
+  both = cell_goes product (activity_in p) (local_in (view p)) (view p).opening.rows told (reading_in s p l f reading) (below_next p (reading_in s p l f reading))
 
   -- code carries what the seat then knows
   carries : m ≡ carried (local_in (view q))
-  carries = line ∙ (ap (λ k. carried (next_of product Go k told).local) f.carries ∙ (both.same ∙ ap carried (sym seat)))
+  carries = line ∙ (ap (λ k. carried (next_of product (view p).opening.rows Go k told).local) f.carries ∙ (both.same ∙ ap carried (sym seat)))
 
   pub read_follows : Follows s q m
   read_follows = follows_from s q m makes.of_table carries
@@ -198,35 +170,32 @@ module _ (s : Shared) (p q : Pass) (l m : Local) (told : ℕ) (f : Follows s p l
   reads_in =
       let k : Local = local_in (view p) in
       let x : Local = local_in (view q) in
-      let o : Local = (next_of product Go k told).local in
-      let was : held p ≡ k.pairs = cells_held (activity_in p) k.pairs (reading_in s p l f reading) in
-      let calls : x.call ≡ k.call = ap (λ (y : Local). y.call) seat ∙ both.calls in
+            let calls : x.call ≡ k.call = ap (λ (y : Local). y.call) seat ∙ both.calls in
       record {
         call = calls;
         version = ap (λ (y : Local). y.version) seat ∙ both.drawn;
+        rows = (view p).opening.rows;
         told = told;
         line = ap carried seat ∙ sym both.same;
         on = λ e.
-            let on = both.on (ap (λ (y : Local). is_reading_cells y.activity) (sym seat) ∙ (sym (cells_bare x.activity) ∙ e)) in
-            (ap (λ (y : Local). y.want) seat ∙ on.0, ap (λ (y : Local). held_at y.activity y.pairs) seat ∙ (on.1 ∙ sym was));
+            let on = both.on (ap (λ (y : Local). is_reading_cells y.activity) (sym seat) ∙ e) in
+            (ap (λ (y : Local). y.want) seat ∙ on.0, ap (λ (y : Local). y.pairs) seat ∙ on.1);
         ends = λ e.
-            let ends = both.ends (ap (λ (y : Local). is_reading_cells y.activity) (sym seat) ∙ (sym (cells_bare x.activity) ∙ e)) in
+            let ends = both.ends (ap (λ (y : Local). is_reading_cells y.activity) (sym seat) ∙ e) in
             has_read k.call k.want k.version (carried x) (held p) (held q)
-            (λ scan walks. subst (λ (c : Option Call). RisesBelow (first_key c) x.want (held q)) calls (below_wanted q (ap is_scan calls ∙ scan) (walk_bare x.activity walks)))
-            (subst (λ (b : List (ℕ × ℕ)). Ended k.call k.want k.version (carried x) b (held q)) (sym was)
-            (subst (λ (y : Local). Ended k.call k.want k.version (carried y) k.pairs (held_at y.activity y.pairs)) (sym seat) ends));
+            (λ scan walks. subst (λ (c : Option Call). RisesBelow (first_key c) x.want (held q)) calls (below_wanted q (ap is_scan calls ∙ scan) walks))
+            (subst (λ (y : Local). Ended k.call k.want k.version (carried y) k.pairs y.pairs) (sym seat) ends);
       }
 
   pub reads : Reads l m (held p) (held q)
   reads = subst (λ (y : Local). Reads y m (held p) (held q)) (sym f.carries) (subst (λ (y : Local). Reads (carried (local_in (view p))) y (held p) (held q)) (sym carries) reads_in)
 
 -- after the event there are fewer to make
-pub cells_fewer : (s : Shared) (p : Pass) (l m : Local) (told : ℕ) → Follows s p l → is_reading_cells l.activity ≡ true → m ≡ carried (next_of product Go l told).local → cells_ahead m < cells_ahead l
-unfolding row_of
-cells_fewer s p l m told f reading line =
+pub cells_fewer : (s : Shared) (p : Pass) (l m : Local) (rows told : ℕ) → Follows s p l → is_reading_cells l.activity ≡ true → m ≡ carried (next_of product rows Go l told).local → cells_ahead m < cells_ahead l
+unfolding transition_of
+cells_fewer s p l m rows told f reading line =
     let above : IsBelowNext l = subst IsBelowNext (sym f.carries) (below_next p (reading_in s p l f reading)) in
-    let x : Local = ((row product l.activity 0 Go l).next told).local in
-    subst (λ n. n < cells_ahead l) (sym (ap cells_ahead line ∙ bare_ahead x)) (cell_goes product l.activity l told reading above).fewer
+    subst (λ n. n < cells_ahead l) (sym (ap cells_ahead line)) (cell_goes product l.activity l rows told reading above).fewer
 
 -- What stays through all events of reading cells.
 pub record IsReadingOn (s : Shared) (o : Pass) (l : Local) (p : Pass) (m : Local) : Type 0 where

@@ -5,10 +5,10 @@ use Rattle.std.proofs.lemmas.Bool.Decides.{nat_tests}
 use Rattle.kw_words.specs.Count.{count_of}
 use Rattle.kw_words.specs.Plain.{key_of_word, value_of_word, version_of_word}
 use Rattle.kw_cells.specs.Cells.{shown_at, pairs_of}
-use Rattle.kw_model.specs.Map.{found}
+use Rattle.kw_world.specs.Answers.{answer_found}
 use Rattle.kw_model.specs.declared.call.Call.{Call}
 use Rattle.kw_model.specs.declared.call.Call.TheVariants.{Put, Del, Get, Scan}
-use Rattle.kw_model.specs.declared.call.Reply.TheVariants.{Pairs}
+use Rattle.kw_world.specs.declared.answer.Answer.TheVariants.{Pairs}
 use Rattle.kw_world.specs.declared.activity.Activity.{Activity}
 use Rattle.kw_world.specs.declared.activity.Activity.TheVariants.{Walk, LookCount, Cell, CellKey, CellValue, ClearScan, Leave}
 use Rattle.kw_world.specs.declared.event.Choice.TheVariants.{Go}
@@ -16,13 +16,13 @@ use Rattle.kw_world.specs.declared.limits.TheConstants.{NEWEST}
 use Rattle.kw_world.specs.declared.local.Local.{Local}
 use Rattle.kw_world.specs.Calls.{is_in_range}
 use Rattle.kw_world.specs.Marks.{version_marked}
-use Rattle.kw_world.specs.Row.{Outcome, to}
-use Rattle.kw_world.specs.RowPut.{given_of}
-use Rattle.kw_world.specs.RowRead.{gathering, row_read, scan_on, scan_ended, to_cell, version_in_hand, version_met, with_pairs}
+use Rattle.kw_world.specs.Transition.{Outcome, to}
+use Rattle.kw_world.specs.PutTransitions.{given_of}
+use Rattle.kw_world.specs.ReadTransitions.{gathering, row_read, scan_on, scan_ended, to_cell, version_in_hand, version_met, with_pairs}
 use Rattle.kw_world.specs.Sizes.{Sizes}
-use Rattle.kw_world.specs.Table.{row}
+use Rattle.kw_world.specs.Table.{transition}
 use Rattle.kw_puts.proofs.Owners.{true_false}
-use Rattle.kw_follow.specs.Following.{bare_activity, bare_reply, carried, held_at, pairs_or}
+use Rattle.kw_follow.specs.Following.{carried}
 use Rattle.kw_live.specs.Reading.{is_reading_cells}
 
 -- how many events of reading cells a reader has yet to make at most, by the cell that it is at
@@ -42,8 +42,8 @@ pub record Passes (want upto : ℕ) (m : Local) : Type 0 where
 
 -- what a reader of this row gave, as far as the event tells
 abbrev pub Ended : Option Call → ℕ → ℕ → Local → List (ℕ × ℕ) → List (ℕ × ℕ) → Type 0
-Ended (Some (Get key)) want version m before after = (m.activity ≡ Leave (found (shown_at m.gathered NEWEST key))) × (after ≡ before)
-Ended (Some (Scan from upto)) want version m before after = (Passes want upto m ⊎ (m.activity ≡ ClearScan (Pairs []))) × (after ≡ before ++ pairs_of m.gathered want upto version)
+Ended (Some (Get key)) want version m before after = (m.activity ≡ Leave (answer_found (shown_at m.gathered NEWEST key))) × (after ≡ before)
+Ended (Some (Scan from upto)) want version m before after = (Passes want upto m ⊎ (m.activity ≡ ClearScan Pairs)) × (after ≡ before ++ pairs_of m.gathered want upto version)
 Ended _ want version m before after = Unit {0}
 
 -- the row after the reader's own begins above the key that it wants
@@ -56,20 +56,11 @@ pub record Goes (z : Sizes) (call : Option Call) (want version : ℕ) (before : 
   pub same : carried p.local ≡ carried o.local
   pub calls : o.local.call ≡ call
   pub drawn : o.local.version ≡ version
-  pub on : is_reading_cells o.local.activity ≡ true → (o.local.want ≡ want) × (held_at o.local.activity o.local.pairs ≡ before)
-  pub ends : is_reading_cells o.local.activity ≡ false → Ended call want version (carried o.local) before (held_at o.local.activity o.local.pairs)
+  pub on : is_reading_cells o.local.activity ≡ true → (o.local.want ≡ want) × (o.local.pairs ≡ before)
+  pub ends : is_reading_cells o.local.activity ≡ false → Ended call want version (carried o.local) before o.local.pairs
   pub fewer : cell_ahead z o.local.activity o.local.place o.local.count < ahead
 
 -- The end of the row.
-
--- an answer has no pairs
-bare_found : (x : Option ℕ) → bare_reply (found x) ≡ found x
-bare_found (Some value) = refl
-bare_found None = refl
-
-held_found : (x : Option ℕ) (pairs : List (ℕ × ℕ)) → pairs_or pairs (found x) ≡ pairs
-held_found (Some value) pairs = refl
-held_found None pairs = refl
 
 -- a scan is at its end
 scan_ends : (z : Sizes) (from upto ahead : ℕ) (y : Local) → y.call ≡ Some (Scan from upto) → 0 < ahead → Goes z (Some (Scan from upto)) y.want y.version y.pairs ahead (scan_ended (with_pairs upto y)) (scan_ended (with_pairs upto (carried y)))
@@ -102,7 +93,7 @@ row_ends z (Some (Get key)) ahead y is some above = record {
   calls = is;
   drawn = refl;
   on = λ e. true_false e refl;
-  ends = λ e. (ap Leave (bare_found (shown_at y.gathered NEWEST key)), held_found (shown_at y.gathered NEWEST key) y.pairs);
+  ends = λ e. (refl, refl);
   fewer = some;
 }
 row_ends z (Some (Scan from upto)) ahead y is some above = scans_on z from upto ahead y is some y.next above
@@ -138,10 +129,10 @@ keys z true key y above = record { same = refl; calls = refl; drawn = refl; on =
 keys z false key y above = to_next z (y.place + 1) _ y (omega arith) (λ h. omega (arith, h)) above
 
 -- what follows from an event there
-pub cell_goes : (z : Sizes) (a : Activity) (k : Local) (told : ℕ) → is_reading_cells a ≡ true → IsBelowNext k
-    → Goes z k.call k.want k.version k.pairs (cell_ahead z a k.place k.count) ((row z a 0 Go k).next told) ((row z (bare_activity a) 0 Go (carried k)).next told)
-cell_goes z LookCount k told u above = counts z (given_of (count_of told)) k above
-cell_goes z (Cell j) k told u above = hands z j (version_of_word told) k above
-cell_goes z CellKey k told u above = keys z (is_in_range k.call (key_of_word told)) (key_of_word told) k above
-cell_goes z CellValue k told u above = to_next z (k.place + 1) _ (gathering (value_of_word told) k) (omega arith) (λ h. omega (arith, h)) above
-cell_goes z _ k told u above = true_false u refl
+pub cell_goes : (z : Sizes) (a : Activity) (k : Local) (rows told : ℕ) → is_reading_cells a ≡ true → IsBelowNext k
+    → Goes z k.call k.want k.version k.pairs (cell_ahead z a k.place k.count) ((transition z a 0 Go k).next rows told) ((transition z a 0 Go (carried k)).next rows told)
+cell_goes z LookCount k rows told u above = counts z (given_of (count_of told)) k above
+cell_goes z (Cell j) k rows told u above = hands z j (version_of_word told) k above
+cell_goes z CellKey k rows told u above = keys z (is_in_range k.call (key_of_word told)) (key_of_word told) k above
+cell_goes z CellValue k rows told u above = to_next z (k.place + 1) _ (gathering (value_of_word told) k) (omega arith) (λ h. omega (arith, h)) above
+cell_goes z _ k rows told u above = true_false u refl

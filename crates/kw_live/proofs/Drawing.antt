@@ -7,8 +7,8 @@ use Rattle.kw_words.specs.declared.sizes.TheConstants.{SPENT}
 use Rattle.kw_words.specs.Scan.{scan_of}
 use Rattle.kw_model.specs.declared.call.Call.{Call}
 use Rattle.kw_model.specs.declared.call.Call.TheVariants.{Put, Del, Get, Scan}
-use Rattle.kw_model.specs.declared.call.Reply.{Reply}
-use Rattle.kw_model.specs.declared.call.Reply.TheVariants.{Pairs, Spent, Stopped}
+use Rattle.kw_world.specs.declared.answer.Answer.{Answer}
+use Rattle.kw_world.specs.declared.answer.Answer.TheVariants.{Pairs, Spent, Stopped}
 use Rattle.kw_world.specs.declared.activity.Activity.{Activity}
 use Rattle.kw_world.specs.declared.activity.Activity.TheVariants.{Enter, ScanClock, ScanWait, ScanDraw, ScanSettle, Start, Walk, ClearScan, Leave}
 use Rattle.kw_world.specs.declared.event.Choice.{Choice}
@@ -16,17 +16,18 @@ use Rattle.kw_world.specs.declared.event.Choice.TheVariants.{Go, Stop}
 use Rattle.kw_world.specs.declared.event.StepDone.TheVariants.{Moved}
 use Rattle.kw_world.specs.declared.local.Local.{Local}
 use Rattle.kw_world.specs.Calls.{is_range_empty, is_scan}
-use Rattle.kw_world.specs.Row.{Outcome, leave, outcome, to}
-use Rattle.kw_world.specs.RowScan.{entered, to_start, version_settled}
-use Rattle.kw_world.specs.RowWalk.{is_stopped, walk_row}
+use Rattle.kw_world.specs.Transition.{Outcome, leave, outcome, to}
+use Rattle.kw_world.specs.ScanTransitions.{entered, to_start, version_settled}
+use Rattle.kw_world.specs.WalkTransitions.{is_stopped, walk_transition}
 use Rattle.kw_world.specs.Sizes.{product}
-use Rattle.kw_world.specs.Step.{next_of, row_of}
-use Rattle.kw_world.specs.Table.{row}
+use Rattle.kw_world.specs.Step.{next_of, transition_of}
+use Rattle.kw_world.specs.Table.{transition}
 use Rattle.kw_table.specs.declared.pass.Pass.{Pass}
 use Rattle.kw_table.specs.declared.shared.Shared.{Shared}
 use Rattle.kw_table.specs.Passes.{view}
 use Rattle.kw_table.proofs.Prefixes.{prefix_trans}
-use Rattle.kw_follow.specs.Following.{Follows, GoesTo, activity_in, bare_activity, bare_reply}
+use Rattle.kw_follow.specs.Following.{Follows, GoesTo, activity_in}
+use Rattle.kw_follow.proofs.OneEvent.{same_activity}
 use Rattle.kw_follow.specs.OwnEvents.{Met, MetAs, MetIn}
 use Rattle.kw_follow.proofs.OwnEvents.{met_later, met_earlier}
 use Rattle.kw_live.specs.Meeting.{MetClock}
@@ -43,19 +44,19 @@ met_clock_earlier {s} {p} {q} {r} goes m = record { met = met_earlier s p q r go
 
 -- The events, by their activity.
 
--- code went on from l to m, and was told this
-abbrev pub IsLine : Choice → Local → Local → ℕ → Type 0
-IsLine c l m told = outcome m Moved ≡ next_of product c l told
+-- in a table of so many rows code went on from l to m, and was told this
+abbrev pub IsLine : ℕ → Choice → Local → Local → ℕ → Type 0
+IsLine rows c l m told = outcome m Moved ≡ next_of product rows c l told
 
-by_row : (a : Activity) (c : Choice) (l m : Local) (told : ℕ) → l.activity ≡ a → IsLine c l m told → m ≡ ((row product a 0 c l).next told).local
-unfolding row_of
-by_row a c l m told is line = ap (λ (x : Outcome). x.local) (line ∙ ap (λ b. (row product b 0 c l).next told) is)
+by_transition : (rows : ℕ) (a : Activity) (c : Choice) (l m : Local) (told : ℕ) → l.activity ≡ a → IsLine rows c l m told → m ≡ ((transition product a 0 c l).next rows told).local
+unfolding transition_of
+by_transition rows a c l m told is line = ap (λ (x : Outcome). x.local) (line ∙ ap (λ b. (transition product b 0 c l).next rows told) is)
 
-pub waits : (l m : Local) (told : ℕ) → l.activity ≡ ScanWait → IsLine Go l m told → m ≡ record l { activity = ScanDraw }
-waits l m told is line = by_row ScanWait Go l m told is line
+pub waits : (rows : ℕ) (l m : Local) (told : ℕ) → l.activity ≡ ScanWait → IsLine rows Go l m told → m ≡ record l { activity = ScanDraw }
+waits rows l m told is line = by_transition rows ScanWait Go l m told is line
 
-pub draws : (l m : Local) (told : ℕ) → l.activity ≡ ScanDraw → IsLine Go l m told → m ≡ record l { drawn = told; activity = ScanSettle }
-draws l m told is line = by_row ScanDraw Go l m told is line
+pub draws : (rows : ℕ) (l m : Local) (told : ℕ) → l.activity ≡ ScanDraw → IsLine rows Go l m told → m ≡ record l { drawn = told; activity = ScanSettle }
+draws rows l m told is line = by_transition rows ScanDraw Go l m told is line
 
 -- A scan gets its version.
 
@@ -75,16 +76,16 @@ pub record Settles (l m : Local) (clock : ℕ) : Type 0 where
   pub spent : (m.activity ≡ Leave Spent) ↔ (SPENT ≤ clock)
 
 -- at the end, where it does not wait
-pub settles_spent : (l m : Local) (clock : ℕ) → l.activity ≡ ScanClock → IsLine Go l m clock → (m.activity ≡ ScanWait → ⊥) → Settles l m clock
-settles_spent l m clock is line leaves = met (nat_le SPENT clock) refl (by_row ScanClock Go l m clock is line)
+pub settles_spent : (rows : ℕ) (l m : Local) (clock : ℕ) → l.activity ≡ ScanClock → IsLine rows Go l m clock → (m.activity ≡ ScanWait → ⊥) → Settles l m clock
+settles_spent rows l m clock is line leaves = met (nat_le SPENT clock) refl (by_transition rows ScanClock Go l m clock is line)
   where
     met : (b : Bool) → nat_le SPENT clock ≡ b → m ≡ (let x : Outcome = if b then leave Spent l else to ScanWait (record l { waiting = clock }) in x).local → Settles l m clock
     met true e i = subst (λ k. Settles l k clock) (sym i) (record { call = refl; has_read = refl; entered = spent_entered l.call; spent = (λ x. grind (arith, nat_tests), λ x. refl) })
     met false e i = absurd (leaves (ap (λ (k : Local). k.activity) i))
 
 -- the clock is below the end where it does
-waits_below : (l m : Local) (clock : ℕ) → l.activity ≡ ScanClock → IsLine Go l m clock → m.activity ≡ ScanWait → (clock < SPENT) × (m ≡ record l { waiting = clock; activity = ScanWait })
-waits_below l m clock is line waiting = met (nat_le SPENT clock) refl (by_row ScanClock Go l m clock is line)
+waits_below : (rows : ℕ) (l m : Local) (clock : ℕ) → l.activity ≡ ScanClock → IsLine rows Go l m clock → m.activity ≡ ScanWait → (clock < SPENT) × (m ≡ record l { waiting = clock; activity = ScanWait })
+waits_below rows l m clock is line waiting = met (nat_le SPENT clock) refl (by_transition rows ScanClock Go l m clock is line)
   where
     met : (b : Bool) → nat_le SPENT clock ≡ b → m ≡ (let x : Outcome = if b then leave Spent l else to ScanWait (record l { waiting = clock }) in x).local → (clock < SPENT) × (m ≡ record l { waiting = clock; activity = ScanWait })
     met true e i = let x : Leave Spent ≡ ScanWait = sym (ap (λ (k : Local). k.activity) i) ∙ waiting in absurd (cc)
@@ -94,41 +95,41 @@ waits_below l m clock is line waiting = met (nat_le SPENT clock) refl (by_row Sc
 pub record Settled (l m : Local) : Type 0 where
   pub call : m.call ≡ l.call
   pub has_read : m.has_read ≡ l.has_read
-  pub at : ((m.activity ≡ ClearScan (Pairs [])) × (is_range_empty l.call ≡ true)) ⊎ ((m.activity ≡ Start) × (is_range_empty l.call ≡ false))
+  pub at : ((m.activity ≡ ClearScan Pairs) × (is_range_empty l.call ≡ true)) ⊎ ((m.activity ≡ Start) × (is_range_empty l.call ≡ false))
 
-settles : (l m : Local) (told : ℕ) → l.activity ≡ ScanSettle → IsLine Go l m told → Settled l m
-settles l m told is line = met (is_range_empty l.call) refl (by_row ScanSettle Go l m told is line)
+settles : (rows : ℕ) (l m : Local) (told : ℕ) → l.activity ≡ ScanSettle → IsLine rows Go l m told → Settled l m
+settles rows l m told is line = met (is_range_empty l.call) refl (by_transition rows ScanSettle Go l m told is line)
   where
     met : (b : Bool) → is_range_empty l.call ≡ b
-        → m ≡ (let x : Outcome = if b then to (ClearScan (Pairs [])) (record l { version = version_settled (scan_of told) l.drawn }) else to_start (record l { version = version_settled (scan_of told) l.drawn }) in x).local → Settled l m
+        → m ≡ (let x : Outcome = if b then to (ClearScan Pairs) (record l { version = version_settled (scan_of told) l.drawn }) else to_start (record l { version = version_settled (scan_of told) l.drawn }) in x).local → Settled l m
     met true e i = subst (Settled l) (sym i) (record { call = refl; has_read = refl; at = inl (refl, e) })
     met false e i = subst (Settled l) (sym i) (record { call = refl; has_read = refl; at = inr (refl, e) })
 
-settled_entered : (call : Option Call) (a : Activity) → is_scan call ≡ true → ((a ≡ ClearScan (Pairs [])) × (is_range_empty call ≡ true)) ⊎ ((a ≡ Start) × (is_range_empty call ≡ false)) → IfSome call (λ c. HasEntered c a)
+settled_entered : (call : Option Call) (a : Activity) → is_scan call ≡ true → ((a ≡ ClearScan Pairs) × (is_range_empty call ≡ true)) ⊎ ((a ≡ Start) × (is_range_empty call ≡ false)) → IfSome call (λ c. HasEntered c a)
 settled_entered (Some (Put key value)) a e h = let x : false ≡ true = e in absurd (cc)
 settled_entered (Some (Del key)) a e h = let x : false ≡ true = e in absurd (cc)
 settled_entered (Some (Get key)) a e h = let x : false ≡ true = e in absurd (cc)
-settled_entered (Some (Scan from upto)) a e (inl h) = subst (HasEntered (Scan from upto)) (sym h.0) (let n : nat_lt upto from ≡ true = h.1 in grind (arith, nat_tests), refl)
+settled_entered (Some (Scan from upto)) a e (inl h) = subst (HasEntered (Scan from upto)) (sym h.0) (let n : nat_lt upto from ≡ true = h.1 in grind (arith, nat_tests))
 settled_entered (Some (Scan from upto)) a e (inr h) = subst (HasEntered (Scan from upto)) (sym h.0) (let n : nat_lt upto from ≡ false = h.1 in grind (arith, nat_tests))
 settled_entered None a e h = let x : false ≡ true = e in absurd (cc)
 
-not_spent : (a : Activity) (call : Option Call) → ((a ≡ ClearScan (Pairs [])) × (is_range_empty call ≡ true)) ⊎ ((a ≡ Start) × (is_range_empty call ≡ false)) → a ≡ Leave Spent → ⊥
-not_spent a call (inl h) e = let x : ClearScan (Pairs []) ≡ Leave Spent = sym h.0 ∙ e in absurd (cc)
+not_spent : (a : Activity) (call : Option Call) → ((a ≡ ClearScan Pairs) × (is_range_empty call ≡ true)) ⊎ ((a ≡ Start) × (is_range_empty call ≡ false)) → a ≡ Leave Spent → ⊥
+not_spent a call (inl h) e = let x : ClearScan Pairs ≡ Leave Spent = sym h.0 ∙ e in absurd (cc)
 not_spent a call (inr h) e = let x : Start ≡ Leave Spent = sym h.0 ∙ e in absurd (cc)
 
 -- from the load of the clock to the version, where it waits
-pub settles_on : (k l m n o : Local) (clock b c d : ℕ) → k.activity ≡ ScanClock → IsLine Go k l clock → l.activity ≡ ScanWait → IsLine Go l m b → IsLine Go m n c → IsLine Go n o d → Settles k o clock
-settles_on k l m n o clock b c d is first waiting second third fourth =
-    let w = waits_below k l clock is first waiting in
-    let x : m ≡ record l { activity = ScanDraw } = waits l m b waiting second in
-    let y : n ≡ record m { drawn = c; activity = ScanSettle } = draws m n c (ap (λ (i : Local). i.activity) x) third in
-    let z : Settled n o = settles n o d (ap (λ (i : Local). i.activity) y) fourth in
+pub settles_on : (r s t u : ℕ) (k l m n o : Local) (clock b c d : ℕ) → k.activity ≡ ScanClock → IsLine r Go k l clock → l.activity ≡ ScanWait → IsLine s Go l m b → IsLine t Go m n c → IsLine u Go n o d → Settles k o clock
+settles_on r s t u k l m n o clock b c d is first waiting second third fourth =
+    let w = waits_below r k l clock is first waiting in
+    let x : m ≡ record l { activity = ScanDraw } = waits s l m b waiting second in
+    let y : n ≡ record m { drawn = c; activity = ScanSettle } = draws t m n c (ap (λ (i : Local). i.activity) x) third in
+    let z : Settled n o = settles u n o d (ap (λ (i : Local). i.activity) y) fourth in
     let call : n.call ≡ k.call = ap (λ (i : Local). i.call) y ∙ (ap (λ (i : Local). i.call) x ∙ ap (λ (i : Local). i.call) w.1) in
     let has_read : n.has_read ≡ k.has_read = ap (λ (i : Local). i.has_read) y ∙ (ap (λ (i : Local). i.has_read) x ∙ ap (λ (i : Local). i.has_read) w.1) in
     record {
       call = z.call ∙ call;
       has_read = z.has_read ∙ has_read;
-      entered = λ e. settled_entered k.call o.activity e (subst (λ i. ((o.activity ≡ ClearScan (Pairs [])) × (is_range_empty i ≡ true)) ⊎ ((o.activity ≡ Start) × (is_range_empty i ≡ false))) call z.at);
+      entered = λ e. settled_entered k.call o.activity e (subst (λ i. ((o.activity ≡ ClearScan Pairs) × (is_range_empty i ≡ true)) ⊎ ((o.activity ≡ Start) × (is_range_empty i ≡ false))) call z.at);
       spent = (λ e. absurd (not_spent o.activity n.call z.at e), λ e. absurd (omega (arith, e, w.0)));
     }
 
@@ -141,8 +142,8 @@ pub record Entered (call : Call) (m : Local) : Type 0 where
   pub scan : m.activity ≡ ScanClock → is_scan (Some call) ≡ true
   pub starts : (m.activity ≡ ScanClock → ⊥) → (is_scan (Some call) ≡ false) × HasEntered call m.activity
 
-pub enters : (call : Call) (l m : Local) (told : ℕ) → l.activity ≡ Enter → l.call ≡ Some call → l.has_read ≡ false → IsLine Go l m told → Entered call m
-enters call l m told is e u line = met call e (by_row Enter Go l m told is line ∙ ap (λ c. (entered c l).local) e)
+pub enters : (rows : ℕ) (call : Call) (l m : Local) (told : ℕ) → l.activity ≡ Enter → l.call ≡ Some call → l.has_read ≡ false → IsLine rows Go l m told → Entered call m
+enters rows call l m told is e u line = met call e (by_transition rows Enter Go l m told is line ∙ ap (λ c. (entered c l).local) e)
   where
     met : (c : Call) → l.call ≡ Some c → m ≡ (entered (Some c) l).local → Entered c m
     met (Put key value) e i = subst (Entered (Put key value)) (sym i) (record { call_is = e; unread = u; scan = λ h. let x : Start ≡ ScanClock = h in absurd (cc); starts = λ n. (refl, tt) })
@@ -153,30 +154,16 @@ enters call l m told is e u line = met call e (by_row Enter Go l m told is line 
 -- A scan is stopped.
 
 -- a scan that has not all its pairs walks, and has read a row
-pub walking : {a : Activity} {read : Bool} → ((a ≡ Walk) × (read ≡ true)) ⊎ ((reply : Reply) × (a ≡ ClearScan reply)) → ((reply : Reply) → a ≡ ClearScan reply → ⊥) → (a ≡ Walk) × (read ≡ true)
+pub walking : {a : Activity} {read : Bool} → ((a ≡ Walk) × (read ≡ true)) ⊎ ((answer : Answer) × (a ≡ ClearScan answer)) → ((answer : Answer) → a ≡ ClearScan answer → ⊥) → (a ≡ Walk) × (read ≡ true)
 walking (inl h) n = h
 walking (inr h) n = absurd (n h.0 h.1)
 
 -- it is then about to leave
-pub stops : (l m : Local) (told : ℕ) → l.activity ≡ Walk → is_scan l.call ≡ true → l.has_read ≡ true → IsLine Stop l m told → m.activity ≡ Leave Stopped
-stops l m told is scan read line =
+pub stops : (rows : ℕ) (l m : Local) (told : ℕ) → l.activity ≡ Walk → is_scan l.call ≡ true → l.has_read ≡ true → IsLine rows Stop l m told → m.activity ≡ Leave Stopped
+stops rows l m told is scan read line =
     let stopped : is_stopped Stop l ≡ true = rw (scan, read) refl in
-    ap (λ (k : Local). k.activity) (by_row Walk Stop l m told is line) ∙ ap (λ b. ((walk_row b 0 l).next told).local.activity) stopped
-
--- the scan is about to leave as stopped
-abbrev pub IsStopping : Activity → Type 0
-IsStopping (Leave Stopped) = Unit {0}
-IsStopping _ = ⊥
+    ap (λ (k : Local). k.activity) (by_transition rows Walk Stop l m told is line) ∙ ap (λ b. ((walk_transition b 0 l).next rows told).local.activity) stopped
 
 -- a pass does so where code does
 pub stopping_in : {s : Shared} {p : Pass} {l : Local} → Follows s p l → l.activity ≡ Leave Stopped → activity_in p ≡ Leave Stopped
-stopping_in {s} {p} {l} f is = which (activity_in p) (subst IsStopping (sym is ∙ ap (λ (k : Local). k.activity) f.carries) tt)
-  where
-    by_reply : (r : Reply) → IsStopping (Leave (bare_reply r)) → Leave r ≡ Leave Stopped
-    by_reply Stopped u = refl
-    by_reply _ u = absurd u
-
-    which : (a : Activity) → IsStopping (bare_activity a) → a ≡ Leave Stopped
-    which (Leave r) u = by_reply r u
-    which (ClearScan r) u = absurd u
-    which _ u = absurd u
+stopping_in {s} {p} {l} f is = same_activity s p l f ∙ is

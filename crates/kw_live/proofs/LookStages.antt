@@ -11,11 +11,11 @@ use Rattle.kw_world.specs.declared.event.Choice.TheVariants.{Go}
 use Rattle.kw_world.specs.declared.event.StepDone.TheVariants.{Moved}
 use Rattle.kw_world.specs.declared.local.Local.{Local}
 use Rattle.kw_world.specs.Calls.{is_in_range}
-use Rattle.kw_world.specs.Row.{Outcome, outcome, to}
-use Rattle.kw_world.specs.RowRead.{to_look, look_met, help_met, remembering}
+use Rattle.kw_world.specs.Transition.{Outcome, outcome, to}
+use Rattle.kw_world.specs.ReadTransitions.{to_look, look_met, help_met, remembering}
 use Rattle.kw_world.specs.Sizes.{Sizes, product}
-use Rattle.kw_world.specs.Step.{next_of, row_of}
-use Rattle.kw_world.specs.Table.{row}
+use Rattle.kw_world.specs.Step.{next_of, transition_of}
+use Rattle.kw_world.specs.Table.{transition}
 use Rattle.kw_puts.proofs.Owners.{true_false}
 use Rattle.kw_table.specs.declared.pass.Pass.{Pass}
 use Rattle.kw_table.specs.declared.shared.Shared.{Shared}
@@ -70,17 +70,17 @@ helps z l (Some Frozen) = goes_on z l l (l.looked + 1) _ refl refl refl (omega a
 helps z l None = goes_on z l l (l.looked + 1) _ refl refl refl (omega arith) (λ h. omega (arith, h))
 
 -- the event, by its activity
-event : (z : Sizes) (a : Activity) (l : Local) (told : ℕ) → is_looking a ≡ true → Looked z l ((row z a 0 Go l).next told).local (look_ahead z a l.looked)
-event z (Look i) l told u = meets z l i (pend_of told)
-event z LookKey l told u = keys z l (is_in_range l.call (key_of_word told))
-event z LookClock l told u = record { looks = record { call = refl; want = refl; version = refl; stage = λ f. true_false refl f }; fewer = omega arith }
-event z LookHelp l told u = helps z l (pend_of told)
-event z _ l told u = true_false u refl
+event : (z : Sizes) (a : Activity) (l : Local) (rows told : ℕ) → is_looking a ≡ true → Looked z l ((transition z a 0 Go l).next rows told).local (look_ahead z a l.looked)
+event z (Look i) l rows told u = meets z l i (pend_of told)
+event z LookKey l rows told u = keys z l (is_in_range l.call (key_of_word told))
+event z LookClock l rows told u = record { looks = record { call = refl; want = refl; version = refl; stage = λ f. true_false refl f }; fewer = omega arith }
+event z LookHelp l rows told u = helps z l (pend_of told)
+event z _ l rows told u = true_false u refl
 
 -- each event of looking takes the reader on
-pub look_goes : (l m : Local) (told : ℕ) → outcome m Moved ≡ next_of product Go l told → is_looking l.activity ≡ true → Looked product l m (look_ahead product l.activity l.looked)
-unfolding row_of
-look_goes l m told line u = subst (λ k. Looked product l k (look_ahead product l.activity l.looked)) (sym (ap (λ (x : Outcome). x.local) line)) (event product l.activity l told u)
+pub look_goes : (l m : Local) (rows told : ℕ) → outcome m Moved ≡ next_of product rows Go l told → is_looking l.activity ≡ true → Looked product l m (look_ahead product l.activity l.looked)
+unfolding transition_of
+look_goes l m rows told line u = subst (λ k. Looked product l k (look_ahead product l.activity l.looked)) (sym (ap (λ (x : Outcome). x.local) line)) (event product l.activity l rows told u)
 
 -- one look after the other
 pub looks_trans : (l m n : Local) → LooksOn l m → LooksOn m n → LooksOn l n

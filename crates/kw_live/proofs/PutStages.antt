@@ -8,18 +8,18 @@ use Rattle.kw_words.specs.declared.sizes.TheConstants.{CELLS}
 use Rattle.kw_words.specs.Count.{count_of}
 use Rattle.kw_words.specs.Pend.{pend_of, pend_word}
 use Rattle.kw_words.proofs.PendWords.{pend_word_of}
-use Rattle.kw_model.specs.declared.call.Reply.TheVariants.{Done, NoRows}
+use Rattle.kw_world.specs.declared.answer.Answer.TheVariants.{Done, NoRows}
 use Rattle.kw_world.specs.declared.activity.Activity.{Activity}
 use Rattle.kw_world.specs.declared.activity.Activity.TheVariants.{PutCount, PutAdd, PutKey, PutValue, Announce, PutClock, Stamp, PutVersion, PutClear, Leave}
 use Rattle.kw_world.specs.declared.event.Choice.TheVariants.{Go}
 use Rattle.kw_world.specs.declared.event.StepDone.TheVariants.{Moved}
 use Rattle.kw_world.specs.declared.local.Local.{Local}
 use Rattle.kw_world.specs.declared.opening.Opening.{Opening}
-use Rattle.kw_world.specs.Row.{Outcome, outcome, to}
-use Rattle.kw_world.specs.RowPut.{full, has_room, given_of, stamp_met}
+use Rattle.kw_world.specs.Transition.{Outcome, outcome, to}
+use Rattle.kw_world.specs.PutTransitions.{full, has_room, given_of, stamp_met}
 use Rattle.kw_world.specs.Sizes.{product}
-use Rattle.kw_world.specs.Step.{word, next_of, row_of}
-use Rattle.kw_world.specs.Table.{row}
+use Rattle.kw_world.specs.Step.{word, next_of, transition_of}
+use Rattle.kw_world.specs.Table.{transition}
 use Rattle.kw_laws.specs.Unfrozen.{HasCellOfOwn}
 use Rattle.kw_core.specs.Run.{history}
 use Rattle.kw_core.proofs.Arrows.{below}
@@ -152,11 +152,11 @@ goes_on : (p q : Pass) (a b : Activity) (ahead : ℕ) → a ≡ b → HasFound p
 goes_on p q a b ahead is found fewer = subst (λ x. GoesOn p q x ahead) (sym is) (record { found = found; fewer = fewer })
 
 -- what follows from the event, by its activity
-next_is : (a : Activity) (l m : Local) (told : ℕ) → l.activity ≡ a → outcome m Moved ≡ next_of product Go l told → m.activity ≡ ((row product a 0 Go l).next told).local.activity
-unfolding row_of
-next_is a l m told is line = ap (λ (x : Outcome). x.local.activity) (line ∙ ap (λ b. (row product b 0 Go l).next told) is)
+next_is : (rows : ℕ) (a : Activity) (l m : Local) (told : ℕ) → l.activity ≡ a → outcome m Moved ≡ next_of product rows Go l told → m.activity ≡ ((transition product a 0 Go l).next rows told).local.activity
+unfolding transition_of
+next_is rows a l m told is line = ap (λ (x : Outcome). x.local.activity) (line ∙ ap (λ b. (transition product b 0 Go l).next rows told) is)
 
-module _ (s : Shared) (o p q : Pass) (l m : Local) (told : ℕ) (was : GoesTo s o p) (goes : GoesTo s p q) (met : MetAs p q l Go told) (only : MetOnly p q l.activity told) (line : outcome m Moved ≡ next_of product Go l told) where
+module _ (s : Shared) (o p q : Pass) (l m : Local) (rows told : ℕ) (was : GoesTo s o p) (goes : GoesTo s p q) (met : MetAs p q l Go told) (only : MetOnly p q l.activity told) (line : outcome m Moved ≡ next_of product rows Go l told) where
   -- the event asks for no cell
   none : (a : Activity) → l.activity ≡ a → (IsAsking a → ⊥) → AsksNone p q
   none a is = none_at goes is only
@@ -201,19 +201,19 @@ module _ (s : Shared) (o p q : Pass) (l m : Local) (told : ℕ) (was : GoesTo s 
   -- an event of a put takes it on
   event : (a : Activity) → l.activity ≡ a → is_putting a ≡ true → HasFound o p a → GoesOn o q m.activity (put_ahead a)
   unfolding here
-  event PutCount is put found = asks (has_room product (count_of told)) refl is found (next_is PutCount l m told is line)
-  event PutAdd is put found = adds (has_room product (count_of told)) refl is found (next_is PutAdd l m told is line)
-  event PutKey is put found = goes_on o q m.activity PutValue 7 (next_is PutKey l m told is line) (room_on s o p q was goes (none PutKey is (λ h. h)) found) (omega arith)
-  event PutValue is put found = goes_on o q m.activity Announce 6 (next_is PutValue l m told is line) (room_on s o p q was goes (none PutValue is (λ h. h)) found) (omega arith)
+  event PutCount is put found = asks (has_room product (count_of told)) refl is found (next_is rows PutCount l m told is line)
+  event PutAdd is put found = adds (has_room product (count_of told)) refl is found (next_is rows PutAdd l m told is line)
+  event PutKey is put found = goes_on o q m.activity PutValue 7 (next_is rows PutKey l m told is line) (room_on s o p q was goes (none PutKey is (λ h. h)) found) (omega arith)
+  event PutValue is put found = goes_on o q m.activity Announce 6 (next_is rows PutValue l m told is line) (room_on s o p q was goes (none PutValue is (λ h. h)) found) (omega arith)
   event Announce is put found =
       let idle : (told == pend_word Idle) ≡ true = eq-eqb told (pend_word Idle) (finds_idle s p q told goes (here Announce is)) in
-      goes_on o q m.activity PutClock 5 (next_is Announce l m told is line ∙ ap (λ b. (let x : Outcome = if b then to PutClock l else full l in x).local.activity) idle) (room_on s o p q was goes (none Announce is (λ h. h)) found) (omega arith)
-  event PutClock is put found = goes_on o q m.activity Stamp 4 (next_is PutClock l m told is line) (room_on s o p q was goes (none PutClock is (λ h. h)) found) (omega arith)
+      goes_on o q m.activity PutClock 5 (next_is rows Announce l m told is line ∙ ap (λ b. (let x : Outcome = if b then to PutClock l else full l in x).local.activity) idle) (room_on s o p q was goes (none Announce is (λ h. h)) found) (omega arith)
+  event PutClock is put found = goes_on o q m.activity Stamp 4 (next_is rows PutClock l m told is line) (room_on s o p q was goes (none PutClock is (λ h. h)) found) (omega arith)
   event Stamp is put found =
       let own = stamps_own l (local_at p met.met.front).cell (pend_of told) (ap (λ (k : Local). k.cell) met.knew) (finds_own s p q told goes (here Stamp is)) in
-      goes_on o q m.activity PutVersion 3 (next_is Stamp l m told is line ∙ own) (room_on s o p q was goes (none Stamp is (λ h. h)) found) (omega arith)
-  event PutVersion is put found = goes_on o q m.activity PutClear 2 (next_is PutVersion l m told is line) (room_on s o p q was goes (none PutVersion is (λ h. h)) found) (omega arith)
-  event PutClear is put found = goes_on o q m.activity (Leave Done) 1 (next_is PutClear l m told is line) (room_on s o p q was goes (none PutClear is (λ h. h)) found) (omega arith)
+      goes_on o q m.activity PutVersion 3 (next_is rows Stamp l m told is line ∙ own) (room_on s o p q was goes (none Stamp is (λ h. h)) found) (omega arith)
+  event PutVersion is put found = goes_on o q m.activity PutClear 2 (next_is rows PutVersion l m told is line) (room_on s o p q was goes (none PutVersion is (λ h. h)) found) (omega arith)
+  event PutClear is put found = goes_on o q m.activity (Leave Done) 1 (next_is rows PutClear l m told is line) (room_on s o p q was goes (none PutClear is (λ h. h)) found) (omega arith)
   event _ is put found = true_false put refl
 
   -- the same, at the activity where it is

@@ -2,8 +2,8 @@
 use Rattle.std.proofs.Common.{◌≡◌, ℕ, Some, List, subst}
 use Rattle.kw_cells.specs.Cells.{shown_at}
 use Rattle.kw_model.specs.declared.call.Call.TheVariants.{Put, Get}
-use Rattle.kw_model.specs.declared.call.Reply.{Reply}
-use Rattle.kw_model.specs.Map.{found}
+use Rattle.kw_world.specs.declared.answer.Answer.{Answer}
+use Rattle.kw_world.specs.Answers.{answer_found}
 use Rattle.kw_world.specs.declared.activity.Activity.{Activity}
 use Rattle.kw_world.specs.declared.activity.Activity.TheVariants.{Start, Leave}
 use Rattle.kw_world.specs.declared.limits.TheConstants.{NEWEST}
@@ -23,5 +23,5 @@ get_starts key Start h = tt
 get_starts key _ h = absurd h
 
 -- a get that has read its row is about to leave
-pub get_leaves : (key : ℕ) (l m : Local) (before after : List (ℕ × ℕ)) → l.call ≡ Some (Get key) → HasRead l m before after → (reply : Reply) × (m.activity ≡ Leave reply)
-get_leaves key l m before after is read = (found (shown_at m.gathered NEWEST key), (subst (λ c. HasReadAs c l.want l.version m before after) is read).0)
+pub get_leaves : (key : ℕ) (l m : Local) (before after : List (ℕ × ℕ)) → l.call ≡ Some (Get key) → HasRead l m before after → (answer : Answer) × (m.activity ≡ Leave answer)
+get_leaves key l m before after is read = (answer_found (shown_at m.gathered NEWEST key), (subst (λ c. HasReadAs c l.want l.version m before after) is read).0)

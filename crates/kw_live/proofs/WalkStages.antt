@@ -15,11 +15,11 @@ use Rattle.kw_world.specs.declared.event.Choice.TheVariants.{Go, Guess}
 use Rattle.kw_world.specs.declared.event.StepDone.TheVariants.{Moved}
 use Rattle.kw_world.specs.declared.local.Local.{Local}
 use Rattle.kw_world.specs.Parts.{is_walking}
-use Rattle.kw_world.specs.Row.{Outcome, outcome, to, row_linked, row_or_first}
-use Rattle.kw_world.specs.RowWalk.{arrive, guess_met, link_met, offered}
+use Rattle.kw_world.specs.Transition.{Outcome, outcome, to, row_linked, row_or_first}
+use Rattle.kw_world.specs.WalkTransitions.{arrive, guess_met, link_met, offered}
 use Rattle.kw_world.specs.Sizes.{product}
-use Rattle.kw_world.specs.Step.{next_of, row_of, word}
-use Rattle.kw_world.specs.Table.{row}
+use Rattle.kw_world.specs.Step.{next_of, transition_of, word}
+use Rattle.kw_world.specs.Table.{transition}
 use Rattle.kw_core.specs.Run.{history}
 use Rattle.kw_core.proofs.Arrows.{at_most}
 use Rattle.kw_puts.proofs.Owners.{true_false}
@@ -50,9 +50,9 @@ pub record Climbs (l m : Local) (ahead : ℕ) : Type 0 where
   pub fewer : walk_ahead m.activity m.lower m.want < ahead
 
 -- what follows from an event, by its activity
-after_is : (a : Activity) (choice : Choice) (l m : Local) (told : ℕ) → l.activity ≡ a → outcome m Moved ≡ next_of product choice l told → m ≡ ((row product a 0 choice l).next told).local
-unfolding row_of
-after_is a choice l m told is line = ap (λ (x : Outcome). x.local) (line ∙ ap (λ b. (row product b 0 choice l).next told) is)
+after_is : (rows : ℕ) (a : Activity) (choice : Choice) (l m : Local) (told : ℕ) → l.activity ≡ a → outcome m Moved ≡ next_of product rows choice l told → m ≡ ((transition product a 0 choice l).next rows told).local
+unfolding transition_of
+after_is rows a choice l m told is line = ap (λ (x : Outcome). x.local) (line ∙ ap (λ b. (transition product b 0 choice l).next rows told) is)
 
 on : (l m x : Local) (ahead : ℕ) → m ≡ x → Climbs l x ahead → Climbs l m ahead
 on l m x ahead is w = subst (λ y. Climbs l y ahead) (sym is) w
@@ -94,7 +94,7 @@ climbs : (l : Local) (least : ℕ) → l.lower < least → (b : Bool) → nat_le
 climbs l least above true h = record { walks = record { call = refl; want = refl; version = refl; has_read = refl; stage = inl refl }; fewer = let below = at_most least l.want h in omega (arith, above, below) }
 climbs l least above false h = arrives l (record l { next = Some l.candidate; upper = least }) l.call _ refl refl refl refl refl (omega arith)
 
-module _ (s : Shared) (p q : Pass) (l m : Local) (told : ℕ) (goes : GoesTo s p q) (met : MetAs p q l Go told) (line : outcome m Moved ≡ next_of product Go l told) where
+module _ (s : Shared) (p q : Pass) (l m : Local) (rows told : ℕ) (goes : GoesTo s p q) (met : MetAs p q l Go told) (line : outcome m Moved ≡ next_of product rows Go l told) where
   -- the event at this activity
   here : (a : Activity) → l.activity ≡ a → Met p q a Go told
   here a is = record { front = met.met.front; later = met.met.later; here = met.met.here; activity = met.met.activity ∙ is; tells = met.met.tells }
@@ -110,11 +110,11 @@ module _ (s : Shared) (p q : Pass) (l m : Local) (told : ℕ) (goes : GoesTo s p
       subst (λ w. l.lower < key_of_word w) (sym (met_told p q WalkMin Go told x _ refl)) more
 
   event : (a : Activity) → l.activity ≡ a → is_walking a ≡ true → Climbs l m (walk_ahead a l.lower l.want)
-  event Start is w = on l m _ _ (after_is Start Go l m told is line) (from_head l (row_or_first (row_linked (link_of told))) _ (omega arith))
-  event Head is w = on l m _ _ (after_is Head Go l m told is line) (from_head l (row_or_first (row_linked (link_of told))) _ (omega arith))
-  event GuessMin is w = on l m _ _ (after_is GuessMin Go l m told is line) (least_met l (key_of_word told) (nat_le (key_of_word told) l.want))
-  event Walk is w = on l m _ _ (after_is Walk Go l m told is line) (links l (row_linked (link_of told)))
-  event WalkMin is w = on l m _ _ (after_is WalkMin Go l m told is line) (climbs l (key_of_word told) (above is) (nat_le (key_of_word told) l.want) refl)
+  event Start is w = on l m _ _ (after_is rows Start Go l m told is line) (from_head l (row_or_first (row_linked (link_of told))) _ (omega arith))
+  event Head is w = on l m _ _ (after_is rows Head Go l m told is line) (from_head l (row_or_first (row_linked (link_of told))) _ (omega arith))
+  event GuessMin is w = on l m _ _ (after_is rows GuessMin Go l m told is line) (least_met l (key_of_word told) (nat_le (key_of_word told) l.want))
+  event Walk is w = on l m _ _ (after_is rows Walk Go l m told is line) (links l (row_linked (link_of told)))
+  event WalkMin is w = on l m _ _ (after_is rows WalkMin Go l m told is line) (climbs l (key_of_word told) (above is) (nat_le (key_of_word told) l.want) refl)
   event _ is w = true_false w refl
 
   -- each event of a walk takes it on
@@ -122,13 +122,13 @@ module _ (s : Shared) (p q : Pass) (l m : Local) (told : ℕ) (goes : GoesTo s p
   walk_goes = event l.activity refl
 
 -- The first event of a walk, with the choice that a guess makes.
-pub sets_out : (l m : Local) (told rows : ℕ) (guess : Option ℕ) → l.activity ≡ Start → outcome m Moved ≡ next_of product (offered rows (guessing guess)) l told → WalksOn l m
-sets_out l m told rows None is line = (on l m _ _ (after_is Start Go l m told is line) (from_head l (row_or_first (row_linked (link_of told))) (2 * (l.want + 1) + 3) (omega arith))).walks
+pub sets_out : (l m : Local) (told rows : ℕ) (guess : Option ℕ) → l.activity ≡ Start → outcome m Moved ≡ next_of product rows (offered rows (guessing guess)) l told → WalksOn l m
+sets_out l m told rows None is line = (on l m _ _ (after_is rows Start Go l m told is line) (from_head l (row_or_first (row_linked (link_of told))) (2 * (l.want + 1) + 3) (omega arith))).walks
 sets_out l m told rows (Some r) is line = met (nat_lt r rows) line
   where
-    met : (b : Bool) → outcome m Moved ≡ next_of product (if b then Guess r else Go) l told → WalksOn l m
-    met true e = (on l m _ _ (after_is Start (Guess r) l m told is e) (guesses l r (state_of told) (2 * (l.want + 1) + 5) (omega arith))).walks
-    met false e = (on l m _ _ (after_is Start Go l m told is e) (from_head l (row_or_first (row_linked (link_of told))) (2 * (l.want + 1) + 3) (omega arith))).walks
+    met : (b : Bool) → outcome m Moved ≡ next_of product rows (if b then Guess r else Go) l told → WalksOn l m
+    met true e = (on l m _ _ (after_is rows Start (Guess r) l m told is e) (guesses l r (state_of told) (2 * (l.want + 1) + 5) (omega arith))).walks
+    met false e = (on l m _ _ (after_is rows Start Go l m told is e) (from_head l (row_or_first (row_linked (link_of told))) (2 * (l.want + 1) + 3) (omega arith))).walks
 
 -- one walk after the other
 pub walks_trans : (l m n : Local) → WalksOn l m → WalksOn m n → WalksOn l n

@@ -7,7 +7,7 @@ use Rattle.kw_world.specs.declared.activity.Activity.TheVariants.{ScanClock, Put
 use Rattle.kw_world.specs.declared.event.Choice.{Choice}
 use Rattle.kw_world.specs.declared.event.Choice.TheVariants.{Go}
 use Rattle.kw_world.specs.declared.event.Event.{Event}
-use Rattle.kw_world.specs.RowPut.{given_of}
+use Rattle.kw_world.specs.PutTransitions.{given_of}
 use Rattle.kw_core.specs.Events.{of_seat, event}
 use Rattle.kw_table.specs.declared.pass.Pass.{Pass}
 use Rattle.kw_table.specs.Passes.{view}

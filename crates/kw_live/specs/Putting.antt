@@ -2,17 +2,17 @@
 use Rattle.std.specs.Prelude.{◌≡◌, ℕ, Bool, true, false}
 use Rattle.kw_world.specs.declared.activity.Activity.{Activity}
 use Rattle.kw_world.specs.declared.activity.Activity.TheVariants.{PutCount, PutAdd, PutKey, PutValue, Announce, PutClock, Stamp, PutVersion, PutClear}
-use Rattle.kw_model.specs.declared.call.Reply.{Reply}
-use Rattle.kw_model.specs.declared.call.Reply.TheVariants.{Done as done, NoRows}
+use Rattle.kw_world.specs.declared.answer.Answer.{Answer}
+use Rattle.kw_world.specs.declared.answer.Answer.TheVariants.{Done as done, NoRows}
 use Rattle.kw_live.specs.declared.putting.TryPut.{TryPut}
 use Rattle.kw_live.specs.declared.putting.TryPut.TheVariants.{Done, RowFull}
 use Rattle.kw_table.specs.declared.pass.Pass.{Pass}
 use Rattle.kw_live.specs.Meeting.{MetFull, MetRoom}
 
--- the reply of a put that ended so
-abbrev pub reply_of : TryPut → Reply
-reply_of Done = done
-reply_of (RowFull row) = NoRows
+-- the answer of a put that ended so
+abbrev pub answer_of : TryPut → Answer
+answer_of Done = done
+answer_of (RowFull row) = NoRows
 
 -- the put found room in its row, or found it full
 abbrev pub Tried : ℕ → Pass → Pass → ℕ → TryPut → Type 0

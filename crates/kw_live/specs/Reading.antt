@@ -3,14 +3,13 @@ use Rattle.std.specs.Prelude.{◌≡◌, ◌⊎◌, ℕ, ◌<◌, ◌≤◌, ◌
 use Rattle.kw_cells.specs.Cells.{shown_at, pairs_of}
 use Rattle.kw_model.specs.declared.call.Call.{Call}
 use Rattle.kw_model.specs.declared.call.Call.TheVariants.{Get, Scan}
-use Rattle.kw_model.specs.declared.call.Reply.TheVariants.{Pairs}
-use Rattle.kw_model.specs.Map.{found}
+use Rattle.kw_world.specs.declared.answer.Answer.TheVariants.{Pairs}
+use Rattle.kw_world.specs.Answers.{answer_found}
 use Rattle.kw_world.specs.declared.activity.Activity.{Activity}
 use Rattle.kw_world.specs.declared.activity.Activity.TheVariants.{Walk, Look, LookKey, LookClock, LookHelp, LookCount, Cell, CellKey, CellValue, ClearScan, Leave}
 use Rattle.kw_world.specs.declared.limits.TheConstants.{NEWEST}
 use Rattle.kw_world.specs.declared.local.Local.{Local}
 use Rattle.kw_world.specs.declared.event.Choice.TheVariants.{Go}
-use Rattle.kw_world.specs.Row.{Outcome}
 use Rattle.kw_world.specs.Sizes.{product}
 use Rattle.kw_world.specs.Step.{next_of}
 use Rattle.kw_follow.specs.Following.{carried}
@@ -31,11 +30,6 @@ is_reading_cells CellKey = true
 is_reading_cells CellValue = true
 is_reading_cells _ = false
 
--- what follows for code that had the first local, where this follows in the core: the same but for the pairs, and with the number and
--- the pairs that the code had
-abbrev pub unpaired : Local → Outcome → Local
-unpaired l o = record (carried o.local) { number = l.number; pairs = l.pairs }
-
 -- while a reader looks at entries, what the call wants is as it was
 pub record LooksOn (l m : Local) : Type 0 where
   pub call : m.call ≡ l.call
@@ -55,8 +49,8 @@ pub record GoesOn (want upto version : ℕ) (m : Local) : Type 0 where
 -- what a reader of this row gave: a get its answer, and a scan, which wanted this key at this version, the pairs that the gathered cells
 -- show
 abbrev pub HasReadAs : Option Call → ℕ → ℕ → Local → List (ℕ × ℕ) → List (ℕ × ℕ) → Type 0
-HasReadAs (Some (Get key)) want version m before after = (m.activity ≡ Leave (found (shown_at m.gathered NEWEST key))) × (after ≡ before)
-HasReadAs (Some (Scan from upto)) want version m before after = (GoesOn want upto version m ⊎ (m.activity ≡ ClearScan (Pairs []))) × (after ≡ before ++ pairs_of m.gathered want upto version)
+HasReadAs (Some (Get key)) want version m before after = (m.activity ≡ Leave (answer_found (shown_at m.gathered NEWEST key))) × (after ≡ before)
+HasReadAs (Some (Scan from upto)) want version m before after = (GoesOn want upto version m ⊎ (m.activity ≡ ClearScan Pairs)) × (after ≡ before ++ pairs_of m.gathered want upto version)
 HasReadAs _ want version m before after = Unit {0}
 
 -- the same, of the call of the local with which the reader came to the row
@@ -67,7 +61,8 @@ HasRead l m before after = HasReadAs l.call l.want l.version m before after
 pub record Reads (l m : Local) (before after : List (ℕ × ℕ)) : Type 0 where
   pub call : m.call ≡ l.call
   pub version : m.version ≡ l.version
+  pub rows : ℕ
   pub told : ℕ
-  pub line : m ≡ carried (next_of product Go l told).local
+  pub line : m ≡ carried (next_of product rows Go l told).local
   pub on : is_reading_cells m.activity ≡ true → (m.want ≡ l.want) × (after ≡ before)
   pub ends : is_reading_cells m.activity ≡ false → HasRead l m before after

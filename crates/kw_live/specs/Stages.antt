@@ -2,7 +2,7 @@
 use Rattle.std.specs.Prelude.{◌≡◌, ℕ, ◌<◌, ◌≤◌, Option, Some, None, []}
 use Rattle.kw_model.specs.declared.call.Call.{Call}
 use Rattle.kw_model.specs.declared.call.Call.TheVariants.{Put, Del, Get, Scan}
-use Rattle.kw_model.specs.declared.call.Reply.TheVariants.{Pairs, Spent}
+use Rattle.kw_world.specs.declared.answer.Answer.TheVariants.{Pairs, Spent}
 use Rattle.kw_world.specs.declared.activity.Activity.{Activity}
 use Rattle.kw_world.specs.declared.activity.Activity.TheVariants.{Idle, Start, Look, LookCount, Cell, CellKey, CellValue, ClearScan, PutCount, Leave}
 use Rattle.kw_world.specs.declared.event.Choice.{Choice}
@@ -15,7 +15,7 @@ HasEntered (Put key value) Start = Unit {0}
 HasEntered (Del key) Start = Unit {0}
 HasEntered (Get key) Start = Unit {0}
 HasEntered (Scan from upto) Start = from ≤ upto
-HasEntered (Scan from upto) (ClearScan (Pairs pairs)) = (upto < from) × (pairs ≡ [])
+HasEntered (Scan from upto) (ClearScan Pairs) = upto < from
 HasEntered (Scan from upto) (Leave Spent) = Unit {0}
 HasEntered _ _ = ⊥
 

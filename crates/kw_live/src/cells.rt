@@ -4,18 +4,19 @@
 //! which takes memory; code that follows a pass does not, so that it passes the end by itself here. All else of an event is the core's.
 ghost use Rattle.std.specs.Prelude.{◌≡◌, true};
 ghost use Rattle.kw_world.specs.RowEnd.{IsOnward, passed};
-ghost use Rattle.kw_world.specs.RowRead.{get_answered, row_read, row_scanned};
+ghost use Rattle.kw_world.specs.ReadTransitions.{get_answered, row_read, row_scanned};
 ghost use Rattle.kw_world.specs.Sizes.{product};
 ghost use Rattle.kw_follow.specs.Calling.{Keeps};
 ghost use Rattle.kw_follow.specs.Following.{Follows, GoesTo, held};
-ghost use Rattle.kw_live.specs.Reading.{Reads, is_reading_cells, unpaired};
+ghost use Rattle.kw_live.specs.Reading.{Reads, is_reading_cells};
 
 use kw_cells::cell::best;
 use kw_core::step::read_on;
 use kw_follow::ask;
-use kw_model::call::{Call, Reply};
+use kw_model::call::Call;
 use kw_table::{Pass, Shared};
 use kw_world::activity::Activity;
+use kw_world::answer::Answer;
 use kw_world::calls::first_key;
 use kw_world::event::Choice;
 use kw_world::limits::NEWEST;
@@ -40,7 +41,7 @@ pub(crate) fn read(shared: &Shared, pass: &mut Pass, local: &mut Local)
 // What follows once the end of the row is passed, if the reader stands there: all that the core has follow but the pairs of a scan.
 fn pass_end(local: &mut Local)
     requires onward { IsOnward product local.old.activity }
-    ensures passed { local.new ≡ unpaired local.old (passed local.old) }
+    ensures passed { local.new ≡ record (passed local.old).local { number = local.old.number; pairs = local.old.pairs } }
 {
     if let Activity::Cell(place) = local.activity {
         if local.count <= place {
@@ -51,7 +52,7 @@ fn pass_end(local: &mut Local)
 
 // The row has been read to its end.
 fn end_row(local: &mut Local)
-    ensures { local.new ≡ unpaired local.old (row_read local.old.call local.old) }
+    ensures { local.new ≡ record (row_read local.old.call local.old).local { number = local.old.number; pairs = local.old.pairs } }
 {
     match local.call {
         Some(Call::Scan(_, upto)) => go_on(local, upto),
@@ -64,22 +65,19 @@ fn end_row(local: &mut Local)
 
 // A get has its answer: what the newest cell of its key shows.
 fn answer(local: &mut Local, key: u32)
-    ensures { local.new ≡ unpaired local.old (get_answered key local.old) }
+    ensures { local.new ≡ record (get_answered key local.old).local { number = local.old.number; pairs = local.old.pairs } }
 {
     let shown = match best(local.gathered.as_slice(), key, NEWEST) {
         Some(cell) => cell.value,
         None => None,
     };
     local.forget_rows();
-    local.activity = Activity::Leave(match shown {
-        Some(value) => Reply::Value(value),
-        None => Reply::Absent,
-    });
+    local.activity = Activity::Leave(Answer::found(shown));
 }
 
 // A scan goes on with the next row, or is at its end, where there is none or its keys are all above the range.
 fn go_on(local: &mut Local, upto: u32)
-    ensures { local.new ≡ unpaired local.old (row_scanned upto local.old) }
+    ensures { local.new ≡ record (row_scanned upto local.old).local { number = local.old.number; pairs = local.old.pairs } }
 {
     local.has_read = true;
     match local.next {
@@ -91,6 +89,6 @@ fn go_on(local: &mut Local, upto: u32)
             local.upper = 0;
             local.activity = Activity::Walk;
         }
-        _ => local.activity = Activity::ClearScan(Reply::Pairs(local.pairs.fresh())),
+        _ => local.activity = Activity::ClearScan(Answer::Pairs),
     }
 }

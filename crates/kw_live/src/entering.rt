@@ -1,12 +1,13 @@
 //! How a call begins, how a scan gets its version and is over, and how a call ends.
 ghost use Rattle.std.specs.Prelude.{◌≡◌, ◌↔◌, ◌⊎◌, ◌≤◌, false, true, [], Some, IfSome};
 ghost use Rattle.kw_words.specs.declared.sizes.TheConstants.{SPENT};
+ghost use Rattle.kw_world.specs.Answers.{reply_of};
 ghost use Rattle.kw_world.specs.Calls.{is_scan};
 ghost use Rattle.kw_world.specs.Local.{resting};
 ghost use Rattle.kw_core.specs.Events.{is_call_in_range};
 ghost use Rattle.kw_table.specs.Passes.{view, IsPassOf};
 ghost use Rattle.kw_follow.specs.Calling.{Keeps, Opens, Closes};
-ghost use Rattle.kw_follow.specs.Following.{Follows, GoesTo, activity_in, held, bare_reply};
+ghost use Rattle.kw_follow.specs.Following.{Follows, GoesTo, activity_in, held};
 ghost use Rattle.kw_live.specs.Meeting.{AsksNone, MetClock};
 ghost use Rattle.kw_live.specs.Stages.{HasEntered};
 
@@ -14,6 +15,7 @@ use kw_follow::{begin, clear, end, go};
 use kw_model::call::{Call, Reply};
 use kw_table::{Pass, Shared};
 use kw_world::activity::Activity;
+use kw_world::answer::Answer;
 use kw_world::event::Choice;
 use kw_world::local::Local;
 
@@ -35,7 +37,7 @@ pub fn enter(shared: &Shared, pass: &mut Pass, local: &mut Local, call: Call)
     ensures opens { Opens pass.old pass.new call }
     ensures held { held pass.new ≡ [] }
     ensures none { AsksNone pass.old pass.new }
-    ensures spent { is_scan (Some call) ≡ true → (clock : _) × MetClock pass.old pass.new clock × ((local.new.activity ≡ Activity.Leave Reply.Spent) ↔ (SPENT ≤ clock)) }
+    ensures spent { is_scan (Some call) ≡ true → (clock : _) × MetClock pass.old pass.new clock × ((local.new.activity ≡ Activity.Leave Answer.Spent) ↔ (SPENT ≤ clock)) }
 {
     begin(shared, pass, local, call);
     go(shared, pass, local, Choice::Go);
@@ -57,7 +59,7 @@ fn draw(shared: &Shared, pass: &mut Pass, local: &mut Local)
     ensures calls { Keeps pass.old pass.new }
     ensures held { held pass.new ≡ held pass.old }
     ensures none { AsksNone pass.old pass.new }
-    ensures spent { (clock : _) × MetClock pass.old pass.new clock × ((local.new.activity ≡ Activity.Leave Reply.Spent) ↔ (SPENT ≤ clock)) }
+    ensures spent { (clock : _) × MetClock pass.old pass.new clock × ((local.new.activity ≡ Activity.Leave Answer.Spent) ↔ (SPENT ≤ clock)) }
 {
     go(shared, pass, local, Choice::Go);
     if let Activity::ScanWait = local.activity {
@@ -70,11 +72,11 @@ fn draw(shared: &Shared, pass: &mut Pass, local: &mut Local)
 /// Ends a scan that has all its pairs: it is then about to leave with them.
 pub fn end_scan(shared: &Shared, pass: &mut Pass, local: &mut Local)
     requires follows { Follows shared.now pass.old local.old }
-    requires over { (reply : Reply) × (local.old.activity ≡ Activity.ClearScan reply) }
+    requires over { (answer : Answer) × (local.old.activity ≡ Activity.ClearScan answer) }
     ensures goes { GoesTo shared.now pass.old pass.new }
     ensures follows { Follows shared.now pass.new local.new }
-    ensures leaves { (reply : Reply) → activity_in pass.old ≡ Activity.ClearScan reply → activity_in pass.new ≡ Activity.Leave reply }
-    ensures activity { (reply : Reply) → local.old.activity ≡ Activity.ClearScan reply → local.new.activity ≡ Activity.Leave reply }
+    ensures leaves { (answer : Answer) → activity_in pass.old ≡ Activity.ClearScan answer → activity_in pass.new ≡ Activity.Leave answer }
+    ensures activity { (answer : Answer) → local.old.activity ≡ Activity.ClearScan answer → local.new.activity ≡ Activity.Leave answer }
     ensures calls { Keeps pass.old pass.new }
     ensures held { held pass.new ≡ held pass.old }
 {
@@ -85,11 +87,11 @@ pub fn end_scan(shared: &Shared, pass: &mut Pass, local: &mut Local)
 pub fn stop_scan(shared: &Shared, pass: &mut Pass, local: &mut Local)
     requires follows { Follows shared.now pass.old local.old }
     requires scan { is_scan local.old.call ≡ true }
-    requires stage { ((local.old.activity ≡ Activity.Walk) × (local.old.has_read ≡ true)) ⊎ ((reply : Reply) × (local.old.activity ≡ Activity.ClearScan reply)) }
+    requires stage { ((local.old.activity ≡ Activity.Walk) × (local.old.has_read ≡ true)) ⊎ ((answer : Answer) × (local.old.activity ≡ Activity.ClearScan answer)) }
     ensures goes { GoesTo shared.now pass.old pass.new }
     ensures follows { Follows shared.now pass.new local.new }
-    ensures leaves { activity_in pass.new ≡ Activity.Leave Reply.Stopped }
-    ensures activity { local.new.activity ≡ Activity.Leave Reply.Stopped }
+    ensures leaves { activity_in pass.new ≡ Activity.Leave Answer.Stopped }
+    ensures activity { local.new.activity ≡ Activity.Leave Answer.Stopped }
     ensures calls { Keeps pass.old pass.new }
 {
     if let Activity::ClearScan(_) = local.activity {
@@ -104,11 +106,11 @@ pub fn stop_scan(shared: &Shared, pass: &mut Pass, local: &mut Local)
 /// The answer is the reply that is recorded, without the pairs of a scan. The local is then at rest.
 pub fn leave(shared: &Shared, pass: &mut Pass, local: &mut Local) -> Reply
     requires follows { Follows shared.now pass.old local.old }
-    requires leaving { (reply : Reply) × (local.old.activity ≡ Activity.Leave reply) }
+    requires leaving { (answer : Answer) × (local.old.activity ≡ Activity.Leave answer) }
     ensures goes { GoesTo shared.now pass.old pass.new }
     ensures idle { activity_in pass.new ≡ Activity.Idle }
     ensures rests { local.new ≡ resting 0 }
-    ensures closes { (reply : Reply) → activity_in pass.old ≡ Activity.Leave reply → Closes pass.old pass.new reply × (result ≡ bare_reply reply) }
+    ensures closes { (answer : Answer) → activity_in pass.old ≡ Activity.Leave answer → Closes pass.old pass.new (reply_of answer (held pass.old)) × (result ≡ reply_of answer []) }
     ensures none { AsksNone pass.old pass.new }
 {
     end(shared, pass, local)

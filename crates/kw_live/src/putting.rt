@@ -5,12 +5,12 @@ ghost use Rattle.kw_table.specs.Passes.{view};
 ghost use Rattle.kw_follow.specs.Calling.{Keeps};
 ghost use Rattle.kw_follow.specs.Following.{Follows, GoesTo, held};
 ghost use Rattle.kw_live.specs.Meeting.{MetFull, MetRoom};
-ghost use Rattle.kw_live.specs.Putting.{Tried, is_putting, reply_of};
+ghost use Rattle.kw_live.specs.Putting.{Tried, is_putting, answer_of};
 
 use kw_follow::go;
-use kw_model::call::Reply;
 use kw_table::{Pass, Shared};
 use kw_world::activity::Activity;
+use kw_world::answer::Answer;
 use kw_world::event::Choice;
 use kw_world::local::Local;
 
@@ -33,7 +33,7 @@ pub fn try_put(shared: &Shared, pass: &mut Pass, local: &mut Local) -> TryPut
     requires activity { local.old.activity ≡ Activity.PutCount }
     ensures goes { GoesTo shared.now pass.old pass.new }
     ensures follows { Follows shared.now pass.new local.new }
-    ensures leaves { local.new.activity ≡ Activity.Leave (reply_of result) }
+    ensures leaves { local.new.activity ≡ Activity.Leave (answer_of result) }
     ensures cause { Tried CELLS pass.old pass.new local.old.row result }
     ensures calls { Keeps pass.old pass.new }
     ensures held { held pass.new ≡ held pass.old }
@@ -43,7 +43,7 @@ pub fn try_put(shared: &Shared, pass: &mut Pass, local: &mut Local) -> TryPut
         go(shared, pass, local, Choice::Go);
     }
     match &local.activity {
-        Activity::Leave(Reply::Done) => TryPut::Done,
+        Activity::Leave(Answer::Done) => TryPut::Done,
         _ => TryPut::RowFull(row),
     }
 }

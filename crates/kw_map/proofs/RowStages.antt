@@ -7,7 +7,7 @@ use Rattle.kw_io.specs.Counts.{CountRose}
 use Rattle.kw_cells.specs.Cells.{pairs_of}
 use Rattle.kw_model.specs.Map.{Pairs}
 use Rattle.kw_model.specs.declared.call.Call.{Call}
-use Rattle.kw_model.specs.declared.call.Reply.TheVariants as reply
+use Rattle.kw_world.specs.declared.answer.Answer.TheVariants as answer
 use Rattle.kw_world.specs.declared.activity.Activity.TheVariants.{ClearScan}
 use Rattle.kw_world.specs.declared.local.Local.{Local}
 use Rattle.kw_world.specs.declared.opening.Opening.{Opening}
@@ -21,7 +21,7 @@ use Rattle.kw_table.specs.Passes.{view}
 use Rattle.kw_table.specs.Views.{local_in}
 use Rattle.kw_table.proofs.Prefixes.{prefix_trans}
 use Rattle.kw_follow.specs.Calling.{Keeps}
-use Rattle.kw_follow.specs.Following.{Follows, GoesTo, held, held_at}
+use Rattle.kw_follow.specs.Following.{Follows, GoesTo, held}
 use Rattle.kw_live.specs.Reading.{GoesOn}
 use Rattle.kw_map.specs.Gather.{last_key, IsBelow, Takes, TakesPrefix}
 use Rattle.kw_map.specs.Scanning.{IsBetween, StoppedAt, knew}
@@ -69,7 +69,7 @@ wanted_above last into l walks (inl b) = b.1
 wanted_above last into l walks (inr e) = let x : false ≡ true = sym (ap is_walking e) ∙ walks in absurd (cc)
 
 -- after a row the scan is between rows again
-pub between_rows : {S : Type 0} (last : S → Option ℕ) (stands : S → Pairs → Type 0) (old new : S) (want upto version : ℕ) (m : Local) → IsBelow (last old) want → GoesOn want upto version m ⊎ (m.activity ≡ ClearScan (reply.Pairs [])) →
+pub between_rows : {S : Type 0} (last : S → Option ℕ) (stands : S → Pairs → Type 0) (old new : S) (want upto version : ℕ) (m : Local) → IsBelow (last old) want → GoesOn want upto version m ⊎ (m.activity ≡ ClearScan answer.Pairs) →
     Takes last stands old (pairs_of m.gathered want upto version) new → IsBetween last new m
 between_rows last stands old new want upto version m above (inl g) t =
     let earlier : want ≤ m.want = omega (arith, g.rises) in
@@ -93,7 +93,7 @@ stopped_here last stands s o r q l call old new before after follows is took =
       later = before.seen;
       here = after.seen;
       asks = ap (λ (k : Local). k.call) e ∙ (sym (ap (λ (k : Local). k.call) follows.carries) ∙ is);
-      took = subst (λ (ps : Pairs). TakesPrefix last stands old ps new) (sym (ap (λ (k : Local). held_at k.activity k.pairs) e)) took;
+      took = subst (λ (ps : Pairs). TakesPrefix last stands old ps new) (sym (ap (λ (k : Local). k.pairs) e)) took;
     }
 
 -- what happened in the middle happened in the whole
@@ -107,5 +107,5 @@ stopped_within last stands s p q r t call old new before after stopped =
       later = prefix_trans _ _ _ before.seen stopped.later;
       here = prefix_trans _ _ _ stopped.here after.seen;
       asks = sym (ap (λ (k : Local). k.call) e) ∙ stopped.asks;
-      took = subst (λ (ps : Pairs). TakesPrefix last stands old ps new) (ap (λ (k : Local). held_at k.activity k.pairs) e) stopped.took;
+      took = subst (λ (ps : Pairs). TakesPrefix last stands old ps new) (ap (λ (k : Local). k.pairs) e) stopped.took;
     }

@@ -1,9 +1,8 @@
--- Where a scan stands once it has entered, and that it leaves with all the pairs that its seat has.
+-- Where a scan stands once it has entered.
 use Rattle.std.proofs.Common.{ℕ, ◌≡◌, ◌≤◌, Option, Some, [], inl, inr, refl, sym, ap, ◌∙◌, subst, slice_get}
-use Rattle.kw_model.specs.Map.{Pairs}
 use Rattle.kw_model.specs.declared.call.Call.TheVariants.{Scan}
-use Rattle.kw_model.specs.declared.call.Reply.{Reply}
-use Rattle.kw_model.specs.declared.call.Reply.TheVariants as reply
+use Rattle.kw_world.specs.declared.answer.Answer.{Answer}
+use Rattle.kw_world.specs.declared.answer.Answer.TheVariants as answer
 use Rattle.kw_world.specs.declared.activity.Activity.{Activity}
 use Rattle.kw_world.specs.declared.activity.Activity.TheVariants.{Start, ClearScan, Leave}
 use Rattle.kw_world.specs.declared.local.Local.{Local}
@@ -19,9 +18,8 @@ use Rattle.kw_table.specs.declared.pass.Pass.{Pass}
 use Rattle.kw_table.specs.declared.shared.Shared.{Shared}
 use Rattle.kw_table.specs.Passes.{view}
 use Rattle.kw_table.specs.Views.{local_in}
-use Rattle.kw_follow.specs.Following.{Follows, activity_in, bare_activity, bare_reply, held, held_at, pairs_or}
+use Rattle.kw_follow.specs.Following.{Follows}
 use Rattle.kw_live.specs.Stages.{HasEntered}
-use Rattle.kw_follow.proofs.Ends.{leaves_in, same_reply}
 use Rattle.kw_follow.proofs.Fronts.{seat_within}
 use Rattle.kw_map.specs.Gather.{IsBelow}
 use Rattle.kw_map.specs.Scanning.{IsBetween}
@@ -35,17 +33,12 @@ pass_local p =
     ap (λ (w : WorldView). slice_get w.locals (view p).number) (history-world product (view p).opening (view p).seen)
     ∙ world-local product (view p).opening (view p).seen (view p).number (seat_within p)
 
-bare_start : (a : Activity) → bare_activity a ≡ Start → a ≡ Start
-bare_start (ClearScan r) e = let x : ClearScan (bare_reply r) ≡ Start = e in absurd (cc)
-bare_start (Leave r) e = let x : Leave (bare_reply r) ≡ Start = e in absurd (cc)
-bare_start _ e = e
-
 -- a scan that is to begin its walk wants no key below its range
 wants_from : (s : Shared) (p : Pass) (l : Local) (from upto : ℕ) → Follows s p l → l.call ≡ Some (Scan from upto) → l.activity ≡ Start → from ≤ l.want
 wants_from s p l from upto f call start =
     let k : Local = local_in (view p) in
     let asks : k.call ≡ Some (Scan from upto) = sym (ap (λ (x : Local). x.call) f.carries) ∙ call in
-    let at : k.activity ≡ Start = bare_start k.activity (sym (ap (λ (x : Local). x.activity) f.carries) ∙ start) in
+    let at : k.activity ≡ Start = sym (ap (λ (x : Local). x.activity) f.carries) ∙ start in
     let wants : l.want ≡ k.want = ap (λ (x : Local). x.want) f.carries in
     let below = (laws_hold product (view p).opening p.known.opens (view p).seen p.known.valid).below (view p).number k (pass_local p) (ap is_scan asks) (subst IsCovering (sym at) tt) in
     let least : from ≤ k.want = subst (λ x. first_key x ≤ k.want) asks below.from in
@@ -53,40 +46,19 @@ wants_from s p l from upto f call start =
 
 -- a scan that has entered, and does not leave, is between rows
 pub entered_between : {S : Type 0} (last : S → Option ℕ) (into : S) (s : Shared) (p : Pass) (l : Local) (from upto : ℕ) → Follows s p l → l.call ≡ Some (Scan from upto) → HasEntered (Scan from upto) l.activity →
-    ((x : Reply) → l.activity ≡ Leave x → ⊥) → IsBelow (last into) from → IsBetween last into l
+    ((x : Answer) → l.activity ≡ Leave x → ⊥) → IsBelow (last into) from → IsBetween last into l
 entered_between {S} last into s p l from upto f call entered stays above = met l.activity refl entered
   where
-    cleared : (r : Reply) → l.activity ≡ ClearScan r → HasEntered (Scan from upto) (ClearScan r) → l.activity ≡ ClearScan (reply.Pairs [])
-    cleared (reply.Pairs pairs) is h = is ∙ ap (λ (ps : Pairs). ClearScan (reply.Pairs ps)) h.1
-    cleared _ is h = absurd h
-
     met : (a : Activity) → l.activity ≡ a → HasEntered (Scan from upto) a → IsBetween last into l
     met Start is h = inl (subst IsGoing (sym is) tt, IsBelow-le (last into) from l.want (wants_from s p l from upto f call is) above)
-    met (ClearScan r) is h = inr (cleared r is h)
+    met (ClearScan answer.Pairs) is h = inr is
     met (Leave r) is h = absurd (stays r is)
     met _ is h = absurd h
 
 -- one that leaves has found the versions spent
-pub entered_spent : (from upto : ℕ) (l : Local) (r : Reply) → l.activity ≡ Leave r → HasEntered (Scan from upto) l.activity → l.activity ≡ Leave reply.Spent
+pub entered_spent : (from upto : ℕ) (l : Local) (r : Answer) → l.activity ≡ Leave r → HasEntered (Scan from upto) l.activity → l.activity ≡ Leave answer.Spent
 entered_spent from upto l r is entered = is ∙ ap Leave (met r (subst (HasEntered (Scan from upto)) is entered))
   where
-    met : (x : Reply) → HasEntered (Scan from upto) (Leave x) → x ≡ reply.Spent
-    met reply.Spent h = refl
+    met : (x : Answer) → HasEntered (Scan from upto) (Leave x) → x ≡ answer.Spent
+    met answer.Spent h = refl
     met _ h = absurd h
-
--- A scan that leaves with its pairs.
-
--- a reply that is pairs, but for which, is the pairs that it has
-pairs_are : (x : Reply) (others : Pairs) → bare_reply x ≡ reply.Pairs [] → x ≡ reply.Pairs (pairs_or others x)
-pairs_are (reply.Pairs pairs) others e = refl
-pairs_are _ others e = absurd (cc e)
-
--- the seat leaves with all the pairs that it has
-pub leaves_with_pairs : (s : Shared) (p : Pass) (l : Local) → Follows s p l → l.activity ≡ Leave (reply.Pairs []) → activity_in p ≡ Leave (reply.Pairs (held p))
-leaves_with_pairs s p l f is =
-    let x = leaves_in s p l (reply.Pairs []) f is in
-    let e : Leave (bare_reply x.0) ≡ Leave (reply.Pairs []) = sym (same_reply s p l x.0 f x.1) ∙ is in
-    let b : bare_reply x.0 ≡ reply.Pairs [] = cc in
-    let others : Pairs = (local_in (view p)).pairs in
-    let has : held p ≡ pairs_or others x.0 = ap (λ a. held_at a others) x.1 in
-    x.1 ∙ (ap Leave (pairs_are x.0 others b) ∙ ap (λ (ps : Pairs). Leave (reply.Pairs ps)) (sym has))

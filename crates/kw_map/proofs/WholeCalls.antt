@@ -1,22 +1,29 @@
 -- How a whole call comes of the stages that `kw_live` takes it through: its begin and its end, what it met on the way, and its reply.
-use Rattle.std.proofs.Common.{ℕ, ◌≡◌, ◌∙◌, ap, sym, []}
+use Rattle.std.proofs.Common.{ℕ, ◌≡◌, ◌∙◌, Option, Some, None, List, ap, sym, subst, []}
 use Rattle.kw_model.specs.declared.call.Call.{Call}
 use Rattle.kw_model.specs.declared.call.Reply.{Reply}
-use Rattle.kw_model.specs.declared.call.Reply.TheVariants.{Pairs}
-use Rattle.kw_world.specs.declared.activity.Activity.{Activity}
+use Rattle.kw_model.specs.declared.call.Reply.TheVariants.{Value, Absent}
+use Rattle.kw_cells.specs.Cells.{shown_at}
+use Rattle.kw_model.specs.declared.call.Call.TheVariants.{Get}
 use Rattle.kw_world.specs.declared.activity.Activity.TheVariants.{Leave}
+use Rattle.kw_world.specs.declared.limits.TheConstants.{NEWEST}
+use Rattle.kw_world.specs.Answers.{answer_found, reply_of}
+use Rattle.kw_world.proofs.Replies.{reply_of-found}
+use Rattle.kw_live.specs.Reading.{HasRead, HasReadAs}
+use Rattle.kw_world.specs.declared.activity.Activity.{Activity}
+use Rattle.kw_world.specs.declared.answer.Answer.{Answer}
 use Rattle.kw_world.specs.declared.event.Choice.{Choice}
 use Rattle.kw_world.specs.declared.local.Local.{Local}
 use Rattle.kw_laws.specs.SeatCalls.{begun_at}
 use Rattle.kw_table.specs.declared.pass.Pass.{Pass}
 use Rattle.kw_table.specs.declared.shared.Shared.{Shared}
 use Rattle.kw_follow.specs.Calling.{Opens, Keeps, Closes, Calls, calls_in}
-use Rattle.kw_follow.specs.Following.{Follows, GoesTo, activity_in, bare_reply}
+use Rattle.kw_follow.specs.Following.{Follows, GoesTo, activity_in}
 use Rattle.kw_follow.specs.OwnEvents.{Met}
 use Rattle.kw_live.specs.Meeting.{AsksNone, MetClock, MetCount, MetFull, MetRoom}
 use Rattle.kw_live.proofs.Asking.{below_trans, none_below}
 use Rattle.kw_follow.proofs.OwnEvents.{met_earlier, met_later}
-use Rattle.kw_follow.proofs.Ends.{leaves_in, same_reply}
+use Rattle.kw_follow.proofs.OneEvent.{same_activity}
 use Rattle.kw_follow.proofs.OwnEvents.{goes_trans}
 
 -- The call.
@@ -65,15 +72,19 @@ clock_later {s} {p} {q} {r} m after = record { met = met_later p q r m.met after
 
 -- What it replies.
 
--- a reply other than pairs is whole without pairs
-bare_is : (x r : Reply) → bare_reply x ≡ r → (Pairs [] ≡ r → ⊥) → x ≡ r
-bare_is (Pairs pairs) r e bare = absurd (bare e)
-bare_is _ r e bare = e
+-- code that is about to leave with an answer follows a seat that is about to leave with it
+pub leaves_with : {s : Shared} {p : Pass} {l : Local} (answer : Answer) → Follows s p l → l.activity ≡ Leave answer → activity_in p ≡ Leave answer
+leaves_with {s} {p} {l} answer f is = same_activity s p l f ∙ is
 
--- code that is about to leave with such a reply follows a seat that is about to leave with it
-pub leaves_with : {s : Shared} {p : Pass} {l : Local} (r : Reply) → Follows s p l → l.activity ≡ Leave r → (Pairs [] ≡ r → ⊥) → activity_in p ≡ Leave r
-leaves_with {s} {p} {l} r f is bare =
-    let x = leaves_in s p l r f is in
-    let e : Leave (bare_reply x.0) ≡ Leave r = sym (same_reply s p l x.0 f x.1) ∙ is in
-    let b : bare_reply x.0 ≡ r = cc in
-    x.1 ∙ ap Leave (bare_is x.0 r b bare)
+-- the end of a get: code replies what the seat does, since neither has pairs
+pub get_closes : {p q : Pass} (x : Option ℕ) (pairs : List (ℕ × ℕ)) (reply : Reply) → Closes p q (reply_of (answer_found x) pairs) × (reply ≡ reply_of (answer_found x) []) → Closes p q reply
+get_closes {p} {q} x pairs reply e = subst (Closes p q) (reply_of-found x pairs ∙ (sym (reply_of-found x []) ∙ sym e.1)) e.0
+
+-- a get that has read its row is about to leave with what the row shows
+pub get_reads : (key : ℕ) (l m : Local) (before after : List (ℕ × ℕ)) → l.call ≡ Some (Get key) → HasRead l m before after → m.activity ≡ Leave (answer_found (shown_at m.gathered NEWEST key))
+get_reads key l m before after is read = (subst (λ c. HasReadAs c l.want l.version m before after) is read).0
+
+-- and where that is no value, it is that there is none
+pub get_absent : (x : Option ℕ) (reply : Reply) → reply ≡ reply_of (answer_found x) [] → ((value : ℕ) → reply ≡ Value value → ⊥) → reply ≡ Absent
+get_absent (Some value) reply e none = absurd (none value e)
+get_absent None reply e none = e

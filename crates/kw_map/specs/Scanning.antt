@@ -2,7 +2,7 @@
 use Rattle.std.specs.Prelude.{◌≡◌, ◌⊎◌, ℕ, Option, List, []}
 use mathlib.Core.List.{IsPrefix}
 use Rattle.kw_model.specs.declared.call.Call.{Call}
-use Rattle.kw_model.specs.declared.call.Reply.TheVariants.{Pairs}
+use Rattle.kw_world.specs.declared.answer.Answer.TheVariants.{Pairs}
 use Rattle.kw_world.specs.declared.activity.Activity.TheVariants.{ClearScan}
 use Rattle.kw_world.specs.declared.event.Event.{Event}
 use Rattle.kw_world.specs.declared.local.Local.{Local}
@@ -11,12 +11,11 @@ use Rattle.kw_core.specs.Events.{local_of, world}
 use Rattle.kw_core.specs.Stages.{IsGoing}
 use Rattle.kw_table.specs.declared.pass.Pass.{Pass}
 use Rattle.kw_table.specs.Passes.{view}
-use Rattle.kw_follow.specs.Following.{held_at}
 use Rattle.kw_map.specs.Gather.{IsBelow, TakesPrefix}
 
 -- the scan is on its way to the row of the key that it wants, and the gatherer took no key from there on; or it has all its pairs
 abbrev pub IsBetween : {S : Type 0} → (S → Option ℕ) → S → Local → Type 0
-IsBetween last s l = (IsGoing l.activity × IsBelow (last s) l.want) ⊎ (l.activity ≡ ClearScan (Pairs []))
+IsBetween last s l = (IsGoing l.activity × IsBelow (last s) l.want) ⊎ (l.activity ≡ ClearScan Pairs)
 
 -- what the pass's seat knew after these events
 abbrev pub knew : Pass → List Event → Local
@@ -24,7 +23,7 @@ knew p es = local_of (world product (view p).opening es) (view p).number
 
 -- the pairs that it had then
 abbrev pub had : Pass → List Event → List (ℕ × ℕ)
-had p es = held_at (knew p es).activity (knew p es).pairs
+had p es = (knew p es).pairs
 
 -- the gatherer of this call stopped: at some moment the seat was in the middle of the call, and of the pairs that it had then the
 -- gatherer took the first ones

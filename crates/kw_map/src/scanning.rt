@@ -14,9 +14,10 @@ ghost use Rattle.kw_map.specs.Scanning.{IsBetween, StoppedAt};
 
 use crate::gather::{Gather, Stop, take_pairs};
 use kw_live::{end_scan, locate, read_row, stop_scan};
-use kw_model::call::{Call, Reply};
+use kw_model::call::Call;
 use kw_table::{Pass, Shared};
 use kw_world::activity::Activity;
+use kw_world::answer::Answer;
 use kw_world::local::Local;
 
 /// Reads the rows of a scan that has entered, and hands its pairs on, until it has all of them or the gatherer stops.
@@ -37,7 +38,7 @@ pub(crate) fn gather_rows<G: Gather>(
     ensures goes { GoesTo shared.now pass.old pass.new }
     ensures follows { Follows shared.now pass.new local.new }
     ensures calls { Keeps pass.old pass.new }
-    ensures leaves { MatchResult result (λ done. local.new.activity ≡ Activity.Leave (Reply.Pairs [])) (λ stop. local.new.activity ≡ Activity.Leave Reply.Stopped) }
+    ensures leaves { MatchResult result (λ done. local.new.activity ≡ Activity.Leave Answer.Pairs) (λ stop. local.new.activity ≡ Activity.Leave Answer.Stopped) }
     ensures all { OnOk result (Takes G.last G.stands into.old (held pass.new) into.new) }
     ensures prefix { OnErr result (StoppedAt G.last G.stands pass.old pass.new local.old.call into.old into.new) }
     ensures stopped { OnErr result (CountRose (G.stops into.old) (G.stops into.new)) }
@@ -72,7 +73,7 @@ fn gather_row<G: Gather>(
     ensures call { local.new.call ≡ local.old.call }
     ensures calls { Keeps pass.old pass.new }
     ensures held { held pass.new ≡ held pass.old ++ pairs_of local.new.gathered local.old.want upto local.old.version }
-    ensures stage { GoesOn local.old.want upto local.old.version local.new ⊎ (local.new.activity ≡ Activity.ClearScan (Reply.Pairs [])) }
+    ensures stage { GoesOn local.old.want upto local.old.version local.new ⊎ (local.new.activity ≡ Activity.ClearScan Answer.Pairs) }
     ensures all { OnOk result (Takes G.last G.stands into.old (pairs_of local.new.gathered local.old.want upto local.old.version) into.new) }
     ensures prefix { OnErr result (TakesPrefix G.last G.stands into.old (pairs_of local.new.gathered local.old.want upto local.old.version) into.new) }
     ensures stopped { OnErr result (CountRose (G.stops into.old) (G.stops into.new)) }

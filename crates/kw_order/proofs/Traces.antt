@@ -5,6 +5,8 @@ use Rattle.kw_words.specs.declared.sizes.TheConstants.{KEY_END, VALUE_END}
 use Rattle.kw_model.specs.declared.call.Call.{Call}
 use Rattle.kw_model.specs.declared.call.Call.TheVariants.{Put, Del, Get, Scan}
 use Rattle.kw_world.specs.declared.event.Event.{Event}
+use Rattle.kw_world.specs.declared.activity.Activity.{Activity}
+use Rattle.kw_world.specs.declared.activity.Activity.TheVariants.{Idle}
 use Rattle.kw_world.specs.declared.event.Choice.{Choice}
 use Rattle.kw_world.specs.declared.event.Choice.TheVariants.{Begin, Go, Guess, Stop}
 use Rattle.kw_world.specs.declared.event.StepDone.{StepDone}
@@ -13,7 +15,7 @@ use Rattle.kw_world.specs.declared.local.Local.{Local}
 use Rattle.kw_world.specs.declared.opening.Opening.{Opening}
 use Rattle.kw_world.specs.Sizes.{product}
 use Rattle.kw_world.specs.Opening.{IsOpening}
-use Rattle.kw_world.specs.Sane.{CanBegin, IsCall, IsSane}
+use Rattle.kw_world.specs.Sane.{CanBegin, IsCall, IsSane, CanBeginAt}
 use Rattle.kw_world.specs.WorldView.{WorldView}
 use Rattle.kw_world.specs.Step.{step, stepped, Stepped, is_skipped, IsMade}
 use Rattle.kw_core.specs.Events.{is_valid, world, may_begin, is_call_in_range}
@@ -69,11 +71,12 @@ in_range (Del key) h = lt-ltb key KEY_END h
 in_range (Get key) h = lt-ltb key KEY_END h
 in_range (Scan from upto) h = and_from (nat_lt from KEY_END) _ (lt-ltb from KEY_END h.0) (lt-ltb upto KEY_END h.1)
 
-begins : (choice : Choice) (l : Local) → CanBegin choice l → may_begin choice ≡ true
-begins (Begin call) l h = in_range call h.0
-begins Go l h = refl
-begins (Guess r) l h = refl
-begins Stop l h = refl
+begins : (choice : Choice) (l : Local) → CanBegin choice l → may_begin l.activity choice ≡ true
+begins choice l h = which l.activity choice h
+  where
+    which : (a : Activity) (c : Choice) → CanBeginAt a c l → may_begin a c ≡ true
+    which Idle (Begin call) g = in_range call g.0
+    which _ c g = refl
 
 -- the trace with one more event that was made
 pub trace_more : (t : TraceView) (w v : WorldView) (k m : Recording) (e : Event) (l : Local) (done : StepDone) → IsTrace t w k → e.seat < t.opening.seats → CanBegin e.choice l → slice_get w.locals e.seat ≡ Some l → is_skipped l.activity e.choice ≡ false →

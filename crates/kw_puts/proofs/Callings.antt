@@ -52,7 +52,7 @@ underway_busy _ u = tt
 
 -- a put that is done is about to end
 done_ends : (a : Activity) → IsDone a → IsUnderway a → ⊥
-done_ends (Leave reply) d u = u
+done_ends (Leave answer) d u = u
 done_ends _ d u = d
 
 -- a put that is to stamp has announced its cell
@@ -87,7 +87,7 @@ runs_on h h' e z v s choice l g o a c (makes_add m) u n x w = ap (λ (q : CallLo
 runs_on h h' e z v s choice l g o a c (makes_announce m) u n x w = ap (λ (q : CallLog). q.end) (called_same h h' x (ap (λ (y : History). y.calls) n))
 runs_on h h' e z v s choice l g o a c (makes_stamp m) u n x w = put_runs h h' x (attempt h g.own).call _ (ap (λ (y : History). y.calls) n) w
 runs_on h h' e z v s choice l g o a c (makes_help q m k) u n x w = put_runs h h' x (attempt h q).call _ (ap (λ (y : History). y.calls) n) w
-runs_on h h' e z v s choice l g o a c (makes_end reply) u n x w = absurd u
+runs_on h h' e z v s choice l g o a c (makes_end answer) u n x w = absurd u
 
 -- the put that a seat's call has after its event is the one that it had, or the seat has stamped it
 put_after : (h h' : History) (e : Logged) (z : Sizes) (v : _) (s : ℕ) (choice : Choice) (l : Local) (g : SeatLog) (o : Origins) (a : Activity) (c : Change) → Makes z v s choice l g o a c → h' ≡ noted h e c → g.call < length h.calls → (IsStamp a → (attempt h g.own).call ≡ g.call) →
@@ -101,7 +101,7 @@ put_after h h' e z v s choice l g o a c (makes_stamp m) n w f r p q =
     let y : (called h' g.call).put ≡ Some g.own = subst (λ y. (called h' y).put ≡ Some g.own) (f tt) (ap (λ (y : CallLog). y.put) x) in
     inr (tt, same_Some g.own p (sym y ∙ q))
 put_after h h' e z v s choice l g o a c (makes_help j m k) n w f r p q = absurd (r tt p q)
-put_after h h' e z v s choice l g o a c (makes_end reply) n w f r p q = inl (ap (λ (y : CallLog). y.put) (sym (called_set_same h h' g.call _ (ap (λ (y : History). y.calls) n) w)) ∙ q)
+put_after h h' e z v s choice l g o a c (makes_end answer) n w f r p q = inl (ap (λ (y : CallLog). y.put) (sym (called_set_same h h' g.call _ (ap (λ (y : History). y.calls) n) w)) ∙ q)
 
 -- the entry of a seat that is about to stamp is its own
 pub own_entry : (z : Sizes) (r : Run) (s : ℕ) (l : Local) → Below z r → slice_get r.world.locals s ≡ Some l → l.activity ≡ Stamp → IsNotOwn l.cell (word z r.world (name.Pend l.row s)) → ⊥

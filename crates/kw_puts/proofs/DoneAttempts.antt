@@ -9,7 +9,7 @@ use Rattle.kw_world.specs.declared.activity.Activity.TheVariants.{PutAdd, Stamp,
 use Rattle.kw_world.specs.declared.local.Local.{Local}
 use Rattle.kw_world.specs.declared.event.Choice.{Choice}
 use Rattle.kw_world.specs.Sizes.{Sizes}
-use Rattle.kw_world.specs.RowPut.{has_room}
+use Rattle.kw_world.specs.PutTransitions.{has_room}
 use Rattle.kw_world.specs.Step.{word}
 use Rattle.kw_core.specs.History.{attempt}
 use Rattle.kw_core.specs.Run.{Run}

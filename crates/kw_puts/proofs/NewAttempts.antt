@@ -11,8 +11,9 @@ use Rattle.kw_world.specs.declared.activity.Activity.TheVariants.{Announce, PutA
 use Rattle.kw_world.specs.declared.local.Local.{Local}
 use Rattle.kw_world.specs.declared.event.Choice.{Choice}
 use Rattle.kw_world.specs.Sizes.{Sizes}
+use Rattle.kw_world.specs.Answers.{reply_of}
 use Rattle.kw_world.specs.Calls.{first_key, put_value}
-use Rattle.kw_world.specs.RowPut.{has_room, given_of}
+use Rattle.kw_world.specs.PutTransitions.{has_room, given_of}
 use Rattle.kw_world.specs.Sane.{IsGiven}
 use Rattle.kw_world.specs.Step.{word}
 use Rattle.kw_core.specs.History.{History, attempt}
@@ -62,7 +63,7 @@ old_or_new z r r' s choice l a c e (makes_add m) n p w = which (cases_lt p (leng
 old_or_new z r r' s choice l a c e (makes_announce m) n p w = inl (subst (λ x. p < x) (ap (λ x. length x.attempts) n ∙ length-set r.history.attempts (r.seats s).own _) w)
 old_or_new z r r' s choice l a c e (makes_stamp m) n p w = inl (subst (λ x. p < x) (ap (λ x. length x.attempts) n ∙ length-set r.history.attempts (r.seats s).own _) w)
 old_or_new z r r' s choice l a c e (makes_help q m k) n p w = inl (subst (λ x. p < x) (ap (λ x. length x.attempts) n ∙ length-set r.history.attempts q _) w)
-old_or_new z r r' s choice l a c e (makes_end reply) n p w = inl (subst (λ x. p < length x.attempts) n w)
+old_or_new z r r' s choice l a c e (makes_end answer) n p w = inl (subst (λ x. p < length x.attempts) n w)
 
 -- a stamp announces nothing
 stamped_was : (h h' : History) (e : Logged) (q version load : ℕ) → h' ≡ noted h e (Stamps q version load) → (p : ℕ) → p < length h.attempts → (attempt h' p).is_announced ≡ true → (attempt h p).is_announced ≡ true
@@ -86,7 +87,7 @@ announced_or_now z r r' s choice l a c e (makes_announce m) n p w x = which (cas
     which (inr y) = inl (sym (ap (λ k. k.is_announced) (attempt_left r.history r'.history e p (Announces (r.seats s).own) y n w)) ∙ x)
 announced_or_now z r r' s choice l a c e (makes_stamp m) n p w x = inl (stamped_was r.history r'.history e (r.seats s).own l.version (r.seats s).loaded n p w x)
 announced_or_now z r r' s choice l a c e (makes_help q m k) n p w x = inl (stamped_was r.history r'.history e q l.helping (r.seats s).loaded n p w x)
-announced_or_now z r r' s choice l a c e (makes_end reply) n p w x = inl (sym (ap (λ k. k.is_announced) (attempt_left r.history r'.history e p (Ends (r.seats s).call reply (answering l.call l (r.seats s)) (drawing reply l (r.seats s))) tt n w)) ∙ x)
+announced_or_now z r r' s choice l a c e (makes_end answer) n p w x = inl (sym (ap (λ k. k.is_announced) (attempt_left r.history r'.history e p (Ends (r.seats s).call (reply_of answer l.pairs) (answering l.call l (r.seats s)) (drawing answer l (r.seats s))) tt n w)) ∙ x)
 
 -- a row that has room for one more cell after the next one has room then
 pub room_next : (z : Sizes) (w : ℕ) (c : Option Counted) → count_of w ≡ c → IsGiven c → has_room z c ≡ true → given_of c + 1 < z.cells → has_room z (count_of (w + 1)) ≡ true

@@ -17,7 +17,7 @@ use Rattle.kw_world.specs.declared.local.Local.{Local}
 use Rattle.kw_world.specs.declared.event.Choice.{Choice}
 use Rattle.kw_world.specs.Sizes.{Sizes}
 use Rattle.kw_world.specs.Calls.{first_key, put_value}
-use Rattle.kw_world.specs.RowPut.{has_room}
+use Rattle.kw_world.specs.PutTransitions.{has_room}
 use Rattle.kw_world.specs.Sane.{IsCall, IsKnown}
 use Rattle.kw_world.specs.Step.{word}
 use Rattle.kw_core.specs.declared.history.Attempt.{Attempt}

@@ -13,8 +13,8 @@ use Rattle.kw_world.specs.declared.local.Local.{Local}
 use Rattle.kw_world.specs.declared.event.Choice.{Choice}
 use Rattle.kw_world.specs.Sizes.{Sizes}
 use Rattle.kw_world.specs.Calls.{is_scan}
-use Rattle.kw_world.specs.RowScan.{version_settled}
-use Rattle.kw_world.specs.RowWalk.{walk_row, is_stopped}
+use Rattle.kw_world.specs.ScanTransitions.{version_settled}
+use Rattle.kw_world.specs.WalkTransitions.{walk_transition, is_stopped}
 use Rattle.kw_world.specs.Step.{word, followed}
 use Rattle.kw_core.specs.History.{called, Draw, Stands}
 use Rattle.kw_core.specs.Run.{Run}
@@ -48,8 +48,8 @@ IsAfterRead (Cell j) = Unit {0}
 IsAfterRead CellKey = Unit {0}
 IsAfterRead CellValue = Unit {0}
 IsAfterRead Walk = Unit {0}
-IsAfterRead (ClearScan reply) = Unit {0}
-IsAfterRead (Leave reply) = Unit {0}
+IsAfterRead (ClearScan answer) = Unit {0}
+IsAfterRead (Leave answer) = Unit {0}
 IsAfterRead _ = ⊥
 
 -- the next look
@@ -123,7 +123,7 @@ drawn_from z v s choice l LookCount k b e x = inl tt
 drawn_from z v s choice l (Cell j) k b e x = inl tt
 drawn_from z v s choice l CellKey k b e x = inl tt
 drawn_from z v s choice l CellValue k b e x = inl tt
-drawn_from z v s choice l (ClearScan reply) k b e x = inl tt
+drawn_from z v s choice l (ClearScan answer) k b e x = inl tt
 drawn_from z v s choice l ScanSettle k b e x = inr tt
 drawn_from z v s choice l a k (enters n) e x = true_false e n
 drawn_from z v s choice l a k b e x = absurd x
@@ -175,7 +175,7 @@ not_idle_drawn z v s choice l a k (counts_cells next n) x y = cell_version _ _ n
 not_idle_drawn z v s choice l a k (has_no_version j next e n) x y = cell_version _ _ next n
 not_idle_drawn z v s choice l a k (has_other_key next e n) x y = cell_version _ _ next n
 not_idle_drawn z v s choice l a k (gathers next n) x y = cell_version _ _ next n
-not_idle_drawn z v s choice l a k (leaves reply) x y = absurd y
+not_idle_drawn z v s choice l a k (leaves answer) x y = absurd y
 not_idle_drawn z v s choice l ScanSettle k b x y = absurd x
 not_idle_drawn z v s choice l PutClock k b x y = absurd x
 not_idle_drawn z v s choice l Stamp k b x y = absurd x
@@ -200,13 +200,13 @@ covering_draws _ x = absurd x
 
 -- and its word says so
 pub covering_settled : (a : Activity) → IsCovering a → IsSettled a
-covering_settled (ClearScan reply) x = tt
+covering_settled (ClearScan answer) x = tt
 covering_settled _ x = x
 
 -- a scan whose word is settled has its version
 settled_draws : (a : Activity) → IsSettled a → HasDrawn a
-settled_draws (ClearScan reply) x = tt
-settled_draws (Leave reply) x = absurd x
+settled_draws (ClearScan answer) x = tt
+settled_draws (Leave answer) x = absurd x
 settled_draws _ x = x
 
 -- a scan that reads has its version
@@ -237,15 +237,15 @@ settling_scans _ l x k = absurd x
 module _ {z : Sizes} {r r' : Run} {s : ℕ} {choice : Choice} {l l' : Local} where
   -- a walk that is stopped clears the word and leaves
   stopped_clears : Happens z r r' s choice l l' Walk → is_stopped choice l ≡ true → word z r'.world (name.Scan s) ≡ scan_word Quiet
-  stopped_clears h e = (subst (λ b. Changed z r.world.rows (word z r.world) (word z r'.world) (walk_row b s l)) e h.changed).same
+  stopped_clears h e = (subst (λ b. Changed z r.world.rows (word z r.world) (word z r'.world) (walk_transition b s l)) e h.changed).same
 
   -- its seat is on its way no more
   stopped_leaves : Happens z r r' s choice l l' Walk → is_stopped choice l ≡ true → IsSettled l'.activity → ⊥
-  stopped_leaves h e x = subst (λ (k : Local). IsSettled k.activity) (h.next ∙ ap (λ b. (followed (walk_row b s l) (word z r.world (walk_row b s l).operation.name)).local) e) x
+  stopped_leaves h e x = subst (λ (k : Local). IsSettled k.activity) (h.next ∙ ap (λ b. (followed r.world.rows (walk_transition b s l) (word z r.world (walk_transition b s l).operation.name)).local) e) x
 
   -- a walk that is not stopped writes no word
   goes_on_walk : Happens z r r' s choice l l' Walk → is_stopped choice l ≡ false → word z r'.world (name.Scan s) ≡ word z r.world (name.Scan s)
-  goes_on_walk h e = (subst (λ b. Changed z r.world.rows (word z r.world) (word z r'.world) (walk_row b s l)) e h.changed).loaded refl (name.Scan s)
+  goes_on_walk h e = (subst (λ b. Changed z r.world.rows (word z r.world) (word z r'.world) (walk_transition b s l)) e h.changed).loaded refl (name.Scan s)
 
   -- the word of a scan on its way stays
   word_settled : (a : Activity) → Happens z r r' s choice l l' a → IsCovering a → IsSettled l'.activity → word z r'.world (name.Scan s) ≡ word z r.world (name.Scan s)
@@ -256,7 +256,7 @@ module _ {z : Sizes} {r r' : Run} {s : ℕ} {choice : Choice} {l l' : Local} whe
       met false e = goes_on_walk h e
   word_settled ScanWait h c x = absurd c
   word_settled ScanSettle h c x = absurd c
-  word_settled (ClearScan reply) h c x = absurd c
+  word_settled (ClearScan answer) h c x = absurd c
   word_settled a h c x = unwritten a h (name.Scan s) h.seat (λ e. cc)
 
   -- the word is set where a scan begins to wait and where it settles; every other event keeps it or clears it
@@ -268,7 +268,7 @@ module _ {z : Sizes} {r r' : Run} {s : ℕ} {choice : Choice} {l l' : Local} whe
       met false e = inl (goes_on_walk h e)
   word_next ScanWait h n w f = absurd (w (f refl))
   word_next ScanSettle h n w f = absurd (n tt)
-  word_next (ClearScan reply) h n w f = inr h.changed.same
+  word_next (ClearScan answer) h n w f = inr h.changed.same
   word_next a h n w f = inl (unwritten a h (name.Scan s) h.seat (λ e. cc))
 
 -- Whether the word is set.
@@ -331,7 +331,7 @@ cell_settled l j k f (scans_on r w e g o) = tt
 
 -- the scan clears its word
 abbrev IsClear : Activity → Type 0
-IsClear (ClearScan reply) = Unit {0}
+IsClear (ClearScan answer) = Unit {0}
 IsClear _ = ⊥
 
 -- the walk goes on from its start
@@ -343,7 +343,7 @@ start_settled z v s choice l k guess_fails = tt
 -- a scan whose word is settled is in its call
 settled_underway : (a : Activity) → IsSettled a → IsUnderway a
 settled_underway Idle x = absurd x
-settled_underway (Leave reply) x = absurd x
+settled_underway (Leave answer) x = absurd x
 settled_underway _ x = tt
 
 -- a scan on its way goes on, or clears its word
@@ -358,7 +358,7 @@ settled_next z v s choice l a k (counts_cells next n) f x = inl (cell_settled _ 
 settled_next z v s choice l a k (has_no_version j next e n) f x = inl (cell_settled _ _ next f n)
 settled_next z v s choice l a k (has_other_key next e n) f x = inl (cell_settled _ _ next f n)
 settled_next z v s choice l a k (gathers next n) f x = inl (cell_settled _ _ next f n)
-settled_next z v s choice l a k (clears_scan reply) f x = inr (inl tt)
+settled_next z v s choice l a k (clears_scan answer) f x = inr (inl tt)
 settled_next z v s choice l a k (stops e) f x = inr (inr (refl, e))
 settled_next z v s choice l a k (puts_in_last e n) f x = put_not_scan l.call e f
 settled_next z v s choice l a k (puts_before e n) f x = put_not_scan l.call e f
@@ -391,7 +391,7 @@ module _ (z : Sizes) (r r' : Run) (s : ℕ) (choice : Choice) (l : Local) (a : A
   clears = which a h
     where
       which : (c : Activity) → Happens z r r' s choice l l' c → IsClear c → word z r'.world (name.Scan s) ≡ scan_word Quiet
-      which (ClearScan reply) g x = g.changed.same
+      which (ClearScan answer) g x = g.changed.same
       which _ g x = absurd x
 
   -- the scan is at work, or its word is quiet
@@ -439,7 +439,7 @@ settling_no_draw _ x = absurd x
 -- an event that leads to a scan with a version neither begins nor ends a call
 pub drawn_underway : (z : Sizes) (v : Words) (s : ℕ) (choice : Choice) (l : Local) (a : Activity) (k : Local) → Arrow z v s choice l a k → HasDrawn k.activity → IsUnderway a
 drawn_underway z v s choice l a k (begins call e m) x = absurd x
-drawn_underway z v s choice l a k (leaves reply) x = absurd x
+drawn_underway z v s choice l a k (leaves answer) x = absurd x
 drawn_underway z v s choice l a k _ x = tt
 
 -- a waiting scan settles by its own exchange

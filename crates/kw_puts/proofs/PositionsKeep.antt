@@ -17,7 +17,7 @@ use Rattle.std.proofs.Common.{◌==◌, if◌then◌else◌}
 use Rattle.std.proofs.lemmas.Bool.{cases_lt, cases_eq}
 use Rattle.kw_words.specs.Count.{count_of}
 use Rattle.kw_world.specs.declared.event.Choice.TheVariants.{Begin, Go, Guess, Stop}
-use Rattle.kw_world.specs.RowPut.{has_room}
+use Rattle.kw_world.specs.PutTransitions.{has_room}
 use Rattle.kw_core.specs.Run.{seat_after, log_begun, log_gathered, is_at_cell}
 use Rattle.kw_core.proofs.Happens.{found_at}
 use Rattle.std.proofs.lemmas.Option.{same_Some}
@@ -32,8 +32,8 @@ use Rattle.kw_core.proofs.Happens.{Happens, each_seat}
 use Rattle.kw_core.proofs.Arrows.{Arrow}
 use Rattle.std.proofs.Common.{length-append, length-set}
 use Rattle.kw_words.specs.declared.kind.Kind.{Kind}
-use Rattle.kw_world.specs.RowWalk.{start_row, walk_row, is_stopped}
-use Rattle.kw_world.specs.Table.{row}
+use Rattle.kw_world.specs.WalkTransitions.{start_transition, walk_transition, is_stopped}
+use Rattle.kw_world.specs.Table.{transition}
 use Rattle.kw_core.specs.declared.history.Logged.{Logged}
 use Rattle.kw_core.specs.declared.history.CallLog.{CallLog}
 use Rattle.kw_core.specs.HistoryLaws.{IsDraw}
@@ -136,18 +136,18 @@ draws_stable z r r' t k y c n = subst (λ g. Draws (word z r'.world) r'.history 
 -- The acting seat.
 
 -- the event of a draw raises the clock
-draw_raises : (z : Sizes) (r r' : Run) (s : ℕ) (choice : Choice) (l l' : Local) (a : Activity) → Happens z r r' s choice l l' a → IsDraw (row z a s choice l).operation.kind → word z r.world name.Clock < word z r'.world name.Clock
+draw_raises : (z : Sizes) (r r' : Run) (s : ℕ) (choice : Choice) (l l' : Local) (a : Activity) → Happens z r r' s choice l l' a → IsDraw (transition z a s choice l).operation.kind → word z r.world name.Clock < word z r'.world name.Clock
 draw_raises z r r' s choice l l' ScanDraw h d = omega (arith, h.changed.same)
 draw_raises z r r' s choice l l' Start h d = absurd (starts choice d)
   where
-    starts : (c : Choice) → IsDraw (start_row c l).operation.kind → ⊥
+    starts : (c : Choice) → IsDraw (start_transition c l).operation.kind → ⊥
     starts (Begin call) x = x
     starts Go x = x
     starts (Guess q) x = x
     starts Stop x = x
 draw_raises z r r' s choice l l' Walk h d = absurd (walks (is_stopped choice l) d)
   where
-    walks : (b : Bool) → IsDraw (walk_row b s l).operation.kind → ⊥
+    walks : (b : Bool) → IsDraw (walk_transition b s l).operation.kind → ⊥
     walks true x = x
     walks false x = x
 draw_raises z r r' s choice l l' a h d = absurd d
@@ -202,7 +202,7 @@ new_call h h' e z v s choice l g o a c (makes_add m) n x w f = absurd (omega (ar
 new_call h h' e z v s choice l g o a c (makes_announce m) n x w f = absurd (omega (arith, w, f, ap (λ (y : History). length y.calls) n))
 new_call h h' e z v s choice l g o a c (makes_stamp m) n x w f = absurd (omega (arith, w, f, ap (λ (y : History). length y.calls) n, length-set {A = CallLog}))
 new_call h h' e z v s choice l g o a c (makes_help q m k) n x w f = absurd (omega (arith, w, f, ap (λ (y : History). length y.calls) n, length-set {A = CallLog}))
-new_call h h' e z v s choice l g o a c (makes_end reply) n x w f = absurd (omega (arith, w, f, ap (λ (y : History). length y.calls) n, length-set {A = CallLog}))
+new_call h h' e z v s choice l g o a c (makes_end answer) n x w f = absurd (omega (arith, w, f, ap (λ (y : History). length y.calls) n, length-set {A = CallLog}))
 
 -- a call that begins is counted
 idle_number : (z : Sizes) (v : Words) (s : ℕ) (choice : Choice) (l : Local) (a : Activity) (k : Local) → Arrow z v s choice l a k → a ≡ Idle → k.number ≡ l.number + 1
@@ -224,7 +224,7 @@ numbers_own z r r' s choice l a l' b h i st = λ x w e. which x w e (cases_lt x 
 -- the seat's call
 pub calling_own : (z : Sizes) (r r' : Run) (s : ℕ) (choice : Choice) (l : Local) (a : Activity) (l' : Local) → Arrow z (word z r.world) s choice l a l' → Happens z r r' s choice l l' a → Below z r → Step r.history r'.history (log_entry z r a s choice l) → Keeps r'.history → IsBusy l'.activity → Calling r'.history s l'.activity l' (r'.seats s)
 calling_own z r r' s choice l a l' (begins call e m) h i st k p = calling_begins z r r' s choice l _ call e refl refl refl h
-calling_own z r r' s choice l a l' (leaves reply) h i st k p = absurd p
+calling_own z r r' s choice l a l' (leaves answer) h i st k p = absurd p
 calling_own z r r' s choice l a l' b h i st k p = calling_goes_on z r r' s choice l _ l' b h i st k tt
 
 -- the word of the seat's scan

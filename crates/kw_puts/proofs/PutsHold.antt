@@ -8,9 +8,9 @@ use Rattle.kw_world.specs.declared.event.Event.{Event}
 use Rattle.kw_world.specs.declared.local.Local.{Local}
 use Rattle.kw_world.specs.declared.opening.Opening.{Opening}
 use Rattle.kw_world.specs.Opening.{IsOpening}
-use Rattle.kw_world.specs.RowWalk.{offered}
+use Rattle.kw_world.specs.WalkTransitions.{offered}
 use Rattle.kw_world.specs.Sizes.{Sizes}
-use Rattle.kw_world.specs.Step.{word, row_of}
+use Rattle.kw_world.specs.Step.{word, transition_of}
 use Rattle.kw_core.specs.Events.{may_step}
 use Rattle.kw_core.specs.Noted.{MayLog, MayNote}
 use Rattle.kw_core.specs.Run.{Run, goes_on, noted_by, logged, start}
@@ -57,7 +57,7 @@ below_keeps z r r' s choice l a l' h i m =
 
 -- one event that may come
 pub below_goes_on : (z : Sizes) (o : Opening) (r : Run) (e : Event) → Below z r → may_step o r.world e ≡ true → MayTake z r e → Below z (goes_on z r e)
-unfolding row_of
+unfolding transition_of
 below_goes_on z o r e i may m =
     let c = may_come o r.world e may in
     subst (Below z) (sym (goes_on-moved z r e c.local c.knows c.moves))

@@ -6,7 +6,7 @@ use Rattle.std.proofs.lemmas.Option.{same_Some, slice_get_within}
 use Rattle.kw_words.specs.declared.layout.Name.TheVariants as name
 use Rattle.kw_words.specs.declared.pend.Pend.TheVariants as pend
 use Rattle.kw_words.specs.Pend.{pend_word}
-use Rattle.kw_model.specs.declared.call.Reply.{Reply}
+use Rattle.kw_world.specs.declared.answer.Answer.{Answer}
 use Rattle.kw_world.specs.declared.activity.Activity.{Activity}
 use Rattle.kw_world.specs.declared.activity.Activity.TheVariants.{LookHelp, PutClock, Stamp, PutVersion, PutClear, Leave}
 use Rattle.kw_world.specs.declared.local.Local.{Local}
@@ -50,7 +50,7 @@ put_runs h h' x y o n w = which (cases_eq x y)
     which (inr u) = ap (λ q. q.end) (called_set_other h h' y x _ n u)
 
 -- what the change of the acting seat leaves to another one: new attempts, new calls and calls that end are its own
-pub change_apart : (h h' : History) (e : Logged) (z : Sizes) (v : Words) (s : ℕ) (choice : Choice) (l : Local) (g : SeatLog) (o : Origins) (a : Activity) (c : Change) → Makes z v s choice l g o a c → ((reply : Reply) → a ≡ Leave reply → (called h g.call).seat ≡ s) → h' ≡ noted h e c → (t : ℕ) → t ≢ s → RelyHistory h h' t
+pub change_apart : (h h' : History) (e : Logged) (z : Sizes) (v : Words) (s : ℕ) (choice : Choice) (l : Local) (g : SeatLog) (o : Origins) (a : Activity) (c : Change) → Makes z v s choice l g o a c → ((answer : Answer) → a ≡ Leave answer → (called h g.call).seat ≡ s) → h' ≡ noted h e c → (t : ℕ) → t ≢ s → RelyHistory h h' t
 change_apart h h' e z v s choice l g o a c (makes_nothing b) f n t d = record {
   fresh = λ p i w. none_new _ _ p (ap (λ x. length x.attempts) n) i w;
   begun = λ x i w. none_new _ _ x (ap (λ y. length y.calls) n) i w;
@@ -85,10 +85,10 @@ change_apart h h' e z v s choice l g o a c (makes_help q m k) f n t d = record {
   begun = λ x i w. none_new _ _ x (ap (λ y. length y.calls) n ∙ length-set h.calls _ _) i w;
   runs = λ x w y. put_runs h h' x (attempt h q).call _ (ap (λ y. y.calls) n) w;
 }
-change_apart h h' e z v s choice l g o a c (makes_end reply) f n t d = record {
+change_apart h h' e z v s choice l g o a c (makes_end answer) f n t d = record {
   fresh = λ p i w. none_new _ _ p (ap (λ x. length x.attempts) n) i w;
   begun = λ x i w. none_new _ _ x (ap (λ y. length y.calls) n ∙ length-set h.calls _ _) i w;
-  runs = λ x w y. ap (λ q. q.end) (called_set_other h h' g.call x _ (ap (λ y. y.calls) n) (λ u. d (sym y ∙ ap (λ q. (called h q).seat) u ∙ f reply refl)));
+  runs = λ x w y. ap (λ q. q.end) (called_set_other h h' g.call x _ (ap (λ y. y.calls) n) (λ u. d (sym y ∙ ap (λ q. (called h q).seat) u ∙ f answer refl)));
 }
 
 -- The attempt and the put of another seat.
@@ -140,7 +140,7 @@ module _ (z : Sizes) (r r' : Run) (s : ℕ) (choice : Choice) (l l' : Local) (i 
   away a c is m (makes_announce e) n p = owns_apart i.puts t s k l d g m p (subst IsPutting (sym is) tt)
   away a c is m (makes_stamp e) n p = owns_apart i.puts t s k l d g m p (subst IsPutting (sym is) tt)
   away a c is m (makes_help q e f) n p = absurd (n tt)
-  away a c is m (makes_end reply) n p = tt
+  away a c is m (makes_end answer) n p = tt
 
   -- nor is the call that gets a put
   put_away : (a : Activity) (c : Change) → l.activity ≡ a → slice_get r.world.locals s ≡ Some l → Makes z (word z r.world) s choice l (r.seats s) r.origin a c → (IsHelp a → ⊥) → IsBusy k.activity → IsPutAway r.history (r.seats t).call c
@@ -154,7 +154,7 @@ module _ (z : Sizes) (r r' : Run) (s : ℕ) (choice : Choice) (l l' : Local) (i 
       let other = i.positions.calling s l m (subst IsBusy (sym is) tt) in
       d (sym mine.seat ∙ ap (λ q. (called r.history q).seat) (u ∙ own.call) ∙ other.seat)
   put_away a c is m (makes_help q e f) n p = absurd (n tt)
-  put_away a c is m (makes_end reply) n p = tt
+  put_away a c is m (makes_end answer) n p = tt
 
   -- an event that helps no one
   pub entry_apart : (a : Activity) → Happens z r r' s choice l l' a → (IsHelp a → ⊥) → RelyEntry (word z r.world) (word z r'.world) r.history r'.history t k.activity k (r.seats t)

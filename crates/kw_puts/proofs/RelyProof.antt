@@ -11,8 +11,8 @@ use Rattle.std.proofs.Common.{◌==◌, ◌&&◌, if◌then◌else◌}
 use Rattle.std.proofs.lemmas.Bool.{cases_eq, and_parts}
 use Rattle.kw_words.specs.Count.{count_of}
 use Rattle.kw_words.specs.Plain.{key_of_word, value_of_word}
-use Rattle.kw_model.specs.declared.call.Reply.{Reply}
-use Rattle.kw_world.specs.RowPut.{has_room, given_of}
+use Rattle.kw_world.specs.declared.answer.Answer.{Answer}
+use Rattle.kw_world.specs.PutTransitions.{has_room, given_of}
 use Rattle.kw_world.specs.Sane.{IsLocal, IsLocalBelow}
 use Rattle.kw_core.specs.Step.{AttemptStep, as_it_was, is_added, is_announced, is_lost, is_stamped}
 use Rattle.kw_core.specs.Run.{origins_after, with_origin}
@@ -159,10 +159,10 @@ goes_on_by z r r' s choice l a l' h i st =
 pub rely_history : (z : Sizes) (r r' : Run) (s : ℕ) (choice : Choice) (l : Local) (a : Activity) (l' : Local) → Happens z r r' s choice l l' a → Below z r → (t : ℕ) → t ≢ s → RelyHistory r.history r'.history t
 rely_history z r r' s choice l a l' h i t d =
     change_apart r.history r'.history _ z (word z r.world) s choice l (r.seats s) r.origin a _ (made z (word z r.world) s choice l (r.seats s) r.origin a)
-    (λ reply e. (calling reply e).seat) h.history t d
+    (λ answer e. (calling answer e).seat) h.history t d
   where
-    calling : (reply : Reply) → a ≡ Leave reply → Calling r.history s l.activity l (r.seats s)
-    calling reply e = i.positions.calling s l h.knows (subst IsBusy (sym (h.activity ∙ e)) tt)
+    calling : (answer : Answer) → a ≡ Leave answer → Calling r.history s l.activity l (r.seats s)
+    calling answer e = i.positions.calling s l h.knows (subst IsBusy (sym (h.activity ∙ e)) tt)
 
 -- The entry.
 

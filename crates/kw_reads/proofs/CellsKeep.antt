@@ -18,8 +18,8 @@ use Rattle.kw_world.specs.declared.event.Choice.{Choice}
 use Rattle.kw_world.specs.Sizes.{Sizes}
 use Rattle.kw_world.specs.Calls.{is_in_range}
 use Rattle.kw_world.specs.Marks.{version_marked}
-use Rattle.kw_world.specs.RowPut.{given_of}
-use Rattle.kw_world.specs.RowRead.{count_read, version_in_hand, gathering}
+use Rattle.kw_world.specs.PutTransitions.{given_of}
+use Rattle.kw_world.specs.ReadTransitions.{count_read, version_in_hand, gathering}
 use Rattle.kw_world.specs.Step.{word}
 use Rattle.kw_core.specs.History.{History, attempt}
 use Rattle.kw_core.specs.Run.{Run, Origins, log_read}

@@ -1,6 +1,8 @@
 -- The record may note every event: what its laws ask of the log and of the change holds where the event happens.
 use Rattle.std.proofs.Common.{ℕ, suc, ◌≡◌, ◌⊎◌, inl, inr, ◌+◌, ◌<◌, List, [], ◌∷◌, Option, Some, None, true, false, arith, refl, sym, ◌∙◌, ap, subst, length, slice_get}
 use Rattle.kw_words.specs.declared.layout.Name.TheVariants as name
+use Rattle.kw_world.specs.declared.answer.Answer.{Answer}
+use Rattle.kw_world.specs.Answers.{reply_of}
 use Rattle.kw_world.specs.declared.activity.Activity.{Activity}
 use Rattle.kw_world.specs.declared.local.Local.{Local}
 use Rattle.kw_world.specs.declared.event.Choice.{Choice}
@@ -14,7 +16,7 @@ use Rattle.kw_words.proofs.Refusals.{none_unless}
 use Rattle.kw_model.specs.declared.call.Call.{Call}
 use Rattle.kw_model.specs.declared.call.Call.TheVariants.{Put, Del, Get, Scan}
 use Rattle.kw_model.specs.declared.call.Reply.{Reply}
-use Rattle.kw_model.specs.declared.call.Reply.TheVariants.{Done, Value, Absent, Pairs, NoRows, Spent, Stopped}
+use Rattle.kw_world.specs.declared.answer.Answer.TheVariants.{Done, Value, Absent, Pairs, NoRows, Spent, Stopped}
 use Rattle.kw_world.specs.declared.activity.Activity.TheVariants.{Leave}
 use Rattle.kw_world.specs.Calls.{first_key, last_key, put_value, is_scan}
 use Rattle.kw_core.specs.declared.history.Drawn.{Drawn}
@@ -23,7 +25,7 @@ use Rattle.kw_core.specs.HistoryLaws.{Makes, Answers, DrawLogged, RisesWithin}
 use Rattle.kw_core.specs.Noted.{MayStamp}
 use Rattle.kw_core.specs.Step.{MayEnd}
 use Rattle.kw_core.specs.Stages.{IsBusy, IsPutting, IsFresh, IsStamp, HasMet, IsHelp, IsPublished, IsDone, HasDrawn}
-use Rattle.kw_shape.specs.Shape.{IsPutCall, IsReplyOf, IsKind}
+use Rattle.kw_shape.specs.Shape.{IsPutCall, IsAnswerOf, IsKind}
 use Rattle.kw_reads.specs.Replies.{RisesBelow, IsCovered, IsAnswered, Covers}
 use Rattle.std.proofs.lemmas.Option.{same_Some}
 use Rattle.kw_puts.proofs.Owners.{true_false, is_own, pending_entry, published_puts, puts_busy, entry_owner}
@@ -33,8 +35,8 @@ use Rattle.kw_core.specs.Run.{Run, change_of, answering, drawing}
 use Rattle.kw_reads.specs.Inv.{Inv, lower}
 use Rattle.kw_world.specs.declared.event.Event.{Event}
 use Rattle.kw_world.specs.declared.opening.Opening.{Opening}
-use Rattle.kw_world.specs.RowWalk.{offered}
-use Rattle.kw_world.specs.Step.{row_of}
+use Rattle.kw_world.specs.WalkTransitions.{offered}
+use Rattle.kw_world.specs.Step.{transition_of}
 use Rattle.kw_core.specs.Events.{may_step}
 use Rattle.kw_core.specs.Happenings.{happening_at, logged_of}
 use Rattle.kw_core.specs.Run.{found_by, noted_by}
@@ -62,35 +64,35 @@ module _ (z : Sizes) (r r' : Run) (s : ℕ) (choice : Choice) (l l' : Local) (i 
   }
 
   -- a call that ends is answered as its kind is
-  answers_call : (c : Call) (reply : Reply) (put : Option ℕ) → IsReplyOf (Some c) reply → (IsDone (Leave reply) → (p : ℕ) × (put ≡ Some p)) → ((p : ℕ) → put ≡ Some p → IsDone (Leave reply)) → Answers c put reply
-  answers_call (Put key value) Done put f d n = d tt
-  answers_call (Put key value) NoRows put f d n = none_unless put (λ p e. n p e)
-  answers_call (Put key value) Spent put f d n = absurd f
-  answers_call (Put key value) (Value x) put f d n = absurd f
-  answers_call (Put key value) Absent put f d n = absurd f
-  answers_call (Put key value) (Pairs x) put f d n = absurd f
-  answers_call (Put key value) Stopped put f d n = absurd f
-  answers_call (Del key) Done put f d n = d tt
-  answers_call (Del key) NoRows put f d n = none_unless put (λ p e. n p e)
-  answers_call (Del key) Spent put f d n = absurd f
-  answers_call (Del key) (Value x) put f d n = absurd f
-  answers_call (Del key) Absent put f d n = absurd f
-  answers_call (Del key) (Pairs x) put f d n = absurd f
-  answers_call (Del key) Stopped put f d n = absurd f
-  answers_call (Get key) Done put f d n = absurd f
-  answers_call (Get key) NoRows put f d n = absurd f
-  answers_call (Get key) Spent put f d n = absurd f
-  answers_call (Get key) (Value x) put f d n = tt
-  answers_call (Get key) Absent put f d n = tt
-  answers_call (Get key) (Pairs x) put f d n = absurd f
-  answers_call (Get key) Stopped put f d n = absurd f
-  answers_call (Scan from upto) Done put f d n = absurd f
-  answers_call (Scan from upto) NoRows put f d n = absurd f
-  answers_call (Scan from upto) Spent put f d n = tt
-  answers_call (Scan from upto) (Value x) put f d n = absurd f
-  answers_call (Scan from upto) Absent put f d n = absurd f
-  answers_call (Scan from upto) (Pairs x) put f d n = tt
-  answers_call (Scan from upto) Stopped put f d n = tt
+  answers_call : (c : Call) (answer : Answer) (pairs : List (ℕ × ℕ)) (put : Option ℕ) → IsAnswerOf (Some c) answer → (IsDone (Leave answer) → (p : ℕ) × (put ≡ Some p)) → ((p : ℕ) → put ≡ Some p → IsDone (Leave answer)) → Answers c put (reply_of answer pairs)
+  answers_call (Put key value) Done pairs put f d n = d tt
+  answers_call (Put key value) NoRows pairs put f d n = none_unless put (λ p e. n p e)
+  answers_call (Put key value) Spent pairs put f d n = absurd f
+  answers_call (Put key value) (Value x) pairs put f d n = absurd f
+  answers_call (Put key value) Absent pairs put f d n = absurd f
+  answers_call (Put key value) Pairs pairs put f d n = absurd f
+  answers_call (Put key value) Stopped pairs put f d n = absurd f
+  answers_call (Del key) Done pairs put f d n = d tt
+  answers_call (Del key) NoRows pairs put f d n = none_unless put (λ p e. n p e)
+  answers_call (Del key) Spent pairs put f d n = absurd f
+  answers_call (Del key) (Value x) pairs put f d n = absurd f
+  answers_call (Del key) Absent pairs put f d n = absurd f
+  answers_call (Del key) Pairs pairs put f d n = absurd f
+  answers_call (Del key) Stopped pairs put f d n = absurd f
+  answers_call (Get key) Done pairs put f d n = absurd f
+  answers_call (Get key) NoRows pairs put f d n = absurd f
+  answers_call (Get key) Spent pairs put f d n = absurd f
+  answers_call (Get key) (Value x) pairs put f d n = tt
+  answers_call (Get key) Absent pairs put f d n = tt
+  answers_call (Get key) Pairs pairs put f d n = absurd f
+  answers_call (Get key) Stopped pairs put f d n = absurd f
+  answers_call (Scan from upto) Done pairs put f d n = absurd f
+  answers_call (Scan from upto) NoRows pairs put f d n = absurd f
+  answers_call (Scan from upto) Spent pairs put f d n = tt
+  answers_call (Scan from upto) (Value x) pairs put f d n = absurd f
+  answers_call (Scan from upto) Absent pairs put f d n = absurd f
+  answers_call (Scan from upto) Pairs pairs put f d n = tt
+  answers_call (Scan from upto) Stopped pairs put f d n = tt
 
 -- a call of this kind makes the attempt
 makes_call : (c : Call) → IsPutCall (Some c) → Makes c (first_key (Some c)) (put_value (Some c))
@@ -105,17 +107,17 @@ rises_within low upto [] h = tt
 rises_within low upto (p ∷ pairs) h = (h.0, omega (arith, h.1), rises_within (suc p.0) upto pairs h.2)
 
 -- what is known of a call where it ends
-may_end : (z : Sizes) (r : Run) (s : ℕ) (l : Local) → Inv z r → slice_get r.world.locals s ≡ Some l → (c : Call) (reply : Reply) → l.activity ≡ Leave reply → l.call ≡ Some c → MayEnd r.history c (called r.history (r.seats s).call).first reply (answering (Some c) l (r.seats s)) (drawing reply l (r.seats s))
-may_end z r s l i k (Put key value) reply a e = tt
-may_end z r s l i k (Del key) reply a e = tt
-may_end z r s l i k (Get key) reply a e =
+may_end : (z : Sizes) (r : Run) (s : ℕ) (l : Local) → Inv z r → slice_get r.world.locals s ≡ Some l → (c : Call) (answer : Answer) → l.activity ≡ Leave answer → l.call ≡ Some c → MayEnd r.history c (called r.history (r.seats s).call).first (reply_of answer l.pairs) (answering (Some c) l (r.seats s)) (drawing answer l (r.seats s))
+may_end z r s l i k (Put key value) answer a e = tt
+may_end z r s l i k (Del key) answer a e = tt
+may_end z r s l i k (Get key) answer a e =
     let x = i.replies.answers s l k in
-    let y : IsAnswered (Leave reply) (Some (Get key)) r.history l (r.seats s) = subst (λ q. IsAnswered (Leave reply) q r.history l (r.seats s)) e (subst (λ q. IsAnswered q l.call r.history l (r.seats s)) a x) in
+    let y : IsAnswered (Leave answer) (Some (Get key)) r.history l (r.seats s) = subst (λ q. IsAnswered (Leave answer) q r.history l (r.seats s)) e (subst (λ q. IsAnswered q l.call r.history l (r.seats s)) a x) in
     (_, y, λ v u. refl)
-may_end z r s l i k (Scan from upto) (Pairs pairs) a e =
-    let x : IsCovered (Leave (Pairs pairs)) r.history l (r.seats s) = subst (λ q. IsCovered q r.history l (r.seats s)) a (i.replies.pairs s l k).covered in
-    let y : Covers r.history from l.version (r.seats s).drawn (upto + 1) pairs = subst (λ q. Covers r.history (first_key q) l.version (r.seats s).drawn (last_key q + 1) pairs) e x in
-    (record { at = (r.seats s).drawn; version = l.version }, refl, (i.positions.draws s l k).drawn_first (ap is_scan e) (subst HasDrawn (sym a) tt), rises_within from upto pairs y.rises, λ key o w. y.keys key o (omega (arith, w)))
+may_end z r s l i k (Scan from upto) Pairs a e =
+    let x : IsCovered (Leave Pairs) r.history l (r.seats s) = subst (λ q. IsCovered q r.history l (r.seats s)) a (i.replies.pairs s l k).covered in
+    let y : Covers r.history from l.version (r.seats s).drawn (upto + 1) l.pairs = subst (λ q. Covers r.history (first_key q) l.version (r.seats s).drawn (last_key q + 1) l.pairs) e x in
+    (record { at = (r.seats s).drawn; version = l.version }, refl, (i.positions.draws s l k).drawn_first (ap is_scan e) (subst HasDrawn (sym a) tt), rises_within from upto l.pairs y.rises, λ key o w. y.keys key o (omega (arith, w)))
 may_end z r s l i k (Scan from upto) Done a e = tt
 may_end z r s l i k (Scan from upto) (Value x) a e = tt
 may_end z r s l i k (Scan from upto) Absent a e = tt
@@ -123,19 +125,19 @@ may_end z r s l i k (Scan from upto) NoRows a e = tt
 may_end z r s l i k (Scan from upto) Spent a e = tt
 may_end z r s l i k (Scan from upto) Stopped a e = tt
 
--- pairs are the reply of a scan
-pairs_of_scan : (c : Option Call) (pairs : List (ℕ × ℕ)) → IsReplyOf c (Pairs pairs) → is_scan c ≡ true
-pairs_of_scan (Some (Put key value)) pairs h = absurd h
-pairs_of_scan (Some (Del key)) pairs h = absurd h
-pairs_of_scan (Some (Get key)) pairs h = absurd h
-pairs_of_scan (Some (Scan from upto)) pairs h = refl
-pairs_of_scan None pairs h = absurd h
+-- pairs are the answer of a scan
+pairs_of_scan : (c : Option Call) → IsAnswerOf c Pairs → is_scan c ≡ true
+pairs_of_scan (Some (Put key value)) h = absurd h
+pairs_of_scan (Some (Del key)) h = absurd h
+pairs_of_scan (Some (Get key)) h = absurd h
+pairs_of_scan (Some (Scan from upto)) h = refl
+pairs_of_scan None h = absurd h
 
 -- where a scan that ends with pairs drew
-may_draw : (z : Sizes) (r : Run) (s : ℕ) (l : Local) → Inv z r → slice_get r.world.locals s ≡ Some l → (reply : Reply) → l.activity ≡ Leave reply → (d : Drawn) → drawing reply l (r.seats s) ≡ Some d → DrawLogged r.history d × (d.version < word z r.world name.Clock)
-may_draw z r s l i k (Pairs pairs) a d e =
+may_draw : (z : Sizes) (r : Run) (s : ℕ) (l : Local) → Inv z r → slice_get r.world.locals s ≡ Some l → (answer : Answer) → l.activity ≡ Leave answer → (d : Drawn) → drawing answer l (r.seats s) ≡ Some d → DrawLogged r.history d × (d.version < word z r.world name.Clock)
+may_draw z r s l i k Pairs a d e =
     let x = i.positions.draws s l k in
-    let scan = pairs_of_scan l.call pairs (subst (λ q. IsKind q l) a (i.shape.kinds s l k).kind) in
+    let scan = pairs_of_scan l.call (subst (λ q. IsKind q l) a (i.shape.kinds s l k).kind) in
     let t = x.drawn scan (subst HasDrawn (sym a) tt) in
     subst (λ (q : Drawn). DrawLogged r.history q × (q.version < word z r.world name.Clock)) (same_Some _ d e)
     (record { kind = Draw; is_draw = tt; stands = t; later = λ y j c o u. i.positions.clocked.rises _ y Draw j l.version c tt t u o }, i.positions.clocked.drawn _ Draw l.version tt t)
@@ -179,21 +181,21 @@ may_make z r r' s choice l a l' c (makes_help p e f) h i =
     (rw same w.unstamped) (rw same own.kept) (rw (same, own.call) x.runs) (rw (same, own.call) x.own)
     (subst (λ q. (attempt r.history q).announced < (r.seats s).loaded) is_put (helper.after (subst IsHelp (sym h.activity) tt)))
     (helper.loaded (subst IsHelp (sym h.activity) tt))
-may_make z r r' s choice l a l' c (makes_end reply) h i =
+may_make z r r' s choice l a l' c (makes_end answer) h i =
     let x = i.positions.calling s l h.knows (subst IsBusy (sym h.activity) tt) in
-    let kind : IsReplyOf l.call reply = subst (λ q. IsKind q l) h.activity (i.shape.kinds s l h.knows).kind in (
+    let kind : IsAnswerOf l.call answer = subst (λ q. IsKind q l) h.activity (i.shape.kinds s l h.knows).kind in (
       x.within,
       x.runs,
-      answers_call z r r' s choice l l' i (called r.history (r.seats s).call).call reply (called r.history (r.seats s).call).put (subst (λ q. IsReplyOf q reply) x.call kind)
+      answers_call z r r' s choice l l' i (called r.history (r.seats s).call).call answer l.pairs (called r.history (r.seats s).call).put (subst (λ q. IsAnswerOf q answer) x.call kind)
           (λ y. x.done (subst IsDone (sym h.activity) y))
-          (λ p y. leave_done reply (subst (λ q. IsPublished q ⊎ IsDone q) h.activity (x.published p y))),
-      λ d y. may_draw z r s l i h.knows reply h.activity d y,
-      subst (λ q. MayEnd r.history (called r.history (r.seats s).call).call (called r.history (r.seats s).call).first reply (answering q l (r.seats s)) (drawing reply l (r.seats s))) (sym x.call) (may_end z r s l i h.knows (called r.history (r.seats s).call).call reply h.activity x.call),
+          (λ p y. leave_done answer (subst (λ q. IsPublished q ⊎ IsDone q) h.activity (x.published p y))),
+      λ d y. may_draw z r s l i h.knows answer h.activity d y,
+      subst (λ q. MayEnd r.history (called r.history (r.seats s).call).call (called r.history (r.seats s).call).first (reply_of answer l.pairs) (answering q l (r.seats s)) (drawing answer l (r.seats s))) (sym x.call) (may_end z r s l i h.knows (called r.history (r.seats s).call).call answer h.activity x.call),
     )
   where
-    leave_done : (reply : Reply) → IsPublished (Leave reply) ⊎ IsDone (Leave reply) → IsDone (Leave reply)
-    leave_done reply (inl y) = absurd y
-    leave_done reply (inr y) = y
+    leave_done : (answer : Answer) → IsPublished (Leave answer) ⊎ IsDone (Leave answer) → IsDone (Leave answer)
+    leave_done answer (inl y) = absurd y
+    leave_done answer (inr y) = y
 
 pub may_note : (z : Sizes) (r r' : Run) (s : ℕ) (choice : Choice) (l : Local) (a : Activity) (l' : Local) → Happens z r r' s choice l l' a → Inv z r →
     MayNote r.history (log_entry z r a s choice l) (change_at z r a s choice l)
@@ -205,7 +207,7 @@ history_step z r r' s choice l a l' h i = noted_is_step z r r' s choice l a l' h
 
 -- the record may note the event that comes
 pub may_take : (z : Sizes) (o : Opening) (r : Run) (e : Event) → Inv z r → may_step o r.world e ≡ true → MayTake z r e
-unfolding row_of
+unfolding transition_of
 may_take z o r e i may l knows =
     let c = may_come o r.world e may in
     let same : c.local ≡ l = same_Some c.local l (sym c.knows ∙ knows) in

@@ -7,7 +7,7 @@ use Rattle.kw_world.specs.Sizes.{Sizes}
 use Rattle.kw_world.specs.declared.event.Event.{Event}
 use Rattle.kw_world.specs.declared.opening.Opening.{Opening}
 use Rattle.kw_world.specs.Opening.{IsOpening}
-use Rattle.kw_world.specs.RowWalk.{offered}
+use Rattle.kw_world.specs.WalkTransitions.{offered}
 use Rattle.kw_core.specs.Events.{may_step, is_valid}
 use Rattle.kw_core.specs.Run.{Run, goes_on, noted_by, history}
 use Rattle.kw_reads.specs.Inv.{Inv, lower}

@@ -18,7 +18,7 @@ use Rattle.kw_world.specs.Sizes.{Sizes}
 use Rattle.kw_world.specs.Calls.{is_in_range}
 use Rattle.kw_world.specs.declared.marks.Mark.{Mark}
 use Rattle.kw_world.specs.Marks.{mark_of}
-use Rattle.kw_world.specs.RowRead.{remembering}
+use Rattle.kw_world.specs.ReadTransitions.{remembering}
 use Rattle.kw_words.specs.declared.sizes.TheConstants.{MOST_CELLS}
 use Rattle.kw_world.specs.Sane.{IsActivity, IsLocal}
 use Rattle.kw_world.specs.Step.{word}

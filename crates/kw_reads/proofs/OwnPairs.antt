@@ -1,11 +1,13 @@
 -- The pairs of a scan and the answer of a get over the seat's own event: they grow where a row has been read to its end.
 use Rattle.std.proofs.Common.{ℕ, ◌≡◌, ◌⊎◌, inl, inr, ◌+◌, ◌<◌, ◌≤◌, true, false, Option, Some, None, List, [], ◌++◌, arith, refl, sym, ◌∙◌, ap, subst, length}
 use Rattle.kw_cells.specs.Cells.{shown_at, pairs_of}
-use Rattle.kw_model.specs.Map.{found}
+use Rattle.kw_world.proofs.Replies.{reply_of-found}
 use Rattle.kw_model.specs.declared.call.Call.{Call}
 use Rattle.kw_model.specs.declared.call.Call.TheVariants.{Put, Del, Get, Scan}
 use Rattle.kw_model.specs.declared.call.Reply.{Reply}
-use Rattle.kw_model.specs.declared.call.Reply.TheVariants.{Done, Value, Absent, Pairs, NoRows, Spent, Stopped}
+use Rattle.kw_world.specs.declared.answer.Answer.TheVariants.{Done, Value, Absent, Pairs, NoRows, Spent, Stopped}
+use Rattle.kw_world.specs.declared.answer.Answer.{Answer}
+use Rattle.kw_world.specs.Answers.{answer_found}
 use Rattle.kw_world.specs.declared.activity.Activity.{Activity}
 use Rattle.kw_world.specs.declared.activity.Activity.TheVariants.{ScanSettle, Start, LookCount, Cell, CellKey, CellValue, ClearScan, Leave}
 use Rattle.kw_world.specs.declared.local.Local.{Local}
@@ -14,14 +16,15 @@ use Rattle.kw_world.specs.declared.event.Choice.{Choice}
 use Rattle.kw_world.specs.declared.event.Choice.TheVariants.{Begin, Go, Guess, Stop}
 use Rattle.kw_world.specs.Sizes.{Sizes}
 use Rattle.kw_world.specs.Calls.{first_key, last_key, is_scan, is_range_empty}
-use Rattle.kw_world.specs.RowScan.{reply_or_stopped}
+use Rattle.kw_world.specs.ScanTransitions.{answer_or_stopped}
 use Rattle.kw_world.specs.Step.{word}
 use Rattle.kw_core.specs.History.{History, called}
-use Rattle.kw_core.specs.Run.{Run, Origins, is_at_cell}
+use Rattle.kw_core.specs.Run.{Run, Origins, is_at_cell, best_id}
 use Rattle.kw_core.specs.declared.seat_log.SeatLog.{SeatLog}
 use Rattle.kw_core.specs.Stages.{IsAtRow, IsPastStart, IsCovering, IsEarly, IsReading, IsKeeping, IsSettling, IsUnderway}
 use Rattle.kw_core.specs.Words.{Words, least_in}
 use Rattle.kw_shape.specs.Shape.{IsAtItsRow, IsPutCall, IsScanCall, Walks}
+use Rattle.kw_core.specs.HistoryLaws.{GetKey}
 use Rattle.kw_reads.specs.Readers.{IsDue, AreCopies, Readers}
 use Rattle.kw_reads.specs.Replies.{Covers, HasPairs, IsCovered, IsAnswered}
 use Rattle.kw_core.proofs.Lasts.{scan_lasts}
@@ -163,7 +166,7 @@ module _ (z : Sizes) (r r' : Run) (s : ℕ) (choice : Choice) (l : Local) (a : A
 -- The arrows that change the pairs.
 
 -- the answer of a get has no pairs
-found_covered : (x : Option ℕ) (h : History) (l : Local) (g : SeatLog) → IsCovered (Leave (found x)) h l g
+found_covered : (x : Option ℕ) (h : History) (l : Local) (g : SeatLog) → IsCovered (Leave (answer_found x)) h l g
 found_covered (Some v) h l g = tt
 found_covered None h l g = tt
 
@@ -182,11 +185,11 @@ pub no_pairs : (h : History) (call : Option Call) (version drawn : ℕ) → is_r
 no_pairs h call version drawn e = record { rises = tt; keys = λ key o u. absurd (omega (arith, o, u, below (last_key call) (first_key call) e)) }
 
 -- a scan that is over leaves with what it has, unless it is stopped
-pub leave_covered : (h h' : History) (o o' : Origins) (l : Local) (k : Local) (g : SeatLog) (reply : Reply) (choice : Choice) → GoesOn h h' o o' → g.drawn ≤ length h.log → k.call ≡ l.call → k.version ≡ l.version → IsCovered (ClearScan reply) h l g → IsCovered (Leave (reply_or_stopped reply choice)) h' k g
-leave_covered h h' o o' l k g reply choice y w c v x = chosen choice
+pub leave_covered : (h h' : History) (o o' : Origins) (l : Local) (k : Local) (g : SeatLog) (answer : Answer) (choice : Choice) → GoesOn h h' o o' → g.drawn ≤ length h.log → k.call ≡ l.call → k.version ≡ l.version → k.pairs ≡ l.pairs → IsCovered (ClearScan answer) h l g → IsCovered (Leave (answer_or_stopped answer choice)) h' k g
+leave_covered h h' o o' l k g answer choice y w c v p x = chosen choice
   where
-    kept : (q : Reply) → IsCovered (ClearScan q) h l g → IsCovered (Leave q) h' k g
-    kept (Pairs pairs) x = rw (c, v) (covers_last h h' o o' _ _ _ _ _ y w x)
+    kept : (q : Answer) → IsCovered (ClearScan q) h l g → IsCovered (Leave q) h' k g
+    kept Pairs x = rw (c, v, p) (covers_last h h' o o' _ _ _ _ _ y w x)
     kept Done x = tt
     kept (Value n) x = tt
     kept Absent x = tt
@@ -194,10 +197,10 @@ leave_covered h h' o o' l k g reply choice y w c v x = chosen choice
     kept Spent x = tt
     kept Stopped x = tt
 
-    chosen : (q : Choice) → IsCovered (Leave (reply_or_stopped reply q)) h' k g
-    chosen (Begin call) = kept reply x
-    chosen Go = kept reply x
-    chosen (Guess n) = kept reply x
+    chosen : (q : Choice) → IsCovered (Leave (answer_or_stopped answer q)) h' k g
+    chosen (Begin call) = kept answer x
+    chosen Go = kept answer x
+    chosen (Guess n) = kept answer x
     chosen Stop = tt
 
 -- a seat at the end of a row does not settle
@@ -262,28 +265,28 @@ cell_pairs z r r' s choice l a m j l' b h i n x q (scans_on k w e f o) = record 
 -- The answer of a get.
 
 -- a put has no answer of a get
-pub put_answered : (c : Option Call) (reply : Reply) (h : History) (l : Local) (g : SeatLog) → IsPutCall c → IsAnswered (Leave reply) c h l g
-put_answered (Some (Put key value)) reply h l g x = tt
-put_answered (Some (Del key)) reply h l g x = tt
-put_answered (Some (Get key)) reply h l g x = absurd x
-put_answered (Some (Scan from upto)) reply h l g x = tt
-put_answered None reply h l g x = tt
+pub put_answered : (c : Option Call) (answer : Answer) (h : History) (l : Local) (g : SeatLog) → IsPutCall c → IsAnswered (Leave answer) c h l g
+put_answered (Some (Put key value)) answer h l g x = tt
+put_answered (Some (Del key)) answer h l g x = tt
+put_answered (Some (Get key)) answer h l g x = absurd x
+put_answered (Some (Scan from upto)) answer h l g x = tt
+put_answered None answer h l g x = tt
 
 -- nor has a scan
-pub scan_answered : (c : Option Call) (reply : Reply) (h : History) (l : Local) (g : SeatLog) → is_scan c ≡ true → IsAnswered (Leave reply) c h l g
-scan_answered (Some (Put key value)) reply h l g x = tt
-scan_answered (Some (Del key)) reply h l g x = tt
-scan_answered (Some (Get key)) reply h l g x = true_false x refl
-scan_answered (Some (Scan from upto)) reply h l g x = tt
-scan_answered None reply h l g x = tt
+pub scan_answered : (c : Option Call) (answer : Answer) (h : History) (l : Local) (g : SeatLog) → is_scan c ≡ true → IsAnswered (Leave answer) c h l g
+scan_answered (Some (Put key value)) answer h l g x = tt
+scan_answered (Some (Del key)) answer h l g x = tt
+scan_answered (Some (Get key)) answer h l g x = true_false x refl
+scan_answered (Some (Scan from upto)) answer h l g x = tt
+scan_answered None answer h l g x = tt
 
 -- nor has a call that is a scan
-pub scan_call_answered : (c : Option Call) (reply : Reply) (h : History) (l : Local) (g : SeatLog) → IsScanCall c → IsAnswered (Leave reply) c h l g
-scan_call_answered (Some (Put key value)) reply h l g x = tt
-scan_call_answered (Some (Del key)) reply h l g x = tt
-scan_call_answered (Some (Get key)) reply h l g x = absurd x
-scan_call_answered (Some (Scan from upto)) reply h l g x = tt
-scan_call_answered None reply h l g x = tt
+pub scan_call_answered : (c : Option Call) (answer : Answer) (h : History) (l : Local) (g : SeatLog) → IsScanCall c → IsAnswered (Leave answer) c h l g
+scan_call_answered (Some (Put key value)) answer h l g x = tt
+scan_call_answered (Some (Del key)) answer h l g x = tt
+scan_call_answered (Some (Get key)) answer h l g x = absurd x
+scan_call_answered (Some (Scan from upto)) answer h l g x = tt
+scan_call_answered None answer h l g x = tt
 
 -- a reader that goes on to the next cell, or has read its row
 pub cell_answered : (z : Sizes) (r r' : Run) (s : ℕ) (choice : Choice) (l : Local) (a : Activity) (m : Local) (j : ℕ) (l' : Local) → Arrow z (word z r.world) s choice l a l' → Happens z r r' s choice l l' a → Before z r r' → Readers z r' → IsEnding a → SameRead l m → NextCell m j l' → IsAnswered l'.activity l'.call r'.history l' (r'.seats s)
@@ -305,11 +308,11 @@ cell_answered z r r' s choice l a m j l' b h i n x q (answers w e) = which m.cal
     read : HasReadRow z r' m (r'.seats s)
     read = read_row z r r' s choice l a l' b h i n x m q (record { call = refl; gathered = refl; keeping = tt; no_cell = refl })
 
-    get : (key : ℕ) → m.call ≡ Some (Get key) → IsAnswered (Leave (found (shown_at m.gathered NEWEST key))) (Some (Get key)) r'.history l' (r'.seats s)
-    get key c = get_known z r' i.after.shape i.after.history i.after.puts i.after.positions m (r'.seats s) read key (called r'.history (r'.seats s).call).first (want ∙ ap first_key c)
-        (in_range_of m.call key (omega (arith, ap first_key c)) (omega (arith, ap last_key c))) (omega (arith, first_before_look z r r' s choice l a l' b h i t.0 t.4))
+    get : (key : ℕ) → m.call ≡ Some (Get key) → IsAnswered (Leave (answer_found (shown_at m.gathered NEWEST key))) (Some (Get key)) r'.history l' (r'.seats s)
+    get key c = subst (λ x. GetKey r'.history key (called r'.history (r'.seats s).call).first x (best_id m.gathered (r'.seats s).ids key NEWEST)) (sym (reply_of-found (shown_at m.gathered NEWEST key) m.pairs)) (get_known z r' i.after.shape i.after.history i.after.puts i.after.positions m (r'.seats s) read key (called r'.history (r'.seats s).call).first (want ∙ ap first_key c)
+        (in_range_of m.call key (omega (arith, ap first_key c)) (omega (arith, ap last_key c))) (omega (arith, first_before_look z r r' s choice l a l' b h i t.0 t.4)))
 
-    which : (c : Option Call) → m.call ≡ c → IsAnswered (Leave (found (shown_at m.gathered NEWEST (first_key c)))) c r'.history l' (r'.seats s)
+    which : (c : Option Call) → m.call ≡ c → IsAnswered (Leave (answer_found (shown_at m.gathered NEWEST (first_key c)))) c r'.history l' (r'.seats s)
     which (Some (Put key value)) c = tt
     which (Some (Del key)) c = tt
     which (Some (Get key)) c = get key c

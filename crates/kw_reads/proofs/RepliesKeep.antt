@@ -1,5 +1,8 @@
 -- Every event keeps what holds of the pairs of scans and the answers of gets.
-use Rattle.std.proofs.Common.{ℕ, ◌≤◌, Option, Some, arith, refl, sym, subst, length}
+use Rattle.std.proofs.Common.{ℕ, ◌+◌, ◌≤◌, Option, Some, arith, refl, sym, subst, length}
+use Rattle.kw_world.specs.declared.answer.Answer.{Answer}
+use Rattle.kw_world.specs.Calls.{first_key, last_key}
+use Rattle.kw_world.specs.Answers.{reply_of}
 use Rattle.kw_world.specs.declared.activity.Activity.{Activity}
 use Rattle.kw_world.specs.declared.activity.Activity.TheVariants.{Idle, Enter, ScanClock, ScanWait, ScanDraw, ScanSettle, Look, LookKey, LookClock, LookHelp, LookCount, Cell, CellKey, CellValue, ClearScan, Leave}
 use Rattle.kw_world.specs.declared.local.Local.{Local}
@@ -7,15 +10,14 @@ use Rattle.kw_world.specs.declared.event.Choice.{Choice}
 use Rattle.kw_world.specs.Sizes.{Sizes}
 use Rattle.kw_model.specs.declared.call.Call.{Call}
 use Rattle.kw_model.specs.declared.call.Call.TheVariants.{Get}
-use Rattle.kw_model.specs.declared.call.Reply.{Reply}
-use Rattle.kw_model.specs.declared.call.Reply.TheVariants.{Done, Value, Absent, Pairs, NoRows, Spent, Stopped}
+use Rattle.kw_world.specs.declared.answer.Answer.TheVariants.{Done, Value, Absent, Pairs, NoRows, Spent, Stopped}
 use Rattle.kw_world.specs.Step.{word}
 use Rattle.kw_core.specs.History.{History, called}
 use Rattle.kw_core.specs.Step.{Keeps}
 use Rattle.kw_core.specs.Run.{Run}
 use Rattle.kw_core.specs.declared.seat_log.SeatLog.{SeatLog}
 use Rattle.kw_core.specs.Stages.{IsBusy, IsStaying}
-use Rattle.kw_reads.specs.Replies.{IsCovered}
+use Rattle.kw_reads.specs.Replies.{IsCovered, Covers}
 use Rattle.kw_core.specs.Words.{Words}
 use Rattle.kw_puts.specs.Positions.{Calling}
 use Rattle.kw_reads.specs.Readers.{Readers}
@@ -28,9 +30,8 @@ use Rattle.kw_puts.proofs.Rely.{Rely}
 use Rattle.kw_reads.proofs.Relying.{rely}
 use Rattle.kw_reads.proofs.ReadersKeep.{Before}
 use Rattle.std.proofs.lemmas.Bool.{and_parts}
-use Rattle.kw_model.specs.declared.call.Reply.{Reply}
-use Rattle.kw_world.specs.Row.{leave}
-use Rattle.kw_world.specs.RowScan.{reply_or_stopped}
+use Rattle.kw_world.specs.Transition.{leave}
+use Rattle.kw_world.specs.ScanTransitions.{answer_or_stopped}
 use Rattle.kw_core.specs.Stages.{IsEarly}
 use Rattle.kw_shape.specs.Shape.{IsKind}
 use Rattle.kw_puts.proofs.Owners.{true_false}
@@ -51,8 +52,8 @@ pairs_stable z r r' t k y d n = subst (λ g. HasPairs r'.history k.activity k g)
   covered = covered k.activity n.covered;
 })
   where
-    ended : (reply : Reply) → IsCovered (Leave reply) r.history k (r.seats t) → IsCovered (Leave reply) r'.history k (r.seats t)
-    ended (Pairs pairs) x = covers_last r.history r'.history r.origin r'.origin _ _ _ _ _ y.goes_on d x
+    ended : (answer : Answer) → IsCovered (Leave answer) r.history k (r.seats t) → IsCovered (Leave answer) r'.history k (r.seats t)
+    ended Pairs x = covers_last r.history r'.history r.origin r'.origin _ _ _ _ _ y.goes_on d x
     ended Done x = tt
     ended (Value v) x = tt
     ended Absent x = tt
@@ -60,8 +61,8 @@ pairs_stable z r r' t k y d n = subst (λ g. HasPairs r'.history k.activity k g)
     ended Spent x = tt
     ended Stopped x = tt
 
-    cleared : (reply : Reply) → IsCovered (ClearScan reply) r.history k (r.seats t) → IsCovered (ClearScan reply) r'.history k (r.seats t)
-    cleared (Pairs pairs) x = covers_last r.history r'.history r.origin r'.origin _ _ _ _ _ y.goes_on d x
+    cleared : (answer : Answer) → IsCovered (ClearScan answer) r.history k (r.seats t) → IsCovered (ClearScan answer) r'.history k (r.seats t)
+    cleared Pairs x = covers_last r.history r'.history r.origin r'.origin _ _ _ _ _ y.goes_on d x
     cleared Done x = tt
     cleared (Value v) x = tt
     cleared Absent x = tt
@@ -70,8 +71,8 @@ pairs_stable z r r' t k y d n = subst (λ g. HasPairs r'.history k.activity k g)
     cleared Stopped x = tt
 
     covered : (a : Activity) → IsCovered a r.history k (r.seats t) → IsCovered a r'.history k (r.seats t)
-    covered (Leave reply) x = ended reply x
-    covered (ClearScan reply) x = cleared reply x
+    covered (Leave answer) x = ended answer x
+    covered (ClearScan answer) x = cleared answer x
     covered _ x = tt
 
 -- the answer of a get
@@ -79,10 +80,10 @@ pub answers_stable : (z : Sizes) (r r' : Run) (t : ℕ) (k : Local) → Rely z r
 answers_stable z r r' t k y i c n = subst (λ g. IsAnswered k.activity k.call r'.history k g) (sym y.log) (which k.activity k.call c n)
   where
     which : (a : Activity) (q : Option Call) → (IsBusy a → Calling r.history t k.activity k (r.seats t)) → IsAnswered a q r.history k (r.seats t) → IsAnswered a q r'.history k (r.seats t)
-    which (Leave reply) (Some (Get key)) f x =
+    which (Leave answer) (Some (Get key)) f x =
         let w = (f tt).within in
         let same = (y.goes_on.calls (r.seats t).call w).first in
-        rw same (get_lasts r.history r'.history (length r.history.log) key (called r.history (r.seats t).call).first reply _ y.goes_on.grows (omega (arith, i.past.first (r.seats t).call w)) x)
+        rw same (get_lasts r.history r'.history (length r.history.log) key (called r.history (r.seats t).call).first (reply_of answer k.pairs) _ y.goes_on.grows (omega (arith, i.past.first (r.seats t).call w)) x)
     which _ _ f x = tt
 
 -- The acting seat.
@@ -132,22 +133,22 @@ arrow_early z v s choice l LookCount k b n x = absurd (early_not_read k.activity
 arrow_early z v s choice l (Cell j) k b n x = absurd (early_not_read k.activity x (after_read z v s choice l (Cell j) k b tt))
 arrow_early z v s choice l CellKey k b n x = absurd (early_not_read k.activity x (after_read z v s choice l CellKey k b tt))
 arrow_early z v s choice l CellValue k b n x = absurd (early_not_read k.activity x (after_read z v s choice l CellValue k b tt))
-arrow_early z v s choice l (Leave reply) k b n x = absurd n
+arrow_early z v s choice l (Leave answer) k b n x = absurd n
 arrow_early z v s choice l a k b n x = absurd x
 
 -- the pairs of the acting scan
 pub pairs_own : (z : Sizes) (r r' : Run) (s : ℕ) (choice : Choice) (l : Local) (a : Activity) (l' : Local) → Arrow z (word z r.world) s choice l a l' → Happens z r r' s choice l l' a → Before z r r' → Readers z r' → HasPairs r'.history l'.activity l' (r'.seats s)
-pairs_own z r r' s choice l a l' (settles_empty e) h i n = record { early = λ x. absurd x; from = λ f x. absurd x; upto = λ f x. absurd x; covers = λ f x. absurd x; covered = no_pairs r'.history l.call _ (r'.seats s).drawn e }
+pairs_own z r r' s choice l a l' (settles_empty e) h i n = record { early = λ x. absurd x; from = λ f x. absurd x; upto = λ f x. absurd x; covers = λ f x. absurd x; covered = subst (Covers r'.history (first_key l.call) _ (r'.seats s).drawn (last_key l.call + 1)) (sym ((i.inv.replies.pairs s l h.knows).early (subst IsEarly (sym h.activity) tt))) (no_pairs r'.history l.call _ (r'.seats s).drawn e) }
 pairs_own z r r' s choice l a l' (settles e) h i n = settled_pairs r'.history l _ (r'.seats s) refl refl ((i.inv.replies.pairs s l h.knows).early (subst IsEarly (sym h.activity) tt)) e
-pairs_own z r r' s choice l a l' (clears_scan reply) h i n = record {
+pairs_own z r r' s choice l a l' (clears_scan answer) h i n = record {
   early = λ x. absurd x;
   from = λ f x. absurd x;
   upto = λ f x. absurd x;
   covers = λ f x. absurd x;
-  covered = subst (λ g. IsCovered (Leave (reply_or_stopped reply choice)) r'.history (leave (reply_or_stopped reply choice) l).local g) (sym h.log)
-      (leave_covered r.history r'.history r.origin r'.origin l _ (r.seats s) reply choice (goes_on_by z r r' s choice l _ _ h i.inv) (i.inv.positions.drew s) refl refl (subst (λ q. IsCovered q r.history l (r.seats s)) h.activity (i.inv.replies.pairs s l h.knows).covered));
+  covered = subst (λ g. IsCovered (Leave (answer_or_stopped answer choice)) r'.history (leave (answer_or_stopped answer choice) l).local g) (sym h.log)
+      (leave_covered r.history r'.history r.origin r'.origin l _ (r.seats s) answer choice (goes_on_by z r r' s choice l _ _ h i.inv) (i.inv.positions.drew s) refl refl refl (subst (λ q. IsCovered q r.history l (r.seats s)) h.activity (i.inv.replies.pairs s l h.knows).covered));
 }
-pairs_own z r r' s choice l a l' (leaves reply) h i n = record { early = λ x. refl; from = λ f x. absurd x; upto = λ f x. absurd x; covers = λ f x. absurd x; covered = tt }
+pairs_own z r r' s choice l a l' (leaves answer) h i n = record { early = λ x. refl; from = λ f x. absurd x; upto = λ f x. absurd x; covers = λ f x. absurd x; covered = tt }
 pairs_own z r r' s choice l a l' (enters e) h i n = record { early = λ x. absurd x; from = λ f x. true_false f e; upto = λ f x. true_false f e; covers = λ f x. true_false f e; covered = tt }
 pairs_own z r r' s choice l a l' (counts_cells next x) h i n = cell_pairs z r r' s choice l _ _ _ l' (counts_cells next x) h i n tt (record { call = refl; row = refl; want = refl; next = refl; upper = refl; version = refl; pairs = refl }) x
 pairs_own z r r' s choice l a l' (has_no_version j next e x) h i n = cell_pairs z r r' s choice l _ _ _ l' (has_no_version j next e x) h i n tt (record { call = refl; row = refl; want = refl; next = refl; upper = refl; version = refl; pairs = refl }) x
@@ -163,14 +164,14 @@ pairs_own z r r' s choice l a l' b h i n = stays z r r' s choice l _ _ b h i ref
 
 -- the answer of the acting get
 pub answers_own : (z : Sizes) (r r' : Run) (s : ℕ) (choice : Choice) (l : Local) (a : Activity) (l' : Local) → Arrow z (word z r.world) s choice l a l' → Happens z r r' s choice l l' a → Before z r r' → Readers z r' → IsAnswered l'.activity l'.call r'.history l' (r'.seats s)
-answers_own z r r' s choice l a l' (is_spent e) h i n = scan_call_answered l.call _ r'.history _ (r'.seats s) (kind_of z r r' s choice l l' h i.inv)
-answers_own z r r' s choice l a l' (clears_scan reply) h i n = scan_call_answered l.call _ r'.history _ (r'.seats s) (kind_of z r r' s choice l l' h i.inv).0
-answers_own z r r' s choice l a l' (stops e) h i n = scan_answered l.call _ r'.history _ (r'.seats s) (and_parts _ _ (and_parts _ _ e).1).0
-answers_own z r r' s choice l a l' (finds_none e) h i n = put_answered l.call _ r'.history _ (r'.seats s) (kind_of z r r' s choice l l' h i.inv)
-answers_own z r r' s choice l a l' (takes_none e) h i n = put_answered l.call _ r'.history _ (r'.seats s) (kind_of z r r' s choice l l' h i.inv)
-answers_own z r r' s choice l a l' (is_refused e) h i n = put_answered l.call _ r'.history _ (r'.seats s) (kind_of z r r' s choice l l' h i.inv)
-answers_own z r r' s choice l a l' (is_not_own e) h i n = put_answered l.call _ r'.history _ (r'.seats s) (kind_of z r r' s choice l l' h i.inv)
-answers_own z r r' s choice l a l' clears h i n = put_answered l.call _ r'.history _ (r'.seats s) (kind_of z r r' s choice l l' h i.inv)
+answers_own z r r' s choice l a l' (is_spent e) h i n = scan_call_answered l.call Spent r'.history (leave Spent l).local (r'.seats s) (kind_of z r r' s choice l l' h i.inv)
+answers_own z r r' s choice l a l' (clears_scan answer) h i n = scan_call_answered l.call (answer_or_stopped answer choice) r'.history (leave (answer_or_stopped answer choice) l).local (r'.seats s) (kind_of z r r' s choice l l' h i.inv).0
+answers_own z r r' s choice l a l' (stops e) h i n = scan_answered l.call Stopped r'.history (leave Stopped l).local (r'.seats s) (and_parts _ _ (and_parts _ _ e).1).0
+answers_own z r r' s choice l a l' (finds_none e) h i n = put_answered l.call NoRows r'.history (leave NoRows l).local (r'.seats s) (kind_of z r r' s choice l l' h i.inv)
+answers_own z r r' s choice l a l' (takes_none e) h i n = put_answered l.call NoRows r'.history (leave NoRows l).local (r'.seats s) (kind_of z r r' s choice l l' h i.inv)
+answers_own z r r' s choice l a l' (is_refused e) h i n = put_answered l.call NoRows r'.history (leave NoRows l).local (r'.seats s) (kind_of z r r' s choice l l' h i.inv)
+answers_own z r r' s choice l a l' (is_not_own e) h i n = put_answered l.call NoRows r'.history (leave NoRows l).local (r'.seats s) (kind_of z r r' s choice l l' h i.inv)
+answers_own z r r' s choice l a l' clears h i n = put_answered l.call Done r'.history (leave Done l).local (r'.seats s) (kind_of z r r' s choice l l' h i.inv)
 answers_own z r r' s choice l a l' (counts_cells next x) h i n = cell_answered z r r' s choice l _ _ _ l' (counts_cells next x) h i n tt (record { call = refl; row = refl; want = refl; next = refl; upper = refl; version = refl; pairs = refl }) x
 answers_own z r r' s choice l a l' (has_no_version j next e x) h i n = cell_answered z r r' s choice l _ _ _ l' (has_no_version j next e x) h i n tt (record { call = refl; row = refl; want = refl; next = refl; upper = refl; version = refl; pairs = refl }) x
 answers_own z r r' s choice l a l' (has_other_key next e x) h i n = cell_answered z r r' s choice l _ _ _ l' (has_other_key next e x) h i n tt (record { call = refl; row = refl; want = refl; next = refl; upper = refl; version = refl; pairs = refl }) x

@@ -106,7 +106,7 @@ seen_by z r r' s choice l _ _ (has_other_key next e n) h i k = subst (HasSeen r'
 seen_by z r r' s choice l _ _ (gathers next n) h i k = subst (HasSeen r'.history next.activity next) (sym h.log) (seen_next (word z r'.world) r'.history _ (l.place + 1) next _ n (read_to_gathered h i k _) (unread_before h i tt))
 seen_by z r r' s choice l _ _ (takes_cell e) h i k = seen_kept h i PutKey tt refl (ap (λ g. g.looked) h.log ∙ added_same (λ g. g.looked) _ (r.seats s) _ refl) (ap (λ g. g.ids) h.log ∙ added_same (λ g. g.ids) _ (r.seats s) _ refl) (ap (λ g. g.read) h.log ∙ added_same (λ g. g.read) _ (r.seats s) _ refl) (λ x. x)
 seen_by z r r' s choice l _ _ (takes_none e) h i k = seen_kept h i _ tt refl (ap (λ g. g.looked) h.log ∙ added_same (λ g. g.looked) _ (r.seats s) _ refl) (ap (λ g. g.ids) h.log ∙ added_same (λ g. g.ids) _ (r.seats s) _ refl) (ap (λ g. g.read) h.log ∙ added_same (λ g. g.read) _ (r.seats s) _ refl) (λ x. x)
-seen_by z r r' s choice l _ _ (leaves reply) h i k = record { unread = λ x. absurd x; stamped = λ x. absurd x; taken = λ x. absurd x }
+seen_by z r r' s choice l _ _ (leaves answer) h i k = record { unread = λ x. absurd x; stamped = λ x. absurd x; taken = λ x. absurd x }
 seen_by z r r' s choice l a l' b h i k = seen_kept h i l'.activity tt refl (ap (λ g. g.looked) h.log) (ap (λ g. g.ids) h.log) (ap (λ g. g.read) h.log) (λ x. x)
 
 -- Gathering.
@@ -177,5 +177,5 @@ gathers_by z r r' s choice l _ _ (has_other_key next e n) h i k = subst (Gathers
 gathers_by z r r' s choice l _ _ (gathers next n) h i k = subst (Gathers r'.history next.activity next) (sym h.log) (copies_next r'.history _ (l.place + 1) next _ n (copies_more h i k) (unread_before h i tt))
 gathers_by z r r' s choice l _ _ (takes_cell e) h i k = gathers_kept h i PutKey tt refl refl (ap (λ g. g.ids) h.log ∙ added_same (λ g. g.ids) _ (r.seats s) _ refl) (ap (λ g. g.read) h.log ∙ added_same (λ g. g.read) _ (r.seats s) _ refl) (λ x. x) (λ x. x) (λ x. x)
 gathers_by z r r' s choice l _ _ (takes_none e) h i k = gathers_kept h i _ tt refl refl (ap (λ g. g.ids) h.log ∙ added_same (λ g. g.ids) _ (r.seats s) _ refl) (ap (λ g. g.read) h.log ∙ added_same (λ g. g.read) _ (r.seats s) _ refl) (λ x. x) (λ x. x) (λ x. x)
-gathers_by z r r' s choice l _ _ (leaves reply) h i k = record { empty = λ x. absurd x; no_ids = λ x. absurd x; taking = λ x. absurd x; kept = λ x. absurd x }
+gathers_by z r r' s choice l _ _ (leaves answer) h i k = record { empty = λ x. absurd x; no_ids = λ x. absurd x; taking = λ x. absurd x; kept = λ x. absurd x }
 gathers_by z r r' s choice l a l' b h i k = gathers_kept h i l'.activity tt refl refl (ap (λ g. g.ids) h.log) (ap (λ g. g.read) h.log) (λ x. x) (λ x. x) (λ x. x)

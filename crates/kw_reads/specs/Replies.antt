@@ -2,7 +2,8 @@
 use Rattle.std.specs.Prelude.{ℕ, suc, ◌≡◌, ◌+◌, ◌<◌, ◌≤◌, true, Option, Some, List, [], ◌∷◌, slice_get}
 use Rattle.kw_model.specs.declared.call.Call.{Call}
 use Rattle.kw_model.specs.declared.call.Call.TheVariants.{Get}
-use Rattle.kw_model.specs.declared.call.Reply.TheVariants.{Pairs}
+use Rattle.kw_world.specs.declared.answer.Answer.TheVariants.{Pairs}
+use Rattle.kw_world.specs.Answers.{reply_of}
 use Rattle.kw_world.specs.declared.activity.Activity.{Activity}
 use Rattle.kw_world.specs.declared.activity.Activity.TheVariants.{ClearScan, Leave}
 use Rattle.kw_world.specs.declared.local.Local.{Local}
@@ -26,8 +27,8 @@ pub record Covers (h : History) (from version drawn bound : ℕ) (pairs : List (
 
 -- a scan that has all its pairs has them for its whole range
 abbrev pub IsCovered : Activity → History → Local → SeatLog → Type 0
-IsCovered (ClearScan (Pairs pairs)) h l g = Covers h (first_key l.call) l.version g.drawn (last_key l.call + 1) pairs
-IsCovered (Leave (Pairs pairs)) h l g = Covers h (first_key l.call) l.version g.drawn (last_key l.call + 1) pairs
+IsCovered (ClearScan Pairs) h l g = Covers h (first_key l.call) l.version g.drawn (last_key l.call + 1) l.pairs
+IsCovered (Leave Pairs) h l g = Covers h (first_key l.call) l.version g.drawn (last_key l.call + 1) l.pairs
 IsCovered _ h l g = Unit {0}
 
 -- a call that has read no row has no pairs. A scan on its way or at a row has the pairs of the keys below the wanted one, which is
@@ -41,7 +42,7 @@ pub record HasPairs (h : History) (a : Activity) (l : Local) (g : SeatLog) : Typ
 
 -- a get that is about to answer knows what it answers: the attempt beside the best gathered cell
 abbrev pub IsAnswered : Activity → Option Call → History → Local → SeatLog → Type 0
-IsAnswered (Leave reply) (Some (Get key)) h l g = GetKey h key (called h g.call).first reply (best_id l.gathered g.ids key NEWEST)
+IsAnswered (Leave answer) (Some (Get key)) h l g = GetKey h key (called h g.call).first (reply_of answer l.pairs) (best_id l.gathered g.ids key NEWEST)
 IsAnswered _ call h l g = Unit {0}
 
 -- The group.

@@ -27,10 +27,10 @@ use Rattle.kw_world.specs.declared.event.Choice.TheVariants.{Begin, Go, Guess, S
 use Rattle.kw_world.specs.Sizes.{Sizes}
 use Rattle.kw_world.specs.Calls.{put_value}
 use Rattle.kw_world.specs.Operation.{word_after}
-use Rattle.kw_world.specs.Row.{Row}
-use Rattle.kw_world.specs.RowPut.{given_of}
-use Rattle.kw_world.specs.RowWalk.{start_row, walk_row, is_stopped}
-use Rattle.kw_world.specs.Table.{row}
+use Rattle.kw_world.specs.Transition.{Transition}
+use Rattle.kw_world.specs.PutTransitions.{given_of}
+use Rattle.kw_world.specs.WalkTransitions.{start_transition, walk_transition, is_stopped}
+use Rattle.kw_world.specs.Table.{transition}
 use Rattle.kw_world.specs.Sane.{IsGiven, IsEntry, IsKnownWord, IsValueWord, IsWord, IsLed}
 use Rattle.kw_core.specs.Words.{Words, given_in}
 use Rattle.kw_core.proofs.Happens.{Changed}
@@ -65,24 +65,24 @@ value_known None i = inl refl
 
 module _ (z : Sizes) (rows : ℕ) (v : Words) (s : ℕ) (choice : Choice) (l : Local) (w : AreSane z rows v) where
   -- the word after the event of this line is in range
-  abbrev Writes : Row → Type 0
+  abbrev Writes : Transition → Type 0
   Writes it = IsWord z it.operation.name (word_after it.operation.action (v it.operation.name)) × IsLed rows it.operation.name (word_after it.operation.action (v it.operation.name))
 
   -- the word that is loaded
   loaded : (m : Name) → IsWithin z.seats z.cells rows m → IsWord z m (v m) × IsLed rows m (v m)
   loaded m n = (w.each m n, w.led m n)
 
-  starts : (c : Choice) → IsWithin z.seats z.cells rows (start_row c l).operation.name → Writes (start_row c l)
+  starts : (c : Choice) → IsWithin z.seats z.cells rows (start_transition c l).operation.name → Writes (start_transition c l)
   starts (Begin call) n = loaded name.Head n
   starts Go n = loaded name.Head n
   starts (Guess r) n = loaded (name.State r) n
   starts Stop n = loaded name.Head n
 
-  walks : (b : Bool) → IsWithin z.seats z.cells rows (walk_row b s l).operation.name → Writes (walk_row b s l)
+  walks : (b : Bool) → IsWithin z.seats z.cells rows (walk_transition b s l).operation.name → Writes (walk_transition b s l)
   walks true n = (scan_known Quiet tt, tt)
   walks false n = loaded (name.Next l.row) n
 
-  written : (a : Activity) → IsKnownAt z rows a l → IsWithin z.seats z.cells rows (row z a s choice l).operation.name → v name.Clock + 1 < VERSION_END → ((q : ℕ) → q < rows → given_in v q + 1 < GIVEN_END) → Writes (row z a s choice l)
+  written : (a : Activity) → IsKnownAt z rows a l → IsWithin z.seats z.cells rows (transition z a s choice l).operation.name → v name.Clock + 1 < VERSION_END → ((q : ℕ) → q < rows → given_in v q + 1 < GIVEN_END) → Writes (transition z a s choice l)
   written Enter k n c g = (k.ranges.epoch.1, tt)
   written ScanWait k n c g = (scan_known (Waiting l.waiting) k.ranges.waiting, tt)
   written ScanDraw k n c g = ((omega arith, c), tt)
@@ -90,7 +90,7 @@ module _ (z : Sizes) (rows : ℕ) (v : Words) (s : ℕ) (choice : Choice) (l : L
   written Start k n c g = starts choice n
   written Walk k n c g = walks (is_stopped choice l) n
   written LookHelp k n c g = (exchanges (λ x. IsEntry z (pend_of x)) (v (name.Pend l.row l.looked)) _ _ (w.each (name.Pend l.row l.looked) n) (entry_known z (pend.Stamped l.met l.helping) (omega (arith, k.ranges.met, w.sized.few_cells), k.ranges.helping.0, k.ranges.helping.1) (k.ranges.met, k.ranges.helping)), tt)
-  written (ClearScan reply) k n c g = (scan_known Quiet tt, tt)
+  written (ClearScan answer) k n c g = (scan_known Quiet tt, tt)
   written PutAdd k n c g = (given_known (v (name.Count l.row)) _ refl (w.each (name.Count l.row) n) (g l.row n), tt)
   written PutKey k n c g = (first_in_range l.call k.ranges.call, tt)
   written PutValue k n c g = (value_known (put_value l.call) (put_in_range l.call k.ranges.call), tt)
@@ -98,11 +98,11 @@ module _ (z : Sizes) (rows : ℕ) (v : Words) (s : ℕ) (choice : Choice) (l : L
   written Stamp k n c g = (exchanges (λ x. IsEntry z (pend_of x)) (v (name.Pend l.row s)) _ _ (w.each (name.Pend l.row s) n) (entry_known z (pend.Stamped l.cell l.version) (omega (arith, k.ranges.cell, w.sized.few_cells), k.ranges.version.0, k.ranges.version.1) (k.ranges.cell, k.ranges.version)), tt)
   written PutVersion k n c g = (k.ranges.version.1, tt)
   written PutClear k n c g = (entry_known z pend.Idle tt tt, tt)
-  written (Leave reply) k n c g = (omega arith, tt)
-  written a k n c g = loaded (row z a s choice l).operation.name n
+  written (Leave answer) k n c g = (omega arith, tt)
+  written a k n c g = loaded (transition z a s choice l).operation.name n
 
   -- a word after the event: the one that was written, or another
-  each_word : (v' : Words) (it : Row) → Writes it → IsWithin z.seats z.cells rows it.operation.name → Changed z rows v v' it → (m : Name) → IsWithin z.seats z.cells rows m → IsWord z m (v' m) × IsLed rows m (v' m)
+  each_word : (v' : Words) (it : Transition) → Writes it → IsWithin z.seats z.cells rows it.operation.name → Changed z rows v v' it → (m : Name) → IsWithin z.seats z.cells rows m → IsWord z m (v' m) × IsLed rows m (v' m)
   each_word v' it x n h m i = which (cases_eq (place_of z.seats z.cells m) (place_of z.seats z.cells it.operation.name))
     where
       which : (place_of z.seats z.cells m ≡ place_of z.seats z.cells it.operation.name) ⊎ (place_of z.seats z.cells m ≡ place_of z.seats z.cells it.operation.name → ⊥) → IsWord z m (v' m) × IsLed rows m (v' m)
@@ -113,7 +113,7 @@ module _ (z : Sizes) (rows : ℕ) (v : Words) (s : ℕ) (choice : Choice) (l : L
       which (inr d) = let f : v' m ≡ v m = h.other m i (λ e. d (ap (place_of z.seats z.cells) e)) in (subst (IsWord z m) (sym f) (w.each m i), subst (IsLed rows m) (sym f) (w.led m i))
 
   -- all words after the event
-  pub words_sane : (a : Activity) (v' : Words) → IsKnownAt z rows a l → IsWithin z.seats z.cells rows (row z a s choice l).operation.name → v name.Clock + 1 < VERSION_END → ((q : ℕ) → q < rows → given_in v q + 1 < GIVEN_END) → Changed z rows v v' (row z a s choice l) → AreSane z rows v'
+  pub words_sane : (a : Activity) (v' : Words) → IsKnownAt z rows a l → IsWithin z.seats z.cells rows (transition z a s choice l).operation.name → v name.Clock + 1 < VERSION_END → ((q : ℕ) → q < rows → given_in v q + 1 < GIVEN_END) → Changed z rows v v' (transition z a s choice l) → AreSane z rows v'
   words_sane a v' k n c g h =
-      let each = each_word v' (row z a s choice l) (written a k n c g) n h in
+      let each = each_word v' (transition z a s choice l) (written a k n c g) n h in
       record { sized = w.sized; each = λ m i. (each m i).0; led = λ m i. (each m i).1 }

@@ -15,7 +15,7 @@ use Rattle.kw_words.specs.Plain.{IsValue, key_of_word}
 use Rattle.kw_words.proofs.PlainWords.{key_of_word-below}
 use Rattle.kw_cells.specs.declared.cell.Cell as kw_cell
 use Rattle.kw_cells.specs.Cells.{pairs_of}
-use Rattle.kw_model.specs.declared.call.Reply.{Reply}
+use Rattle.kw_world.specs.declared.answer.Answer.{Answer}
 use Rattle.kw_world.specs.declared.activity.Activity.{Activity}
 use Rattle.kw_world.specs.declared.activity.Activity.TheVariants.{Walk, WalkMin, Look, PutCount}
 use Rattle.kw_world.specs.declared.limits.TheConstants.{NEWEST}
@@ -26,14 +26,14 @@ use Rattle.kw_world.specs.Sizes.{Sizes}
 use Rattle.kw_world.specs.Local.{resting}
 use Rattle.kw_world.specs.Marks.{mark_of}
 use Rattle.kw_world.specs.Calls.{first_key, last_key}
-use Rattle.kw_world.specs.Row.{row_linked, row_or_first, leave}
-use Rattle.kw_world.specs.RowRead.{with_pairs, gathering, remembering}
-use Rattle.kw_world.specs.Sane.{IsVersion, IsEntry, IsWord, IsLed, IsOffered, IsPair, IsReply, IsMark, IsCopy, IsActivity, IsRowBelow, IsLocal, IsLocalBelow, IsKnown, RisesBetween, marks_by, copies_by}
+use Rattle.kw_world.specs.Transition.{row_linked, row_or_first, leave}
+use Rattle.kw_world.specs.ReadTransitions.{with_pairs, gathering, remembering}
+use Rattle.kw_world.specs.Sane.{IsVersion, IsEntry, IsWord, IsLed, IsOffered, IsPair, IsAnswer, IsMark, IsCopy, IsActivity, IsRowBelow, IsLocal, IsLocalBelow, IsKnown, RisesBetween, marks_by, copies_by}
 use Rattle.kw_core.specs.Words.{Words}
 use Rattle.kw_shape.specs.Shape.{Chain}
 use Rattle.kw_core.proofs.Events.{IsBegun}
 use Rattle.kw_core.proofs.RoomBelow.{room_below}
-use Rattle.kw_core.proofs.InRange.{rises-wider, rises-snoc, version_at_hand, version_of_scan, answer_in_range, pairs_in_range, value_in_range, first_in_range, last_in_range, linked_in_range, reply_in_range}
+use Rattle.kw_core.proofs.InRange.{rises-wider, rises-snoc, version_at_hand, version_of_scan, answer_in_range, pairs_in_range, value_in_range, first_in_range, last_in_range, linked_in_range, stopped_in_range}
 use Rattle.kw_core.proofs.Arrows.{Arrow, begins, enters, is_spent, waits, draws, settles_empty, settles, starts_at_head, guesses, takes_head, guess_serves, stops, puts_in_last, reads_last, meets_next, walks_on, puts_before, reads_before, meets_pending, meets_stamped, meets_neither, is_passed, loads_to_help, helps, finds_stamped, finds_other, counts_cells, has_version, has_no_version, has_key, has_other_key, gathers, clears_scan, finds_none, takes_cell, takes_none, is_refused, loads_clock, is_stamped, is_not_own, clears, leaves, NextLook, looks, counts, NextCell, reads_cell, answers, ends_scan, scans_on}
 
 -- all words of a table are in range
@@ -113,8 +113,8 @@ more_pairs z l k = All-append IsPair l.pairs (pairs_of l.gathered l.want (last_k
 
 module _ (z : Sizes) (rows : ℕ) (l : Local) (sized : IsSized z.seats z.cells rows) where
   -- a seat that is about to leave
-  is_leaving : (reply : Reply) → IsReply reply → IsLocal z l → IsLocalBelow rows l → length l.remembered ≤ z.seats → RisesBetween 0 z.cells l.gathered → IsKnown z rows (leave reply l).local
-  is_leaving reply y k b m g =
+  is_leaving : (answer : Answer) → IsAnswer answer → IsLocal z l → IsLocalBelow rows l → length l.remembered ≤ z.seats → RisesBetween 0 z.cells l.gathered → IsKnown z rows (leave answer l).local
+  is_leaving answer y k b m g =
       let o : 0 < rows = omega (arith, sized.some_rows) in
       let zero_key : 0 < KEY_END = omega arith in
       assumption (k, b, y, m, g, o, zero_key)
@@ -177,13 +177,13 @@ module _ (z : Sizes) (rows : ℕ) (l : Local) (sized : IsSized z.seats z.cells r
       assumption (k, b, m, f, p, t, zero_key)
 
 -- by the arrow that the seat takes
-pub known_by : (z : Sizes) (rows : ℕ) (v : Words) (s : ℕ) (choice : Choice) (l : Local) (a : Activity) (l' : Local) → Arrow z v s choice l a l' → AreSane z rows v → Chain rows v → s < z.seats → IsBegun choice → IsOffered rows choice → IsKnownAt z rows a l → IsKnown z rows l'
+pub known_by : (z : Sizes) (rows : ℕ) (v : Words) (s : ℕ) (choice : Choice) (l : Local) (a : Activity) (l' : Local) → Arrow z v s choice l a l' → AreSane z rows v → Chain rows v → s < z.seats → IsBegun a choice → IsOffered rows choice → IsKnownAt z rows a l → IsKnown z rows l'
 known_by z rows v s choice l a l' (begins call e g) w c t b i k = let y = w.each name.Epoch tt in assumption (k, y, g)
 known_by z rows v s choice l a l' (enters y) w c t b i k = let f = first_in_range l.call k.ranges.call in assumption (k, f)
 known_by z rows v s choice l a l' (is_spent y) w c t b i k = is_leaving z rows l w.sized _ tt k.ranges k.below k.remembered k.gathered
 known_by z rows v s choice l a l' (waits y) w c t b i k = let u = w.each name.Clock tt in assumption (k, u)
 known_by z rows v s choice l a l' draws w c t b i k = let u = w.each name.Clock tt in assumption (k, u)
-known_by z rows v s choice l a l' (settles_empty y) w c t b i k = let u = version_of_scan (v (name.Scan s)) l.drawn k.ranges.drawn in assumption (k, u, All-nil IsPair)
+known_by z rows v s choice l a l' (settles_empty y) w c t b i k = let u = version_of_scan (v (name.Scan s)) l.drawn k.ranges.drawn in assumption (k, u)
 known_by z rows v s choice l a l' (settles y) w c t b i k = let u = version_of_scan (v (name.Scan s)) l.drawn k.ranges.drawn in let f = first_in_range l.call k.ranges.call in assumption (k, u, f)
 known_by z rows v s choice l a l' starts_at_head w c t b i k = takes_first z rows l w.sized v c k.ranges k.below k.remembered k.gathered
 known_by z rows v s choice l a l' (guesses q y n) w c t b i k = let o : q < rows = subst (IsOffered rows) y i in assumption (k, o)
@@ -213,7 +213,7 @@ known_by z rows v s choice l a l' (gathers next n) w c t b i k =
     let u = value_in_range (v (name.Value l.row l.place)) (w.each (name.Value l.row l.place) (k.below.row, k.ranges.place)) in
     next_cell z rows _ w.sized (l.place + 1) next n (gathered_more z _ l u k.ranges) (assumption k) k.remembered
     (rises-snoc 0 l.place (l.place + 1) l.gathered _ k.gathered (omega arith) (omega arith)) (omega (arith, k.ranges.place))
-known_by z rows v s choice l a l' (clears_scan reply) w c t b i k = is_leaving z rows l w.sized _ (reply_in_range reply choice k.activity) k.ranges k.below k.remembered k.gathered
+known_by z rows v s choice l a l' (clears_scan answer) w c t b i k = is_leaving z rows l w.sized _ (stopped_in_range answer choice k.activity) k.ranges k.below k.remembered k.gathered
 known_by z rows v s choice l a l' (finds_none y) w c t b i k = is_leaving z rows l w.sized _ tt k.ranges k.below k.remembered k.gathered
 known_by z rows v s choice l a l' (takes_cell y) w c t b i k = let u = room_below z (count_of (v (name.Count l.row))) y in assumption (k, u)
 known_by z rows v s choice l a l' (takes_none y) w c t b i k = is_leaving z rows l w.sized _ tt k.ranges k.below k.remembered k.gathered
@@ -222,5 +222,5 @@ known_by z rows v s choice l a l' loads_clock w c t b i k = let u = w.each name.
 known_by z rows v s choice l a l' (is_stamped version y) w c t b i k = let u = (entry z rows v l w s (pend.Stamped l.cell version) k.below.row t y).1 in assumption (k, u)
 known_by z rows v s choice l a l' (is_not_own y) w c t b i k = is_leaving z rows l w.sized _ tt k.ranges k.below k.remembered k.gathered
 known_by z rows v s choice l a l' clears w c t b i k = is_leaving z rows l w.sized _ tt k.ranges k.below k.remembered k.gathered
-known_by z rows v s choice l a l' (leaves reply) w c t b i k = rests_known z rows l.number w.sized
+known_by z rows v s choice l a l' (leaves answer) w c t b i k = rests_known z rows l.number w.sized
 known_by z rows v s choice l a l' _ w c t b i k = assumption k

@@ -2,15 +2,16 @@
 use Rattle.std.proofs.Common.{ℕ, ◌≡◌, ◌⊎◌, inl, inr, ◌≤◌, Option, Some, None, arith, refl}
 use Rattle.kw_words.specs.declared.layout.Name.TheVariants as name
 use Rattle.kw_model.specs.Map.{found}
-use Rattle.kw_model.specs.declared.call.Reply.{Reply}
-use Rattle.kw_model.specs.declared.call.Reply.TheVariants.{Done, Value, Absent, Pairs, NoRows, Spent, Stopped}
+use Rattle.kw_world.specs.declared.answer.Answer.{Answer}
+use Rattle.kw_world.specs.Answers.{answer_found}
+use Rattle.kw_world.specs.declared.answer.Answer.TheVariants.{Done, Value, Absent, Pairs, NoRows, Spent, Stopped}
 use Rattle.kw_world.specs.declared.activity.Activity.{Activity}
 use Rattle.kw_world.specs.declared.activity.Activity.TheVariants.{Stamp, Leave}
 use Rattle.kw_world.specs.declared.local.Local.{Local}
 use Rattle.kw_world.specs.declared.event.Choice.{Choice}
 use Rattle.kw_world.specs.declared.event.Choice.TheVariants.{Begin, Go, Guess, Stop}
 use Rattle.kw_world.specs.Sizes.{Sizes}
-use Rattle.kw_world.specs.RowScan.{reply_or_stopped}
+use Rattle.kw_world.specs.ScanTransitions.{answer_or_stopped}
 use Rattle.kw_core.specs.Stages.{IsPublished, IsDone, IsPutClear, IsUnderway}
 use Rattle.kw_core.specs.Words.{Words}
 use Rattle.kw_shape.specs.Shape.{IsPairs, IsKind}
@@ -26,7 +27,7 @@ cell_call l j k (scans_on r w e f o) = (refl, refl)
 -- a call goes on as it is until it ends
 pub arrow_call : (z : Sizes) (v : Words) (s : ℕ) (choice : Choice) (l : Local) (a : Activity) (k : Local) → Arrow z v s choice l a k → IsUnderway a → (k.call ≡ l.call) × (k.number ≡ l.number)
 arrow_call z v s choice l a k (begins call e b) u = absurd u
-arrow_call z v s choice l a k (leaves reply) u = absurd u
+arrow_call z v s choice l a k (leaves answer) u = absurd u
 arrow_call z v s choice l a k (counts_cells next n) u = let x = cell_call _ _ _ n in (x.0, x.1)
 arrow_call z v s choice l a k (has_no_version j next e n) u = cell_call _ _ _ n
 arrow_call z v s choice l a k (has_other_key next e n) u = cell_call _ _ _ n
@@ -51,8 +52,8 @@ arrow_published z v s choice l a k stores_version f p = inl tt
 arrow_published z v s choice l a k clears f p = inr tt
 arrow_published z v s choice l a k _ f p = absurd p
 
--- what a get found is not the reply of a put
-pub found_not_done : (x : Option ℕ) → IsDone (Leave (found x)) → ⊥
+-- what a get found is not the answer of a put
+pub found_not_done : (x : Option ℕ) → IsDone (Leave (answer_found x)) → ⊥
 found_not_done (Some v) d = d
 found_not_done None d = d
 
@@ -69,11 +70,11 @@ next_cell_done l j k (ends_scan w e f) d = d
 next_cell_done l j k (scans_on r w e f o) d = d
 
 -- a scan that is over, or stopped, is not done as a put is
-pub cleared_not_done : (reply : Reply) (choice : Choice) → IsPairs reply → IsDone (Leave (reply_or_stopped reply choice)) → ⊥
-cleared_not_done (Pairs pairs) (Begin call) p d = d
-cleared_not_done (Pairs pairs) Go p d = d
-cleared_not_done (Pairs pairs) (Guess q) p d = d
-cleared_not_done (Pairs pairs) Stop p d = d
+pub cleared_not_done : (answer : Answer) (choice : Choice) → IsPairs answer → IsDone (Leave (answer_or_stopped answer choice)) → ⊥
+cleared_not_done Pairs (Begin call) p d = d
+cleared_not_done Pairs Go p d = d
+cleared_not_done Pairs (Guess q) p d = d
+cleared_not_done Pairs Stop p d = d
 cleared_not_done Done choice p d = p
 cleared_not_done (Value v) choice p d = p
 cleared_not_done Absent choice p d = p
@@ -84,7 +85,7 @@ cleared_not_done Stopped choice p d = p
 -- only a put that has cleared its entry is done
 pub arrow_done : (z : Sizes) (v : Words) (s : ℕ) (choice : Choice) (l : Local) (a : Activity) (k : Local) → Arrow z v s choice l a k → IsKind a l → IsDone k.activity → IsPutClear a
 arrow_done z v s choice l a k clears n d = tt
-arrow_done z v s choice l a k (clears_scan reply) n d = absurd (cleared_not_done reply choice n.1 d)
+arrow_done z v s choice l a k (clears_scan answer) n d = absurd (cleared_not_done answer choice n.1 d)
 arrow_done z v s choice l a k (counts_cells next x) n d = absurd (next_cell_done _ _ _ x d)
 arrow_done z v s choice l a k (has_no_version j next e x) n d = absurd (next_cell_done _ _ _ x d)
 arrow_done z v s choice l a k (has_other_key next e x) n d = absurd (next_cell_done _ _ _ x d)

@@ -9,7 +9,7 @@ use Rattle.kw_world.specs.declared.local.Local.{Local}
 use Rattle.kw_world.specs.Sizes.{Sizes}
 use Rattle.kw_world.specs.WorldView.{WorldView}
 use Rattle.kw_world.specs.Calls.{first_key, is_scan}
-use Rattle.kw_world.specs.Row.{row_linked}
+use Rattle.kw_world.specs.Transition.{row_linked}
 use Rattle.kw_world.specs.Step.{word}
 use Rattle.kw_core.specs.Stages.{IsAtRow, IsPastStart}
 use Rattle.kw_core.specs.Words.{Words, next_in, least_in}

@@ -3,7 +3,7 @@ use Rattle.std.proofs.Common.{◌≡◌, true, List, sym, subst}
 use Rattle.kw_world.specs.declared.event.Event.{Event}
 use Rattle.kw_world.specs.declared.opening.Opening.{Opening}
 use Rattle.kw_world.specs.Opening.{IsOpening}
-use Rattle.kw_world.specs.RowWalk.{offered}
+use Rattle.kw_world.specs.WalkTransitions.{offered}
 use Rattle.kw_world.specs.Sizes.{Sizes}
 use Rattle.kw_core.specs.Events.{world, may_step, is_valid}
 use Rattle.kw_core.specs.Run.{Run, goes_on, noted_by}

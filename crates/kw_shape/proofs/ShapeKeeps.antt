@@ -15,7 +15,7 @@ use Rattle.kw_core.specs.Run.{Run}
 use Rattle.std.proofs.Common.{length-set, slice_set}
 use Rattle.std.proofs.lemmas.Bool.{cases_eq}
 use Rattle.kw_words.specs.Count.{count_of}
-use Rattle.kw_world.specs.RowPut.{given_of}
+use Rattle.kw_world.specs.PutTransitions.{given_of}
 use Rattle.kw_shape.specs.Rooms.{adding, adders, drawing, drawers}
 use Rattle.kw_core.proofs.Frame.{count_kept, clock_kept, given-next}
 use Rattle.kw_core.proofs.RoomBelow.{room_below}
@@ -24,7 +24,7 @@ use Rattle.kw_core.proofs.Happens.{chosen, not_chosen}
 use Rattle.kw_words.specs.Link.{link_of}
 use Rattle.kw_words.specs.Plain.{key_of_word}
 use Rattle.kw_world.specs.Calls.{first_key, is_scan}
-use Rattle.kw_world.specs.Row.{row_linked}
+use Rattle.kw_world.specs.Transition.{row_linked}
 use Rattle.kw_core.specs.Words.{Words, next_in, least_in, given_in}
 use Rattle.kw_shape.specs.Shape.{IsLinked, IsBefore, IsOnWalk, Chain, Walks, Kinds, Shape}
 use Rattle.kw_core.proofs.Happens.{Happens, each_seat}
@@ -37,14 +37,15 @@ use Rattle.std.proofs.lemmas.Bool.{and_parts}
 use Rattle.kw_model.specs.Map.{found}
 use Rattle.kw_model.specs.declared.call.Call.{Call}
 use Rattle.kw_model.specs.declared.call.Call.TheVariants.{Put, Del, Get, Scan}
-use Rattle.kw_model.specs.declared.call.Reply.{Reply}
-use Rattle.kw_model.specs.declared.call.Reply.TheVariants.{Done, Value, Absent, Pairs, NoRows, Spent, Stopped}
+use Rattle.kw_world.specs.declared.answer.Answer.{Answer}
+use Rattle.kw_world.specs.Answers.{answer_found}
+use Rattle.kw_world.specs.declared.answer.Answer.TheVariants.{Done, Value, Absent, Pairs, NoRows, Spent, Stopped}
 use Rattle.kw_world.specs.declared.event.Choice.TheVariants.{Stop}
 use Rattle.kw_world.specs.Calls.{last_key}
-use Rattle.kw_world.specs.RowScan.{reply_or_stopped}
-use Rattle.kw_world.specs.RowWalk.{is_stop}
+use Rattle.kw_world.specs.ScanTransitions.{answer_or_stopped}
+use Rattle.kw_world.specs.WalkTransitions.{is_stop}
 use Rattle.kw_core.specs.Stages.{is_put}
-use Rattle.kw_shape.specs.Shape.{IsSomeCall, IsPutCall, IsReadCall, IsScanCall, IsReplyOf, IsPairs}
+use Rattle.kw_shape.specs.Shape.{IsSomeCall, IsPutCall, IsReadCall, IsScanCall, IsAnswerOf, IsPairs}
 use Rattle.kw_core.proofs.Arrows.{Arrow, begins, enters, enters_scan, is_spent, waits, stores_waiting, draws, settles_empty, settles, starts_at_head, guesses, guess_fails, takes_head, guess_serves, guess_is_above, stops, puts_in_last, reads_last, meets_next, walks_on, puts_before, reads_before, meets_pending, meets_stamped, meets_neither, is_wanted, is_passed, loads_to_help, helps, finds_stamped, finds_other, counts_cells, has_version, has_no_version, has_key, has_other_key, gathers, clears_scan, finds_room, finds_none, takes_cell, takes_none, stores_key, stores_value, announces, is_refused, loads_clock, stamps, is_stamped, is_not_own, stores_version, clears, leaves, NextLook, looks, counts, NextCell, reads_cell, answers, ends_scan, scans_on, not_below}
 
 -- Where a seat is survives every event of another one: no event changes the rows.
@@ -228,40 +229,40 @@ one_key (Some (Scan from upto)) e = let x : true ≡ false = e in absurd (cc)
 one_key None e = omega arith
 
 -- the replies of such calls
-no_rows : (c : Option Call) → IsPutCall c → IsReplyOf c NoRows
+no_rows : (c : Option Call) → IsPutCall c → IsAnswerOf c NoRows
 no_rows (Some (Put key value)) k = tt
 no_rows (Some (Del key)) k = tt
 no_rows (Some (Get key)) k = k
 no_rows (Some (Scan from upto)) k = k
 no_rows None k = k
 
-put_done : (c : Option Call) → IsPutCall c → IsReplyOf c Done
+put_done : (c : Option Call) → IsPutCall c → IsAnswerOf c Done
 put_done (Some (Put key value)) k = tt
 put_done (Some (Del key)) k = tt
 put_done (Some (Get key)) k = k
 put_done (Some (Scan from upto)) k = k
 put_done None k = k
 
-scan_reply : (c : Option Call) (reply : Reply) → IsScanCall c → IsReplyOf (Some (Scan 0 0)) reply → IsReplyOf c reply
-scan_reply (Some (Scan from upto)) (Pairs pairs) k y = tt
-scan_reply (Some (Scan from upto)) Spent k y = tt
-scan_reply (Some (Scan from upto)) Stopped k y = tt
-scan_reply (Some (Scan from upto)) Done k y = y
-scan_reply (Some (Scan from upto)) (Value v) k y = y
-scan_reply (Some (Scan from upto)) Absent k y = y
-scan_reply (Some (Scan from upto)) NoRows k y = y
-scan_reply (Some (Put key value)) reply k y = absurd k
-scan_reply (Some (Del key)) reply k y = absurd k
-scan_reply (Some (Get key)) reply k y = absurd k
-scan_reply None reply k y = absurd k
+scan_answer : (c : Option Call) (answer : Answer) → IsScanCall c → IsAnswerOf (Some (Scan 0 0)) answer → IsAnswerOf c answer
+scan_answer (Some (Scan from upto)) Pairs k y = tt
+scan_answer (Some (Scan from upto)) Spent k y = tt
+scan_answer (Some (Scan from upto)) Stopped k y = tt
+scan_answer (Some (Scan from upto)) Done k y = y
+scan_answer (Some (Scan from upto)) (Value v) k y = y
+scan_answer (Some (Scan from upto)) Absent k y = y
+scan_answer (Some (Scan from upto)) NoRows k y = y
+scan_answer (Some (Put key value)) answer k y = absurd k
+scan_answer (Some (Del key)) answer k y = absurd k
+scan_answer (Some (Get key)) answer k y = absurd k
+scan_answer None answer k y = absurd k
 
-get_reply : (c : Option Call) (x : Option ℕ) → IsReadCall c → is_scan c ≡ false → IsReplyOf c (found x)
-get_reply (Some (Put key value)) x k e = absurd k
-get_reply (Some (Del key)) x k e = absurd k
-get_reply (Some (Get key)) (Some v) k e = tt
-get_reply (Some (Get key)) None k e = tt
-get_reply (Some (Scan from upto)) x k e = let y : true ≡ false = e in absurd (cc)
-get_reply None x k e = absurd k
+get_answer : (c : Option Call) (x : Option ℕ) → IsReadCall c → is_scan c ≡ false → IsAnswerOf c (answer_found x)
+get_answer (Some (Put key value)) x k e = absurd k
+get_answer (Some (Del key)) x k e = absurd k
+get_answer (Some (Get key)) (Some v) k e = tt
+get_answer (Some (Get key)) None k e = tt
+get_answer (Some (Scan from upto)) x k e = let y : true ≡ false = e in absurd (cc)
+get_answer None x k e = absurd k
 
 -- what a reader does next
 kinds_look : (z : Sizes) (j : ℕ) (l : Local) (next : Activity) → NextLook z j next → IsReadCall l.call → first_key l.call ≤ last_key l.call → Kinds next l
@@ -270,7 +271,7 @@ kinds_look z j l next (counts o) k e = record { reached = tt; kind = k; range = 
 
 kinds_cell : (l : Local) (j : ℕ) (next : Local) → NextCell l j next → IsReadCall l.call → first_key l.call ≤ last_key l.call → Kinds next.activity next
 kinds_cell l j next (reads_cell o) k e = record { reached = tt; kind = (k, o); range = λ x. e }
-kinds_cell l j next (answers o n) k e = record { reached = tt; kind = get_reply l.call _ k n; range = λ x. absurd x }
+kinds_cell l j next (answers o n) k e = record { reached = tt; kind = get_answer l.call _ k n; range = λ x. absurd x }
 kinds_cell l j next (ends_scan o y n) k e = record { reached = tt; kind = (scan_call l.call y, tt); range = λ x. absurd x }
 kinds_cell l j next (scans_on q o y n w) k e = record { reached = tt; kind = some_read l.call k; range = λ x. e }
 
@@ -279,7 +280,7 @@ kinds_by : (z : Sizes) (v : Words) (s : ℕ) (choice : Choice) (l : Local) (a : 
 kinds_by z v s choice l a l' (begins call e y) k = record { reached = tt; kind = tt; range = λ x. absurd x }
 kinds_by z v s choice l a l' (enters y) k = record { reached = tt; kind = k.kind; range = λ x. one_key l.call y }
 kinds_by z v s choice l a l' (enters_scan y) k = record { reached = tt; kind = scan_call l.call y; range = λ x. absurd x }
-kinds_by z v s choice l a l' (is_spent y) k = record { reached = tt; kind = scan_reply l.call Spent k.kind tt; range = λ x. absurd x }
+kinds_by z v s choice l a l' (is_spent y) k = record { reached = tt; kind = scan_answer l.call Spent k.kind tt; range = λ x. absurd x }
 kinds_by z v s choice l a l' (waits y) k = record { reached = tt; kind = k.kind; range = λ x. absurd x }
 kinds_by z v s choice l a l' stores_waiting k = record { reached = tt; kind = k.kind; range = λ x. absurd x }
 kinds_by z v s choice l a l' draws k = record { reached = tt; kind = k.kind; range = λ x. absurd x }
@@ -293,8 +294,8 @@ kinds_by z v s choice l a l' (guess_serves y) k = record { reached = tt; kind = 
 kinds_by z v s choice l a l' (guess_is_above y) k = record { reached = tt; kind = k.kind; range = λ x. k.range tt }
 kinds_by z v s choice l a l' (stops y) k = record { reached = tt; kind = stopped; range = λ x. absurd x }
   where
-    stopped : IsReplyOf l.call Stopped
-    stopped = let t = and_parts (is_stop choice) (is_scan l.call && l.has_read) y in scan_reply l.call Stopped (scan_call l.call (and_parts (is_scan l.call) l.has_read t.1).0) tt
+    stopped : IsAnswerOf l.call Stopped
+    stopped = let t = and_parts (is_stop choice) (is_scan l.call && l.has_read) y in scan_answer l.call Stopped (scan_call l.call (and_parts (is_scan l.call) l.has_read t.1).0) tt
 kinds_by z v s choice l a l' (puts_in_last p y) k = record { reached = tt; kind = put_call l.call p; range = λ x. absurd x }
 kinds_by z v s choice l a l' (reads_last p y) k = record { reached = tt; kind = read_call l.call k.kind p; range = λ x. k.range tt }
 kinds_by z v s choice l a l' (meets_next q y) k = record { reached = tt; kind = k.kind; range = λ x. k.range tt }
@@ -316,11 +317,11 @@ kinds_by z v s choice l a l' (has_no_version j next y n) k = kinds_cell _ _ next
 kinds_by z v s choice l a l' (has_key y) k = record { reached = tt; kind = k.kind; range = λ x. k.range tt }
 kinds_by z v s choice l a l' (has_other_key next y n) k = kinds_cell _ _ next n k.kind.0 (k.range tt)
 kinds_by z v s choice l a l' (gathers next n) k = kinds_cell _ _ next n k.kind.0 (k.range tt)
-kinds_by z v s choice l a l' (clears_scan reply) k = record { reached = tt; kind = cleared choice reply k.kind.1; range = λ x. absurd x }
+kinds_by z v s choice l a l' (clears_scan answer) k = record { reached = tt; kind = cleared choice answer k.kind.1; range = λ x. absurd x }
   where
-    cleared : (c : Choice) (y : Reply) → IsPairs y → IsReplyOf l.call (reply_or_stopped y c)
-    cleared Stop y p = scan_reply l.call Stopped k.kind.0 tt
-    cleared c (Pairs pairs) p = scan_reply l.call _ k.kind.0 tt
+    cleared : (c : Choice) (y : Answer) → IsPairs y → IsAnswerOf l.call (answer_or_stopped y c)
+    cleared Stop y p = scan_answer l.call Stopped k.kind.0 tt
+    cleared c Pairs p = scan_answer l.call _ k.kind.0 tt
     cleared c _ p = absurd p
 kinds_by z v s choice l a l' (finds_room y) k = record { reached = tt; kind = k.kind; range = λ x. absurd x }
 kinds_by z v s choice l a l' (finds_none y) k = record { reached = tt; kind = no_rows l.call k.kind; range = λ x. absurd x }
@@ -336,7 +337,7 @@ kinds_by z v s choice l a l' (is_stamped version y) k = record { reached = tt; k
 kinds_by z v s choice l a l' (is_not_own y) k = record { reached = tt; kind = no_rows l.call k.kind; range = λ x. absurd x }
 kinds_by z v s choice l a l' stores_version k = record { reached = tt; kind = k.kind; range = λ x. absurd x }
 kinds_by z v s choice l a l' clears k = record { reached = tt; kind = put_done l.call k.kind; range = λ x. absurd x }
-kinds_by z v s choice l a l' (leaves reply) k = record { reached = tt; kind = tt; range = λ x. absurd x }
+kinds_by z v s choice l a l' (leaves answer) k = record { reached = tt; kind = tt; range = λ x. absurd x }
 
 -- the acting seat goes on to an activity of its call
 pub kinds_own : (z : Sizes) (r r' : Run) (s : ℕ) (choice : Choice) (l : Local) (a : Activity) (l' : Local) → Arrow z (word z r.world) s choice l a l' → Happens z r r' s choice l l' a → Shape z r.world → Kinds l'.activity l'

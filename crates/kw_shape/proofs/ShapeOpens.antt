@@ -15,8 +15,8 @@ use Rattle.kw_words.specs.Link.{link_of, link_word}
 use Rattle.kw_words.specs.State.{state_word}
 use Rattle.kw_words.specs.Plain.{key_of_word}
 use Rattle.kw_world.specs.Local.{resting}
-use Rattle.kw_world.specs.Row.{row_linked}
-use Rattle.kw_world.specs.RowPut.{given_of}
+use Rattle.kw_world.specs.Transition.{row_linked}
+use Rattle.kw_world.specs.PutTransitions.{given_of}
 use Rattle.kw_world.specs.Sane.{IsSane, IsKnown, IsWord, IsLed, IsHead, IsStateBelow, IsLinkBelow, IsRowState, IsKnownWord, IsGiven, IsEntry}
 use Rattle.kw_world.specs.Opening.{IsOpening, opened, opening_word, opening_state, link_to}
 use Rattle.kw_world.proofs.Begins.{opened-word, length-opened}

@@ -12,7 +12,7 @@ use Rattle.kw_world.specs.declared.local.Local.{Local}
 use Rattle.kw_world.specs.declared.event.Choice.{Choice}
 use Rattle.kw_world.specs.Sizes.{Sizes}
 use Rattle.kw_world.specs.Calls.{first_key, is_scan}
-use Rattle.kw_world.specs.Row.{row_linked, row_or_first}
+use Rattle.kw_world.specs.Transition.{row_linked, row_or_first}
 use Rattle.kw_world.specs.Sane.{IsOffered}
 use Rattle.kw_core.specs.Stages.{IsStarting, IsAtRow, IsPastStart}
 use Rattle.kw_core.specs.Words.{Words, next_in, least_in}

@@ -2,7 +2,7 @@
 use Rattle.std.specs.Prelude.{ℕ, ◌≡◌, Some}
 use Rattle.kw_words.specs.declared.layout.Name.TheVariants as name
 use Rattle.kw_words.specs.Link.{link_of}
-use Rattle.kw_world.specs.Row.{row_linked}
+use Rattle.kw_world.specs.Transition.{row_linked}
 use Rattle.kw_core.specs.Words.{Words, next_in}
 
 -- the first row, to which Head leads, and with each row the one to which its link leads; whether a link is marked does not matter

@@ -10,15 +10,15 @@ use Rattle.kw_words.specs.Link.{link_of}
 use Rattle.kw_words.specs.State.{state_word}
 use Rattle.kw_model.specs.declared.call.Call.{Call}
 use Rattle.kw_model.specs.declared.call.Call.TheVariants.{Put, Del, Get, Scan}
-use Rattle.kw_model.specs.declared.call.Reply.{Reply}
-use Rattle.kw_model.specs.declared.call.Reply.TheVariants.{Done, Value, Absent, Pairs, NoRows, Spent, Stopped}
+use Rattle.kw_world.specs.declared.answer.Answer.{Answer}
+use Rattle.kw_world.specs.declared.answer.Answer.TheVariants.{Done, Value, Absent, Pairs, NoRows, Spent, Stopped}
 use Rattle.kw_world.specs.declared.activity.Activity.{Activity}
 use Rattle.kw_world.specs.declared.activity.Activity.TheVariants.{Idle, ScanClock, ScanWait, ScanDraw, ScanSettle, GuessMin, Walk, WalkMin, Look, LookKey, LookClock, LookHelp, LookCount, Cell, CellKey, CellValue, ClearScan, PutCount, PutAdd, PutKey, PutValue, Announce, PutClock, Stamp, PutVersion, PutClear, Leave}
 use Rattle.kw_world.specs.declared.local.Local.{Local}
 use Rattle.kw_world.specs.Sizes.{Sizes}
 use Rattle.kw_world.specs.WorldView.{WorldView}
 use Rattle.kw_world.specs.Calls.{first_key, last_key, is_scan}
-use Rattle.kw_world.specs.Row.{row_linked}
+use Rattle.kw_world.specs.Transition.{row_linked}
 use Rattle.kw_world.specs.Sane.{IsSane}
 use Rattle.kw_world.specs.Step.{word}
 pub use Rattle.kw_core.specs.Words.{Words, next_in, least_in, given_in}
@@ -105,22 +105,22 @@ abbrev pub IsScanCall : Option Call → Type 0
 IsScanCall (Some (Scan from upto)) = Unit {0}
 IsScanCall _ = ⊥
 
--- the reply is one of such a call
-abbrev pub IsReplyOf : Option Call → Reply → Type 0
-IsReplyOf (Some (Put key value)) Done = Unit {0}
-IsReplyOf (Some (Put key value)) NoRows = Unit {0}
-IsReplyOf (Some (Del key)) Done = Unit {0}
-IsReplyOf (Some (Del key)) NoRows = Unit {0}
-IsReplyOf (Some (Get key)) (Value value) = Unit {0}
-IsReplyOf (Some (Get key)) Absent = Unit {0}
-IsReplyOf (Some (Scan from upto)) (Pairs pairs) = Unit {0}
-IsReplyOf (Some (Scan from upto)) Spent = Unit {0}
-IsReplyOf (Some (Scan from upto)) Stopped = Unit {0}
-IsReplyOf _ _ = ⊥
+-- the answer is one of such a call
+abbrev pub IsAnswerOf : Option Call → Answer → Type 0
+IsAnswerOf (Some (Put key value)) Done = Unit {0}
+IsAnswerOf (Some (Put key value)) NoRows = Unit {0}
+IsAnswerOf (Some (Del key)) Done = Unit {0}
+IsAnswerOf (Some (Del key)) NoRows = Unit {0}
+IsAnswerOf (Some (Get key)) (Value value) = Unit {0}
+IsAnswerOf (Some (Get key)) Absent = Unit {0}
+IsAnswerOf (Some (Scan from upto)) Pairs = Unit {0}
+IsAnswerOf (Some (Scan from upto)) Spent = Unit {0}
+IsAnswerOf (Some (Scan from upto)) Stopped = Unit {0}
+IsAnswerOf _ _ = ⊥
 
--- the reply is pairs
-abbrev pub IsPairs : Reply → Type 0
-IsPairs (Pairs pairs) = Unit {0}
+-- the answer is pairs
+abbrev pub IsPairs : Answer → Type 0
+IsPairs Pairs = Unit {0}
 IsPairs _ = ⊥
 
 -- the activity is one of such a call, and what it names is in range
@@ -138,7 +138,7 @@ IsKind LookCount l = IsReadCall l.call
 IsKind (Cell j) l = IsReadCall l.call × (j < l.count)
 IsKind CellKey l = IsReadCall l.call × (l.place < l.count)
 IsKind CellValue l = IsReadCall l.call × (l.place < l.count)
-IsKind (ClearScan reply) l = IsScanCall l.call × IsPairs reply
+IsKind (ClearScan answer) l = IsScanCall l.call × IsPairs answer
 IsKind PutCount l = IsPutCall l.call
 IsKind PutAdd l = IsPutCall l.call
 IsKind PutKey l = IsPutCall l.call
@@ -148,7 +148,7 @@ IsKind PutClock l = IsPutCall l.call
 IsKind Stamp l = IsPutCall l.call
 IsKind PutVersion l = IsPutCall l.call
 IsKind PutClear l = IsPutCall l.call
-IsKind (Leave reply) l = IsReplyOf l.call reply
+IsKind (Leave answer) l = IsAnswerOf l.call answer
 IsKind _ l = IsSomeCall l.call
 
 -- the activity is one to which a seat may come, and fits the call, and a scan that walks or reads has a key

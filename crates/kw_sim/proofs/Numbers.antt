@@ -11,7 +11,7 @@ use Rattle.kw_words.specs.Plain.{version_of_word, key_of_word, value_of_word}
 use Rattle.kw_words.specs.Count.{count_of}
 use Rattle.kw_words.specs.Scan.{scan_of}
 use Rattle.kw_words.specs.declared.sizes.TheConstants.{SPENT}
-use Rattle.kw_model.specs.declared.call.Reply.TheVariants.{Pairs, Spent}
+use Rattle.kw_world.specs.declared.answer.Answer.TheVariants.{Pairs, Spent}
 use Rattle.kw_world.specs.Calls.{is_in_range, is_range_empty}
 use Rattle.kw_model.specs.declared.call.Call.{Call}
 use Rattle.kw_model.specs.declared.call.Call.TheVariants.{Put, Del, Get, Scan}
@@ -21,18 +21,18 @@ use Rattle.kw_world.specs.declared.local.Local.{Local}
 use Rattle.kw_world.specs.declared.event.Choice.{Choice}
 use Rattle.kw_world.specs.declared.event.Choice.TheVariants.{Begin, Go, Guess, Stop}
 use Rattle.kw_world.specs.Sizes.{Sizes}
-use Rattle.kw_world.specs.Row.{Outcome, row_linked, to, leave}
-use Rattle.kw_world.specs.RowPut.{stamp_met, full, has_room, given_of}
-use Rattle.kw_world.specs.RowRead.{to_look, look_met, help_met, scan_on, row_read, to_cell, version_met, version_in_hand, with_pairs, remembering, gathering, count_read}
-use Rattle.kw_world.specs.RowScan.{begun, entered, settled, to_start, version_settled}
-use Rattle.kw_world.specs.RowWalk.{offered, guess_met, start_row, walk_row, is_stopped, link_met, walk_min, arrive}
-use Rattle.kw_world.specs.Table.{row}
+use Rattle.kw_world.specs.Transition.{Outcome, row_linked, to, leave}
+use Rattle.kw_world.specs.PutTransitions.{stamp_met, full, has_room, given_of}
+use Rattle.kw_world.specs.ReadTransitions.{to_look, look_met, help_met, scan_on, row_read, to_cell, version_met, version_in_hand, with_pairs, remembering, gathering, count_read}
+use Rattle.kw_world.specs.ScanTransitions.{begun, entered, settled, to_start, version_settled}
+use Rattle.kw_world.specs.WalkTransitions.{offered, guess_met, start_transition, walk_transition, is_stopped, link_met, walk_min, arrive}
+use Rattle.kw_world.specs.Table.{transition}
 use Rattle.kw_world.specs.declared.event.Event.{Event}
 use Rattle.kw_world.specs.declared.opening.Opening.{Opening}
 use Rattle.kw_world.specs.WorldView.{WorldView}
 use Rattle.kw_world.specs.Opening.{opened}
 use Rattle.kw_world.specs.Local.{resting}
-use Rattle.kw_world.specs.Step.{step, step_of, row_of, row_at, followed, word, is_skipped}
+use Rattle.kw_world.specs.Step.{step, step_of, transition_of, transition_at, followed, word, is_skipped}
 use Rattle.kw_world.specs.Operation.{told_by}
 use Rattle.kw_world.proofs.Lists.{get-set_same, get-set_other}
 use Rattle.std.proofs.lemmas.Option.{slice_get_within, same_Some}
@@ -115,15 +115,15 @@ module _ (n : ℕ) where
   guess_goes r (Some (Retired number)) l h = record { number = h }
   guess_goes r None l h = record { number = h }
 
-  start_goes : (choice : Choice) (l : Local) (told : ℕ) → l.number ≤ n → Counts n ((start_row choice l).next told)
-  start_goes (Begin call) l told h = record { number = h }
-  start_goes Go l told h = record { number = h }
-  start_goes (Guess r) l told h = guess_goes r (state_of told) l h
-  start_goes Stop l told h = record { number = h }
+  start_goes : (choice : Choice) (l : Local) (rows told : ℕ) → l.number ≤ n → Counts n ((start_transition choice l).next rows told)
+  start_goes (Begin call) l rows told h = record { number = h }
+  start_goes Go l rows told h = record { number = h }
+  start_goes (Guess r) l rows told h = guess_goes r (state_of told) l h
+  start_goes Stop l rows told h = record { number = h }
 
-  walk_goes : (stopped : Bool) (s : ℕ) (l : Local) (told : ℕ) → l.number ≤ n → Counts n ((walk_row stopped s l).next told)
-  walk_goes true s l told h = record { number = h }
-  walk_goes false s l told h = link_goes (row_linked (link_of told)) l h
+  walk_goes : (stopped : Bool) (s : ℕ) (l : Local) (rows told : ℕ) → l.number ≤ n → Counts n ((walk_transition stopped s l).next rows told)
+  walk_goes true s l rows told h = record { number = h }
+  walk_goes false s l rows told h = link_goes (row_linked (link_of told)) l h
 
   begin_goes : (choice : Choice) (epoch : ℕ) (l : Local) → is_skipped Idle choice ≡ false → l.number + 1 ≤ n → Counts n (begun choice epoch l)
   begin_goes (Begin call) epoch l e h = record { number = h }
@@ -139,43 +139,43 @@ module _ (n : ℕ) where
   enter_goes None l h = record { number = h }
 
   settle_goes : (version : ℕ) (l : Local) → l.number ≤ n → Counts n (settled version l)
-  settle_goes version l h = either (is_range_empty l.call) (to (ClearScan (Pairs [])) (record l { version = version })) (to_start (record l { version = version })) (record { number = h }) (record { number = h })
+  settle_goes version l h = either (is_range_empty l.call) (to (ClearScan Pairs) (record l { version = version })) (to_start (record l { version = version })) (record { number = h }) (record { number = h })
 
   walk_min_goes : (least : ℕ) (l : Local) → l.number ≤ n → Counts n (walk_min least l)
   walk_min_goes least l h = either (nat_le least l.want) (to Walk (record l { row = l.candidate; lower = least })) (arrive l.call (record l { next = Some l.candidate; upper = least })) (record { number = h }) (arrive_goes l.call (record l { next = Some l.candidate; upper = least }) h)
 
   -- an event that is not skipped is made, whatever it was told
-  pub goes_on : (z : Sizes) (a : Activity) (s : ℕ) (choice : Choice) (l : Local) (told : ℕ) → is_skipped a choice ≡ false → l.number + 1 ≤ n → Counts n ((row z a s choice l).next told)
-  goes_on z Idle s choice l told e h = begin_goes choice told l e h
-  goes_on z Enter s choice l told e h = enter_goes l.call l (omega arith)
-  goes_on z ScanClock s choice l told e h = either (nat_le SPENT told) (leave Spent l) (to ScanWait (record l { waiting = told })) (record { number = omega arith }) (record { number = omega arith })
-  goes_on z ScanWait s choice l told e h = record { number = omega arith }
-  goes_on z ScanDraw s choice l told e h = record { number = omega arith }
-  goes_on z ScanSettle s choice l told e h = settle_goes (version_settled (scan_of told) l.drawn) l (omega arith)
-  goes_on z Start s choice l told e h = start_goes choice l told (omega arith)
-  goes_on z Head s choice l told e h = record { number = omega arith }
-  goes_on z GuessMin s choice l told e h = either (nat_le (key_of_word told) l.want) (to Walk (record l { lower = key_of_word told })) (to Head l) (record { number = omega arith }) (record { number = omega arith })
-  goes_on z Walk s choice l told e h = walk_goes (is_stopped choice l) s l told (omega arith)
-  goes_on z WalkMin s choice l told e h = walk_min_goes (key_of_word told) l (omega arith)
-  goes_on z (Look i) s choice l told e h = look_goes z i (pend_of told) l (omega arith)
-  goes_on z LookKey s choice l told e h = either (is_in_range l.call (key_of_word told)) (to LookClock l) (to_look z (l.looked + 1) l) (record { number = omega arith }) (looks z (l.looked + 1) l (omega arith))
-  goes_on z LookClock s choice l told e h = record { number = omega arith }
-  goes_on z LookHelp s choice l told e h = help_goes z (pend_of told) l (omega arith)
-  goes_on z LookCount s choice l told e h = cells 0 (record l { count = count_read z (count_of told) }) (omega arith)
-  goes_on z (Cell j) s choice l told e h = version_goes j (version_in_hand j (version_of_word told) l) l (omega arith)
-  goes_on z CellKey s choice l told e h = either (is_in_range l.call (key_of_word told)) (to CellValue (record l { place_key = key_of_word told })) (to_cell (l.place + 1) l) (record { number = omega arith }) (cells (l.place + 1) l (omega arith))
-  goes_on z CellValue s choice l told e h = cells (l.place + 1) (gathering (value_of_word told) l) (omega arith)
-  goes_on z (ClearScan reply) s choice l told e h = record { number = omega arith }
-  goes_on z PutCount s choice l told e h = either (has_room z (count_of told)) (to PutAdd l) (full l) (record { number = omega arith }) (record { number = omega arith })
-  goes_on z PutAdd s choice l told e h = either (has_room z (count_of told)) (to PutKey (record l { cell = given_of (count_of told) })) (full l) (record { number = omega arith }) (record { number = omega arith })
-  goes_on z PutKey s choice l told e h = record { number = omega arith }
-  goes_on z PutValue s choice l told e h = record { number = omega arith }
-  goes_on z Announce s choice l told e h = either (told == pend_word pend.Idle) (to PutClock l) (full l) (record { number = omega arith }) (record { number = omega arith })
-  goes_on z PutClock s choice l told e h = record { number = omega arith }
-  goes_on z Stamp s choice l told e h = stamp_goes (pend_of told) l (omega arith)
-  goes_on z PutVersion s choice l told e h = record { number = omega arith }
-  goes_on z PutClear s choice l told e h = record { number = omega arith }
-  goes_on z (Leave reply) s choice l told e h = record { number = omega arith }
+  pub goes_on : (z : Sizes) (a : Activity) (s : ℕ) (choice : Choice) (l : Local) (rows told : ℕ) → is_skipped a choice ≡ false → l.number + 1 ≤ n → Counts n ((transition z a s choice l).next rows told)
+  goes_on z Idle s choice l rows told e h = begin_goes choice told l e h
+  goes_on z Enter s choice l rows told e h = enter_goes l.call l (omega arith)
+  goes_on z ScanClock s choice l rows told e h = either (nat_le SPENT told) (leave Spent l) (to ScanWait (record l { waiting = told })) (record { number = omega arith }) (record { number = omega arith })
+  goes_on z ScanWait s choice l rows told e h = record { number = omega arith }
+  goes_on z ScanDraw s choice l rows told e h = record { number = omega arith }
+  goes_on z ScanSettle s choice l rows told e h = settle_goes (version_settled (scan_of told) l.drawn) l (omega arith)
+  goes_on z Start s choice l rows told e h = start_goes choice l rows told (omega arith)
+  goes_on z Head s choice l rows told e h = record { number = omega arith }
+  goes_on z GuessMin s choice l rows told e h = either (nat_le (key_of_word told) l.want) (to Walk (record l { lower = key_of_word told })) (to Head l) (record { number = omega arith }) (record { number = omega arith })
+  goes_on z Walk s choice l rows told e h = walk_goes (is_stopped choice l) s l rows told (omega arith)
+  goes_on z WalkMin s choice l rows told e h = walk_min_goes (key_of_word told) l (omega arith)
+  goes_on z (Look i) s choice l rows told e h = look_goes z i (pend_of told) l (omega arith)
+  goes_on z LookKey s choice l rows told e h = either (is_in_range l.call (key_of_word told)) (to LookClock l) (to_look z (l.looked + 1) l) (record { number = omega arith }) (looks z (l.looked + 1) l (omega arith))
+  goes_on z LookClock s choice l rows told e h = record { number = omega arith }
+  goes_on z LookHelp s choice l rows told e h = help_goes z (pend_of told) l (omega arith)
+  goes_on z LookCount s choice l rows told e h = cells 0 (record l { count = count_read z (count_of told) }) (omega arith)
+  goes_on z (Cell j) s choice l rows told e h = version_goes j (version_in_hand j (version_of_word told) l) l (omega arith)
+  goes_on z CellKey s choice l rows told e h = either (is_in_range l.call (key_of_word told)) (to CellValue (record l { place_key = key_of_word told })) (to_cell (l.place + 1) l) (record { number = omega arith }) (cells (l.place + 1) l (omega arith))
+  goes_on z CellValue s choice l rows told e h = cells (l.place + 1) (gathering (value_of_word told) l) (omega arith)
+  goes_on z (ClearScan answer) s choice l rows told e h = record { number = omega arith }
+  goes_on z PutCount s choice l rows told e h = either (has_room z (count_of told)) (to PutAdd l) (full l) (record { number = omega arith }) (record { number = omega arith })
+  goes_on z PutAdd s choice l rows told e h = either (has_room z (count_of told)) (to PutKey (record l { cell = given_of (count_of told) })) (full l) (record { number = omega arith }) (record { number = omega arith })
+  goes_on z PutKey s choice l rows told e h = record { number = omega arith }
+  goes_on z PutValue s choice l rows told e h = record { number = omega arith }
+  goes_on z Announce s choice l rows told e h = either (told == pend_word pend.Idle) (to PutClock l) (full l) (record { number = omega arith }) (record { number = omega arith })
+  goes_on z PutClock s choice l rows told e h = record { number = omega arith }
+  goes_on z Stamp s choice l rows told e h = stamp_goes (pend_of told) l (omega arith)
+  goes_on z PutVersion s choice l rows told e h = record { number = omega arith }
+  goes_on z PutClear s choice l rows told e h = record { number = omega arith }
+  goes_on z (Leave answer) s choice l rows told e h = record { number = omega arith }
 
 -- what is offered is skipped where the choice is
 not_skipped : (l : Local) (e : Event) (rows : ℕ) → is_skipped l.activity e.choice ≡ false → is_skipped l.activity (offered rows e.choice) ≡ false
@@ -201,7 +201,7 @@ NumbersUpTo n w = (s : ℕ) (l : Local) → slice_get w.locals s ≡ Some l → 
 
 -- an event adds one at most
 step_numbers : (z : Sizes) (w : WorldView) (e : Event) (n : ℕ) → NumbersUpTo n w → NumbersUpTo (n + 1) (step z w e).world
-unfolding step row_of
+unfolding step transition_of
 step_numbers z w e n up = go (slice_get w.locals e.seat) refl
   where
     moved : (l : Local) → slice_get w.locals e.seat ≡ Some l → (b : Bool) → is_skipped l.activity e.choice ≡ b → NumbersUpTo (n + 1) (step_of z w e (Some l)).world
@@ -209,10 +209,10 @@ step_numbers z w e n up = go (slice_get w.locals e.seat) refl
     moved l knows false h = rw h (λ s k g. here s k g (cases_eq s e.seat))
       where
         next : Local
-        next = (followed (row_at z w e l) (word z w (row_at z w e l).operation.name)).local
+        next = (followed w.rows (transition_at z w e l) (word z w (transition_at z w e l).operation.name)).local
 
         few : next.number ≤ n + 1
-        few = (goes_on (n + 1) z l.activity e.seat (offered w.rows e.choice) l (told_by (row_at z w e l).operation.action (word z w (row_at z w e l).operation.name)) (not_skipped l e w.rows h) (omega (arith, up e.seat l knows))).number
+        few = (goes_on (n + 1) z l.activity e.seat (offered w.rows e.choice) l w.rows (told_by (transition_at z w e l).operation.action (word z w (transition_at z w e l).operation.name)) (not_skipped l e w.rows h) (omega (arith, up e.seat l knows))).number
 
         here : (s : ℕ) (k : Local) → slice_get (slice_set w.locals e.seat next) s ≡ Some k → (s ≡ e.seat) ⊎ (s ≢ e.seat) → k.number ≤ n + 1
         here s k g (inl is) =

@@ -3,13 +3,15 @@ use Rattle.std.proofs.Common.{◌≡◌, ◌<◌, Some, length, slice_get, arith
 use Rattle.kw_model.specs.declared.call.Call.{Call}
 use Rattle.kw_model.specs.declared.call.Call.TheVariants.{Put, Del, Get, Scan}
 use Rattle.kw_line.specs.Line.{FitsCall}
+use Rattle.kw_world.specs.declared.activity.Activity.{Activity}
+use Rattle.kw_world.specs.declared.activity.Activity.TheVariants.{Idle}
 use Rattle.kw_world.specs.declared.event.Choice.{Choice}
 use Rattle.kw_world.specs.declared.event.Choice.TheVariants.{Begin, Go, Guess, Stop}
 use Rattle.kw_world.specs.declared.event.Event.{Event}
 use Rattle.kw_world.specs.declared.local.Local.{Local}
 use Rattle.kw_world.specs.declared.limits.TheConstants.{MOST_CALLS}
 use Rattle.kw_world.specs.Sizes.{product}
-use Rattle.kw_world.specs.Sane.{IsCall, CanBegin, CanStep}
+use Rattle.kw_world.specs.Sane.{IsCall, CanBegin, CanStep, CanBeginAt}
 use Rattle.kw_order.specs.Trace.{TraceView, world_of}
 use Rattle.kw_sim.specs.Meaning.{FitsChoice}
 use Rattle.kw_sim.proofs.Numbers.{numbers_up_to}
@@ -29,7 +31,8 @@ can_step t e fits few = λ l knows. by_choice e.choice fits l (number l knows)
     number l knows = omega (arith, few, numbers_up_to product t.opening t.events e.seat l knows)
 
     by_choice : (choice : Choice) → FitsChoice choice → (l : Local) → l.number < MOST_CALLS → CanBegin choice l
-    by_choice (Begin call) b l n = (in_range call b, n)
-    by_choice Go b l n = tt
-    by_choice (Guess row) b l n = tt
-    by_choice Stop b l n = tt
+    by_choice choice b l n = at l.activity choice b
+      where
+        at : (a : Activity) (c : Choice) → FitsChoice c → CanBeginAt a c l
+        at Idle (Begin call) b = (in_range call b, n)
+        at _ c b = tt

@@ -10,11 +10,11 @@ use Rattle.kw_world.specs.declared.event.Choice.TheVariants.{Go}
 use Rattle.kw_world.specs.declared.local.Local.{Local}
 use Rattle.kw_world.specs.Sizes.{Sizes}
 use Rattle.kw_world.specs.Calls.{is_in_range}
-use Rattle.kw_world.specs.Row.{to}
-use Rattle.kw_world.specs.RowRead.{to_cell, count_read, row_read, scan_on, version_met, version_in_hand, gathering}
+use Rattle.kw_world.specs.Transition.{to}
+use Rattle.kw_world.specs.ReadTransitions.{to_cell, count_read, row_read, scan_on, version_met, version_in_hand, gathering}
 use Rattle.kw_world.specs.RowEnd.{IsInCells, read_at, read_on, version_read, passed}
-use Rattle.kw_world.specs.Table.{row}
-use Rattle.kw_world.specs.Step.{next_of, row_of}
+use Rattle.kw_world.specs.Table.{transition}
+use Rattle.kw_world.specs.Step.{next_of, transition_of}
 
 -- how a scan goes on does not hang on what it did last
 scan_on-any : (o : Option ℕ) (upto : ℕ) (a : Activity) (l : Local) → scan_on o upto (record l { activity = a }) ≡ scan_on o upto l
@@ -42,14 +42,14 @@ key_passed true key l = refl
 key_passed false key l = to_cell-any (l.place + 1) (Cell (l.place + 1)) l
 
 -- once the end is passed, all is as the line of the activity says
-passes_at : (z : Sizes) (a : Activity) (l : Local) (told : ℕ) → IsInCells a → passed (read_at z a l told) ≡ (row z a 0 Go l).next told
-passes_at z LookCount l told i = to_cell-any 0 (Cell 0) (record l { count = count_read z (count_of told) })
-passes_at z (Cell j) l told i = version_passed j (version_in_hand j (version_of_word told) l) l
-passes_at z CellKey l told i = key_passed (is_in_range l.call (key_of_word told)) (key_of_word told) l
-passes_at z CellValue l told i = to_cell-any (l.place + 1) (Cell (l.place + 1)) (gathering (value_of_word told) l)
-passes_at z _ l told i = absurd i
+passes_at : (z : Sizes) (rows : ℕ) (a : Activity) (l : Local) (told : ℕ) → IsInCells a → passed (read_at z a l told) ≡ (transition z a 0 Go l).next rows told
+passes_at z rows LookCount l told i = to_cell-any 0 (Cell 0) (record l { count = count_read z (count_of told) })
+passes_at z rows (Cell j) l told i = version_passed j (version_in_hand j (version_of_word told) l) l
+passes_at z rows CellKey l told i = key_passed (is_in_range l.call (key_of_word told)) (key_of_word told) l
+passes_at z rows CellValue l told i = to_cell-any (l.place + 1) (Cell (l.place + 1)) (gathering (value_of_word told) l)
+passes_at z rows _ l told i = absurd i
 
 -- that is as after the event
-pub passes : (z : Sizes) (l : Local) (told : ℕ) → IsInCells l.activity → passed (read_on z l told) ≡ next_of z Go l told
-unfolding row_of
-passes z l told i = passes_at z l.activity l told i
+pub passes : (z : Sizes) (rows : ℕ) (l : Local) (told : ℕ) → IsInCells l.activity → passed (read_on z l told) ≡ next_of z rows Go l told
+unfolding transition_of
+passes z rows l told i = passes_at z rows l.activity l told i

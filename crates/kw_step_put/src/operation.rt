@@ -1,13 +1,14 @@
 //! Which operation a seat makes.
 //!
 //! The operation depends on what the seat knows and on its choice, and on no word.
-ghost use Rattle.std.specs.Prelude.{◌≡◌, ◌<◌, false};
+ghost use Rattle.std.specs.Prelude.{◌≡◌, ◌<◌};
 ghost use Rattle.kw_words.specs.Pend.{pend_word};
 ghost use Rattle.kw_words.specs.Scan.{scan_word};
 ghost use Rattle.kw_world.specs.Sizes.{product};
-ghost use Rattle.kw_world.specs.Parts.{is_rows_part};
+ghost use Rattle.kw_world.specs.Parts.{part_of};
+ghost use Rattle.kw_world.specs.declared.part.Part.{Part};
 ghost use Rattle.kw_world.specs.Sane.{IsLocal, IsVersion};
-ghost use Rattle.kw_world.specs.Step.{row_of};
+ghost use Rattle.kw_world.specs.Step.{transition_of};
 ghost use Rattle.kw_words.specs.declared.sizes.TheConstants.{CELLS};
 
 use kw_words::kind::Kind;
@@ -22,15 +23,15 @@ use kw_world::local::Local;
 use kw_world::operation::{Action, Operation};
 
 /// The operation of the event that a seat makes with this choice.
-#[tactic(auto, unfolding(kw_world::specs::Step::row_of))]
+#[tactic(auto, unfolding(kw_world::specs::Step::transition_of))]
 pub fn put_operation(seat: u32, local: &Local, choice: Choice) -> Operation
     requires local { IsLocal product local.now }
-    requires part { is_rows_part choice local.now ≡ false }
-    ensures { result ≡ (row_of product seat choice local.now).operation }
+    requires part { part_of choice local.now ≡ Part.Put }
+    ensures { result ≡ (transition_of product seat choice local.now).operation }
 {
     let row = local.row;
     let cell = local.cell;
-    match &local.activity {
+    match local.activity {
         Activity::Idle => load(Kind::LoadEpoch, Name::Epoch),
         Activity::Enter => {
             let pass = pack_pass(Some(local.epoch));
@@ -44,7 +45,7 @@ pub fn put_operation(seat: u32, local: &Local, choice: Choice) -> Operation
         Activity::ScanDraw => add_one(Kind::Draw, Name::Clock),
         Activity::ScanSettle => settle(seat, local.waiting, local.drawn),
         Activity::Walk => clear_scan(seat),
-        Activity::Look(entry) => load(Kind::LoadPend, Name::Pend(row, *entry)),
+        Activity::Look(entry) => load(Kind::LoadPend, Name::Pend(row, entry)),
         Activity::LookKey => load(Kind::LoadKey, Name::Key(row, local.met)),
         Activity::LookClock => load(Kind::LoadClock, Name::Clock),
         Activity::LookHelp => {
@@ -52,7 +53,7 @@ pub fn put_operation(seat: u32, local: &Local, choice: Choice) -> Operation
             stamp(Kind::HelpStamp, entry, local.met, local.helping)
         }
         Activity::LookCount => load(Kind::LoadCount, Name::Count(row)),
-        Activity::Cell(place) => load(Kind::LoadVersion, Name::Version(row, *place)),
+        Activity::Cell(place) => load(Kind::LoadVersion, Name::Version(row, place)),
         Activity::CellKey => load(Kind::LoadKey, Name::Key(row, local.place)),
         Activity::CellValue => load(Kind::LoadValue, Name::Value(row, local.place)),
         Activity::ClearScan(_) => clear_scan(seat),

@@ -3,13 +3,13 @@
 //! `read_on` is an event there without what follows once the row's cells are at their end: it takes no memory, so that
 //! whoever keeps a scan's pairs elsewhere can use it in place of `put_resume`, and pass the end of the row itself. Both
 //! stand on the same small functions here, one for each thing that is read.
-ghost use Rattle.std.specs.Prelude.{◌≡◌, ◌+◌, ◌<◌, Some, None, length, if◌then◌else◌};
+ghost use Rattle.std.specs.Prelude.{◌≡◌, ◌+◌, ◌<◌, ℕ, Some, None, length, if◌then◌else◌};
 ghost use Rattle.kw_words.specs.Count.{count_of};
 ghost use Rattle.kw_words.specs.Plain.{key_of_word, value_of_word, version_of_word};
 ghost use Rattle.kw_words.specs.declared.sizes.TheConstants.{CELLS};
 ghost use Rattle.kw_world.specs.Sizes.{product};
 ghost use Rattle.kw_world.specs.Calls.{is_in_range};
-ghost use Rattle.kw_world.specs.RowRead.{version_in_hand, gathering, count_read};
+ghost use Rattle.kw_world.specs.ReadTransitions.{version_in_hand, gathering, count_read};
 ghost use Rattle.kw_world.specs.RowEnd.{IsInCells, IsOnward, read_on, passed};
 ghost use Rattle.kw_world.specs.Sane.{IsLocal, HasRoom};
 ghost use Rattle.kw_world.specs.Step.{next_of};
@@ -35,7 +35,7 @@ pub fn read_on(local: &mut Local, told: u64)
     requires in_cells { IsInCells local.old.activity }
     ensures read { local.new ≡ read_on product local.old told }
     ensures onward { IsOnward product local.new.activity }
-    ensures passed { passed local.new ≡ next_of product Choice.Go local.old told }
+    ensures passed { (rows : ℕ) → passed local.new ≡ next_of product rows Choice.Go local.old told }
 {
     learn(local, told);
 }
@@ -48,18 +48,15 @@ fn learn(local: &mut Local, told: u64)
     ensures read { local.new ≡ read_on product local.old told }
     ensures onward { IsOnward product local.new.activity }
 {
-    match &local.activity {
+    match local.activity {
         Activity::LookCount => {
             local.count = count_read(told);
             at_cell(local, 0);
         }
-        Activity::Cell(place) => {
-            let place = *place;
-            match version_in_hand(local, place, told) {
-                Some(version) => hold_version(local, place, version),
-                None => at_cell(local, place + 1),
-            }
-        }
+        Activity::Cell(place) => match version_in_hand(local, place, told) {
+            Some(version) => hold_version(local, place, version),
+            None => at_cell(local, place + 1),
+        },
         Activity::CellKey => match key_in_range(local, told) {
             Some(key) => hold_key(local, key),
             None => pass_over(local),

@@ -8,19 +8,20 @@ ghost use Rattle.kw_words.specs.Count.{count_of};
 ghost use Rattle.kw_words.specs.Plain.{key_of_word, value_of_word, version_of_word};
 ghost use Rattle.kw_words.specs.declared.sizes.TheConstants.{CELLS};
 ghost use Rattle.kw_cells.specs.Cells.{shown_at, pairs_of};
-ghost use Rattle.kw_model.specs.Map.{found as reply_to};
+ghost use Rattle.kw_world.specs.Answers.{answer_found};
 ghost use Rattle.kw_world.specs.Sizes.{product};
 ghost use Rattle.kw_world.specs.Calls.{is_in_range, is_scan};
-ghost use Rattle.kw_world.specs.Row.{outcome, to, leave};
-ghost use Rattle.kw_world.specs.RowRead.{to_cell, row_read, row_scanned, scan_on, scan_ended, get_answered, version_in_hand, version_met, gathering, count_read};
+ghost use Rattle.kw_world.specs.Transition.{outcome, to, leave};
+ghost use Rattle.kw_world.specs.ReadTransitions.{to_cell, row_read, row_scanned, scan_on, scan_ended, get_answered, version_in_hand, version_met, gathering, count_read};
 
 use crate::reading::{count_read, gather, hold_key, hold_version, key_in_range, version_in_hand};
 use crate::resume::{leave, to};
 use kw_cells::cell::{Cell, best, next_pair};
-use kw_model::call::{Call, Reply};
+use kw_model::call::Call;
 use kw_model::memory::Memory;
 use kw_model::pair_list::PairList;
 use kw_world::activity::Activity;
+use kw_world::answer::Answer;
 use kw_world::calls::first_key;
 use kw_world::event::StepDone;
 use kw_world::limits::NEWEST;
@@ -124,10 +125,7 @@ fn answer(local: &mut Local, key: u32) -> StepDone
         Some(cell) => cell.value,
         None => None,
     };
-    match shown {
-        Some(value) => leave(local, Reply::Value(value)),
-        None => leave(local, Reply::Absent),
-    }
+    leave(local, Answer::found(shown))
 }
 
 // A scan has read a row: it adds the row's pairs, and goes on.
@@ -160,10 +158,7 @@ fn go_on(local: &mut Local, upto: u32) -> StepDone
             local.upper = 0;
             to(local, Activity::Walk)
         }
-        _ => {
-            let pairs = local.pairs.take();
-            to(local, Activity::ClearScan(Reply::Pairs(pairs)))
-        }
+        _ => to(local, Activity::ClearScan(Answer::Pairs)),
     }
 }
 

@@ -5,8 +5,8 @@ ghost use Rattle.kw_words.specs.Plain.{key_of_word};
 ghost use Rattle.kw_words.specs.declared.sizes.TheConstants.{SEATS};
 ghost use Rattle.kw_world.specs.Sizes.{product};
 ghost use Rattle.kw_world.specs.Calls.{is_in_range};
-ghost use Rattle.kw_world.specs.Row.{outcome, to};
-ghost use Rattle.kw_world.specs.RowRead.{to_look, look_met, help_met, remembering};
+ghost use Rattle.kw_world.specs.Transition.{outcome, to};
+ghost use Rattle.kw_world.specs.ReadTransitions.{to_look, look_met, help_met, remembering};
 
 use crate::resume::to;
 use kw_words::pend::Pend;

@@ -4,15 +4,15 @@ ghost use Rattle.kw_words.specs.Count.{count_of};
 ghost use Rattle.kw_words.specs.Pend.{pend_of, pend_word};
 ghost use Rattle.kw_world.specs.Sizes.{product};
 ghost use Rattle.kw_world.specs.Local.{resting};
-ghost use Rattle.kw_world.specs.Row.{outcome, to};
-ghost use Rattle.kw_world.specs.RowPut.{full, has_room, given_of, stamp_met};
+ghost use Rattle.kw_world.specs.Transition.{outcome, to};
+ghost use Rattle.kw_world.specs.PutTransitions.{full, has_room, given_of, stamp_met};
 
 use crate::resume::{leave, to};
-use kw_model::call::Reply;
 use kw_words::count::Count;
 use kw_words::pend::Pend;
 use kw_words::sizes::CELL_COUNT;
 use kw_world::activity::Activity;
+use kw_world::answer::Answer;
 use kw_world::event::StepDone;
 use kw_world::local::Local;
 
@@ -20,7 +20,7 @@ use kw_world::local::Local;
 fn refuse(local: &mut Local) -> StepDone
     ensures { outcome local.new result ≡ full local.old }
 {
-    leave(local, Reply::NoRows)
+    leave(local, Answer::NoRows)
 }
 
 // The cell that the row gives, if it gives one more.

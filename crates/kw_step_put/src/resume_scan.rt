@@ -1,22 +1,23 @@
 //! What a seat knows after the events by which a call begins and a scan gets its version.
 ghost use Rattle.std.specs.Prelude.{◌≡◌};
 ghost use Rattle.kw_words.specs.Scan.{scan_of};
-ghost use Rattle.kw_world.specs.Row.{outcome};
-ghost use Rattle.kw_world.specs.RowScan.{begun, entered, to_start, clock_met, version_settled, settled};
-ghost use Rattle.kw_world.specs.Sane.{CanBegin};
+ghost use Rattle.kw_world.specs.Transition.{outcome};
+ghost use Rattle.kw_world.specs.ScanTransitions.{begun, entered, to_start, clock_met, version_settled, settled};
+ghost use Rattle.kw_world.specs.Sane.{CanBeginAt};
 
 use crate::resume::{leave, to};
-use kw_model::call::{Call, Reply};
+use kw_model::call::Call;
 use kw_words::scan::ScanWord;
 use kw_words::sizes::SPENT;
 use kw_world::activity::Activity;
+use kw_world::answer::Answer;
 use kw_world::calls::{first_key, is_range_empty};
 use kw_world::event::{Choice, StepDone};
 use kw_world::local::Local;
 
 // An idle seat begins a call, and was told the epoch.
 pub(crate) fn begin(local: &mut Local, choice: Choice, epoch: u64) -> StepDone
-    requires { CanBegin choice local.old }
+    requires { CanBeginAt Activity.Idle choice local.old }
     ensures { outcome local.new result ≡ begun choice epoch local.old }
 {
     match choice {
@@ -53,7 +54,7 @@ pub(crate) fn clock(local: &mut Local, clock: u64) -> StepDone
     ensures { outcome local.new result ≡ clock_met clock local.old }
 {
     if clock >= SPENT {
-        return leave(local, Reply::Spent);
+        return leave(local, Answer::Spent);
     }
     local.waiting = clock;
     to(local, Activity::ScanWait)
@@ -68,8 +69,7 @@ pub(crate) fn settle(local: &mut Local, found: u64) -> StepDone
         _ => local.drawn,
     };
     if is_range_empty(local.call) {
-        let none = local.pairs.fresh();
-        return to(local, Activity::ClearScan(Reply::Pairs(none)));
+        return to(local, Activity::ClearScan(Answer::Pairs));
     }
     start(local)
 }

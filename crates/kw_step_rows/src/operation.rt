@@ -1,8 +1,9 @@
 //! Which operation a seat makes on its walk.
-ghost use Rattle.std.specs.Prelude.{◌≡◌, true};
+ghost use Rattle.std.specs.Prelude.{◌≡◌};
 ghost use Rattle.kw_world.specs.Sizes.{product};
-ghost use Rattle.kw_world.specs.Parts.{is_rows_part};
-ghost use Rattle.kw_world.specs.Step.{row_of};
+ghost use Rattle.kw_world.specs.Parts.{part_of};
+ghost use Rattle.kw_world.specs.declared.part.Part.{Part};
+ghost use Rattle.kw_world.specs.Step.{transition_of};
 
 use kw_words::kind::Kind;
 use kw_words::layout::Name;
@@ -12,12 +13,12 @@ use kw_world::local::Local;
 use kw_world::operation::{Action, Operation};
 
 /// The operation of the event that a seat makes with this choice.
-#[tactic(auto, unfolding(kw_world::specs::Step::row_of))]
+#[tactic(auto, unfolding(kw_world::specs::Step::transition_of))]
 pub fn rows_operation(seat: u32, local: &Local, choice: Choice) -> Operation
-    requires { is_rows_part choice local.now ≡ true }
-    ensures { result ≡ (row_of product seat choice local.now).operation }
+    requires { part_of choice local.now ≡ Part.Rows }
+    ensures { result ≡ (transition_of product seat choice local.now).operation }
 {
-    match &local.activity {
+    match local.activity {
         Activity::Start => match choice {
             Choice::Guess(row) => load(Kind::LoadState, Name::State(row)),
             _ => load(Kind::LoadHead, Name::Head),

@@ -1,12 +1,13 @@
 //! What a seat knows after an event of its walk.
-ghost use Rattle.std.specs.Prelude.{◌≡◌, true, if◌then◌else◌};
+ghost use Rattle.std.specs.Prelude.{◌≡◌, if◌then◌else◌};
 ghost use Rattle.kw_words.specs.Link.{link_of};
 ghost use Rattle.kw_words.specs.State.{state_of};
 ghost use Rattle.kw_words.specs.Plain.{key_of_word};
 ghost use Rattle.kw_world.specs.Sizes.{product};
-ghost use Rattle.kw_world.specs.Parts.{is_rows_part};
-ghost use Rattle.kw_world.specs.Row.{outcome, to, row_linked, row_or_first};
-ghost use Rattle.kw_world.specs.RowWalk.{guess_met, guess_min, arrive, link_met, walk_min};
+ghost use Rattle.kw_world.specs.Parts.{part_of};
+ghost use Rattle.kw_world.specs.declared.part.Part.{Part};
+ghost use Rattle.kw_world.specs.Transition.{outcome, to, row_linked, row_or_first};
+ghost use Rattle.kw_world.specs.WalkTransitions.{guess_met, guess_min, arrive, link_met, walk_min};
 ghost use Rattle.kw_world.specs.Step.{next_of};
 
 use kw_model::call::Call;
@@ -17,13 +18,16 @@ use kw_world::activity::Activity;
 use kw_world::event::{Choice, StepDone};
 use kw_world::local::Local;
 
-/// What a seat knows after its event, where the operation told it this.
-#[tactic(auto, unfolding(kw_world::specs::Step::row_of))]
-pub fn rows_resume(local: &mut Local, choice: Choice, told: u64) -> StepDone
-    requires { is_rows_part choice local.old ≡ true }
-    ensures { outcome local.new result ≡ next_of product choice local.old told }
+/// What a seat knows after its event, where the table has so many rows and the operation told it this.
+///
+/// Each walk ends by what it is told, so that no event here asks for the number of rows; it is the end of a search along
+/// the table.
+#[tactic(auto, unfolding(kw_world::specs::Step::transition_of))]
+pub fn rows_resume(local: &mut Local, rows: u32, choice: Choice, told: u64) -> StepDone
+    requires { part_of choice local.old ≡ Part.Rows }
+    ensures { outcome local.new result ≡ next_of product rows choice local.old told }
 {
-    match &local.activity {
+    match local.activity {
         Activity::Start => match choice {
             Choice::Guess(row) => guess(local, row, told),
             _ => first(local, told),

@@ -8,11 +8,11 @@ use Rattle.kw_world.specs.declared.operation.Action.{Action}
 use Rattle.kw_world.specs.declared.operation.Operation.{Operation}
 use Rattle.kw_world.specs.Opening.{IsOpening}
 use Rattle.kw_world.specs.Operation.{told_by}
-use Rattle.kw_world.specs.RowWalk.{offered}
+use Rattle.kw_world.specs.WalkTransitions.{offered}
 use Rattle.kw_world.specs.Sizes.{product}
-use Rattle.kw_world.specs.Step.{row_of}
+use Rattle.kw_world.specs.Step.{transition_of}
 use Rattle.kw_world.specs.WorldView.{WorldView}
-use Rattle.kw_world.proofs.Rows.{in_table}
+use Rattle.kw_world.proofs.Transitions.{in_table}
 use Rattle.kw_core.specs.Events.{world, is_valid, event}
 use Rattle.kw_laws.proofs.Worlds.{world-rows, world-seats, world-local, world_sane}
 use Rattle.kw_table.specs.declared.pass.Pass.{Pass}
@@ -21,7 +21,7 @@ use Rattle.kw_table.specs.declared.shared.Shared.{Shared}
 use Rattle.kw_table.specs.Known.{IsKnown}
 use Rattle.kw_table.specs.Passes.{view, Asks, Makes}
 use Rattle.kw_table.specs.Rules.{Rule}
-use Rattle.kw_table.specs.Views.{local_in, row_in, Steps, Mine, StepsFor}
+use Rattle.kw_table.specs.Views.{local_in, transition_in, Steps, Mine, StepsFor}
 use Rattle.kw_table.proofs.Stepping.{IsReady, place_in}
 
 -- the word of the next event is one of the table's
@@ -33,7 +33,7 @@ named_within s p c does asks =
     let inside : v.number < o.seats = omega (arith, known.seats, known.number) in
     let w : WorldView = world product o v.seen in
     let within = in_table product w (event v.number c) (local_in v) (world_sane product o known.opens v.seen known.valid) (omega (arith, inside, world-seats product o v.seen)) (world-local product o v.seen v.number inside) in
-    let named : IsWithin product.seats product.cells o.rows (row_in v c).operation.name = subst (λ k. IsWithin product.seats product.cells k (row_of product v.number (offered k c) (local_in v)).operation.name) (world-rows product o v.seen) within in
+    let named : IsWithin product.seats product.cells o.rows (transition_in v c).operation.name = subst (λ k. IsWithin product.seats product.cells k (transition_of product v.number (offered k c) (local_in v)).operation.name) (world-rows product o v.seen) within in
     subst (λ (q : Opening). IsWithin product.seats product.cells q.rows does.name) asks.of_table.1
     (subst (λ (d : Operation). IsWithin product.seats product.cells o.rows d.name) asks.next named)
 
@@ -42,7 +42,7 @@ pub is_ready : (s : Shared) (p : Pass) (c : Choice) (does : Operation) → Asks 
 is_ready s p c does asks = record { one = p.known.count; opens = p.known.opens; begins = asks.begins; moves = asks.moves }
 
 -- the law of a step, as a call asks it
-pub asked : (slots id : ℕ) (m : Mine) (c picked : Choice) (does : Operation) (i : ℕ) (key : Opening) (f h : ℕ → ℕ) → picked ≡ c → (row_in m.0 c).operation ≡ does
+pub asked : (slots id : ℕ) (m : Mine) (c picked : Choice) (does : Operation) (i : ℕ) (key : Opening) (f h : ℕ → ℕ) → picked ≡ c → (transition_in m.0 c).operation ≡ does
     → i ≡ place_of product.seats product.cells does.name → m.0.opening ≡ key
     → Allows (Rule m.0.opening) slots id m (place_in m.0 c) f (λ n. StepsFor c m (h n)) → Allows (Rule key) slots id m i f (λ n. StepsFor picked m (h n))
 asked slots id m c picked does i key f h p is q r law =
@@ -52,17 +52,17 @@ asked slots id m c picked does i key f h p is q r law =
     (subst (λ (o : Opening). Allows (Rule o) slots id m (place_in m.0 c) f (λ n. StepsFor c m (h n))) r law))
 
 -- the action of the next event
-pub action_is : (s : Shared) (p : Pass) (c : Choice) (does : Operation) (a : Action) → Asks s p c does → does.action ≡ a → (row_in (view p) c).operation.action ≡ a
+pub action_is : (s : Shared) (p : Pass) (c : Choice) (does : Operation) (a : Action) → Asks s p c does → does.action ≡ a → (transition_in (view p) c).operation.action ≡ a
 action_is s p c does a asks is = ap (λ (d : Operation). d.action) asks.next ∙ is
 
 -- the step that a call made, where the pass is told y
-step_on : (m after : Mine) (c picked : Choice) (a : Action) (x y : ℕ) → picked ≡ c → (row_in m.0 c).operation.action ≡ a → told_by a x ≡ y → StepsFor picked m x after → Steps m.0 c y after.0
+step_on : (m after : Mine) (c picked : Choice) (a : Action) (x y : ℕ) → picked ≡ c → (transition_in m.0 c).operation.action ≡ a → told_by a x ≡ y → StepsFor picked m x after → Steps m.0 c y after.0
 step_on m after c picked a x y p is tells steps =
     let t : StepsFor c m x after = subst (λ (d : Choice). StepsFor d m x after) p steps in
     subst (λ n. Steps m.0 c n after.0) (ap (λ b. told_by b x) is ∙ tells) t.1
 
 -- a pass is one after its step
-pub known_on : (n : ℕ) (m after : Mine) (c picked : Choice) (a : Action) (x y : ℕ) → picked ≡ c → (row_in m.0 c).operation.action ≡ a → told_by a x ≡ y → StepsFor picked m x after → IsKnown n m → IsKnown n after
+pub known_on : (n : ℕ) (m after : Mine) (c picked : Choice) (a : Action) (x y : ℕ) → picked ≡ c → (transition_in m.0 c).operation.action ≡ a → told_by a x ≡ y → StepsFor picked m x after → IsKnown n m → IsKnown n after
 known_on n m after c picked a x y p is tells made known =
     let steps = step_on m after c picked a x y p is tells made in record {
       number = steps.number ∙ known.number;

@@ -19,19 +19,19 @@ use Rattle.kw_world.specs.declared.operation.Action.TheVariants.{Load, Store, Ad
 use Rattle.kw_world.specs.Local.{resting}
 use Rattle.kw_world.specs.Opening.{IsOpening}
 use Rattle.kw_world.specs.Operation.{word_after, told_by, CanHappen}
-use Rattle.kw_world.specs.Row.{Row}
-use Rattle.kw_world.specs.RowWalk.{offered}
+use Rattle.kw_world.specs.Transition.{Transition}
+use Rattle.kw_world.specs.WalkTransitions.{offered}
 use Rattle.kw_world.specs.Sane.{IsSane}
 use Rattle.kw_world.specs.Sizes.{product}
-use Rattle.kw_world.specs.Step.{word, row_of, row_at, after, followed, is_skipped, kind_of, Stepped}
+use Rattle.kw_world.specs.Step.{word, transition_of, transition_at, after, followed, is_skipped, kind_of, Stepped}
 use Rattle.kw_world.specs.WorldView.{WorldView}
-use Rattle.kw_world.proofs.Rows.{event_can_happen}
+use Rattle.kw_world.proofs.Transitions.{event_can_happen}
 use Rattle.kw_world.proofs.Steps.{step-moved, kind_of-moved}
 use Rattle.kw_core.specs.Events.{local_of, world, may_begin, is_valid, of_seat, event}
 use Rattle.kw_core.proofs.Events.{world-append, world-snoc, valid-snoc, may_step_from, local_still, of_seat-append, of_seat-here, of_seat-else}
 use Rattle.kw_laws.proofs.Worlds.{world-rows, world-seats, world-local, world_sane}
 use Rattle.kw_table.specs.declared.pass.View.{View}
-use Rattle.kw_table.specs.Views.{local_in, mine_in, row_in, Steps, Mine, StepsFor}
+use Rattle.kw_table.specs.Views.{local_in, mine_in, transition_in, Steps, Mine, StepsFor}
 use Rattle.kw_table.specs.Rules.{Owns, Fits, Rule}
 use Rattle.kw_table.proofs.Prefixes.{prefix_self, prefix_longer}
 
@@ -75,7 +75,7 @@ after_event v es c = record { number = v.number; count = v.count; opening = v.op
 pub record IsReady (m : Mine) (c : Choice) : Type 0 where
   pub one : m.0.count ≡ 1
   pub opens : IsOpening product m.0.opening
-  pub begins : may_begin c ≡ true
+  pub begins : may_begin (local_in m.0).activity c ≡ true
   pub moves : is_skipped (local_in m.0).activity c ≡ false
 
 -- what is known of that event, where these are all events so far
@@ -83,9 +83,9 @@ record Comes (v : View) (c : Choice) (es : List Event) : Type 0 where
   inside : v.number < v.opening.seats
   here : local_of (world product v.opening es) v.number ≡ local_in v
   valid : is_valid product v.opening (es ++ event v.number c ∷ []) ≡ true
-  can : CanHappen (row_in v c).operation.action (word product (world product v.opening es) (row_in v c).operation.name)
-  kind : kind_of product (world product v.opening es) (event v.number c) ≡ Some (row_in v c).operation.kind
-  leads : world product v.opening (es ++ event v.number c ∷ []) ≡ after product (world product v.opening es) v.number (row_in v c)
+  can : CanHappen (transition_in v c).operation.action (word product (world product v.opening es) (transition_in v c).operation.name)
+  kind : kind_of product (world product v.opening es) (event v.number c) ≡ Some (transition_in v c).operation.kind
+  leads : world product v.opening (es ++ event v.number c ∷ []) ≡ after product (world product v.opening es) v.number (transition_in v c)
 
 -- the event is the one that the whole world has for the seat
 comes : (m : Mine) (c : Choice) (es : List Event) → IsReady m c → is_valid product m.0.opening es ≡ true → Fits m.0.opening es m.0 → Comes m.0 c es
@@ -99,20 +99,20 @@ comes m c es ready valid fits =
     let inside : n < o.seats = fits.seats n owns in
     let here : local_of w n ≡ local_in v = local_is o v es n fits.seen (fits.own n owns) in
     let knows : slice_get w.locals n ≡ Some (local_in v) = world-local product o es n inside ∙ ap Some here in
-    let line : row_at product w e (local_in v) ≡ row_in v c = ap (λ k. row_of product n (offered k c) (local_in v)) (world-rows product o es) in
+    let line : transition_at product w e (local_in v) ≡ transition_in v c = ap (λ k. transition_of product n (offered k c) (local_in v)) (world-rows product o es) in
     let sane : IsSane product w = world_sane product o ready.opens es valid in
     let can = event_can_happen product w e (local_in v) sane (omega (arith, inside, world-seats product o es)) knows in record {
       inside = inside;
       here = here;
       valid = valid-snoc product o es e valid (may_step_from o w e (local_in v) inside ready.begins knows ready.moves);
-      can = subst (λ (r : Row). CanHappen r.operation.action (word product w r.operation.name)) line can;
-      kind = kind_of-moved product w e (local_in v) knows ready.moves ∙ ap (λ (r : Row). Some r.operation.kind) line;
+      can = subst (λ (r : Transition). CanHappen r.operation.action (word product w r.operation.name)) line can;
+      kind = kind_of-moved product w e (local_in v) knows ready.moves ∙ ap (λ (r : Transition). Some r.operation.kind) line;
       leads = world-snoc product o es e ∙ (ap (λ (x : Stepped). x.world) (step-moved product w e (local_in v) knows ready.moves) ∙ ap (after product w n) line);
     }
 
 -- the place of the word of the next event
 abbrev pub place_in : View → Choice → ℕ
-place_in v c = place_of product.seats product.cells (row_in v c).operation.name
+place_in v c = place_of product.seats product.cells (transition_in v c).operation.name
 
 -- the word of a name is the one at its place
 word_at : (w : WorldView) (name : Name) → word product w name ≡ slice_index w.words (place_of product.seats product.cells name)
@@ -121,7 +121,7 @@ word_at w name = refl
 
 -- the words after the event are those of the table after its operation
 words_after : (v : View) (c : Choice) (es : List Event) (ws : List ℕ) (y : ℕ) → Comes v c es → ws ≡ (world product v.opening es).words
-    → y ≡ word_after (row_in v c).operation.action (word product (world product v.opening es) (row_in v c).operation.name)
+    → y ≡ word_after (transition_in v c).operation.action (word product (world product v.opening es) (transition_in v c).operation.name)
     → set ws (place_in v c) y ≡ (world product v.opening (es ++ event v.number c ∷ [])).words
 words_after v c es ws y comes same is =
     ap (λ (l : List ℕ). set l (place_in v c) y) same
@@ -129,18 +129,18 @@ words_after v c es ws y comes same is =
 
 -- what the seat knows after the event follows from what it is told
 local_after : (v : View) (c : Choice) (es : List Event) (told : ℕ) → Comes v c es
-    → told ≡ told_by (row_in v c).operation.action (word product (world product v.opening es) (row_in v c).operation.name)
-    → local_of (world product v.opening (es ++ event v.number c ∷ [])) v.number ≡ ((row_in v c).next told).local
+    → told ≡ told_by (transition_in v c).operation.action (word product (world product v.opening es) (transition_in v c).operation.name)
+    → local_of (world product v.opening (es ++ event v.number c ∷ [])) v.number ≡ ((transition_in v c).next v.opening.rows told).local
 local_after v c es told comes is =
     let w : WorldView = world product v.opening es in
-    let l : Local = (followed (row_in v c) (word product w (row_in v c).operation.name)).local in
+    let l : Local = (followed w.rows (transition_in v c) (word product w (transition_in v c).operation.name)).local in
     ap (λ (q : WorldView). local_of q v.number) comes.leads
-    ∙ (get_or-set_same w.locals v.number l (resting 0) (omega (arith, comes.inside, world-seats product v.opening es)) ∙ ap (λ t. ((row_in v c).next t).local) (sym is))
+    ∙ (get_or-set_same w.locals v.number l (resting 0) (omega (arith, comes.inside, world-seats product v.opening es)) ∙ (ap (λ t. ((transition_in v c).next w.rows t).local) (sym is) ∙ ap (λ k. ((transition_in v c).next k told).local) (world-rows product v.opening es)))
 
 -- A step on the word of the next event, which becomes f of what it was; its answer is g of it.
 pub steps : (slots id : ℕ) (m : Mine) (c : Choice) (f g : ℕ → ℕ) → IsReady m c
-    → ((n : ℕ) → CanHappen (row_in m.0 c).operation.action n → f n ≡ word_after (row_in m.0 c).operation.action n)
-    → ((n : ℕ) → told_by (row_in m.0 c).operation.action (g n) ≡ told_by (row_in m.0 c).operation.action n)
+    → ((n : ℕ) → CanHappen (transition_in m.0 c).operation.action n → f n ≡ word_after (transition_in m.0 c).operation.action n)
+    → ((n : ℕ) → told_by (transition_in m.0 c).operation.action (g n) ≡ told_by (transition_in m.0 c).operation.action n)
     → Allows (Rule m.0.opening) slots id m (place_in m.0 c) f (λ n. StepsFor c m (g n))
 steps slots id m c f g ready leaves tells s holds _ at small =
     let v : View = m.0 in
@@ -148,15 +148,15 @@ steps slots id m c f g ready leaves tells s holds _ at small =
     let es : List Event = holds.0 in
     let kept = holds.1 in
     let n : ℕ = v.number in
-    let a : Action = (row_in v c).operation.action in
+    let a : Action = (transition_in v c).operation.action in
     let fits : Fits o es v = kept.fits id v at in
     let owns : Owns v n = (le_refl n, omega (arith, ready.one)) in
     let it : Comes v c es = comes m c es ready kept.valid fits in
-    let found : ℕ = word product (world product o es) (row_in v c).operation.name in
+    let found : ℕ = word product (world product o es) (transition_in v c).operation.name in
     let all : List Event = es ++ event n c ∷ [] in
     let w : View = after_event v es c in
     let x : ℕ = slice_index s.words (place_in v c) in
-    let same : x ≡ found = ap (λ (l : List ℕ). slice_index l (place_in v c)) kept.words ∙ sym (word_at (world product o es) (row_in v c).operation.name) in
+    let same : x ≡ found = ap (λ (l : List ℕ). slice_index l (place_in v c)) kept.words ∙ sym (word_at (world product o es) (transition_in v c).operation.name) in
     let leaves_it : f x ≡ word_after a found = ap f same ∙ leaves found it.can in
     let told : told_by a (g x) ≡ told_by a found = tells x ∙ ap (told_by a) same in
     let telling : Steps v c (told_by a (g x)) w = record {
@@ -193,22 +193,22 @@ steps slots id m c f g ready leaves tells s holds _ at small =
 
 -- the five laws, one for each action
 module _ (slots id : ℕ) (m : Mine) (c : Choice) (ready : IsReady m c) where
-  pub steps_by_load : (row_in m.0 c).operation.action ≡ Load → Allows (Rule m.0.opening) slots id m (place_in m.0 c) (λ n. n) (StepsFor c m)
+  pub steps_by_load : (transition_in m.0 c).operation.action ≡ Load → Allows (Rule m.0.opening) slots id m (place_in m.0 c) (λ n. n) (StepsFor c m)
   steps_by_load is = steps slots id m c (λ n. n) (λ n. n) ready (λ n _. ap (λ a. word_after a n) (sym is)) (λ n. refl)
 
-  pub steps_by_store : (stored : ℕ) → (row_in m.0 c).operation.action ≡ Store stored → Allows (Rule m.0.opening) slots id m (place_in m.0 c) (λ _. stored) (λ _. StepsFor c m stored)
+  pub steps_by_store : (stored : ℕ) → (transition_in m.0 c).operation.action ≡ Store stored → Allows (Rule m.0.opening) slots id m (place_in m.0 c) (λ _. stored) (λ _. StepsFor c m stored)
   steps_by_store stored is = steps slots id m c (λ _. stored) (λ _. stored) ready (λ n _. ap (λ a. word_after a n) (sym is)) (λ n. ap (λ a. told_by a stored) is ∙ ap (λ a. told_by a n) (sym is))
 
-  pub steps_by_add : (number : ℕ) → (row_in m.0 c).operation.action ≡ Add number → Allows (Rule m.0.opening) slots id m (place_in m.0 c) (λ n. (n + number) % 2 ^ 64) (StepsFor c m)
+  pub steps_by_add : (number : ℕ) → (transition_in m.0 c).operation.action ≡ Add number → Allows (Rule m.0.opening) slots id m (place_in m.0 c) (λ n. (n + number) % 2 ^ 64) (StepsFor c m)
   steps_by_add number is = steps slots id m c (λ n. (n + number) % 2 ^ 64) (λ n. n) ready (λ n can. fits n (subst (λ a. CanHappen a n) is can) ∙ ap (λ a. word_after a n) (sym is)) (λ n. refl)
     where
       fits : (n : ℕ) → n + number < 2 ^ 64 → (n + number) % 2 ^ 64 ≡ n + number
       fits n small = omega (arith, small)
 
-  pub steps_by_or : (bits : ℕ) → (row_in m.0 c).operation.action ≡ Or bits → Allows (Rule m.0.opening) slots id m (place_in m.0 c) (λ n. bit_or n bits) (StepsFor c m)
+  pub steps_by_or : (bits : ℕ) → (transition_in m.0 c).operation.action ≡ Or bits → Allows (Rule m.0.opening) slots id m (place_in m.0 c) (λ n. bit_or n bits) (StepsFor c m)
   steps_by_or bits is = steps slots id m c (λ n. bit_or n bits) (λ n. n) ready (λ n _. ap (λ a. word_after a n) (sym is)) (λ n. refl)
 
-  pub steps_by_exchange : (expected stored : ℕ) → (row_in m.0 c).operation.action ≡ Exchange expected stored
+  pub steps_by_exchange : (expected stored : ℕ) → (transition_in m.0 c).operation.action ≡ Exchange expected stored
       → Allows (Rule m.0.opening) slots id m (place_in m.0 c) (λ n. either (n == expected) stored n) (StepsFor c m)
   steps_by_exchange expected stored is = steps slots id m c (λ n. either (n == expected) stored n) (λ n. n) ready (λ n _. exchanged n ∙ ap (λ a. word_after a n) (sym is)) (λ n. refl)
     where

@@ -8,7 +8,7 @@ use Rattle.kw_world.specs.declared.operation.Operation.{Operation}
 use Rattle.kw_world.specs.Local.{resting}
 use Rattle.kw_world.specs.Step.{is_skipped}
 use Rattle.kw_core.specs.Events.{may_begin}
-use Rattle.kw_table.specs.Views.{local_in, mine_in, row_in, Steps}
+use Rattle.kw_table.specs.Views.{local_in, mine_in, transition_in, Steps}
 use Rattle.kw_table.specs.declared.pass.Pass.{Pass}
 use Rattle.kw_table.specs.declared.pass.View.{View}
 use Rattle.kw_table.specs.declared.shared.Shared.{Shared}
@@ -33,12 +33,12 @@ pub record IsFresh (s : Shared) (n : ℕ) (p : Pass) : Type 0 where
 abbrev pub operation : Kind → Name → Action → Operation
 operation kind name action = record { kind = kind; name = name; action = action }
 
--- the pass is one of the table, and with this choice its next event is this operation; a call that it begins is in range
+-- the pass is one of the table, and with this choice its next event is this operation; a call that it begins, where its seat is idle, is in range
 pub record Asks (s : Shared) (p : Pass) (c : Choice) (does : Operation) : Type 0 where
   pub of_table : IsPassOf s p
-  pub begins : may_begin c ≡ true
+  pub begins : may_begin (local_in (view p)).activity c ≡ true
   pub moves : is_skipped (local_in (view p)).activity c ≡ false
-  pub next : (row_in (view p) c).operation ≡ does
+  pub next : (transition_in (view p) c).operation ≡ does
 
 -- the pass has made this event, and was told this
 pub record Makes (s : Shared) (p : Pass) (c : Choice) (told : ℕ) (q : Pass) : Type 0 where

@@ -7,10 +7,10 @@ use Rattle.kw_world.specs.declared.event.Event.{Event}
 use Rattle.kw_world.specs.declared.local.Local.{Local}
 use Rattle.kw_world.specs.declared.opening.Opening.{Opening}
 use Rattle.kw_world.specs.Operation.{told_by}
-use Rattle.kw_world.specs.Row.{Row}
-use Rattle.kw_world.specs.RowWalk.{offered}
+use Rattle.kw_world.specs.Transition.{Transition}
+use Rattle.kw_world.specs.WalkTransitions.{offered}
 use Rattle.kw_world.specs.Sizes.{product}
-use Rattle.kw_world.specs.Step.{word, row_of, kind_of}
+use Rattle.kw_world.specs.Step.{word, transition_of, kind_of}
 use Rattle.kw_core.specs.Events.{local_of, world, is_valid, of_seat, event}
 use Rattle.kw_table.specs.declared.pass.View.{View}
 
@@ -23,8 +23,8 @@ abbrev pub mine_in : View → List Event
 mine_in v = of_seat v.number v.seen
 
 -- the line of the table of events by which the seat makes its next event, with this choice
-abbrev pub row_in : View → Choice → Row
-row_in v c = row_of product v.number (offered v.opening.rows c) (local_in v)
+abbrev pub transition_in : View → Choice → Transition
+transition_in v c = transition_of product v.number (offered v.opening.rows c) (local_in v)
 
 -- The view v made its next event with this choice, was told this, and became w. It has then seen all events up to and with this
 -- one, which is the only new one of its own.
@@ -40,10 +40,10 @@ pub record Steps (v : View) (c : Choice) (told : ℕ) (w : View) : Type 0 where
   pub mine : mine_in w ≡ mine_in v ++ event v.number c ∷ []
   -- in the world before it the seat knows what it knew, and the event is of the kind that its line names
   pub here : local_of (world product v.opening front) v.number ≡ local_in v
-  pub kind : kind_of product (world product v.opening front) (event v.number c) ≡ Some (row_in v c).operation.kind
+  pub kind : kind_of product (world product v.opening front) (event v.number c) ≡ Some (transition_in v c).operation.kind
   -- the seat is told what the operation tells of that world's word, and goes on by it
-  pub told_there : told ≡ told_by (row_in v c).operation.action (word product (world product v.opening front) (row_in v c).operation.name)
-  pub local : local_in w ≡ ((row_in v c).next told).local
+  pub told_there : told ≡ told_by (transition_in v c).operation.action (word product (world product v.opening front) (transition_in v c).operation.name)
+  pub local : local_in w ≡ ((transition_in v c).next v.opening.rows told).local
 
 -- w has seen all that v has seen and was told of, and no event of its own is new
 pub record Looks (v w : View) : Type 0 where
@@ -62,7 +62,7 @@ Mine = Me (Unit {0}) View
 
 -- what a step tells its caller, where its operation found this word
 abbrev pub StepsFor : Choice → Mine → ℕ → Mine → Type 0
-StepsFor c m found n = (n.1 ≡ m.1) × Steps m.0 c (told_by (row_in m.0 c).operation.action found) n.0
+StepsFor c m found n = (n.1 ≡ m.1) × Steps m.0 c (told_by (transition_in m.0 c).operation.action found) n.0
 
 -- what a look tells its caller
 abbrev pub LooksFor : Mine → Mine → Type 0

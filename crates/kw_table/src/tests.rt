@@ -31,16 +31,17 @@ fn advance(
 ) -> Result<StepDone, Memory>
     requires table { IsPassOf shared.now pass.old }
     requires knows { local.old ≡ local_in (view pass.old) }
-    requires begins { may_begin choice ≡ true }
+    requires begins { may_begin local.old.activity choice ≡ true }
     requires counts { CanBegin choice local.old }
     requires moves { is_skipped local.old.activity choice ≡ false }
     ensures table { IsPassOf shared.now pass.new }
     ensures knows { IfOk result (λ _. local.new ≡ local_in (view pass.new)) }
 {
-    let offered = choice.offered(shared.rows());
+    let rows = shared.rows();
+    let offered = choice.offered(rows);
     let does = operation(pass.number(), local, offered);
     let told = make(shared, pass, choice, does);
-    resume(local, offered, told)
+    resume(local, rows, offered, told)
 }
 
 // Begins the first call of a pass, which is one event. Gives what its seat knows.

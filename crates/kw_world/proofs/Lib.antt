@@ -1,7 +1,9 @@
 pub mod Lists
 pub mod Rooms
-pub mod Rows
+pub mod Transitions
 pub mod Frame
 pub mod Made
 pub mod Steps
+pub mod Skipping
+pub mod Replies
 pub mod Begins

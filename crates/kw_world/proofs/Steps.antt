@@ -10,16 +10,16 @@ use Rattle.kw_world.specs.WorldView.{WorldView}
 use Rattle.kw_world.specs.declared.event.StepDone.{StepDone}
 use Rattle.kw_world.specs.declared.operation.Operation.{Operation}
 use Rattle.kw_world.specs.Operation.{word_after, told_by}
-use Rattle.kw_world.specs.Row.{Row, Outcome, outcome}
-use Rattle.kw_world.specs.RowWalk.{offered}
-use Rattle.kw_world.specs.Table.{row}
-use Rattle.kw_world.specs.Step.{word, row_of, row_at, next_of, followed, step, moved_of, stepped, is_skipped, kind_of}
-use Rattle.kw_world.proofs.Rows.{row_of-next}
+use Rattle.kw_world.specs.Transition.{Transition, Outcome, outcome}
+use Rattle.kw_world.specs.WalkTransitions.{offered}
+use Rattle.kw_world.specs.Table.{transition}
+use Rattle.kw_world.specs.Step.{word, transition_of, transition_at, next_of, followed, step, moved_of, stepped, is_skipped, kind_of}
+use Rattle.kw_world.proofs.Transitions.{transition_of-next}
 
 -- the line of a seat is that of its activity
-pub row_of-row : (z : Sizes) (s : ℕ) (choice : Choice) (l : Local) → row_of z s choice l ≡ row z l.activity s choice l
-unfolding row_of
-row_of-row z s choice l = refl
+pub transition_of-transition : (z : Sizes) (s : ℕ) (choice : Choice) (l : Local) → transition_of z s choice l ≡ transition z l.activity s choice l
+unfolding transition_of
+transition_of-transition z s choice l = refl
 
 -- an event of a seat that knows l, and that is not skipped, is the line of the table
 pub step-moved : (z : Sizes) (w : WorldView) (e : Event) (l : Local) → slice_get w.locals e.seat ≡ Some l → is_skipped l.activity e.choice ≡ false → step z w e ≡ moved_of z w e l
@@ -37,7 +37,7 @@ unfolding step
 step-absent z w e absent = rw absent
 
 -- the kind of an event that is not skipped is that of its line
-pub kind_of-moved : (z : Sizes) (w : WorldView) (e : Event) (l : Local) → slice_get w.locals e.seat ≡ Some l → is_skipped l.activity e.choice ≡ false → kind_of z w e ≡ Some (row_at z w e l).operation.kind
+pub kind_of-moved : (z : Sizes) (w : WorldView) (e : Event) (l : Local) → slice_get w.locals e.seat ≡ Some l → is_skipped l.activity e.choice ≡ false → kind_of z w e ≡ Some (transition_at z w e l).operation.kind
 unfolding kind_of
 kind_of-moved z w e l known goes = rw (known, goes)
 
@@ -48,15 +48,15 @@ kind_of-skipped z w e l known skipped = rw (known, skipped)
 
 -- a world with the event's word set and the acting seat's local replaced is the world after the event
 made : (z : Sizes) (w : WorldView) (e : Event) (l k : Local) (done : StepDone) → slice_get w.locals e.seat ≡ Some l → is_skipped l.activity e.choice ≡ false
-    → outcome k done ≡ next_of z (offered w.rows e.choice) l (told_by (row_at z w e l).operation.action (word z w (row_at z w e l).operation.name))
+    → outcome k done ≡ next_of z w.rows (offered w.rows e.choice) l (told_by (transition_at z w e l).operation.action (word z w (transition_at z w e l).operation.name))
     → stepped (record {
       rows = w.rows;
-      words = slice_set w.words (place_of z.seats z.cells (row_at z w e l).operation.name) (word_after (row_at z w e l).operation.action (word z w (row_at z w e l).operation.name));
+      words = slice_set w.words (place_of z.seats z.cells (transition_at z w e l).operation.name) (word_after (transition_at z w e l).operation.action (word z w (transition_at z w e l).operation.name));
       locals = slice_set w.locals e.seat k;
     }) done ≡ step z w e
 made z w e l k done known goes next =
-    let r : Row = row_at z w e l in
-    let follows : outcome k done ≡ followed r (word z w r.operation.name) = next ∙ sym (row_of-next z e.seat (offered w.rows e.choice) l _) in
+    let r : Transition = transition_at z w e l in
+    let follows : outcome k done ≡ followed w.rows r (word z w r.operation.name) = next ∙ sym (transition_of-next z w.rows e.seat (offered w.rows e.choice) l _) in
     ap (λ (o : Outcome). stepped (record {
       rows = w.rows;
       words = slice_set w.words (place_of z.seats z.cells r.operation.name) (word_after r.operation.action (word z w r.operation.name));
@@ -68,13 +68,13 @@ made z w e l k done known goes next =
 -- and what the seat knows then
 pub made_in_turn : (z : Sizes) (w after : WorldView) (e : Event) (l k : Local) (done : StepDone) (operation : Operation) (place found left told : ℕ)
     → slice_get w.locals e.seat ≡ Some l → is_skipped l.activity e.choice ≡ false
-    → operation ≡ (row_at z w e l).operation → place ≡ place_of z.seats z.cells operation.name
+    → operation ≡ (transition_at z w e l).operation → place ≡ place_of z.seats z.cells operation.name
     → found ≡ slice_index w.words place → left ≡ word_after operation.action found → told ≡ told_by operation.action found
-    → outcome k done ≡ next_of z (offered w.rows e.choice) l told
+    → outcome k done ≡ next_of z w.rows (offered w.rows e.choice) l told
     → after ≡ record { rows = w.rows; words = slice_set w.words place left; locals = slice_set w.locals e.seat k }
     → stepped after done ≡ step z w e
 unfolding word
 made_in_turn z w after e l k done operation place found left told known goes is_operation is_place is_found is_left is_told next is_after =
-    let told_is : told ≡ told_by (row_at z w e l).operation.action (word z w (row_at z w e l).operation.name) = rw (is_told, is_found, is_place, is_operation) in
+    let told_is : told ≡ told_by (transition_at z w e l).operation.action (word z w (transition_at z w e l).operation.name) = rw (is_told, is_found, is_place, is_operation) in
     rw (is_after, is_left, is_found, is_place, is_operation)
-    (made z w e l k done known goes (next ∙ ap (next_of z (offered w.rows e.choice) l) told_is))
+    (made z w e l k done known goes (next ∙ ap (next_of z w.rows (offered w.rows e.choice) l) told_is))

@@ -1,10 +1,12 @@
--- Which events are made by which crate of steps.
-use Rattle.std.specs.Prelude.{Bool, true, false, not, ◌&&◌}
+-- Which part of the table an event is of.
+use Rattle.std.specs.Prelude.{Bool, true, false, if◌then◌else◌}
 use Rattle.kw_world.specs.declared.activity.Activity.{Activity}
 use Rattle.kw_world.specs.declared.activity.Activity.TheVariants.{Start, Head, GuessMin, Walk, WalkMin}
 use Rattle.kw_world.specs.declared.local.Local.{Local}
 use Rattle.kw_world.specs.declared.event.Choice.{Choice}
-use Rattle.kw_world.specs.RowWalk.{is_stopped}
+use Rattle.kw_world.specs.declared.part.Part.{Part}
+use Rattle.kw_world.specs.declared.part.Part.TheVariants as part
+use Rattle.kw_world.specs.WalkTransitions.{is_stopped}
 
 -- the activity is one of a walk
 abbrev pub is_walking : Activity → Bool
@@ -15,11 +17,15 @@ is_walking Walk = true
 is_walking WalkMin = true
 is_walking _ = false
 
--- the walk of a scan is stopped here: the event ends the scan and does not walk
-abbrev pub stops_walk : Activity → Choice → Local → Bool
-stops_walk Walk choice l = is_stopped choice l
-stops_walk _ choice l = false
+-- the part that has the event at this activity; a walk that is stopped does not walk: the event ends the scan
+abbrev pub part_at : Activity → Choice → Local → Part
+part_at Start choice l = part.Rows
+part_at Head choice l = part.Rows
+part_at GuessMin choice l = part.Rows
+part_at Walk choice l = if is_stopped choice l then part.Put else part.Rows
+part_at WalkMin choice l = part.Rows
+part_at _ choice l = part.Put
 
--- the event is one of walking along the rows; every other one is a put's, a reader's or a scan's own
-abbrev pub is_rows_part : Choice → Local → Bool
-is_rows_part choice l = is_walking l.activity && not (stops_walk l.activity choice l)
+-- the part that has the event of a seat that knows l
+abbrev pub part_of : Choice → Local → Part
+part_of choice l = part_at l.activity choice l

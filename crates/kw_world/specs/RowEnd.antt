@@ -9,8 +9,8 @@ use Rattle.kw_world.specs.declared.local.Local.{Local}
 use Rattle.kw_world.specs.Sizes.{Sizes}
 use Rattle.kw_world.specs.WorldView.{WorldView}
 use Rattle.kw_world.specs.Calls.{is_scan, is_in_range}
-use Rattle.kw_world.specs.Row.{Outcome, outcome}
-use Rattle.kw_world.specs.RowRead.{to_cell, count_read, version_in_hand, gathering}
+use Rattle.kw_world.specs.Transition.{Outcome, outcome}
+use Rattle.kw_world.specs.ReadTransitions.{to_cell, count_read, version_in_hand, gathering}
 
 -- the seat reads the count or a cell of a row: its event may be the last one of the row
 abbrev pub IsInCells : Activity → Type 0

@@ -1,5 +1,5 @@
 -- Sane worlds: all that a world holds is in range, so that every event of it is safe.
-use Rattle.std.specs.Prelude.{ℕ, suc, ◌≡◌, ◌⊎◌, ◌+◌, ◌<◌, ◌≤◌, true, false, Option, Some, None, List, [], ◌∷◌, length, All, slice_get}
+use Rattle.std.specs.Prelude.{ℕ, suc, ◌≡◌, ◌⊎◌, ◌+◌, ◌<◌, ◌≤◌, false, Option, Some, None, List, [], ◌∷◌, length, All, slice_get}
 use Rattle.kw_words.specs.declared.layout.Name.{Name}
 use Rattle.kw_words.specs.declared.layout.Name.TheVariants as name
 use Rattle.kw_words.specs.declared.pend.Pend.{Pend}
@@ -19,10 +19,10 @@ use Rattle.kw_words.specs.Plain.{IsValue}
 use Rattle.kw_cells.specs.declared.cell.Cell as kw_cell
 use Rattle.kw_model.specs.declared.call.Call.{Call}
 use Rattle.kw_model.specs.declared.call.Call.TheVariants.{Put, Del, Get, Scan}
-use Rattle.kw_model.specs.declared.call.Reply.{Reply}
-use Rattle.kw_model.specs.declared.call.Reply.TheVariants.{Value, Pairs}
+use Rattle.kw_world.specs.declared.answer.Answer.{Answer}
+use Rattle.kw_world.specs.declared.answer.Answer.TheVariants.{Value}
 use Rattle.kw_world.specs.declared.activity.Activity.{Activity}
-use Rattle.kw_world.specs.declared.activity.Activity.TheVariants.{Look, LookKey, LookClock, LookHelp, LookCount, Cell, CellKey, CellValue, ClearScan, Leave}
+use Rattle.kw_world.specs.declared.activity.Activity.TheVariants.{Idle, Look, LookKey, LookClock, LookHelp, LookCount, Cell, CellKey, CellValue, ClearScan, Leave}
 use Rattle.kw_world.specs.declared.local.Local.{Local}
 use Rattle.kw_world.specs.declared.marks.Mark.{Mark}
 use Rattle.kw_world.specs.declared.event.Event.{Event}
@@ -33,7 +33,8 @@ use Rattle.kw_world.specs.declared.operation.Action.TheVariants.{Load, Store, Ad
 use Rattle.kw_world.specs.declared.limits.TheConstants.{GIVEN_END, MOST_CALLS}
 use Rattle.kw_world.specs.Sizes.{Sizes}
 use Rattle.kw_world.specs.WorldView.{WorldView}
-use Rattle.kw_world.specs.Parts.{is_rows_part}
+use Rattle.kw_world.specs.declared.part.Part.{Part}
+use Rattle.kw_world.specs.Parts.{part_of}
 use Rattle.kw_world.specs.Step.{word}
 
 -- The words.
@@ -144,18 +145,17 @@ IsCall None = Unit {0}
 abbrev pub IsPair : ℕ × ℕ → Type 0
 IsPair p = (p.0 < KEY_END) × (p.1 < VALUE_END)
 
--- the values of a reply are in range
-abbrev pub IsReply : Reply → Type 0
-IsReply (Value value) = value < VALUE_END
-IsReply (Pairs pairs) = All IsPair pairs
-IsReply _ = Unit {0}
+-- the value of an answer is in range
+abbrev pub IsAnswer : Answer → Type 0
+IsAnswer (Value value) = value < VALUE_END
+IsAnswer _ = Unit {0}
 
--- the seat, the cell or the values that an activity names are in range
+-- the seat, the cell or the value that an activity names is in range
 abbrev pub IsActivity : Sizes → Activity → Type 0
 IsActivity z (Look i) = i < z.seats
 IsActivity z (Cell j) = j < z.cells
-IsActivity z (ClearScan reply) = IsReply reply
-IsActivity z (Leave reply) = IsReply reply
+IsActivity z (ClearScan answer) = IsAnswer answer
+IsActivity z (Leave answer) = IsAnswer answer
 IsActivity z _ = Unit {0}
 
 -- a remembered cell and its version are in range
@@ -242,24 +242,23 @@ pub record IsSane (z : Sizes) (w : WorldView) : Type 0 where
   pub led : (n : Name) → IsWithin z.seats z.cells w.rows n → IsLed w.rows n (word z w n)
   pub locals : (s : ℕ) (l : Local) → slice_get w.locals s ≡ Some l → IsKnown z w.rows l
 
--- a call that begins has numbers in range, and the seat can count it
+-- a call that a seat begins at this activity has numbers in range, and the seat can count it. An idle seat alone begins one: to
+-- any other one the choice to begin counts as `Go`, whatever call it names
+abbrev pub CanBeginAt : Activity → Choice → Local → Type 0
+CanBeginAt Idle (Begin call) l = IsCall (Some call) × (l.number < MOST_CALLS)
+CanBeginAt _ choice l = Unit {0}
+
+-- the same of a seat that knows l
 abbrev pub CanBegin : Choice → Local → Type 0
-CanBegin (Begin call) l = IsCall (Some call) × (l.number < MOST_CALLS)
-CanBegin Go l = Unit {0}
-CanBegin (Guess r) l = Unit {0}
-CanBegin Stop l = Unit {0}
+CanBegin choice l = CanBeginAt l.activity choice l
 
 -- the event may come, as far as it begins a call
 abbrev pub CanStep : WorldView → Event → Type 0
 CanStep w e = (l : Local) → slice_get w.locals e.seat ≡ Some l → CanBegin e.choice l
 
--- the event is one of walking along the rows
-abbrev pub IsRowsPart : WorldView → Event → Type 0
-IsRowsPart w e = (l : Local) → slice_get w.locals e.seat ≡ Some l → is_rows_part e.choice l ≡ true
-
--- the event is any other one
-abbrev pub IsPutPart : WorldView → Event → Type 0
-IsPutPart w e = (l : Local) → slice_get w.locals e.seat ≡ Some l → is_rows_part e.choice l ≡ false
+-- the event is one of this part of the table
+abbrev pub IsOfPart : Part → WorldView → Event → Type 0
+IsOfPart part w e = (l : Local) → slice_get w.locals e.seat ≡ Some l → part_of e.choice l ≡ part
 
 -- a guess is at a row of the table
 abbrev pub IsOffered : ℕ → Choice → Type 0

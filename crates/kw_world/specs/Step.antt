@@ -1,5 +1,5 @@
 -- One event of a world.
-use Rattle.std.specs.Prelude.{Bool, true, false, if◌then◌else◌, ℕ, Option, Some, None, slice_index, slice_set, slice_get}
+use Rattle.std.specs.Prelude.{◌≡◌, Bool, true, false, if◌then◌else◌, ℕ, Option, Some, None, slice_index, slice_set, slice_get}
 use Rattle.kw_words.specs.declared.layout.Name.{Name}
 use Rattle.kw_words.specs.declared.kind.Kind.{Kind}
 use Rattle.kw_words.specs.Layout.{place_of}
@@ -14,32 +14,32 @@ use Rattle.kw_world.specs.declared.event.StepDone.TheVariants.{Moved, Ended, Ski
 use Rattle.kw_world.specs.Sizes.{Sizes}
 use Rattle.kw_world.specs.Operation.{word_after, told_by}
 use Rattle.kw_world.specs.WorldView.{WorldView}
-use Rattle.kw_world.specs.Row.{Row, Outcome}
-use Rattle.kw_world.specs.RowWalk.{offered}
-use Rattle.kw_world.specs.Table.{row}
+use Rattle.kw_world.specs.Transition.{Transition, Outcome}
+use Rattle.kw_world.specs.WalkTransitions.{offered}
+use Rattle.kw_world.specs.Table.{transition}
 
 -- the word of a name
 unfoldable pub word : Sizes → WorldView → Name → ℕ
 word z w n = slice_index w.words (place_of z.seats z.cells n)
 
 -- the line of the table by which a seat that knows l makes its event
-unfoldable pub row_of : Sizes → ℕ → Choice → Local → Row
-row_of z s choice l = row z l.activity s choice l
+unfoldable pub transition_of : Sizes → ℕ → Choice → Local → Transition
+transition_of z s choice l = transition z l.activity s choice l
 
--- what follows from the event of a seat that is told this; it is the same for every number of the seat
-abbrev pub next_of : Sizes → Choice → Local → ℕ → Outcome
-next_of z choice l told = (row_of z 0 choice l).next told
+-- what follows in a table of so many rows from the event of a seat that is told this; it is the same for every number of the seat
+abbrev pub next_of : Sizes → ℕ → Choice → Local → ℕ → Outcome
+next_of z rows choice l told = (transition_of z 0 choice l).next rows told
 
--- what follows from a line, where its operation found this word
-abbrev pub followed : Row → ℕ → Outcome
-followed r found = r.next (told_by r.operation.action found)
+-- what follows from a line in a table of so many rows, where its operation found this word
+abbrev pub followed : ℕ → Transition → ℕ → Outcome
+followed rows t found = t.next rows (told_by t.operation.action found)
 
 -- the world after seat s has made the event of a line: one word, and what the seat knows
-abbrev pub after : Sizes → WorldView → ℕ → Row → WorldView
-after z w s r = record {
+abbrev pub after : Sizes → WorldView → ℕ → Transition → WorldView
+after z w s t = record {
   rows = w.rows;
-  words = slice_set w.words (place_of z.seats z.cells r.operation.name) (word_after r.operation.action (word z w r.operation.name));
-  locals = slice_set w.locals s (followed r (word z w r.operation.name)).local;
+  words = slice_set w.words (place_of z.seats z.cells t.operation.name) (word_after t.operation.action (word z w t.operation.name));
+  locals = slice_set w.locals s (followed w.rows t (word z w t.operation.name)).local;
 }
 
 -- the event is skipped: the seat is idle, and begins nothing
@@ -49,6 +49,10 @@ is_skipped Idle Go = true
 is_skipped Idle (Guess r) = true
 is_skipped Idle Stop = true
 is_skipped _ choice = false
+
+-- the event is skipped, of a seat of this world
+abbrev pub IsSkipped : WorldView → Event → Type 0
+IsSkipped w e = (l : Local) → slice_get w.locals e.seat ≡ Some l → is_skipped l.activity e.choice ≡ true
 
 -- the event was made: the call goes on, or has ended
 abbrev pub IsMade : StepDone → Type 0
@@ -66,12 +70,12 @@ abbrev pub stepped : WorldView → StepDone → Stepped
 stepped w done = record { world = w; done = done }
 
 -- the line of an event of a seat that knows l
-abbrev pub row_at : Sizes → WorldView → Event → Local → Row
-row_at z w e l = row_of z e.seat (offered w.rows e.choice) l
+abbrev pub transition_at : Sizes → WorldView → Event → Local → Transition
+transition_at z w e l = transition_of z e.seat (offered w.rows e.choice) l
 
 -- an event that is not skipped
 abbrev pub moved_of : Sizes → WorldView → Event → Local → Stepped
-moved_of z w e l = stepped (after z w e.seat (row_at z w e l)) (followed (row_at z w e l) (word z w (row_at z w e l).operation.name)).done
+moved_of z w e l = stepped (after z w e.seat (transition_at z w e l)) (followed w.rows (transition_at z w e l) (word z w (transition_at z w e l).operation.name)).done
 
 -- an event, where the seat knows this; an event of a seat that does not exist is skipped
 abbrev pub step_of : Sizes → WorldView → Event → Option Local → Stepped
@@ -84,7 +88,7 @@ step z w e = step_of z w e (slice_get w.locals e.seat)
 
 -- the kind of an event, where the seat knows this
 abbrev pub kind_from : Sizes → WorldView → Event → Option Local → Option Kind
-kind_from z w e (Some l) = if is_skipped l.activity e.choice then None else Some (row_at z w e l).operation.kind
+kind_from z w e (Some l) = if is_skipped l.activity e.choice then None else Some (transition_at z w e l).operation.kind
 kind_from z w e None = None
 
 -- the kind of an event; none where it is skipped

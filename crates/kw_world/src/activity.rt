@@ -7,12 +7,11 @@ ghost use Rattle.std.specs.Prelude.{◌≡◌};
 ghost use Rattle.kw_world.specs.Step.{is_skipped};
 ghost use Rattle.kw_world.specs.Parts.{is_walking};
 
+use crate::answer::Answer;
 use crate::event::Choice;
-use kw_model::call::Reply;
-use std::alloc::AllocError;
 
 /// What a seat does next: one event for each of these.
-#[derive(Debug, Drop)]
+#[derive(Clone, Copy, Debug, PartialEq, Eq)]
 pub enum Activity {
     /// Begins a call, if the seat chooses one: loads the epoch.
     Idle,
@@ -52,8 +51,8 @@ pub enum Activity {
     CellKey,
     /// Loads the value of the cell.
     CellValue,
-    /// Ends the scan with this reply: stores that the seat makes no scan.
-    ClearScan(Reply),
+    /// Ends the scan with this answer: stores that the seat makes no scan.
+    ClearScan(Answer),
     /// Loads the count of the row, for a put or a delete.
     PutCount,
     /// Adds one to the count, to get a cell.
@@ -72,50 +71,8 @@ pub enum Activity {
     PutVersion,
     /// Stores that the seat's entry is idle.
     PutClear,
-    /// Ends the call with this reply: stores that the seat announces no epoch.
-    Leave(Reply),
-}
-
-impl Clone for Activity {
-    ghost use Rattle.std.specs.Prelude.{◌≡◌};
-
-    ghost is_clone = { λ activity copy. copy ≡ activity };
-
-    // The pairs of a reply are copied into new memory; nothing else takes any.
-    fn clone(&self) -> Result<Activity, AllocError> {
-        Ok(match self {
-            Activity::Idle => Activity::Idle,
-            Activity::Enter => Activity::Enter,
-            Activity::ScanClock => Activity::ScanClock,
-            Activity::ScanWait => Activity::ScanWait,
-            Activity::ScanDraw => Activity::ScanDraw,
-            Activity::ScanSettle => Activity::ScanSettle,
-            Activity::Start => Activity::Start,
-            Activity::Head => Activity::Head,
-            Activity::GuessMin => Activity::GuessMin,
-            Activity::Walk => Activity::Walk,
-            Activity::WalkMin => Activity::WalkMin,
-            Activity::Look(seat) => Activity::Look(*seat),
-            Activity::LookKey => Activity::LookKey,
-            Activity::LookClock => Activity::LookClock,
-            Activity::LookHelp => Activity::LookHelp,
-            Activity::LookCount => Activity::LookCount,
-            Activity::Cell(cell) => Activity::Cell(*cell),
-            Activity::CellKey => Activity::CellKey,
-            Activity::CellValue => Activity::CellValue,
-            Activity::ClearScan(reply) => Activity::ClearScan(reply.clone()?),
-            Activity::PutCount => Activity::PutCount,
-            Activity::PutAdd => Activity::PutAdd,
-            Activity::PutKey => Activity::PutKey,
-            Activity::PutValue => Activity::PutValue,
-            Activity::Announce => Activity::Announce,
-            Activity::PutClock => Activity::PutClock,
-            Activity::Stamp => Activity::Stamp,
-            Activity::PutVersion => Activity::PutVersion,
-            Activity::PutClear => Activity::PutClear,
-            Activity::Leave(reply) => Activity::Leave(reply.clone()?),
-        })
-    }
+    /// Ends the call with this answer: stores that the seat announces no epoch.
+    Leave(Answer),
 }
 
 impl Activity {

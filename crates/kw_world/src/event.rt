@@ -3,7 +3,7 @@
 //! An event says which seat acts and what it chooses; all else follows from the world. Lists of events are kept by the
 //! million, so an event is a few words of plain data that is copied.
 ghost use Rattle.std.specs.Prelude.{◌≡◌};
-ghost use Rattle.kw_world.specs.RowWalk.{offered, is_stop};
+ghost use Rattle.kw_world.specs.WalkTransitions.{offered, is_stop};
 ghost use Rattle.kw_world.specs.Sane.{IsOffered};
 
 use kw_model::call::{Call, Reply};

@@ -6,12 +6,12 @@ ghost use Rattle.kw_world.specs.declared.activity.Activity.{Activity};
 ghost use Rattle.kw_world.specs.declared.event.Choice.{Choice};
 ghost use Rattle.kw_world.specs.declared.local.Local.{Local};
 ghost use Rattle.kw_world.specs.Sizes.{Sizes};
-ghost use Rattle.kw_world.specs.Table.{row};
+ghost use Rattle.kw_world.specs.Table.{transition};
 ghost use Rattle.kw_world.specs.Sane.{IsStore};
 
 /// What follows from a store does not depend on the word that it overwrote.
 pub fn stores_are_blind()
     ensures { (z : Sizes) (a : Activity) (seat : ℕ) (choice : Choice) (l : Local) (found other : ℕ)
-        → IsStore (row z a seat choice l).operation.action
-        → (row z a seat choice l).next found ≡ (row z a seat choice l).next other }
+        → IsStore (transition z a seat choice l).operation.action
+        → (rows : ℕ) → (transition z a seat choice l).next rows found ≡ (transition z a seat choice l).next rows other }
 {}

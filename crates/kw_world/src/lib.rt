@@ -7,12 +7,13 @@
 //! every crate above, the steps of the core, the laws over all lists of events and the running map, speaks of that one
 //! definition.
 //!
-//! `world` has the worlds, `local` and `activity` what a seat knows and what it is about to do, `marks` and `gathered` the
+//! `world` has the worlds, `local`, `activity` and `answer` what a seat knows and what it is about to do and to answer, `marks` and `gathered` the
 //! lists that it keeps without taking memory, `event` the events, `operation` the operations on a word, `opening` the
-//! numbers that a run begins with, `limits` the numbers that no encoding names, and `laws` what every line of the table keeps to.
+//! numbers that a run begins with, `part` the parts of the table, `limits` the numbers that no encoding names, and `laws` what every line of the table keeps to.
 #![tactic(auto)]
 
 pub mod activity;
+pub mod answer;
 pub mod calls;
 pub mod event;
 pub mod gathered;
@@ -22,4 +23,5 @@ pub mod local;
 pub mod marks;
 pub mod opening;
 pub mod operation;
+pub mod part;
 pub mod world;

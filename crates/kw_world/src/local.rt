@@ -6,14 +6,15 @@
 //! does.
 ghost use Rattle.std.specs.Prelude.{◌≡◌};
 ghost use Rattle.kw_world.specs.Local.{resting, without_rows, before_row};
-ghost use Rattle.kw_world.specs.RowWalk.{is_stopped};
-ghost use Rattle.kw_world.specs.Parts.{is_rows_part};
+ghost use Rattle.kw_world.specs.WalkTransitions.{is_stopped};
+ghost use Rattle.kw_world.specs.Parts.{part_of};
 
 use crate::activity::Activity;
 use crate::calls::is_scan;
 use crate::event::Choice;
 use crate::gathered::Gathered;
 use crate::marks::Marks;
+use crate::part::Part;
 use kw_model::call::Call;
 use kw_model::pair_list::PairList;
 use std::alloc::{AllocError, Global};
@@ -85,7 +86,7 @@ impl Clone for Local {
     // The pairs are copied into new memory; nothing else takes any.
     fn clone(&self) -> Result<Local, AllocError> {
         Ok(Local {
-            activity: self.activity.clone()?,
+            activity: self.activity,
             call: self.call,
             number: self.number,
             epoch: self.epoch,
@@ -203,13 +204,18 @@ impl Local {
         choice.is_stop() && is_scan(self.call) && self.has_read
     }
 
-    /// Whether the event with this choice is one of a walk along the rows. A walk that is stopped does not walk.
-    pub fn is_rows_part(&self, choice: Choice) -> bool
-        ensures { result ≡ is_rows_part choice self.now }
+    /// The part of the table that has the event with this choice. A walk that is stopped does not walk.
+    pub fn part(&self, choice: Choice) -> Part
+        ensures { result ≡ part_of choice self.now }
     {
-        match &self.activity {
-            Activity::Walk => !self.is_stopped(choice),
-            activity => activity.is_walking(),
+        match self.activity {
+            Activity::Walk if self.is_stopped(choice) => Part::Put,
+            Activity::Start
+            | Activity::Head
+            | Activity::GuessMin
+            | Activity::Walk
+            | Activity::WalkMin => Part::Rows,
+            _ => Part::Put,
         }
     }
 }

@@ -40,7 +40,7 @@ impl Model for World {
 impl World {
     /// The world that a run begins with.
     ///
-    /// There are 1 to `MOST_ROWS` rows and 1 to `SEATS` seats; the clock and the epoch are from 1 to `SPENT`. Row 0 is
+    /// There are 1 to `MOST_ROWS` rows and 1 to `SEATS` seats; the clock and the epoch are from 1 to `SPENT`. Transition 0 is
     /// normal, may hold every key and has no next row, the list begins with it, all other rows are free, and every seat
     /// is idle.
     pub fn open(

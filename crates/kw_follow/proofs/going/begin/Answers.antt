@@ -9,16 +9,16 @@ pub event-requires-clause-asks : goal.event-requires-clause-asks
 event-requires-clause-asks c = begin_asks _ _ _ _ _ _ c.requires.table c.requires.idle c.requires.range c.requires.rested refl
 
 pub returns-clause-follows : goal.returns-clause-follows
-returns-clause-follows c = begin_follows c.requires.idle c.event.ensures.makes c.requires.rested c.event.ensures.line
+returns-clause-follows c = begin_follows _ c.requires.idle c.event.ensures.makes c.requires.rested c.event.ensures.line
 
 pub returns-clause-activity : goal.returns-clause-activity
-returns-clause-activity c = ap (λ (k : Local). k.activity) (begin_is c.requires.rested c.event.ensures.line)
+returns-clause-activity c = ap (λ (k : Local). k.activity) (begin_is _ c.requires.rested c.event.ensures.line)
 
 pub returns-clause-call : goal.returns-clause-call
-returns-clause-call c = ap (λ (k : Local). k.call) (begin_is c.requires.rested c.event.ensures.line)
+returns-clause-call c = ap (λ (k : Local). k.call) (begin_is _ c.requires.rested c.event.ensures.line)
 
 pub returns-clause-unread : goal.returns-clause-unread
-returns-clause-unread c = ap (λ (k : Local). k.has_read) (begin_is c.requires.rested c.event.ensures.line)
+returns-clause-unread c = ap (λ (k : Local). k.has_read) (begin_is _ c.requires.rested c.event.ensures.line)
 
 pub returns-clause-held : goal.returns-clause-held
 returns-clause-held c = begin_holds c.requires.idle c.event.ensures.makes

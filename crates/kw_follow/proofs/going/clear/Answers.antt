@@ -2,7 +2,7 @@ use Rattle.std.proofs.Common.{refl, subst, sym}
 use Rattle.kw_core.specs.Stages.{IsBusy}
 use Rattle.kw_follow.proofs.Carrying.{IsGoingOn}
 use Rattle.kw_follow.proofs.Ends.{clear_leaves, clear_activity}
-use Rattle.kw_follow.proofs.OneEvent.{went, follows_ranges, follows_room, asks, moves_in, goes_in, goes_stay, went_follows, went_held}
+use Rattle.kw_follow.proofs.OneEvent.{went, follows_ranges, follows_room, asks, begins_in, moves_in, goes_in, goes_stay, went_follows, went_held}
 use Rattle.kw_follow.proofs.Growing.{keeps}
 use Rattle.kw_follow.proofs.going.clear.Goals as goal
 
@@ -13,7 +13,7 @@ pub event-requires-clause-room : goal.event-requires-clause-room
 event-requires-clause-room c = follows_room _ _ _ c.requires.follows
 
 pub event-requires-clause-asks : goal.event-requires-clause-asks
-event-requires-clause-asks c = asks _ _ c.args.choice _ _ _ _ _ c.requires.follows c.requires.choice (moves_in _ _ _ c.args.choice c.requires.follows (subst IsBusy (sym c.requires.over.1) tt)) refl refl refl refl
+event-requires-clause-asks c = asks _ _ c.args.choice _ _ _ _ _ c.requires.follows (begins_in _ _ _ c.args.choice c.requires.follows (subst IsBusy (sym c.requires.over.1) tt)) (moves_in _ _ _ c.args.choice c.requires.follows (subst IsBusy (sym c.requires.over.1) tt)) refl refl refl refl
 
 pub returns-clause-follows : goal.returns-clause-follows
 returns-clause-follows c = went_follows (went _ _ _ c.args.choice _ _ _ _ _ _ c.requires.follows c.event.ensures.makes refl refl c.event.ensures.line) (subst IsGoingOn (sym c.requires.over.1) tt)

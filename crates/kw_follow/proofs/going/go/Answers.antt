@@ -1,7 +1,7 @@
 use Rattle.std.proofs.Common.{refl, subst}
 use Rattle.kw_world.specs.declared.activity.Activity.{Activity}
 use Rattle.kw_follow.specs.OwnEvents.{MetOnly}
-use Rattle.kw_follow.proofs.OneEvent.{went, follows_ranges, follows_room, asks, moves_in, within_busy, within_goes, goes_in, goes_stay, went_follows, went_line, went_held, went_met, same_activity}
+use Rattle.kw_follow.proofs.OneEvent.{went, follows_ranges, follows_room, asks, begins_in, moves_in, within_busy, within_goes, goes_in, goes_stay, went_follows, went_line, went_held, went_met, same_activity}
 use Rattle.kw_follow.proofs.Growing.{keeps}
 use Rattle.kw_follow.proofs.OwnEvents.{only_event}
 use Rattle.kw_follow.proofs.going.go.Goals as goal
@@ -13,7 +13,7 @@ pub event-happened-requires-clause-room : goal.event-happened-requires-clause-ro
 event-happened-requires-clause-room c = follows_room _ _ _ c.requires.follows
 
 pub event-happened-requires-clause-asks : goal.event-happened-requires-clause-asks
-event-happened-requires-clause-asks c = asks _ _ c.args.choice _ _ _ _ _ c.requires.follows c.requires.choice (moves_in _ _ _ c.args.choice c.requires.follows (within_busy _ c.requires.within)) refl refl refl refl
+event-happened-requires-clause-asks c = asks _ _ c.args.choice _ _ _ _ _ c.requires.follows (begins_in _ _ _ c.args.choice c.requires.follows (within_busy _ c.requires.within)) (moves_in _ _ _ c.args.choice c.requires.follows (within_busy _ c.requires.within)) refl refl refl refl
 
 pub returns-clause-follows : goal.returns-clause-follows
 returns-clause-follows c = went_follows (went _ _ _ c.args.choice _ _ _ _ _ _ c.requires.follows c.event-happened.ensures.makes refl refl c.event-happened.ensures.line) (within_goes _ c.requires.within)
@@ -31,4 +31,4 @@ pub returns-clause-calls : goal.returns-clause-calls
 returns-clause-calls c = keeps c.event-happened.ensures.makes (goes_stay _ (goes_in _ _ _ c.requires.follows (within_goes _ c.requires.within)))
 
 pub returns-clause-only : goal.returns-clause-only
-returns-clause-only c = subst (λ (a : Activity). MetOnly c.args.pass.now c.event-happened.new.pass a c.event-happened.result.told) (same_activity _ _ _ c.requires.follows c.requires.within) (only_event c.event-happened.ensures.makes)
+returns-clause-only c = subst (λ (a : Activity). MetOnly c.args.pass.now c.event-happened.new.pass a c.event-happened.result.told) (same_activity _ _ _ c.requires.follows) (only_event c.event-happened.ensures.makes)

@@ -8,43 +8,43 @@ use Rattle.kw_follow.proofs.OwnEvents.{goes_trans}
 use Rattle.kw_live.proofs.entering.draw.Goals as goal
 
 pub go-requires-in-ScanWait-2-clause-within : goal.go-requires-in-ScanWait-2-clause-within
-go-requires-in-ScanWait-2-clause-within c = subst (λ (k : Local). IsWithinCall k.activity) (sym (waits _ _ _ c.in-ScanWait.is c.go-in-ScanWait.ensures.line)) tt
+go-requires-in-ScanWait-2-clause-within c = subst (λ (k : Local). IsWithinCall k.activity) (sym (waits _ _ _ _ c.in-ScanWait.is c.go-in-ScanWait.ensures.line)) tt
 
 pub go-requires-in-ScanWait-3-clause-within : goal.go-requires-in-ScanWait-3-clause-within
-go-requires-in-ScanWait-3-clause-within c = subst (λ (k : Local). IsWithinCall k.activity) (sym (draws _ _ _ (ap (λ (k : Local). k.activity) (waits _ _ _ c.in-ScanWait.is c.go-in-ScanWait.ensures.line)) c.go-in-ScanWait-2.ensures.line)) tt
+go-requires-in-ScanWait-3-clause-within c = subst (λ (k : Local). IsWithinCall k.activity) (sym (draws _ _ _ _ (ap (λ (k : Local). k.activity) (waits _ _ _ _ c.in-ScanWait.is c.go-in-ScanWait.ensures.line)) c.go-in-ScanWait-2.ensures.line)) tt
 
 pub returns-in-ScanWait-clause-entered : goal.returns-in-ScanWait-clause-entered
-returns-in-ScanWait-clause-entered c = (settles_on _ _ _ _ _ _ _ _ _ c.requires.activity c.go.ensures.line c.in-ScanWait.is c.go-in-ScanWait.ensures.line c.go-in-ScanWait-2.ensures.line c.go-in-ScanWait-3.ensures.line).entered c.requires.scan
+returns-in-ScanWait-clause-entered c = (settles_on _ _ _ _ _ _ _ _ _ _ _ _ _ c.requires.activity c.go.ensures.line c.in-ScanWait.is c.go-in-ScanWait.ensures.line c.go-in-ScanWait-2.ensures.line c.go-in-ScanWait-3.ensures.line).entered c.requires.scan
 
 pub returns-in-ScanWait-clause-call : goal.returns-in-ScanWait-clause-call
-returns-in-ScanWait-clause-call c = (settles_on _ _ _ _ _ _ _ _ _ c.requires.activity c.go.ensures.line c.in-ScanWait.is c.go-in-ScanWait.ensures.line c.go-in-ScanWait-2.ensures.line c.go-in-ScanWait-3.ensures.line).call
+returns-in-ScanWait-clause-call c = (settles_on _ _ _ _ _ _ _ _ _ _ _ _ _ c.requires.activity c.go.ensures.line c.in-ScanWait.is c.go-in-ScanWait.ensures.line c.go-in-ScanWait-2.ensures.line c.go-in-ScanWait-3.ensures.line).call
 
 pub returns-in-ScanWait-clause-unread : goal.returns-in-ScanWait-clause-unread
-returns-in-ScanWait-clause-unread c = (settles_on _ _ _ _ _ _ _ _ _ c.requires.activity c.go.ensures.line c.in-ScanWait.is c.go-in-ScanWait.ensures.line c.go-in-ScanWait-2.ensures.line c.go-in-ScanWait-3.ensures.line).has_read
+returns-in-ScanWait-clause-unread c = (settles_on _ _ _ _ _ _ _ _ _ _ _ _ _ c.requires.activity c.go.ensures.line c.in-ScanWait.is c.go-in-ScanWait.ensures.line c.go-in-ScanWait-2.ensures.line c.go-in-ScanWait-3.ensures.line).has_read
 
 pub returns-in-ScanWait-clause-spent : goal.returns-in-ScanWait-clause-spent
 returns-in-ScanWait-clause-spent c = (
   c.go.result,
   met_clock c.requires.activity c.go.ensures.met (prefix_trans _ _ _ c.go-in-ScanWait.ensures.goes.seen (prefix_trans _ _ _ c.go-in-ScanWait-2.ensures.goes.seen c.go-in-ScanWait-3.ensures.goes.seen)),
-  (settles_on _ _ _ _ _ _ _ _ _ c.requires.activity c.go.ensures.line c.in-ScanWait.is c.go-in-ScanWait.ensures.line c.go-in-ScanWait-2.ensures.line c.go-in-ScanWait-3.ensures.line).spent,
+  (settles_on _ _ _ _ _ _ _ _ _ _ _ _ _ c.requires.activity c.go.ensures.line c.in-ScanWait.is c.go-in-ScanWait.ensures.line c.go-in-ScanWait-2.ensures.line c.go-in-ScanWait-3.ensures.line).spent,
 )
 
 pub returns-in_default-clause-entered : goal.returns-in_default-clause-entered
-returns-in_default-clause-entered c = (settles_spent _ _ _ c.requires.activity c.go.ensures.line c.in_default.not-ScanWait).entered c.requires.scan
+returns-in_default-clause-entered c = (settles_spent _ _ _ _ c.requires.activity c.go.ensures.line c.in_default.not-ScanWait).entered c.requires.scan
 
 pub returns-in_default-clause-call : goal.returns-in_default-clause-call
-returns-in_default-clause-call c = (settles_spent _ _ _ c.requires.activity c.go.ensures.line c.in_default.not-ScanWait).call
+returns-in_default-clause-call c = (settles_spent _ _ _ _ c.requires.activity c.go.ensures.line c.in_default.not-ScanWait).call
 
 pub returns-in_default-clause-unread : goal.returns-in_default-clause-unread
-returns-in_default-clause-unread c = (settles_spent _ _ _ c.requires.activity c.go.ensures.line c.in_default.not-ScanWait).has_read
+returns-in_default-clause-unread c = (settles_spent _ _ _ _ c.requires.activity c.go.ensures.line c.in_default.not-ScanWait).has_read
 
 pub returns-in_default-clause-spent : goal.returns-in_default-clause-spent
-returns-in_default-clause-spent c = (c.go.result, met_clock c.requires.activity c.go.ensures.met (prefix_self _), (settles_spent _ _ _ c.requires.activity c.go.ensures.line c.in_default.not-ScanWait).spent)
+returns-in_default-clause-spent c = (c.go.result, met_clock c.requires.activity c.go.ensures.met (prefix_self _), (settles_spent _ _ _ _ c.requires.activity c.go.ensures.line c.in_default.not-ScanWait).spent)
 
 pub returns-in-ScanWait-clause-none : goal.returns-in-ScanWait-clause-none
 returns-in-ScanWait-clause-none c =
-    let drawing = ap (λ (k : Local). k.activity) (waits _ _ _ c.in-ScanWait.is c.go-in-ScanWait.ensures.line) in
-    let settling = ap (λ (k : Local). k.activity) (draws _ _ _ drawing c.go-in-ScanWait-2.ensures.line) in
+    let drawing = ap (λ (k : Local). k.activity) (waits _ _ _ _ c.in-ScanWait.is c.go-in-ScanWait.ensures.line) in
+    let settling = ap (λ (k : Local). k.activity) (draws _ _ _ _ drawing c.go-in-ScanWait-2.ensures.line) in
     let one = none_at c.go.ensures.goes c.requires.activity c.go.ensures.only (λ h. h) in
     let two = none_at c.go-in-ScanWait.ensures.goes c.in-ScanWait.is c.go-in-ScanWait.ensures.only (λ h. h) in
     let three = none_at c.go-in-ScanWait-2.ensures.goes drawing c.go-in-ScanWait-2.ensures.only (λ h. h) in

@@ -9,22 +9,22 @@ use Rattle.kw_live.proofs.entering.enter.Goals as goal
 
 pub draw-requires-clause-scan : goal.draw-requires-clause-scan
 draw-requires-clause-scan c =
-    let e = enters c.args.call _ _ _ c.begin.ensures.activity c.begin.ensures.call c.begin.ensures.unread c.go.ensures.line in
+    let e = enters _ c.args.call _ _ _ c.begin.ensures.activity c.begin.ensures.call c.begin.ensures.unread c.go.ensures.line in
     ap is_scan e.call_is ∙ e.scan c.in-ScanClock.is
 
 pub returns-in-ScanClock-clause-entered : goal.returns-in-ScanClock-clause-entered
 returns-in-ScanClock-clause-entered c =
-    let e = enters c.args.call _ _ _ c.begin.ensures.activity c.begin.ensures.call c.begin.ensures.unread c.go.ensures.line in
+    let e = enters _ c.args.call _ _ _ c.begin.ensures.activity c.begin.ensures.call c.begin.ensures.unread c.go.ensures.line in
     subst (λ x. IfSome x (λ k. HasEntered k c.draw.new.local.activity)) e.call_is c.draw.ensures.entered
 
 pub returns-in-ScanClock-clause-call : goal.returns-in-ScanClock-clause-call
 returns-in-ScanClock-clause-call c =
-    let e = enters c.args.call _ _ _ c.begin.ensures.activity c.begin.ensures.call c.begin.ensures.unread c.go.ensures.line in
+    let e = enters _ c.args.call _ _ _ c.begin.ensures.activity c.begin.ensures.call c.begin.ensures.unread c.go.ensures.line in
     c.draw.ensures.call ∙ e.call_is
 
 pub returns-in-ScanClock-clause-unread : goal.returns-in-ScanClock-clause-unread
 returns-in-ScanClock-clause-unread c =
-    let e = enters c.args.call _ _ _ c.begin.ensures.activity c.begin.ensures.call c.begin.ensures.unread c.go.ensures.line in
+    let e = enters _ c.args.call _ _ _ c.begin.ensures.activity c.begin.ensures.call c.begin.ensures.unread c.go.ensures.line in
     c.draw.ensures.unread ∙ e.unread
 
 pub returns-in-ScanClock-clause-spent : goal.returns-in-ScanClock-clause-spent
@@ -34,18 +34,18 @@ returns-in-ScanClock-clause-spent c = λ scan.
 
 pub returns-in_default-clause-entered : goal.returns-in_default-clause-entered
 returns-in_default-clause-entered c =
-    let e = enters c.args.call _ _ _ c.begin.ensures.activity c.begin.ensures.call c.begin.ensures.unread c.go.ensures.line in
+    let e = enters _ c.args.call _ _ _ c.begin.ensures.activity c.begin.ensures.call c.begin.ensures.unread c.go.ensures.line in
     (e.starts c.in_default.not-ScanClock).1
 
 pub returns-in_default-clause-call : goal.returns-in_default-clause-call
-returns-in_default-clause-call c = (enters c.args.call _ _ _ c.begin.ensures.activity c.begin.ensures.call c.begin.ensures.unread c.go.ensures.line).call_is
+returns-in_default-clause-call c = (enters _ c.args.call _ _ _ c.begin.ensures.activity c.begin.ensures.call c.begin.ensures.unread c.go.ensures.line).call_is
 
 pub returns-in_default-clause-unread : goal.returns-in_default-clause-unread
-returns-in_default-clause-unread c = (enters c.args.call _ _ _ c.begin.ensures.activity c.begin.ensures.call c.begin.ensures.unread c.go.ensures.line).unread
+returns-in_default-clause-unread c = (enters _ c.args.call _ _ _ c.begin.ensures.activity c.begin.ensures.call c.begin.ensures.unread c.go.ensures.line).unread
 
 pub returns-in_default-clause-spent : goal.returns-in_default-clause-spent
 returns-in_default-clause-spent c = λ scan.
-    let e = enters c.args.call _ _ _ c.begin.ensures.activity c.begin.ensures.call c.begin.ensures.unread c.go.ensures.line in
+    let e = enters _ c.args.call _ _ _ c.begin.ensures.activity c.begin.ensures.call c.begin.ensures.unread c.go.ensures.line in
     let no : is_scan (Some c.args.call) ≡ false = (e.starts c.in_default.not-ScanClock).0 in
     let x : true ≡ false = sym scan ∙ no in
     absurd (cc)

@@ -4,7 +4,7 @@ use Rattle.kw_live.proofs.LookStages.{look_goes, looks_trans}
 use Rattle.kw_live.proofs.reading.look_at_entries.Goals as goal
 
 pub loop-pass-smaller : goal.loop-pass-smaller
-loop-pass-smaller c = (look_goes _ _ _ c.go.ensures.line (sym c.is_looking.ensures ∙ c.loop-pass-test.true)).fewer
+loop-pass-smaller c = (look_goes _ _ _ _ c.go.ensures.line (sym c.is_looking.ensures ∙ c.loop-pass-test.true)).fewer
 
 pub loop-pass-preserved : goal.loop-pass-preserved
 loop-pass-preserved c = record {
@@ -12,5 +12,5 @@ loop-pass-preserved c = record {
   follows = c.go.ensures.follows;
   calls = c.go.ensures.calls ∙ c.loop-pass.invariant.calls;
   held = c.go.ensures.held refl ∙ c.loop-pass.invariant.held;
-  looks = looks_trans _ _ _ c.loop-pass.invariant.looks (look_goes _ _ _ c.go.ensures.line (sym c.is_looking.ensures ∙ c.loop-pass-test.true)).looks;
+  looks = looks_trans _ _ _ c.loop-pass.invariant.looks (look_goes _ _ _ _ c.go.ensures.line (sym c.is_looking.ensures ∙ c.loop-pass-test.true)).looks;
 }

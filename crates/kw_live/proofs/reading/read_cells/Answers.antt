@@ -4,7 +4,7 @@ use Rattle.kw_live.proofs.CellEvent.{cells_fewer, reads_on}
 use Rattle.kw_live.proofs.reading.read_cells.Goals as goal
 
 pub loop-pass-smaller : goal.loop-pass-smaller
-loop-pass-smaller c = cells_fewer _ _ _ _ _ c.loop-pass.invariant.follows (sym c.is_reading_cells.ensures ∙ c.loop-pass-test.true) c.read.ensures.reads.line
+loop-pass-smaller c = cells_fewer _ _ _ _ _ _ c.loop-pass.invariant.follows (sym c.is_reading_cells.ensures ∙ c.loop-pass-test.true) c.read.ensures.reads.line
 
 pub loop-pass-preserved : goal.loop-pass-preserved
 loop-pass-preserved c =

@@ -3,4 +3,4 @@ use Rattle.kw_step_put.proofs.Passing.{passes}
 use Rattle.kw_step_put.proofs.reading.read_on.Goals as goal
 
 pub returns-clause-passed : goal.returns-clause-passed
-returns-clause-passed c = rw (c.learn.ensures.read) (passes product c.args.local.now c.args.told c.requires.in_cells)
+returns-clause-passed c = λ rows. rw (c.learn.ensures.read) (passes product rows c.args.local.now c.args.told c.requires.in_cells)

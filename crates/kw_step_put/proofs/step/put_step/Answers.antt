@@ -3,12 +3,21 @@ use Rattle.std.proofs.lemmas.Result.{MatchResult-from_err}
 use Rattle.kw_world.specs.Sizes.{product}
 use Rattle.kw_world.specs.Step.{word}
 use Rattle.kw_world.proofs.Lists.{set_same}
-use Rattle.kw_world.proofs.Rows.{in_table, event_can_happen}
+use Rattle.kw_world.proofs.Transitions.{in_table, event_can_happen, part-offered}
+use Rattle.kw_world.proofs.Skipping.{skips_exactly, step-unchanged}
 use Rattle.kw_world.proofs.Steps.{made_in_turn}
 use Rattle.kw_step_put.proofs.step.put_step.Goals as goal
 
 pub put_operation-operation-requires-clause-local : goal.put_operation-operation-requires-clause-local
 put_operation-operation-requires-clause-local c = (c.requires.sane.locals _ _ c.local-local.ensures).ranges
+
+pub put_operation-operation-requires-clause-part : goal.put_operation-operation-requires-clause-part
+put_operation-operation-requires-clause-part c =
+    rw (c.offered-choice.ensures.value) (part-offered c.rows.result c.args.event.choice c.local-local.result.now ∙ c.requires.part c.local-local.result.now c.local-local.ensures)
+
+pub put_resume-requires-clause-part : goal.put_resume-requires-clause-part
+put_resume-requires-clause-part c =
+    rw (c.offered-choice.ensures.value) (part-offered c.rows.result c.args.event.choice c.local_mut.result.now ∙ c.requires.part c.local_mut.result.now c.local_mut.ensures.value)
 
 pub place-place-requires-clause-within : goal.place-place-requires-clause-within
 place-place-requires-clause-within c =
@@ -40,5 +49,11 @@ returns-clause-ok c =
     c.local-local.ensures (sym c.skips.ensures ∙ c.if-skips.false)
     (rw (c.put_operation-operation.ensures, c.offered-choice.ensures.value, c.rows.ensures))
     c.place-place.ensures.value c.word-found.ensures c.after-word.ensures c.told-told.ensures
-    (rw (c.offered-choice.ensures.value, c.rows.ensures, same) at c.in_ok-done.ensures.ok)
+    (rw (c.offered-choice.ensures.value, c.rows.ensures, same) at (c.in_ok-done.ensures.ok c.args.world.now.rows))
     c.set_word.ensures
+
+pub returns-clause-skipped : goal.returns-clause-skipped
+returns-clause-skipped c = skips_exactly product c.args.world.now c.set_word.new.self c.args.event c.local-local.result.now c.in_ok-done.done c.local-local.ensures (returns-clause-ok c)
+
+pub returns-clause-skipped_world : goal.returns-clause-skipped_world
+returns-clause-skipped_world c = step-unchanged product c.args.world.now c.set_word.new.self c.args.event c.in_ok-done.done (returns-clause-ok c)

@@ -1,6 +1,6 @@
 use Rattle.std.proofs.Common.{ap, ◌∙◌}
 use Rattle.std.proofs.lemmas.Result.{IfOk-weaker}
-use Rattle.kw_world.specs.RowWalk.{offered}
+use Rattle.kw_world.specs.WalkTransitions.{offered}
 use Rattle.kw_table.proofs.Carried.{known_in, knows_after}
 use Rattle.kw_table.proofs.tests.advance.Goals as goal
 
@@ -15,5 +15,5 @@ resume-requires-clause-room c = (known_in c.args.pass.now c.args.local.now c.req
 
 pub returns-clause-knows : goal.returns-clause-knows
 returns-clause-knows c =
-    let offers = c.offered-offered.ensures.value ∙ ap (λ n. offered n c.args.choice) c.rows.ensures in
-    IfOk-weaker c.resume.result _ _ (λ done goes. knows_after _ _ _ c.args.choice c.args.local.now _ done _ _ c.requires.table c.requires.knows offers c.make-told.ensures goes) c.resume.ensures.ok
+    let offers = c.offered-offered.ensures.value ∙ ap (λ n. offered n c.args.choice) c.rows-rows.ensures in
+    IfOk-weaker c.resume.result _ _ (λ done goes. knows_after _ _ _ c.args.choice c.args.local.now _ done _ _ _ c.requires.table c.requires.knows c.rows-rows.ensures offers c.make-told.ensures goes) c.resume.ensures.ok

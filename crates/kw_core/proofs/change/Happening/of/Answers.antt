@@ -1,7 +1,7 @@
 use Rattle.std.proofs.Common.{◌≡◌}
 use Rattle.kw_world.specs.Sizes.{product}
 use Rattle.kw_world.specs.Step.{word}
-use Rattle.kw_world.proofs.Rows.{in_table}
+use Rattle.kw_world.proofs.Transitions.{in_table}
 use Rattle.kw_core.proofs.change.Happening.of.Goals as goal
 
 pub operation-operation-requires : goal.operation-operation-requires

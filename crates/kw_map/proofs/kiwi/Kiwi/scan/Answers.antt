@@ -1,11 +1,12 @@
 use Rattle.std.proofs.Common.{rules, Option, refl, subst}
 use Rattle.kw_model.specs.declared.call.Call.{Call}
 use Rattle.kw_model.specs.declared.call.Reply.TheVariants.{Pairs, Spent, Stopped}
+use Rattle.kw_world.specs.declared.answer.Answer.TheVariants as answer
 use Rattle.kw_follow.specs.Following.{held}
 use Rattle.kw_follow.proofs.OwnEvents.{goes_trans}
 use Rattle.kw_map.specs.Scanning.{StoppedAt}
 use Rattle.kw_map.proofs.Ordering.{pass_ordered}
-use Rattle.kw_map.proofs.ScanEnds.{entered_between, entered_spent, leaves_with_pairs}
+use Rattle.kw_map.proofs.ScanEnds.{entered_between, entered_spent}
 use Rattle.kw_map.proofs.RowStages.{stopped_within}
 use Rattle.kw_map.proofs.WholeCalls.{clock_later, leaves_with, whole}
 use Rattle.kw_map.proofs.kiwi.Kiwi.scan.Goals as goal
@@ -20,7 +21,7 @@ returns-in-Leave-clause-answers g c =
     let spent = c.enter.ensures.spent refl in
     record {
       reply = Spent;
-      calls = whole c.enter.ensures.opens refl (c.leave.ensures.closes Spent (leaves_with Spent c.enter.ensures.follows is (λ e. cc e))).0;
+      calls = whole c.enter.ensures.opens refl (c.leave.ensures.closes answer.Spent (leaves_with answer.Spent c.enter.ensures.follows is)).0;
       took = (refl, refl);
       clock = spent.0;
       met = clock_later spent.1 c.leave.ensures.goes;
@@ -37,11 +38,11 @@ returns-in-Ok-clause-answers g c =
     let pairs = held c.gather_rows-gathered.new.pass in
     record {
       reply = Pairs pairs;
-      calls = whole c.enter.ensures.opens gathered.calls (c.leave-2.ensures.closes (Pairs pairs) (leaves_with_pairs _ _ _ gathered.follows gathered.leaves)).0;
+      calls = whole c.enter.ensures.opens gathered.calls (c.leave-2.ensures.closes answer.Pairs (leaves_with answer.Pairs gathered.follows gathered.leaves)).0;
       took = (pairs, refl, gathered.all);
       clock = spent.0;
       met = clock_later (clock_later spent.1 gathered.goes) c.leave-2.ensures.goes;
-      spent = (λ e. absurd (cc e), λ e. absurd (c.in_default.not-Leave Spent (spent.2.1 e)));
+      spent = (λ e. absurd (cc e), λ e. absurd (c.in_default.not-Leave answer.Spent (spent.2.1 e)));
     }
 
 pub returns-in-Ok-clause-ordered : goal.returns-in-Ok-clause-ordered
@@ -57,11 +58,11 @@ returns g c =
       goes = goes_trans _ _ _ _ c.enter.ensures.goes (goes_trans _ _ _ _ gathered.goes c.leave-2.ensures.goes);
       answers = record {
         reply = Stopped;
-        calls = whole c.enter.ensures.opens gathered.calls (c.leave-2.ensures.closes Stopped (leaves_with Stopped gathered.follows gathered.leaves (λ e. cc e))).0;
+        calls = whole c.enter.ensures.opens gathered.calls (c.leave-2.ensures.closes answer.Stopped (leaves_with answer.Stopped gathered.follows gathered.leaves)).0;
         took = (refl, gathered.stopped, stopped_within g.G.Gather.last g.G.Gather.stands _ _ _ _ _ _ _ _ c.enter.ensures.goes c.leave-2.ensures.goes stopped);
         clock = spent.0;
         met = clock_later (clock_later spent.1 gathered.goes) c.leave-2.ensures.goes;
-        spent = (λ e. absurd (cc e), λ e. absurd (c.in_default.not-Leave Spent (spent.2.1 e)));
+        spent = (λ e. absurd (cc e), λ e. absurd (c.in_default.not-Leave answer.Spent (spent.2.1 e)));
       };
       ordered = pass_ordered c.leave-2.new.pass;
     }

@@ -1,5 +1,5 @@
 use Rattle.std.proofs.Common.{◌∙◌}
-use Rattle.kw_model.specs.declared.call.Reply.TheVariants.{Done, NoRows}
+use Rattle.kw_world.specs.declared.answer.Answer.TheVariants.{Done, NoRows}
 use Rattle.kw_live.proofs.Asking.{none_trans}
 use Rattle.kw_follow.proofs.OwnEvents.{goes_trans}
 use Rattle.kw_map.proofs.WholeCalls.{full_within, leaves_with, room_within, whole}
@@ -7,7 +7,7 @@ use Rattle.kw_map.proofs.kiwi.Kiwi.update.Goals as goal
 
 pub returns-in-Done-clause-calls : goal.returns-in-Done-clause-calls
 returns-in-Done-clause-calls c =
-    let leaves = leaves_with Done c.in-Done.ensures.follows c.in-Done.ensures.leaves (λ e. cc e) in
+    let leaves = leaves_with Done c.in-Done.ensures.follows c.in-Done.ensures.leaves in
     whole c.enter.ensures.opens (c.in-Done.ensures.calls ∙ c.locate.ensures.calls) (c.leave.ensures.closes Done leaves).0
 
 pub returns-in-Done-clause-cause : goal.returns-in-Done-clause-cause
@@ -17,7 +17,7 @@ returns-in-Done-clause-cause c =
 
 pub returns-clause-calls : goal.returns-clause-calls
 returns-clause-calls c =
-    let leaves = leaves_with NoRows c.in-RowFull.ensures.follows c.in-RowFull.ensures.leaves (λ e. cc e) in
+    let leaves = leaves_with NoRows c.in-RowFull.ensures.follows c.in-RowFull.ensures.leaves in
     whole c.enter.ensures.opens (c.in-RowFull.ensures.calls ∙ c.locate.ensures.calls) (c.leave.ensures.closes NoRows leaves).0
 
 pub returns-clause-cause : goal.returns-clause-cause

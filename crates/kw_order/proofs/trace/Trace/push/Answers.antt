@@ -7,7 +7,7 @@ use Rattle.kw_world.specs.declared.event.Event.{Event}
 use Rattle.kw_world.specs.Step.{step, Stepped, is_skipped, IsMade}
 use Rattle.kw_world.proofs.Steps.{step-skipped}
 use Rattle.kw_laws.specs.Laws.{KeepsLaws}
-use Rattle.kw_core.proofs.Skips.{made}
+use Rattle.kw_world.proofs.Skipping.{step-made}
 use Rattle.std.proofs.lemmas.Option.{same_Some}
 use Rattle.std.proofs.Math.Seq.{take-append_seam}
 use Rattle.kw_order.specs.Trace.{TraceView, IsTrace, run_of, world_of, pushed}
@@ -96,7 +96,7 @@ returns-in-Ok-clause-ok c =
     trace_more t w c.step_recorded.new.world k c.step_recorded.new.recorder e l c.in-Ok.done i (subst (λ (v : TraceView). e.seat < v.opening.seats) (sym c.self.view_is) c.requires.seat)
     ((subst (λ (x : WorldView). CanStep x e) (sym i.world) (subst (λ (v : TraceView). CanStep (world_of v) e) (sym c.self.view_is) c.requires.begin)) l knows) knows moves c.in-Ok.ensures.ok c.in-Ok.ensures.recorded in
     let events : c.push.new.self.items ≡ t.events ++ e ∷ [] = c.in_ok-push.ensures.items in
-    let done : IsMade c.in-Ok.done = subst IsMade (sym (ap (λ (x : Stepped). x.done) c.in-Ok.ensures.ok)) (made product w e l knows moves) in
+    let done : IsMade c.in-Ok.done = subst IsMade (sym (ap (λ (x : Stepped). x.done) c.in-Ok.ensures.ok)) (step-made product w e l knows moves) in
     ap (λ (es : List Event). record t { events = es }) events ∙ sym (kept t e c.in-Ok.done done) ∙ ap (λ (v : TraceView). pushed v e c.in-Ok.done) c.self.view_is
 
 pub returns-in-Ok-clause-skipped : goal.returns-in-Ok-clause-skipped
@@ -109,7 +109,7 @@ returns-in-Ok-clause-skipped c =
     let l = c.local.result.now in
     let knows : slice_get w.locals e.seat ≡ Some l = c.local.ensures in
     let moves : is_skipped l.activity e.choice ≡ false = sym c.skips.ensures ∙ c.if-skips.false in
-    let done : IsMade c.in-Ok.done = subst IsMade (sym (ap (λ (x : Stepped). x.done) c.in-Ok.ensures.ok)) (made product w e l knows moves) in
+    let done : IsMade c.in-Ok.done = subst IsMade (sym (ap (λ (x : Stepped). x.done) c.in-Ok.ensures.ok)) (step-made product w e l knows moves) in
     λ other known.
     let here : slice_get w.locals e.seat ≡ Some other = subst (λ (x : WorldView). slice_get x.locals e.seat ≡ Some other) (ap world_of (sym c.self.view_is) ∙ sym i.world) known in
     let same : l ≡ other = same_Some l other (sym knows ∙ here) in

@@ -1,19 +1,19 @@
 -- What follows from the events by which a call begins, and a scan gets its version.
-use Rattle.std.specs.Prelude.{ℕ, ◌+◌, nat_le, if◌then◌else◌, Option, Some, None, []}
+use Rattle.std.specs.Prelude.{ℕ, ◌+◌, nat_le, if◌then◌else◌, Option, Some, None}
 use Rattle.kw_words.specs.declared.scan.ScanWord.{ScanWord}
 use Rattle.kw_words.specs.declared.scan.ScanWord.TheVariants.{Quiet, Waiting, Drawn}
 use Rattle.kw_words.specs.declared.sizes.TheConstants.{SPENT}
 use Rattle.kw_model.specs.declared.call.Call.{Call}
 use Rattle.kw_model.specs.declared.call.Call.TheVariants.{Put, Del, Get, Scan}
-use Rattle.kw_model.specs.declared.call.Reply.{Reply}
-use Rattle.kw_model.specs.declared.call.Reply.TheVariants.{Pairs, Spent, Stopped}
+use Rattle.kw_world.specs.declared.answer.Answer.{Answer}
+use Rattle.kw_world.specs.declared.answer.Answer.TheVariants.{Pairs, Spent, Stopped}
 use Rattle.kw_world.specs.declared.activity.Activity.TheVariants.{Enter, ScanClock, ScanWait, Start, ClearScan}
 use Rattle.kw_world.specs.declared.local.Local.{Local}
 use Rattle.kw_world.specs.declared.event.Choice.{Choice}
 use Rattle.kw_world.specs.declared.event.Choice.TheVariants.{Begin, Go, Guess, Stop}
 use Rattle.kw_world.specs.declared.event.StepDone.TheVariants.{Skipped}
 use Rattle.kw_world.specs.Calls.{first_key, is_range_empty}
-use Rattle.kw_world.specs.Row.{Outcome, outcome, to, leave}
+use Rattle.kw_world.specs.Transition.{Outcome, outcome, to, leave}
 
 -- Idle: the call is begun, and counted. An event with another choice is skipped, and never comes to this line
 abbrev pub begun : Choice → ℕ → Local → Outcome
@@ -48,12 +48,12 @@ version_settled None drawn = drawn
 -- ScanSettle: a scan of no keys is over, and every other one begins its walk
 abbrev pub settled : ℕ → Local → Outcome
 settled version l =
-    if is_range_empty l.call then to (ClearScan (Pairs [])) (record l { version = version })
+    if is_range_empty l.call then to (ClearScan Pairs) (record l { version = version })
     else to_start (record l { version = version })
 
--- ClearScan(x): the reply, unless the scan is stopped here
-abbrev pub reply_or_stopped : Reply → Choice → Reply
-reply_or_stopped reply (Begin call) = reply
-reply_or_stopped reply Go = reply
-reply_or_stopped reply (Guess r) = reply
-reply_or_stopped reply Stop = Stopped
+-- ClearScan(x): the answer, unless the scan is stopped here
+abbrev pub answer_or_stopped : Answer → Choice → Answer
+answer_or_stopped answer (Begin call) = answer
+answer_or_stopped answer Go = answer
+answer_or_stopped answer (Guess r) = answer
+answer_or_stopped answer Stop = Stopped

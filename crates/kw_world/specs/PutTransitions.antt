@@ -3,11 +3,11 @@ use Rattle.std.specs.Prelude.{ℕ, Bool, false, nat_lt, ◌==◌, if◌then◌el
 use Rattle.kw_words.specs.declared.pend.Pend.{Pend}
 use Rattle.kw_words.specs.declared.pend.Pend.TheVariants.{Idle, Pending, Stamped, Frozen}
 use Rattle.kw_words.specs.declared.count.Count.{Count}
-use Rattle.kw_model.specs.declared.call.Reply.TheVariants.{NoRows}
+use Rattle.kw_world.specs.declared.answer.Answer.TheVariants.{NoRows}
 use Rattle.kw_world.specs.declared.activity.Activity.TheVariants.{PutVersion}
 use Rattle.kw_world.specs.declared.local.Local.{Local}
 use Rattle.kw_world.specs.Sizes.{Sizes}
-use Rattle.kw_world.specs.Row.{Outcome, to, leave}
+use Rattle.kw_world.specs.Transition.{Outcome, to, leave}
 
 -- Full has no event: as long as no row is rebalanced, the put is refused
 abbrev pub full : Local → Outcome

@@ -6,15 +6,15 @@ use Rattle.kw_words.specs.declared.count.Count.{Count}
 use Rattle.kw_cells.specs.Cells.{shown_at, pairs_of}
 use Rattle.kw_model.specs.declared.call.Call.{Call}
 use Rattle.kw_model.specs.declared.call.Call.TheVariants.{Put, Del, Get, Scan}
-use Rattle.kw_model.specs.declared.call.Reply.TheVariants.{Pairs}
-use Rattle.kw_model.specs.Map.{found}
+use Rattle.kw_world.specs.declared.answer.Answer.TheVariants.{Pairs}
+use Rattle.kw_world.specs.Answers.{answer_found}
 use Rattle.kw_world.specs.declared.activity.Activity.TheVariants.{Look, LookKey, LookCount, Cell, CellKey, ClearScan, Walk}
 use Rattle.kw_world.specs.declared.local.Local.{Local}
 use Rattle.kw_world.specs.declared.limits.TheConstants.{NEWEST}
 use Rattle.kw_world.specs.Sizes.{Sizes}
 use Rattle.kw_world.specs.Marks.{mark_of, version_marked}
-use Rattle.kw_world.specs.Row.{Outcome, to, leave}
-use Rattle.kw_world.specs.RowPut.{given_of}
+use Rattle.kw_world.specs.Transition.{Outcome, to, leave}
+use Rattle.kw_world.specs.PutTransitions.{given_of}
 
 -- Look(i): the entry of seat i; once all entries are looked at, the count
 abbrev pub to_look : Sizes → ℕ → Local → Outcome
@@ -46,11 +46,11 @@ count_read z count = min (given_of count) z.cells
 
 -- the end of a row's cells, for a get: what the best cell for the greatest version shows is the answer
 abbrev pub get_answered : ℕ → Local → Outcome
-get_answered key l = leave (found (shown_at l.gathered NEWEST key)) l
+get_answered key l = leave (answer_found (shown_at l.gathered NEWEST key)) l
 
 -- a scan has all its pairs, and is about to say that it is over
 abbrev pub scan_ended : Local → Outcome
-scan_ended l = to (ClearScan (Pairs l.pairs)) (record l { pairs = [] })
+scan_ended l = to (ClearScan Pairs) l
 
 -- a scan goes on with the next row, unless there is none or its keys are all above the range
 abbrev pub scan_on : Option ℕ → ℕ → Local → Outcome

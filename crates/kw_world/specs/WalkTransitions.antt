@@ -10,7 +10,7 @@ use Rattle.kw_words.specs.State.{state_of}
 use Rattle.kw_words.specs.Scan.{scan_word}
 use Rattle.kw_model.specs.declared.call.Call.{Call}
 use Rattle.kw_model.specs.declared.call.Call.TheVariants.{Put, Del, Get, Scan}
-use Rattle.kw_model.specs.declared.call.Reply.TheVariants.{Stopped}
+use Rattle.kw_world.specs.declared.answer.Answer.TheVariants.{Stopped}
 use Rattle.kw_world.specs.declared.activity.Activity.TheVariants.{Head, GuessMin, Walk, WalkMin, Look, PutCount}
 use Rattle.kw_world.specs.declared.local.Local.{Local}
 use Rattle.kw_world.specs.declared.event.Choice.{Choice}
@@ -18,7 +18,7 @@ use Rattle.kw_world.specs.declared.event.Choice.TheVariants.{Begin, Go, Guess, S
 use Rattle.kw_world.specs.declared.operation.Action.TheVariants.{Load, Store}
 use Rattle.kw_world.specs.Calls.{is_scan}
 use Rattle.kw_world.specs.Local.{before_row}
-use Rattle.kw_world.specs.Row.{Row, Outcome, at, to, leave, row_linked, row_or_first}
+use Rattle.kw_world.specs.Transition.{Transition, Outcome, at, to, leave, row_linked, row_or_first}
 
 -- a guess at a row that the table does not have is not offered
 abbrev pub offered : ℕ → Choice → Choice
@@ -28,8 +28,8 @@ offered rows (Guess r) = if nat_lt r rows then Guess r else Go
 offered rows Stop = Stop
 
 -- Head, and Start without a guess: the walk begins at the first row, whose minimum is 0
-abbrev pub head_row : Local → Row
-head_row l = at kind.LoadHead name.Head Load (λ w. to Walk (record l { row = row_or_first (row_linked (link_of w)); lower = 0 }))
+abbrev pub head_transition : Local → Transition
+head_transition l = at kind.LoadHead name.Head Load (λ w. to Walk (record l { row = row_or_first (row_linked (link_of w)); lower = 0 }))
 
 -- Start with a guess: a row in the normal state is taken, and every other one sends the walk to the first row
 abbrev pub guess_met : ℕ → Option State → Local → Outcome
@@ -42,11 +42,11 @@ guess_met r (Some (Retired number)) l = to Head l
 guess_met r None l = to Head l
 
 -- Start
-abbrev pub start_row : Choice → Local → Row
-start_row (Begin call) l = head_row l
-start_row Go l = head_row l
-start_row (Guess r) l = at kind.LoadState (name.State r) Load (λ w. guess_met r (state_of w) l)
-start_row Stop l = head_row l
+abbrev pub start_transition : Choice → Local → Transition
+start_transition (Begin call) l = head_transition l
+start_transition Go l = head_transition l
+start_transition (Guess r) l = at kind.LoadState (name.State r) Load (λ w. guess_met r (state_of w) l)
+start_transition Stop l = head_transition l
 
 -- GuessMin: the guessed row serves if the wanted key is not below its minimum
 abbrev pub guess_min : ℕ → Local → Outcome
@@ -83,6 +83,6 @@ abbrev pub is_stopped : Choice → Local → Bool
 is_stopped choice l = is_stop choice && (is_scan l.call && l.has_read)
 
 -- Walk; the first test is whether it is stopped
-abbrev pub walk_row : Bool → ℕ → Local → Row
-walk_row true s l = at kind.ClearScan (name.Scan s) (Store (scan_word Quiet)) (λ _. leave Stopped l)
-walk_row false s l = at kind.LoadLink (name.Next l.row) Load (λ w. link_met (row_linked (link_of w)) l)
+abbrev pub walk_transition : Bool → ℕ → Local → Transition
+walk_transition true s l = at kind.ClearScan (name.Scan s) (Store (scan_word Quiet)) (λ _. leave Stopped l)
+walk_transition false s l = at kind.LoadLink (name.Next l.row) Load (λ w. link_met (row_linked (link_of w)) l)
