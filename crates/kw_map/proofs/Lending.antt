@@ -20,7 +20,7 @@ use Rattle.kw_table.specs.declared.shared.Shared.{Shared}
 use Rattle.kw_table.specs.Passes.{view, IsPassOf}
 use Rattle.kw_table.specs.Views.{local_in}
 use Rattle.kw_follow.specs.Calling.{Calls, calls_in}
-use Rattle.kw_follow.specs.Following.{GoesTo, activity_in, held_at}
+use Rattle.kw_follow.specs.Following.{GoesTo, activity_in}
 use Rattle.kw_follow.specs.OwnEvents.{Met, MetIn}
 use Rattle.kw_live.specs.Meeting.{MetClock, MetCount, MetFull, MetRoom}
 use Rattle.kw_map.specs.declared.kiwi.PutEnd.{PutEnd}
@@ -84,7 +84,7 @@ module _ (p q r t : Pass) (lent : view q ≡ view p) (given : view t ≡ view r)
         later = subst (λ (v : View). IsPrefix v.seen m.front) lent m.later;
         here = subst (λ (w : View). IsPrefix m.front w.seen) (sym given) m.here;
         asks = subst (λ (k : Local). k.call ≡ call) e m.asks;
-        took = subst (λ (k : Local). TakesPrefix last stands old (held_at k.activity k.pairs) new) e m.took;
+        took = subst (λ (k : Local). TakesPrefix last stands old k.pairs new) e m.took;
       }
 
   -- its scan was answered

@@ -5,8 +5,29 @@
 //! that some cells show; `gather_numbers` has the gatherers that keep one number, and `gather_list` the one that keeps all pairs.
 //!
 //! What a call says of the pass that made it stands in `specs/Kiwi.antt`, what it is to take a list of pairs in `specs/Gather.antt`, and
-//! for which lists a gatherer of a number stands in `specs/GatherNumbers.antt`. No call waits for another one: nothing here takes a
-//! handle, and only `open` and the gatherer of all pairs take memory.
+//! for which lists a gatherer of a number stands in `specs/GatherNumbers.antt`. `get`, `scan` and the meetings take no handle, so their
+//! types say that they return whatever others do; `put` and `delete` take the runtime with `Wait`. Only `open` and the gatherer of
+//! all pairs take memory.
+//!
+//! # For a caller
+//!
+//! A crate that stands on `kw_map` needs no other of ours (`kw_example` is a whole program):
+//!
+//! ```text
+//! let (kiwi, mut passes) = Kiwi::open(rt.alloc(), 64, 2)?;      // 64 rows, two callers
+//! // threads share `&kiwi`, and each takes one of the passes
+//! kiwi.put(&rt, &mut pass, 1001, 250)?;                         // or PutEnd::NoRows: nothing has changed
+//! let value = kiwi.get(&mut pass, 1001);                        // Some(250)
+//! let mut sum = SumGather::new();
+//! kiwi.scan(&mut pass, 1000, 1999, &mut sum)?;                  // all values of the range, as they stood at one moment
+//! let total = sum.total();
+//! ```
+//!
+//! Each call asks that its pass is one of this map and makes no call (`IsIdle`), and leaves it so; `open` gives such passes. What each
+//! clause gives: `calls` or `answers`, that the call is the pass's next one and has the reply that is told; `cause`, what was met where a call
+//! is refused; `goes`, that the pass has seen at least what it had; and `ordered`, that all calls which the pass has seen, its own and the
+//! others', have one order in which an ordered map of one thread gives all their replies, and which keeps what came before what. Passes
+//! that `meet`, as after a join, know of each other all that both have seen.
 #![tactic(auto)]
 
 pub mod gather;
@@ -14,6 +35,13 @@ pub mod gather_list;
 pub mod gather_numbers;
 pub mod kiwi;
 mod scanning;
+
+pub use crate::gather::{Gather, Stop};
+pub use crate::gather_list::ListGather;
+pub use crate::gather_numbers::{CountGather, GreatestGather, LeastGather, SumGather};
+pub use crate::kiwi::{Kiwi, PutEnd, ScanEnd};
+pub use kw_table::Pass;
+
 #[cfg(test)]
 mod tests;
 #[cfg(test)]
