@@ -343,8 +343,8 @@ const STAMPED_BY_A_SCAN: &str = "\
 1 go 1: Look(1), remembered [Mark { cell: 0, version: 2 }], Pend(0, 0) = 65538
 1 go 8: Cell(0), count 1
 1 go 2: CellValue, place_version 2, place_key 5
-1 go 1: ClearScan(Pairs(PairList { pairs: [] })), has read, gathered [Cell { key: 5, place: 0, version: 2, value: Some(10) }]
-1 go 1: Leave(Pairs(PairList { pairs: [] })), Scan(1) = 0
+1 go 1: ClearScan(Pairs), has read, gathered [Cell { key: 5, place: 0, version: 2, value: Some(10) }]
+1 go 1: Leave(Pairs), Scan(1) = 0
 1 go 1: Idle, Ended(Pairs(PairList { pairs: [] })), helping 1, count 0, place_version 1, place_key 0, no call, has not read, remembered [], gathered [], Pass(1) = 0
 1 scan 0 9 2: ScanClock, number 2, call Scan(0, 9), Pass(1) = 1
 1 go 1: ScanWait, waiting 2
@@ -353,9 +353,9 @@ const STAMPED_BY_A_SCAN: &str = "\
 1 go 1: Start, version 2, Scan(1) = 10
 1 go 11: Cell(0), count 1, remembered [Mark { cell: 0, version: 2 }]
 1 go 2: CellValue, place_version 2, place_key 5
-1 go 1: ClearScan(Pairs(PairList { pairs: [(5, 10)] })), has read, gathered [Cell { key: 5, place: 0, version: 2, value: Some(10) }]
-1 go 1: Leave(Pairs(PairList { pairs: [(5, 10)] })), Scan(1) = 0
-1 go 1: Idle, Ended(Pairs(PairList { pairs: [(5, 10)] })), waiting 1, drawn 1, version 1, count 0, place_version 1, place_key 0, no call, has not read, remembered [], gathered [], Pass(1) = 0
+1 go 1: ClearScan(Pairs), has read, pairs [(5, 10)], gathered [Cell { key: 5, place: 0, version: 2, value: Some(10) }]
+1 go 1: Leave(Pairs), Scan(1) = 0
+1 go 1: Idle, Ended(Pairs(PairList { pairs: [(5, 10)] })), waiting 1, drawn 1, version 1, count 0, place_version 1, place_key 0, no call, has not read, pairs [], remembered [], gathered [], Pass(1) = 0
 0 go 2: PutClear, version 2, Version(0, 0) = 2
 0 go 1: Leave(Done), Pend(0, 0) = 0
 0 go 1: Idle, Ended(Done), want 0, version 1, no call, Pass(0) = 0
@@ -386,9 +386,9 @@ const STAMPED_BEHIND_A_DRAW: &str = "\
 1 go 1: Start, Scan(1) = 6
 1 go 11: Cell(0), count 1, remembered [Mark { cell: 0, version: 1 }]
 1 go 2: CellValue, place_key 5
-1 go 1: ClearScan(Pairs(PairList { pairs: [(5, 10)] })), has read, gathered [Cell { key: 5, place: 0, version: 1, value: Some(10) }]
-1 go 1: Leave(Pairs(PairList { pairs: [(5, 10)] })), Scan(1) = 0
-1 go 1: Idle, Ended(Pairs(PairList { pairs: [(5, 10)] })), count 0, place_key 0, no call, has not read, remembered [], gathered [], Pass(1) = 0
+1 go 1: ClearScan(Pairs), has read, pairs [(5, 10)], gathered [Cell { key: 5, place: 0, version: 1, value: Some(10) }]
+1 go 1: Leave(Pairs), Scan(1) = 0
+1 go 1: Idle, Ended(Pairs(PairList { pairs: [(5, 10)] })), count 0, place_key 0, no call, has not read, pairs [], remembered [], gathered [], Pass(1) = 0
 0 go 1: PutClear, Version(0, 0) = 1
 0 go 1: Leave(Done), Pend(0, 0) = 0
 0 go 1: Idle, Ended(Done), want 0, no call, Pass(0) = 0
@@ -433,8 +433,8 @@ fn puts_on_a_full_row_end_with_no_rows(rt: HostRuntime) -> Result<(), Fail> {
 const EMPTY_RANGE: &str = "\
 0 scan 9 0 4: ScanDraw, number 1, call Scan(9, 0), Clock = 1, Epoch = 1, Head = 1, Pass(0) = 1, Scan(0) = 5, State(0) = 2
 0 go 1: ScanSettle, Clock = 2
-0 go 1: ClearScan(Pairs(PairList { pairs: [] })), Scan(0) = 6
-0 go 1: Leave(Pairs(PairList { pairs: [] })), Scan(0) = 0
+0 go 1: ClearScan(Pairs), Scan(0) = 6
+0 go 1: Leave(Pairs), Scan(0) = 0
 0 go 1: Idle, Ended(Pairs(PairList { pairs: [] })), no call, Pass(0) = 0
 ";
 
@@ -483,12 +483,12 @@ const STOPS: &str = "\
 1 stop 1: Look(0)
 1 stop 1: Look(1)
 1 go 9: CellKey, count 1
-1 go 2: ClearScan(Pairs(PairList { pairs: [(5, 10)] })), place_key 5, has read, gathered [Cell { key: 5, place: 0, version: 1, value: Some(10) }]
+1 go 2: ClearScan(Pairs), place_key 5, has read, pairs [(5, 10)], gathered [Cell { key: 5, place: 0, version: 1, value: Some(10) }]
 1 stop 1: Leave(Stopped), Scan(1) = 0
-1 stop 1: Idle, Ended(Stopped), count 0, place_key 0, no call, has not read, gathered [], Pass(1) = 0
-1 scan 0 9 20: ClearScan(Pairs(PairList { pairs: [(5, 10)] })), number 2, waiting 2, drawn 2, version 2, count 1, place_key 5, call Scan(0, 9), has read, gathered [Cell { key: 5, place: 0, version: 1, value: Some(10) }], Clock = 3, Pass(1) = 1, Scan(1) = 10
-1 go 1: Leave(Pairs(PairList { pairs: [(5, 10)] })), Scan(1) = 0
-1 stop 1: Idle, Ended(Pairs(PairList { pairs: [(5, 10)] })), waiting 1, drawn 1, version 1, count 0, place_key 0, no call, has not read, gathered [], Pass(1) = 0
+1 stop 1: Idle, Ended(Stopped), count 0, place_key 0, no call, has not read, pairs [], gathered [], Pass(1) = 0
+1 scan 0 9 20: ClearScan(Pairs), number 2, waiting 2, drawn 2, version 2, count 1, place_key 5, call Scan(0, 9), has read, pairs [(5, 10)], gathered [Cell { key: 5, place: 0, version: 1, value: Some(10) }], Clock = 3, Pass(1) = 1, Scan(1) = 10
+1 go 1: Leave(Pairs), Scan(1) = 0
+1 stop 1: Idle, Ended(Pairs(PairList { pairs: [(5, 10)] })), waiting 1, drawn 1, version 1, count 0, place_key 0, no call, has not read, pairs [], gathered [], Pass(1) = 0
 ";
 
 #[test]
