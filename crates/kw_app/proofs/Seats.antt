@@ -48,7 +48,7 @@ calls_seated m E i p at =
 -- the pass that met is seated again
 pub seated_again : (m : Kiwi) (b : Dealt) (E E' : List Event) (i : ℕ) (p q r : Pass) (answers : List Answered) → IsSeated m E i p → Worked m b p q answers → Gathers m.shared E' q r → IsSeated m E' i r
 seated_again m b E E' i p q r answers at worked met = record {
-  idle = record { of_map = met.of_table; idle = ap (λ (l : Local). l.activity) met.meets.local ∙ worked.idle.idle };
+  idle = record { of_map = met.of_table; idle = ap (λ (l : Local). l.activity) met.meets.local ∙ worked.idle.idle; holds = (worked.idle.holds.0, met.keeps ∙ worked.idle.holds.1, worked.idle.holds.2) };
   number = met.meets.number ∙ (worked.goes.number ∙ at.number);
   seen = met.seen;
 }

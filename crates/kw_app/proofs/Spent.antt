@@ -134,7 +134,7 @@ caused m p q call reply idle goes calls met spent =
     let ok : is_valid product o (view q).seen ≡ true = subst (λ (y : Opening). is_valid product y (view q).seen ≡ true) goes.opening q.known.valid in
     let here : IsPrefix x.front (view q).seen = prefix_trans x.front (x.front ++ event n Go ∷ []) (view q).seen (event n Go ∷ [], refl) x.here in
     let own : seat_calls o (view q).seen n ≡ seat_calls o (view p).seen n ++ c ∷ [] =
-        ap (λ (y : Opening). calls_seen product y n (view q).seen) (sym goes.opening) ∙ (ap (λ k. calls_seen product (view q).opening k (view q).seen) (sym goes.number) ∙ calls.calls) in
+    ap (λ (y : Opening). calls_seen product y n (view q).seen) (sym goes.opening) ∙ (ap (λ k. calls_seen product (view q).opening k (view q).seen) (sym goes.number) ∙ calls.calls) in
     let seated : n < o.seats = subst (λ k. k < o.seats) (sym p.known.number) p.known.seats in
     let making = met_in_call o n p.known.opens seated (view p).seen x.front (view q).seen c idle.idle (subst IsBusy (sym x.activity) tt) x.later here ok own in
     let found : FoundSpent o (view q).seen n c = record {

@@ -19,11 +19,12 @@ use kw_model::memory::Memory;
 use kw_table::Pass;
 use kw_words::sizes::CELLS;
 use std::alloc::Global;
+use std::sync::Wait;
 use std::thread::Threads;
 
 /// The answers to these items, by this many workers on a map of this many rows, and the pass that has seen the run where they came from
 /// the concurrent map.
-pub fn answered<R: Threads + Sync, G: Gate + Sync>(
+pub fn answered<R: Threads + Wait + Sync, G: Gate + Sync>(
     rt: &R,
     alloc: Global,
     workers: u32,

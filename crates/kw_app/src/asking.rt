@@ -22,12 +22,19 @@ use kw_model::memory::Memory;
 use kw_table::Pass;
 use kw_work::line::Line;
 use std::alloc::Global;
+use std::sync::Wait;
 
 /// Makes the call of a line, and gives its answer.
 ///
 /// The pass is one of this map and idle, as it is afterwards. The only error is the want of memory, and it comes only at a line
 /// that lists pairs.
-pub fn ask(alloc: Global, kiwi: &Kiwi, pass: &mut Pass, line: Line) -> Result<Answer, Memory>
+pub fn ask<R: Wait>(
+    rt: &R,
+    alloc: Global,
+    kiwi: &Kiwi,
+    pass: &mut Pass,
+    line: Line,
+) -> Result<Answer, Memory>
     requires idle { IsIdle kiwi.now pass.old }
     requires line { IsLine line }
     ensures idle { IsIdle kiwi.now pass.new }
@@ -35,8 +42,8 @@ pub fn ask(alloc: Global, kiwi: &Kiwi, pass: &mut Pass, line: Line) -> Result<An
     ensures answers { IfOk result (λ answer. LineAnswered pass.old pass.new line.call line.form answer) }
 {
     match line.call {
-        Call::Put(key, value) => Ok(put(kiwi, pass, key, value)),
-        Call::Del(key) => Ok(delete(kiwi, pass, key)),
+        Call::Put(key, value) => Ok(put(rt, kiwi, pass, key, value)),
+        Call::Del(key) => Ok(delete(rt, kiwi, pass, key)),
         Call::Get(key) => Ok(get(kiwi, pass, key)),
         Call::Scan(from, upto) => match line.form {
             Form::Sum => Ok(sum(kiwi, pass, from, upto)),
@@ -49,26 +56,26 @@ pub fn ask(alloc: Global, kiwi: &Kiwi, pass: &mut Pass, line: Line) -> Result<An
     }
 }
 
-fn put(kiwi: &Kiwi, pass: &mut Pass, key: u32, value: u64) -> Answer
+fn put<R: Wait>(rt: &R, kiwi: &Kiwi, pass: &mut Pass, key: u32, value: u64) -> Answer
     requires idle { IsIdle kiwi.now pass.old }
     requires value { value < VALUE_END }
     ensures idle { IsIdle kiwi.now pass.new }
     ensures goes { GoesTo kiwi.now.shared pass.old pass.new }
     ensures answers { LineAnswered pass.old pass.new (Call.Put key value) form.Put result }
 {
-    match kiwi.put(pass, key, value) {
+    match kiwi.put(rt, pass, key, value) {
         Ok(()) => Answer::Done,
         Err(PutEnd::NoRows) => Answer::NoRows,
     }
 }
 
-fn delete(kiwi: &Kiwi, pass: &mut Pass, key: u32) -> Answer
+fn delete<R: Wait>(rt: &R, kiwi: &Kiwi, pass: &mut Pass, key: u32) -> Answer
     requires { IsIdle kiwi.now pass.old }
     ensures idle { IsIdle kiwi.now pass.new }
     ensures goes { GoesTo kiwi.now.shared pass.old pass.new }
     ensures answers { LineAnswered pass.old pass.new (Call.Del key) form.Del result }
 {
-    match kiwi.delete(pass, key) {
+    match kiwi.delete(rt, pass, key) {
         Ok(()) => Answer::Done,
         Err(PutEnd::NoRows) => Answer::NoRows,
     }

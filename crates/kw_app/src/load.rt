@@ -6,18 +6,19 @@ ghost use Rattle.kw_app.specs.Answering.{opening};
 ghost use Rattle.kw_app.specs.Load.{IsLoaded};
 
 use crate::answering::{answered, some_refused};
-use kw_command::command::MOST_LINES;
 use crate::generate::generate;
 use crate::printed::Printed;
 use crate::summary::summary;
 use crate::working::Gate;
+use kw_command::command::MOST_LINES;
 use kw_model::memory::Memory;
 use std::alloc::Global;
+use std::sync::Wait;
 use std::thread::Threads;
 
 /// The summary of the load that begins with this number and has this many generated lines, by this many workers on a map of this many
 /// rows.
-pub fn load<R: Threads + Sync, G: Gate + Sync>(
+pub fn load<R: Threads + Wait + Sync, G: Gate + Sync>(
     rt: &R,
     alloc: Global,
     start: u32,

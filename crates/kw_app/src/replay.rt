@@ -15,11 +15,12 @@ use kw_line::parse::{MOST_BYTES, parse};
 use kw_line::print::print;
 use kw_model::memory::Memory;
 use std::alloc::Global;
+use std::sync::Wait;
 use std::thread::Threads;
 
 /// The text of the replies to the lines of these bytes, by this many workers on a map of this many rows. `Bad` names the first line that
 /// is not in the grammar.
-pub fn replay<R: Threads + Sync, G: Gate + Sync>(
+pub fn replay<R: Threads + Wait + Sync, G: Gate + Sync>(
     rt: &R,
     alloc: Global,
     workers: u32,
@@ -40,7 +41,7 @@ pub fn replay<R: Threads + Sync, G: Gate + Sync>(
 }
 
 /// The text of the replies to these items.
-fn printed<R: Threads + Sync, G: Gate + Sync>(
+fn printed<R: Threads + Wait + Sync, G: Gate + Sync>(
     rt: &R,
     alloc: Global,
     workers: u32,

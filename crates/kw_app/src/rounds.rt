@@ -18,6 +18,7 @@ use kw_work::block::Block;
 use kw_work::collect::collect;
 use kw_work::line::{Answered, Line};
 use std::alloc::{AllocError, Global};
+use std::sync::Wait;
 use std::thread;
 use std::thread::Threads;
 
@@ -36,14 +37,14 @@ pub(crate) struct Done {
 }
 
 /// Does one job.
-fn finish<G: Gate>(alloc: Global, kiwi: &Kiwi, job: Job, gate: &G) -> Done
+fn finish<R: Wait, G: Gate>(rt: &R, alloc: Global, kiwi: &Kiwi, job: Job, gate: &G) -> Done
     requires idle { IsIdle kiwi.now job.pass }
     requires lines { All IsLine job.lines.items }
     ensures { IsDone kiwi.now job result }
 {
     let Job { mut pass, lines } = job;
     let worker = pass.number();
-    let answers = work(alloc, kiwi, &mut pass, worker, lines.as_slice(), gate);
+    let answers = work(rt, alloc, kiwi, &mut pass, worker, lines.as_slice(), gate);
     Done { pass, answers }
 }
 
@@ -64,7 +65,7 @@ fn jobs(alloc: Global, kiwi: &Kiwi, block: &Block, passes: Vec<Pass>) -> Result<
 }
 
 /// Does all jobs, each in a thread of its own.
-fn finish_all<R: Threads + Sync, G: Gate + Sync>(
+fn finish_all<R: Threads + Wait + Sync, G: Gate + Sync>(
     rt: &R,
     alloc: Global,
     kiwi: &Kiwi,
@@ -81,7 +82,7 @@ fn finish_all<R: Threads + Sync, G: Gate + Sync>(
         &|job: Job|
             requires idle { IsIdle kiwi.now job.pass }
             requires lines { All IsLine job.lines.items }
-        { finish(alloc, kiwi, job, gate) },
+        { finish(rt, alloc, kiwi, job, gate) },
     )
 }
 
@@ -103,7 +104,7 @@ fn parted(alloc: Global, dones: Vec<Done>) -> Result<(Vec<Pass>, Vec<Vec<Answere
 }
 
 /// All workers answer their lines of the block.
-fn hand_out<R: Threads + Sync, G: Gate + Sync>(
+fn hand_out<R: Threads + Wait + Sync, G: Gate + Sync>(
     rt: &R,
     alloc: Global,
     kiwi: &Kiwi,
@@ -137,7 +138,7 @@ fn gathered(kiwi: &Kiwi, passes: Vec<Pass>) -> Vec<Pass>
 ///
 /// There is a pass for each worker of the block, numbered from 0, and all are idle and have seen one list, as they are and have afterwards.
 /// The only error is the want of memory.
-pub(crate) fn play<R: Threads + Sync, G: Gate + Sync>(
+pub(crate) fn play<R: Threads + Wait + Sync, G: Gate + Sync>(
     rt: &R,
     alloc: Global,
     kiwi: &Kiwi,

@@ -10,16 +10,17 @@ ghost use Rattle.kw_command.specs.declared.command.Command.{Command as AnyComman
 ghost use Rattle.kw_command.specs.Words.{AreInRange, Means};
 ghost use Rattle.kw_app.specs.Ends.{IsBadInput, IsToldBad, Prints, Reads, Tells};
 
-use kw_command::command::{Command, command_of};
 use crate::load::load;
 use crate::outcome::{Outcome, Status};
 use crate::printed::Printed;
 use crate::text::{InputError, text_of};
-use kw_command::word::Word;
 use crate::working::Gate;
+use kw_command::command::{Command, command_of};
+use kw_command::word::Word;
 use kw_io::{ReadError, Sink, Source, read_all, write_all};
 use kw_line::parse::MOST_BYTES;
 use std::alloc::Global;
+use std::sync::Wait;
 use std::thread::Threads;
 
 /// How many bytes an input may have, as a limit of reading.
@@ -30,7 +31,7 @@ const READ_LIMIT: u32 = MOST_BYTES as u32;
 /// prints to the sink after the last call; `gen` reads nothing and writes its summary.
 ///
 /// The statuses are tested in the order of [`Status`]'s description. Want of memory is free, and leaves the sink as it was.
-pub fn run<R: Threads + Sync, S: Source, K: Sink, G: Gate + Sync>(
+pub fn run<R: Threads + Wait + Sync, S: Source, K: Sink, G: Gate + Sync>(
     rt: &R,
     alloc: Global,
     words: &[Word],
@@ -79,7 +80,7 @@ pub fn run<R: Threads + Sync, S: Source, K: Sink, G: Gate + Sync>(
 }
 
 /// Runs a command.
-fn run_command<R: Threads + Sync, S: Source, K: Sink, G: Gate + Sync>(
+fn run_command<R: Threads + Wait + Sync, S: Source, K: Sink, G: Gate + Sync>(
     rt: &R,
     alloc: Global,
     command: Command,
@@ -123,7 +124,7 @@ fn run_command<R: Threads + Sync, S: Source, K: Sink, G: Gate + Sync>(
 }
 
 /// Runs a command that reads an input.
-fn read_and_answer<R: Threads + Sync, S: Source, K: Sink, G: Gate + Sync>(
+fn read_and_answer<R: Threads + Wait + Sync, S: Source, K: Sink, G: Gate + Sync>(
     rt: &R,
     alloc: Global,
     command: Command,
@@ -159,7 +160,7 @@ fn read_and_answer<R: Threads + Sync, S: Source, K: Sink, G: Gate + Sync>(
 }
 
 /// Answers an input that was read to its end.
-fn answer<R: Threads + Sync, K: Sink, G: Gate + Sync>(
+fn answer<R: Threads + Wait + Sync, K: Sink, G: Gate + Sync>(
     rt: &R,
     alloc: Global,
     command: Command,

@@ -25,10 +25,11 @@ use kw_table::Pass;
 use kw_work::block::Block;
 use kw_work::deal::deal;
 use std::alloc::Global;
+use std::sync::Wait;
 use std::thread::Threads;
 
 /// Answers the blocks in order.
-fn play_all<R: Threads + Sync, G: Gate + Sync>(
+fn play_all<R: Threads + Wait + Sync, G: Gate + Sync>(
     rt: &R,
     alloc: Global,
     kiwi: &Kiwi,
@@ -58,7 +59,7 @@ fn play_all<R: Threads + Sync, G: Gate + Sync>(
 ///
 /// There are 1 to `MOST_ROWS` rows, 1 to `SEATS` workers and fewer than 2^32 items, each one that a line may be. The gate is told of each line. The only
 /// error is the want of memory.
-pub fn run_on_map<R: Threads + Sync, G: Gate + Sync>(
+pub fn run_on_map<R: Threads + Wait + Sync, G: Gate + Sync>(
     rt: &R,
     alloc: Global,
     rows: u32,

@@ -1,11 +1,12 @@
 //! Whole runs over streams in memory, by the public call alone. What is expected was worked out by hand or by a map in another language.
 use crate::outcome::{Outcome, Status};
 use crate::run::run;
-use kw_command::word::Word;
 use crate::working::{Gate, NoGate};
+use kw_command::word::Word;
 use kw_io::{MemSink, MemSource};
 use std::alloc::{AllocError, Global};
 use std::process::Abort;
+use std::sync::Wait;
 use std::test::Fail;
 use std::thread::Threads;
 
@@ -33,7 +34,7 @@ fn words(alloc: Global, texts: &[&str]) -> Result<Vec<Word>, AllocError> {
 }
 
 /// Runs these words on an input of which the reads with these numbers fail, and a sink with this room.
-fn ran<R: Threads + Sync>(
+fn ran<R: Threads + Wait + Sync>(
     rt: &R,
     alloc: Global,
     texts: &[&str],
@@ -46,7 +47,7 @@ fn ran<R: Threads + Sync>(
 }
 
 /// The same on a source, and past a gate.
-fn ran_past<R: Threads + Sync, G: Gate + Sync>(
+fn ran_past<R: Threads + Wait + Sync, G: Gate + Sync>(
     rt: &R,
     alloc: Global,
     texts: &[&str],
@@ -76,7 +77,7 @@ fn expect_end(
 }
 
 /// Replays the lines and expects this status, this line and this text.
-fn expect_replay<R: Threads + Sync + Abort>(
+fn expect_replay<R: Threads + Wait + Sync + Abort>(
     rt: &R,
     alloc: Global,
     input: &str,
@@ -90,7 +91,7 @@ fn expect_replay<R: Threads + Sync + Abort>(
 }
 
 /// Replays the lines by this many workers, and expects that all are answered, with this text.
-fn expect_replies<R: Threads + Sync + Abort>(
+fn expect_replies<R: Threads + Wait + Sync + Abort>(
     rt: &R,
     alloc: Global,
     workers: &str,

@@ -6,15 +6,16 @@ ghost use Rattle.std.specs.Prelude.{◌≤◌, length, IfOk};
 ghost use Rattle.kw_command.specs.Words.{AreInRange};
 ghost use Rattle.kw_app.specs.Ends.{IfBad, IsPrinted, Reads};
 
-use kw_command::command::Command;
 use crate::printed::Printed;
 use crate::replay::replay;
 use crate::working::Gate;
+use kw_command::command::Command;
 use kw_line::item::LineError;
 use kw_line::parse::MOST_BYTES;
 use kw_sim::command::ScriptError;
 use kw_sim::script::run_script;
 use std::alloc::Global;
+use std::sync::Wait;
 use std::thread::Threads;
 
 /// Why an input has no text.
@@ -27,7 +28,7 @@ pub enum InputError {
 }
 
 /// The text that the command prints of these bytes. `Bad` names the first line that is not in its grammar.
-pub fn text_of<R: Threads + Sync, G: Gate + Sync>(
+pub fn text_of<R: Threads + Wait + Sync, G: Gate + Sync>(
     rt: &R,
     alloc: Global,
     command: Command,

@@ -14,6 +14,7 @@ use kw_model::memory::Memory;
 use kw_table::Pass;
 use kw_work::line::{Answered, Line};
 use std::alloc::Global;
+use std::sync::Wait;
 
 /// Told of each line by its worker, with the numbers of both. It answers nothing and has no meaning; a test may hold a worker up by it.
 pub trait Gate {
@@ -38,7 +39,8 @@ impl Gate for NoGate {
 ///
 /// The pass is one of this map and idle, as it is afterwards. The only error is the want of memory; the pass has then made the calls
 /// of the first lines.
-pub fn work<G: Gate>(
+pub fn work<R: Wait, G: Gate>(
+    rt: &R,
     alloc: Global,
     kiwi: &Kiwi,
     pass: &mut Pass,
@@ -55,7 +57,7 @@ pub fn work<G: Gate>(
     let mut answers = Vec::new(alloc);
     for line in lines {
         gate.before(worker, line.number);
-        let answer = ask(alloc, kiwi, pass, *line)?;
+        let answer = ask(rt, alloc, kiwi, pass, *line)?;
         answers.push(Answered {
             line: line.number,
             answer,

@@ -4,19 +4,20 @@ ghost use Rattle.kw_map.specs.Kiwi.{IsIdle};
 use kw_map::gather_numbers::SumGather;
 use kw_map::kiwi::Kiwi;
 use kw_table::Pass;
+use std::sync::Wait;
 
 /// How many keys the maps hold that are read.
 pub const KEYS: u32 = 32;
 
 /// Puts a value at each key from the first number on, below the second.
-pub fn put_keys(kiwi: &Kiwi, pass: Pass, from: u32, end: u32) -> Pass
+pub fn put_keys<R: Wait>(rt: &R, kiwi: &Kiwi, pass: Pass, from: u32, end: u32) -> Pass
     requires { IsIdle kiwi.now pass }
     ensures { IsIdle kiwi.now result }
 {
     let mut pass = pass;
     for key in from..end {
         // A row that is full refuses; the call is made all the same.
-        let _ = kiwi.put(&mut pass, key, 1);
+        let _ = kiwi.put(rt, &mut pass, key, 1);
     }
     pass
 }

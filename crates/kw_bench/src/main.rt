@@ -21,6 +21,7 @@ use crate::lines::time_lines;
 use crate::timing::{time_gets, time_puts, time_scans};
 use std::io;
 use std::process::ExitCode;
+use std::sync::Wait;
 use std::thread::Threads;
 
 fn main(rt: HostRuntime) -> ExitCode {
@@ -31,7 +32,7 @@ fn main(rt: HostRuntime) -> ExitCode {
 }
 
 /// Takes all figures and prints them, or says how the program is used.
-fn run<T: Threads + Sync>(rt: &HostRuntime, threads: &T) -> io::Result<()> {
+fn run<T: Threads + Wait + Sync>(rt: &HostRuntime, threads: &T) -> io::Result<()> {
     let Some(calls) = given_calls(rt)? else {
         return print_usage(rt);
     };

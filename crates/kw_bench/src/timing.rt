@@ -9,6 +9,7 @@ use kw_table::Pass;
 use kw_words::sizes::CELL_COUNT;
 use std::alloc::Global;
 use std::io;
+use std::sync::Wait;
 use std::thread::{Threads, join};
 use std::time::Instant;
 
@@ -40,13 +41,13 @@ fn open(alloc: Global) -> Result<(Kiwi, Pass, Pass), Memory>
 }
 
 /// Times gets on a map that holds `KEYS` keys.
-pub fn time_gets<T: Threads + Sync>(
+pub fn time_gets<T: Threads + Wait + Sync>(
     rt: &HostRuntime,
     threads: &T,
     calls: u32,
 ) -> io::Result<Figure> {
     let (kiwi, first, second) = open(rt.alloc()).map_err(no_memory)?;
-    let first = put_keys(&kiwi, first, 0, KEYS);
+    let first = put_keys(threads, &kiwi, first, 0, KEYS);
     let start = Instant::now(rt)?;
     let first = get_keys(&kiwi, first, calls);
     let one = start.elapsed(rt)?.as_nanos();
@@ -61,13 +62,13 @@ pub fn time_gets<T: Threads + Sync>(
 }
 
 /// Times scans of all keys of a map that holds `KEYS` of them.
-pub fn time_scans<T: Threads + Sync>(
+pub fn time_scans<T: Threads + Wait + Sync>(
     rt: &HostRuntime,
     threads: &T,
     calls: u32,
 ) -> io::Result<Figure> {
     let (kiwi, first, second) = open(rt.alloc()).map_err(no_memory)?;
-    let first = put_keys(&kiwi, first, 0, KEYS);
+    let first = put_keys(threads, &kiwi, first, 0, KEYS);
     let start = Instant::now(rt)?;
     let first = scan_keys(&kiwi, first, calls);
     let one = start.elapsed(rt)?.as_nanos();
@@ -82,7 +83,7 @@ pub fn time_scans<T: Threads + Sync>(
 }
 
 /// Times puts on fresh maps, each of which takes `CELLS` puts. Opening the maps, and parting the threads, is in the figures.
-pub fn time_puts<T: Threads + Sync>(
+pub fn time_puts<T: Threads + Wait + Sync>(
     rt: &HostRuntime,
     threads: &T,
     calls: u32,
@@ -91,7 +92,7 @@ pub fn time_puts<T: Threads + Sync>(
     let start = Instant::now(rt)?;
     for _ in 0..maps {
         let (kiwi, first, _) = open(rt.alloc()).map_err(no_memory)?;
-        put_keys(&kiwi, first, 0, CELL_COUNT);
+        put_keys(threads, &kiwi, first, 0, CELL_COUNT);
     }
     let one = start.elapsed(rt)?.as_nanos();
     let start = Instant::now(rt)?;
@@ -99,8 +100,8 @@ pub fn time_puts<T: Threads + Sync>(
         let (kiwi, first, second) = open(rt.alloc()).map_err(no_memory)?;
         join(
             threads,
-            || put_keys(&kiwi, first, 0, CELL_COUNT / 2),
-            || put_keys(&kiwi, second, CELL_COUNT / 2, CELL_COUNT),
+            || put_keys(threads, &kiwi, first, 0, CELL_COUNT / 2),
+            || put_keys(threads, &kiwi, second, CELL_COUNT / 2, CELL_COUNT),
         );
     }
     let two = start.elapsed(rt)?.as_nanos();

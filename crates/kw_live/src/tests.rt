@@ -5,9 +5,9 @@ ghost use Rattle.kw_table.specs.Passes.{IsPassOf};
 ghost use Rattle.kw_follow.specs.Following.{Follows, activity_in};
 
 use super::*;
-use kw_follow::go;
 use crate::putting::is_putting;
 use kw_cells::cell::next_pair;
+use kw_follow::go;
 use kw_model::call::{Call, Reply};
 use kw_model::memory::Memory;
 use kw_model::pair_list::PairList;

@@ -5,3 +5,4 @@ pub mod Ordering
 pub mod WholeCalls
 pub mod RowStages
 pub mod ScanEnds
+pub mod Lending

@@ -1,11 +1,11 @@
 -- How a whole call comes of the stages that `kw_live` takes it through: its begin and its end, what it met on the way, and its reply.
-use Rattle.std.proofs.Common.{ℕ, ◌≡◌, ◌∙◌, Option, Some, None, List, ap, sym, subst, []}
+use Rattle.std.proofs.Common.{ℕ, ◌≡◌, ◌∙◌, Option, Some, None, List, ap, sym, subst, [], refl, true, false}
 use Rattle.kw_model.specs.declared.call.Call.{Call}
+use Rattle.kw_model.specs.declared.call.Call.TheVariants.{Put, Del, Get, Scan}
 use Rattle.kw_model.specs.declared.call.Reply.{Reply}
 use Rattle.kw_model.specs.declared.call.Reply.TheVariants.{Value, Absent}
 use Rattle.kw_cells.specs.Cells.{shown_at}
-use Rattle.kw_model.specs.declared.call.Call.TheVariants.{Get}
-use Rattle.kw_world.specs.declared.activity.Activity.TheVariants.{Leave}
+use Rattle.kw_world.specs.declared.activity.Activity.TheVariants.{Leave, Start}
 use Rattle.kw_world.specs.declared.limits.TheConstants.{NEWEST}
 use Rattle.kw_world.specs.Answers.{answer_found, reply_of}
 use Rattle.kw_world.proofs.Replies.{reply_of-found}
@@ -14,17 +14,27 @@ use Rattle.kw_world.specs.declared.activity.Activity.{Activity}
 use Rattle.kw_world.specs.declared.answer.Answer.{Answer}
 use Rattle.kw_world.specs.declared.event.Choice.{Choice}
 use Rattle.kw_world.specs.declared.local.Local.{Local}
+use Rattle.kw_core.specs.Stages.{is_put}
 use Rattle.kw_laws.specs.SeatCalls.{begun_at}
 use Rattle.kw_table.specs.declared.pass.Pass.{Pass}
 use Rattle.kw_table.specs.declared.shared.Shared.{Shared}
+use Rattle.kw_table.specs.Passes.{IsFresh}
+use Rattle.kw_map.specs.declared.kiwi.Kiwi.{Kiwi}
+use Rattle.kw_map.specs.Kiwi.{IsIdle}
 use Rattle.kw_follow.specs.Calling.{Opens, Keeps, Closes, Calls, calls_in}
 use Rattle.kw_follow.specs.Following.{Follows, GoesTo, activity_in}
 use Rattle.kw_follow.specs.OwnEvents.{Met}
 use Rattle.kw_live.specs.Meeting.{AsksNone, MetClock, MetCount, MetFull, MetRoom}
+use Rattle.kw_live.specs.Stages.{HasEntered}
 use Rattle.kw_live.proofs.Asking.{below_trans, none_below}
-use Rattle.kw_follow.proofs.OwnEvents.{met_earlier, met_later}
+use Rattle.kw_follow.proofs.OwnEvents.{met_earlier, met_later, goes_trans}
 use Rattle.kw_follow.proofs.OneEvent.{same_activity}
-use Rattle.kw_follow.proofs.OwnEvents.{goes_trans}
+
+-- The begin.
+
+-- a pass that was just made is idle
+pub fresh_idle : (m : Kiwi) (n : ℕ) (p : Pass) → IsFresh m.shared n p → IsIdle m p
+fresh_idle m n p fresh = record { of_map = fresh.of_table; idle = ap (λ (l : Local). l.activity) fresh.local; holds = fresh.holds }
 
 -- The call.
 
@@ -38,6 +48,15 @@ whole {p} {q} {r} {t} {call} {reply} o k c = record {
   ends = c.ends;
   calls = c.calls (calls_in p) (begun_at o.first o.number call) (k ∙ o.calls);
 }
+
+-- a put or a delete that has entered is to begin its walk
+pub put_starts : (call : Call) (a : Activity) → is_put (Some call) ≡ true → HasEntered call a → a ≡ Start
+put_starts (Put key value) Start is entered = refl
+put_starts (Put key value) _ is entered = absurd entered
+put_starts (Del key) Start is entered = refl
+put_starts (Del key) _ is entered = absurd entered
+put_starts (Get key) a is entered = let x : false ≡ true = is in absurd (cc)
+put_starts (Scan from upto) a is entered = let x : false ≡ true = is in absurd (cc)
 
 -- What it met.
 

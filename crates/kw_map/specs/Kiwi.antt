@@ -19,7 +19,7 @@ use Rattle.kw_order.specs.OrderLaws.{OrderLaws}
 use Rattle.kw_order.specs.Trace.{GivesTops}
 use Rattle.kw_table.specs.declared.pass.Pass.{Pass}
 use Rattle.kw_table.specs.declared.pass.View.{View}
-use Rattle.kw_table.specs.Passes.{IsPassOf}
+use Rattle.kw_table.specs.Passes.{Holds, IsPassOf}
 use Rattle.kw_follow.specs.Calling.{Calls}
 use Rattle.kw_follow.specs.Following.{activity_in}
 use Rattle.kw_live.specs.Meeting.{MetClock}
@@ -31,10 +31,11 @@ use Rattle.kw_map.specs.declared.kiwi.ScanEnd.TheVariants.{Stopped, Spent}
 use Rattle.kw_map.specs.Gather.{Takes}
 use Rattle.kw_map.specs.Scanning.{StoppedAt}
 
--- the pass is one of the map, and makes no call
+-- the pass is one of the map, makes no call, and has its local with it
 pub record IsIdle (m : Kiwi) (p : Pass) : Type 0 where
   pub of_map : IsPassOf m.shared p
   pub idle : activity_in p ≡ Idle
+  pub holds : Holds p
 
 -- the reply of a put or a delete that ended so
 abbrev pub put_reply : Result Unit PutEnd → Reply

@@ -1,12 +1,14 @@
 //! The concurrent map, and its calls.
 //!
-//! A `Kiwi` is the shared table; a caller asks it with a pass, its seat. Each call here is put together from `kw_live`'s functions:
-//! enter, find the row, put into it or read it, leave. So its events are the core's, and the clauses say what follows: the call is the
+//! A `Kiwi` is the shared table; a caller asks it with a pass, its seat. Each call here is put together from `kw_live`'s functions, by
+//! the local that the pass lends it: enter, find the row, put into it or read it, leave. A put and a delete take the runtime, since they
+//! may come to wait for others; a get and a scan never do. So its events are the core's, and the clauses say what follows: the call is the
 //! pass's next one, it has ended, its answer is the recorded reply, and the order of all calls that the pass has seen is legal.
 ghost use Rattle.std.specs.Prelude.{◌≡◌, ℕ, ◌<◌, true, Some, IfOk, MatchResult, vec_len, slice_index_or, All};
 ghost use Rattle.kw_words.specs.declared.sizes.TheConstants.{CELLS, VALUE_END};
 ghost use Rattle.kw_core.specs.Events.{is_call_in_range};
 ghost use Rattle.kw_core.specs.Stages.{is_put};
+ghost use Rattle.kw_world.specs.Local.{resting};
 ghost use Rattle.kw_world.specs.Opening.{IsOpening};
 ghost use Rattle.kw_world.specs.Sizes.{product};
 ghost use Rattle.kw_model.specs.Map.{found};
@@ -14,7 +16,7 @@ ghost use Rattle.kw_table.specs.Meetings.{AtEach, Gathers, front_seen};
 ghost use Rattle.kw_table.specs.Passes.{IsFresh, IsPassOf, view};
 ghost use Rattle.kw_table.specs.Views.{Meets};
 ghost use Rattle.kw_follow.specs.Calling.{Calls};
-ghost use Rattle.kw_follow.specs.Following.{GoesTo};
+ghost use Rattle.kw_follow.specs.Following.{GoesTo, activity_in};
 ghost use Rattle.kw_live.specs.Meeting.{MetFull, MetRoom};
 ghost use Rattle.kw_map.specs.Gather.{IsBelow};
 ghost use Rattle.kw_map.specs.Kiwi.{IsIdle, IsOrdered, Answers, put_reply};
@@ -28,6 +30,7 @@ use kw_table::{Pass, Shared};
 use kw_world::activity::Activity;
 use kw_world::local::Local;
 use std::alloc::Global;
+use std::sync::Wait;
 use thiserror::Error;
 
 /// Why a put or a delete changed nothing.
@@ -53,7 +56,6 @@ pub enum ScanEnd {
 #[derive(Drop)]
 pub struct Kiwi {
     pub(crate) shared: Shared,
-    pub(crate) alloc: Global,
 }
 
 impl Kiwi {
@@ -85,7 +87,7 @@ impl Kiwi {
         ensures idle { IfOk result (λ made. All (IsIdle made.0) made.1.items) }
     {
         let (shared, passes) = Shared::open(alloc, rows, passes, clock, epoch)?;
-        Ok((Kiwi { shared, alloc }, passes))
+        Ok((Kiwi { shared }, passes))
     }
 
     /// The value of a key, if it has one.
@@ -98,21 +100,18 @@ impl Kiwi {
         ensures calls { Calls pass.old pass.new (Call.Get key) (found result) }
         ensures ordered { IsOrdered (view pass.new) }
     {
-        let mut local = Local::idle(self.alloc);
-        enter(&self.shared, pass, &mut local, Call::Get(key));
-        locate(&self.shared, pass, &mut local, None);
-        read_row(&self.shared, pass, &mut local);
-        match leave(&self.shared, pass, &mut local) {
-            Reply::Value(value) => Some(value),
-            _ => None,
-        }
+        let mut local = pass.lend();
+        let found = self.get_by(pass, &mut local, key);
+        pass.give(local);
+        found
     }
 
     /// Sets the value of a key, which is below `VALUE_END`.
     ///
     /// The pass is one of this map and idle, as it is afterwards. `NoRows` comes exactly where a count that this call found in the row of the
-    /// key was `CELLS` or above; then nothing has changed. Takes no memory.
-    pub fn put(&self, pass: &mut Pass, key: u32, value: u64) -> Result<(), PutEnd>
+    /// key was `CELLS` or above; then nothing has changed. Takes no memory. It may wait for the calls of others: all that is said here
+    /// is said for a put that returns.
+    pub fn put<R: Wait>(&self, rt: &R, pass: &mut Pass, key: u32, value: u64) -> Result<(), PutEnd>
         requires idle { IsIdle self.now pass.old }
         requires value { value < VALUE_END }
         ensures idle { IsIdle self.now pass.new }
@@ -121,11 +120,11 @@ impl Kiwi {
         ensures cause { MatchResult result (λ done. MetRoom CELLS pass.old pass.new) (λ end. MetFull CELLS pass.old pass.new) }
         ensures ordered { IsOrdered (view pass.new) }
     {
-        self.update(pass, Call::Put(key, value))
+        self.update(rt, pass, Call::Put(key, value))
     }
 
     /// Takes a key away, whether it has a value or not. Otherwise it is as `put`.
-    pub fn delete(&self, pass: &mut Pass, key: u32) -> Result<(), PutEnd>
+    pub fn delete<R: Wait>(&self, rt: &R, pass: &mut Pass, key: u32) -> Result<(), PutEnd>
         requires { IsIdle self.now pass.old }
         ensures idle { IsIdle self.now pass.new }
         ensures goes { GoesTo self.now.shared pass.old pass.new }
@@ -133,7 +132,7 @@ impl Kiwi {
         ensures cause { MatchResult result (λ done. MetRoom CELLS pass.old pass.new) (λ end. MetFull CELLS pass.old pass.new) }
         ensures ordered { IsOrdered (view pass.new) }
     {
-        self.update(pass, Call::Del(key))
+        self.update(rt, pass, Call::Del(key))
     }
 
     /// Gathers the pairs of a range, both ends included, as they stood at one moment, by rising key.
@@ -156,39 +155,10 @@ impl Kiwi {
         ensures answers { Answers G.last G.stands G.stops pass.old pass.new from to into.old into.new result }
         ensures ordered { IsOrdered (view pass.new) }
     {
-        let mut local = Local::idle(self.alloc);
-        enter(&self.shared, pass, &mut local, Call::Scan(from, to));
-        if let Activity::Leave(_) = local.activity {
-            leave(&self.shared, pass, &mut local);
-            return Err(ScanEnd::Spent);
-        }
-        let gathered = gather_rows(&self.shared, pass, &mut local, to, into);
-        leave(&self.shared, pass, &mut local);
-        match gathered {
-            Ok(()) => Ok(()),
-            Err(Stop) => Err(ScanEnd::Stopped),
-        }
-    }
-
-    // A put or a delete.
-    fn update(&self, pass: &mut Pass, call: Call) -> Result<(), PutEnd>
-        requires idle { IsIdle self.now pass.old }
-        requires update { is_put (Some call) ≡ true }
-        requires range { is_call_in_range call ≡ true }
-        ensures idle { IsIdle self.now pass.new }
-        ensures goes { GoesTo self.now.shared pass.old pass.new }
-        ensures calls { Calls pass.old pass.new call (put_reply result) }
-        ensures cause { MatchResult result (λ done. MetRoom CELLS pass.old pass.new) (λ end. MetFull CELLS pass.old pass.new) }
-    {
-        let mut local = Local::idle(self.alloc);
-        enter(&self.shared, pass, &mut local, call);
-        locate(&self.shared, pass, &mut local, None);
-        let tried = try_put(&self.shared, pass, &mut local);
-        leave(&self.shared, pass, &mut local);
-        match tried {
-            TryPut::Done => Ok(()),
-            TryPut::RowFull(_) => Err(PutEnd::NoRows),
-        }
+        let mut local = pass.lend();
+        let scanned = self.scan_by(pass, &mut local, from, to, into);
+        pass.give(local);
+        scanned
     }
 
     /// Both passes have then seen one list of events, which both old ones begin. No event is made, and no memory taken.
@@ -208,5 +178,109 @@ impl Kiwi {
         ensures { AtEach (Gathers self.now.shared (front_seen passes.new)) passes.old passes.new }
     {
         kw_table::gather_all(&self.shared, passes);
+    }
+}
+
+// The calls, by the local that the pass lent. It is at rest before and afterwards.
+impl Kiwi {
+    // A put or a delete.
+    fn update<R: Wait>(&self, rt: &R, pass: &mut Pass, call: Call) -> Result<(), PutEnd>
+        requires idle { IsIdle self.now pass.old }
+        requires update { is_put (Some call) ≡ true }
+        requires range { is_call_in_range call ≡ true }
+        ensures idle { IsIdle self.now pass.new }
+        ensures goes { GoesTo self.now.shared pass.old pass.new }
+        ensures calls { Calls pass.old pass.new call (put_reply result) }
+        ensures cause { MatchResult result (λ done. MetRoom CELLS pass.old pass.new) (λ end. MetFull CELLS pass.old pass.new) }
+    {
+        let mut local = pass.lend();
+        let done = self.update_by(rt, pass, &mut local, call);
+        pass.give(local);
+        done
+    }
+
+    // It tries at its row until it is done or refused. A row that is full refuses it.
+    #[tactic(auto, using(crate::proofs::WholeCalls::put_starts))]
+    fn update_by<R: Wait>(
+        &self,
+        rt: &R,
+        pass: &mut Pass,
+        local: &mut Local,
+        call: Call,
+    ) -> Result<(), PutEnd>
+        requires table { IsPassOf self.now.shared pass.old }
+        requires idle { activity_in pass.old ≡ Activity.Idle }
+        requires rested { local.old ≡ resting 0 }
+        requires update { is_put (Some call) ≡ true }
+        requires range { is_call_in_range call ≡ true }
+        ensures idle { activity_in pass.new ≡ Activity.Idle }
+        ensures rests { local.new ≡ resting 0 }
+        ensures goes { GoesTo self.now.shared pass.old pass.new }
+        ensures calls { Calls pass.old pass.new call (put_reply result) }
+        ensures cause { MatchResult result (λ done. MetRoom CELLS pass.old pass.new) (λ end. MetFull CELLS pass.old pass.new) }
+    {
+        enter(&self.shared, pass, local, call);
+        for _ in rt.forever() {
+            locate(&self.shared, pass, local, None);
+            match try_put(&self.shared, pass, local) {
+                TryPut::Done => {
+                    leave(&self.shared, pass, local);
+                    return Ok(());
+                }
+                TryPut::RowFull(_) => {
+                    leave(&self.shared, pass, local);
+                    return Err(PutEnd::NoRows);
+                }
+            }
+        }
+        unreachable!()
+    }
+
+    fn get_by(&self, pass: &mut Pass, local: &mut Local, key: u32) -> Option<u64>
+        requires table { IsPassOf self.now.shared pass.old }
+        requires idle { activity_in pass.old ≡ Activity.Idle }
+        requires rested { local.old ≡ resting 0 }
+        ensures idle { activity_in pass.new ≡ Activity.Idle }
+        ensures rests { local.new ≡ resting 0 }
+        ensures goes { GoesTo self.now.shared pass.old pass.new }
+        ensures calls { Calls pass.old pass.new (Call.Get key) (found result) }
+    {
+        enter(&self.shared, pass, local, Call::Get(key));
+        locate(&self.shared, pass, local, None);
+        read_row(&self.shared, pass, local);
+        match leave(&self.shared, pass, local) {
+            Reply::Value(value) => Some(value),
+            _ => None,
+        }
+    }
+
+    fn scan_by<G: Gather>(
+        &self,
+        pass: &mut Pass,
+        local: &mut Local,
+        from: u32,
+        to: u32,
+        into: &mut G,
+    ) -> Result<(), ScanEnd>
+        requires table { IsPassOf self.now.shared pass.old }
+        requires idle { activity_in pass.old ≡ Activity.Idle }
+        requires rested { local.old ≡ resting 0 }
+        requires above { IsBelow (G.last into.old) from }
+        ensures idle { activity_in pass.new ≡ Activity.Idle }
+        ensures rests { local.new ≡ resting 0 }
+        ensures goes { GoesTo self.now.shared pass.old pass.new }
+        ensures answers { Answers G.last G.stands G.stops pass.old pass.new from to into.old into.new result }
+    {
+        enter(&self.shared, pass, local, Call::Scan(from, to));
+        if let Activity::Leave(_) = local.activity {
+            leave(&self.shared, pass, local);
+            return Err(ScanEnd::Spent);
+        }
+        let gathered = gather_rows(&self.shared, pass, local, to, into);
+        leave(&self.shared, pass, local);
+        match gathered {
+            Ok(()) => Ok(()),
+            Err(Stop) => Err(ScanEnd::Stopped),
+        }
     }
 }

@@ -12,6 +12,7 @@ use crate::tests::Roomy;
 use kw_model::memory::Memory;
 use kw_table::Pass;
 use std::alloc::Global;
+use std::sync::Wait;
 use std::test::Fail;
 
 /// The clock from which on no scan begins.
@@ -33,7 +34,8 @@ fn open_one(alloc: Global, clock: u64) -> Result<(Kiwi, Pass), Memory>
 }
 
 /// Puts this value for each key from `from` to below `end`, up to the first refusal.
-pub(crate) fn put_each(
+pub(crate) fn put_each<R: Wait>(
+    rt: &R,
     kiwi: &Kiwi,
     pass: &mut Pass,
     from: u32,
@@ -45,7 +47,7 @@ pub(crate) fn put_each(
     ensures { IsIdle kiwi.now pass.new }
 {
     for key in from..end {
-        kiwi.put(pass, key, value)?;
+        kiwi.put(rt, pass, key, value)?;
     }
     Ok(())
 }
@@ -54,8 +56,8 @@ pub(crate) fn put_each(
 fn a_key_has_the_value_that_was_put_last(rt: HostRuntime) -> Result<(), Fail> {
     let (kiwi, mut pass) = open_one(rt.alloc(), 1)?;
     assert_eq!(rt; kiwi.get(&mut pass, 5), None);
-    assert_eq!(rt; kiwi.put(&mut pass, 5, 50), Ok(()));
-    assert_eq!(rt; kiwi.put(&mut pass, 5, 51), Ok(()));
+    assert_eq!(rt; kiwi.put(&rt, &mut pass, 5, 50), Ok(()));
+    assert_eq!(rt; kiwi.put(&rt, &mut pass, 5, 51), Ok(()));
     assert_eq!(rt; kiwi.get(&mut pass, 5), Some(51));
     assert_eq!(rt; kiwi.get(&mut pass, 4), None);
     Ok(())
@@ -64,10 +66,10 @@ fn a_key_has_the_value_that_was_put_last(rt: HostRuntime) -> Result<(), Fail> {
 #[test]
 fn a_key_that_is_deleted_has_no_value(rt: HostRuntime) -> Result<(), Fail> {
     let (kiwi, mut pass) = open_one(rt.alloc(), 1)?;
-    assert_eq!(rt; kiwi.delete(&mut pass, 5), Ok(()));
+    assert_eq!(rt; kiwi.delete(&rt, &mut pass, 5), Ok(()));
     assert_eq!(rt; kiwi.get(&mut pass, 5), None);
-    assert_eq!(rt; kiwi.put(&mut pass, 5, 50), Ok(()));
-    assert_eq!(rt; kiwi.delete(&mut pass, 5), Ok(()));
+    assert_eq!(rt; kiwi.put(&rt, &mut pass, 5, 50), Ok(()));
+    assert_eq!(rt; kiwi.delete(&rt, &mut pass, 5), Ok(()));
     assert_eq!(rt; kiwi.get(&mut pass, 5), None);
     let mut count = CountGather::new();
     assert_eq!(rt; kiwi.scan(&mut pass, 0, 4294967295, &mut count), Ok(()));
@@ -78,10 +80,10 @@ fn a_key_that_is_deleted_has_no_value(rt: HostRuntime) -> Result<(), Fail> {
 #[test]
 fn a_full_row_refuses_and_keeps_what_it_has(rt: HostRuntime) -> Result<(), Fail> {
     let (kiwi, mut pass) = open_one(rt.alloc(), 1)?;
-    assert_eq!(rt; put_each(&kiwi, &mut pass, 0, ROW, 7), Ok(()));
-    assert_eq!(rt; kiwi.put(&mut pass, 64, 8), Err(PutEnd::NoRows));
-    assert_eq!(rt; kiwi.put(&mut pass, 0, 8), Err(PutEnd::NoRows));
-    assert_eq!(rt; kiwi.delete(&mut pass, 1), Err(PutEnd::NoRows));
+    assert_eq!(rt; put_each(&rt, &kiwi, &mut pass, 0, ROW, 7), Ok(()));
+    assert_eq!(rt; kiwi.put(&rt, &mut pass, 64, 8), Err(PutEnd::NoRows));
+    assert_eq!(rt; kiwi.put(&rt, &mut pass, 0, 8), Err(PutEnd::NoRows));
+    assert_eq!(rt; kiwi.delete(&rt, &mut pass, 1), Err(PutEnd::NoRows));
     assert_eq!(rt; kiwi.get(&mut pass, 64), None);
     assert_eq!(rt; kiwi.get(&mut pass, 0), Some(7));
     let mut sum = SumGather::new();
@@ -94,7 +96,7 @@ fn a_full_row_refuses_and_keeps_what_it_has(rt: HostRuntime) -> Result<(), Fail>
 fn a_scan_gives_the_pairs_of_its_range_in_order(rt: HostRuntime) -> Result<(), Fail> {
     let (kiwi, mut pass) = open_one(rt.alloc(), 1)?;
     for (key, value) in [(9, 90), (4294967295, 1), (3, 30), (7, 70), (0, 5), (7, 71)] {
-        assert_eq!(rt; kiwi.put(&mut pass, key, value), Ok(()));
+        assert_eq!(rt; kiwi.put(&rt, &mut pass, key, value), Ok(()));
     }
     let mut all = ListGather::new(rt.alloc());
     assert_eq!(rt; kiwi.scan(&mut pass, 0, 4294967295, &mut all), Ok(()));
@@ -114,7 +116,7 @@ fn a_scan_gives_the_pairs_of_its_range_in_order(rt: HostRuntime) -> Result<(), F
 #[test]
 fn a_scan_stops_where_the_gatherer_stops(rt: HostRuntime) -> Result<(), Fail> {
     let (kiwi, mut pass) = open_one(rt.alloc(), 1)?;
-    assert_eq!(rt; put_each(&kiwi, &mut pass, 10, 15, 1), Ok(()));
+    assert_eq!(rt; put_each(&rt, &kiwi, &mut pass, 10, 15, 1), Ok(()));
     let mut roomy = Roomy::new(3);
     assert_eq!(rt;
         kiwi.scan(&mut pass, 0, 100, &mut roomy),
@@ -130,7 +132,7 @@ fn no_scan_begins_where_the_versions_are_spent(rt: HostRuntime) -> Result<(), Fa
     let (kiwi, mut pass) = open_one(rt.alloc(), LAST_CLOCK)?;
     let mut sum = SumGather::new();
     assert_eq!(rt; kiwi.scan(&mut pass, 0, 10, &mut sum), Err(ScanEnd::Spent));
-    assert_eq!(rt; kiwi.put(&mut pass, 5, 50), Ok(()));
+    assert_eq!(rt; kiwi.put(&rt, &mut pass, 5, 50), Ok(()));
     assert_eq!(rt; kiwi.get(&mut pass, 5), Some(50));
     Ok(())
 }

@@ -8,6 +8,7 @@ use crate::tests_calls::put_each;
 use kw_model::memory::Memory;
 use kw_table::Pass;
 use std::alloc::Global;
+use std::sync::Wait;
 use std::sync::atomic::{AtomicBool, Ordering};
 use std::test::Fail;
 use std::thread;
@@ -27,19 +28,25 @@ fn open_two(alloc: Global) -> Result<(Kiwi, Pass, Pass), Memory>
 }
 
 /// Puts the keys 0 to 29, and sets the flag after the first put.
-fn put_low_keys(kiwi: &Kiwi, pass: Pass, flag: &AtomicBool) -> (Pass, Result<(), PutEnd>)
+fn put_low_keys<R: Wait>(
+    rt: &R,
+    kiwi: &Kiwi,
+    pass: Pass,
+    flag: &AtomicBool,
+) -> (Pass, Result<(), PutEnd>)
     requires { IsIdle kiwi.now pass }
     ensures { IsIdle kiwi.now result.0 }
 {
     let mut pass = pass;
-    let first = put_each(kiwi, &mut pass, 0, 1, 1);
+    let first = put_each(rt, kiwi, &mut pass, 0, 1, 1);
     flag.store(true, Ordering::SeqCst);
-    let others = put_each(kiwi, &mut pass, 1, 30, 1);
+    let others = put_each(rt, kiwi, &mut pass, 1, 30, 1);
     (pass, first.and(others))
 }
 
 /// Puts the keys 100 to 129, waits for the flag, and gets key 0.
-fn put_high_keys(
+fn put_high_keys<R: Wait>(
+    rt: &R,
     kiwi: &Kiwi,
     pass: Pass,
     flag: &AtomicBool,
@@ -48,7 +55,7 @@ fn put_high_keys(
     ensures { IsIdle kiwi.now result.0 }
 {
     let mut pass = pass;
-    let puts = put_each(kiwi, &mut pass, 100, 130, 2);
+    let puts = put_each(rt, kiwi, &mut pass, 100, 130, 2);
     let found = if is_set_in_time(flag) {
         kiwi.get(&mut pass, 0)
     } else {
@@ -74,8 +81,8 @@ fn what_two_threads_put_is_one_map(rt: HostRuntime) -> Result<(), Fail> {
     let flag = AtomicBool::new(false);
     let ((mut first, low), (mut second, high, found)) = thread::join(
         &rt,
-        || put_low_keys(&kiwi, first, &flag),
-        || put_high_keys(&kiwi, second, &flag),
+        || put_low_keys(&rt, &kiwi, first, &flag),
+        || put_high_keys(&rt, &kiwi, second, &flag),
     );
     assert_eq!(rt; (low, high), (Ok(()), Ok(())));
     assert_eq!(rt; found, Some(1));

@@ -29,14 +29,14 @@ reached_more s f g xs ys n x y inside done longer is here k d e lt = ⊎_elim
     (λ (same : k ≡ n). subst (λ j. Reaches s g (slice_index_or xs j d) (slice_index_or (slice_set ys n y) j e)) (sym same)
     (subst (λ (q : Pass). Reaches s g (slice_index_or xs n d) q) (sym (get_or-set_same ys n y e inside)) (subst (λ (p : Pass). Reaches s g p y) (sym (is d)) here)))
     (λ (ne : k ≢ n). let r = done k d e (omega arith) in subst (λ (q : Pass). Reaches s g (slice_index_or xs k d) q) (sym (get_or-set_other ys n k y e ne))
-    record { of_table = r.of_table; meets = r.meets; seen = prefix_trans (view (slice_index_or ys k e)).seen (view f).seen (view g).seen r.seen longer })
+    record { of_table = r.of_table; meets = r.meets; keeps = r.keeps; seen = prefix_trans (view (slice_index_or ys k e)).seen (view f).seen (view g).seen r.seen longer })
     (cases_eq k n)
 
 -- the first pass and the others, in one list
-pub gathers_all : (s : Shared) (ps os ns : List Pass) (f g : Pass) → ps ≡ f ∷ os → IsPassOf s g → Meets (view f) (view g) → AtEach (Gathers s (view g).seen) os ns → AtEach (Gathers s (view g).seen) ps (g ∷ ns)
-gathers_all s ps os ns f g is at meets others =
+pub gathers_all : (s : Shared) (ps os ns : List Pass) (f g : Pass) → ps ≡ f ∷ os → IsPassOf s g → Meets (view f) (view g) → g.local ≡ f.local → AtEach (Gathers s (view g).seen) os ns → AtEach (Gathers s (view g).seen) ps (g ∷ ns)
+gathers_all s ps os ns f g is at meets keeps others =
     subst (λ (l : List Pass). AtEach (Gathers s (view g).seen) l (g ∷ ns)) (sym is) each
   where
     each : AtEach (Gathers s (view g).seen) (f ∷ os) (g ∷ ns)
-    each zero d e lt = record { of_table = at; meets = meets; seen = refl }
+    each zero d e lt = record { of_table = at; meets = meets; keeps = keeps; seen = refl }
     each (suc i) d e lt = others i d e (omega arith)

@@ -11,16 +11,18 @@ use Rattle.kw_table.specs.Views.{Meets}
 abbrev pub AtEach : {X Y : Type 0} → (X → Y → Type 0) → List X → List Y → Type 0
 AtEach {X} {Y} R xs ys = (i : ℕ) (d : X) (e : Y) → i < length xs → R (slice_index_or xs i d) (slice_index_or ys i e)
 
--- p became q, and the front has seen all that q has
+-- p became q with its local, and the front has seen all that q has
 pub record Reaches (s : Shared) (front p q : Pass) : Type 0 where
   pub of_table : IsPassOf s q
   pub meets : Meets (view p) (view q)
+  pub keeps : q.local ≡ p.local
   pub seen : IsPrefix (view q).seen (view front).seen
 
--- p became q, which has seen just E
+-- p became q with its local, which has seen just E
 pub record Gathers (s : Shared) (E : List Event) (p q : Pass) : Type 0 where
   pub of_table : IsPassOf s q
   pub meets : Meets (view p) (view q)
+  pub keeps : q.local ≡ p.local
   pub seen : (view q).seen ≡ E
 
 -- what the first of the passes has seen

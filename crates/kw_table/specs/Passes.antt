@@ -1,5 +1,5 @@
 -- What contracts see of a pass, and what its steps ask and give.
-use Rattle.std.specs.Prelude.{◌≡◌, ℕ, true, false, []}
+use Rattle.std.specs.Prelude.{◌≡◌, ℕ, true, false, [], Some}
 use Rattle.kw_words.specs.declared.kind.Kind.{Kind}
 use Rattle.kw_words.specs.declared.layout.Name.{Name}
 use Rattle.kw_world.specs.declared.event.Choice.{Choice}
@@ -21,6 +21,10 @@ view p = p.seat.me.0
 abbrev pub IsPassOf : Shared → Pass → Type 0
 IsPassOf s p = (p.seat.table_id ≡ s.table.shared.table_id) × (p.seat.me.0.opening ≡ s.opening)
 
+-- the pass has its local with it, which is at rest
+abbrev pub Holds : Pass → Type 0
+Holds p = (b : _) × (p.local ≡ Some b) × (b.value ≡ resting 0)
+
 -- a pass of the table with this number that has seen and done nothing
 pub record IsFresh (s : Shared) (n : ℕ) (p : Pass) : Type 0 where
   pub of_table : IsPassOf s p
@@ -28,6 +32,7 @@ pub record IsFresh (s : Shared) (n : ℕ) (p : Pass) : Type 0 where
   pub seen : (view p).seen ≡ []
   pub mine : mine_in (view p) ≡ []
   pub local : local_in (view p) ≡ resting 0
+  pub holds : Holds p
 
 -- an operation, as one value
 abbrev pub operation : Kind → Name → Action → Operation

@@ -7,11 +7,12 @@
 //!
 //! `opening` makes a table and its passes, `kinds` has one step for each kind of event and `steps` the one that takes any, and
 //! `meeting` lets passes see what others have seen. `pass` and `shared` hold the two types, and `rule` the rule and what a step tells
-//! its caller. Each step is one atomic operation on one word. Whoever stands above needs the contracts of these calls alone, and goes
+//! its caller; `lending` hands out the local that a pass has with it. Each step is one atomic operation on one word. Whoever stands above needs the contracts of these calls alone, and goes
 //! on by the laws over valid lists of events.
 #![tactic(auto)]
 
 mod kinds;
+mod lending;
 mod meeting;
 mod numbers;
 mod opening;

@@ -16,6 +16,7 @@ impl Shared {
         requires { IsPassOf self.now pass.old }
         ensures pass { IsPassOf self.now pass.new × (view pass.new ≡ view pass.old) }
         ensures note { (result.table_id ≡ self.now.table.shared.table_id) × (result.me ≡ (note_of (view pass.old), [])) }
+        ensures local { pass.new.local ≡ pass.old.local }
     {
         self.table.shared.split_seat::<Note>(&mut pass.seat)
     }
@@ -24,7 +25,8 @@ impl Shared {
     fn tell(&self, pass: &mut Pass, note: Seat<(), View>)
         requires pass { IsPassOf self.now pass.old }
         requires note { (note.table_id ≡ self.now.table.shared.table_id) × (note.me.1 ≡ []) }
-        ensures { IsPassOf self.now pass.new × (view pass.new ≡ told_of (view pass.old) note.me.0.seen) }
+        ensures pass { IsPassOf self.now pass.new × (view pass.new ≡ told_of (view pass.old) note.me.0.seen) }
+        ensures local { pass.new.local ≡ pass.old.local }
     {
         self.table.shared.join_seat::<Hear>(&mut pass.seat, note);
     }
@@ -32,7 +34,8 @@ impl Shared {
     /// Sees all events so far.
     fn look(&self, pass: &mut Pass)
         requires { IsPassOf self.now pass.old }
-        ensures { IsPassOf self.now pass.new × Looks (view pass.old) (view pass.new) }
+        ensures pass { IsPassOf self.now pass.new × Looks (view pass.old) (view pass.new) }
+        ensures local { pass.new.local ≡ pass.old.local }
     {
         self.table.shared.load::<Looking>(&mut pass.seat, 0);
     }
@@ -43,6 +46,7 @@ impl Shared {
         requires longer { IsPrefix (view pass.old).seen (view pass.old).told }
         ensures pass { IsPassOf self.now pass.new × Looks (view pass.old) (view pass.new) }
         ensures seen { (view pass.new).seen ≡ (view pass.old).told }
+        ensures local { pass.new.local ≡ pass.old.local }
     {
         self.table.shared.load::<Catching>(&mut pass.seat, 0);
     }
@@ -56,6 +60,7 @@ impl Shared {
         ensures from { IsPassOf self.now from.new × (view from.new ≡ view from.old) }
         ensures to { IsPassOf self.now to.new × Meets (view to.old) (view to.new) }
         ensures seen { IsPrefix (view from.new).seen (view to.new).seen }
+        ensures locals { (from.new.local ≡ from.old.local) × (to.new.local ≡ to.old.local) }
     {
         let note = self.note(from);
         self.tell(to, note);
@@ -70,6 +75,7 @@ impl Shared {
         ensures from { IsPassOf self.now from.new × (view from.new ≡ view from.old) }
         ensures to { IsPassOf self.now to.new × Meets (view to.old) (view to.new) }
         ensures seen { (view to.new).seen ≡ (view from.new).seen }
+        ensures locals { (from.new.local ≡ from.old.local) × (to.new.local ≡ to.old.local) }
     {
         let note = self.note(from);
         self.tell(to, note);
@@ -84,6 +90,7 @@ pub fn meet(shared: &Shared, a: &mut Pass, b: &mut Pass)
     ensures one { IsPassOf shared.now a.new × Meets (view a.old) (view a.new) }
     ensures other { IsPassOf shared.now b.new × Meets (view b.old) (view b.new) }
     ensures same { (view a.new).seen ≡ (view b.new).seen }
+    ensures locals { (a.new.local ≡ a.old.local) × (b.new.local ≡ b.old.local) }
 {
     shared.reach(a, b);
     shared.follow(b, a);
@@ -95,6 +102,7 @@ pub fn gather(shared: &Shared, front: &mut Pass, others: &mut [Pass])
     requires others { All (λ p. IsPassOf shared.now p) others.old }
     ensures front { IsPassOf shared.now front.new × Meets (view front.old) (view front.new) }
     ensures others { AtEach (Gathers shared.now (view front.new).seen) others.old others.new }
+    ensures local { front.new.local ≡ front.old.local }
 {
     shared.reach_each(front, others);
     shared.follow_each(front, others);
@@ -116,6 +124,7 @@ impl Shared {
         requires others { All (λ p. IsPassOf self.now p) others.old }
         ensures front { IsPassOf self.now front.new × Meets (view front.old) (view front.new) }
         ensures others { AtEach (Reaches self.now front.new) others.old others.new }
+        ensures local { front.new.local ≡ front.old.local }
     {
         for pass in others.iter_mut() {
             self.reach(pass, front);
@@ -127,6 +136,7 @@ impl Shared {
         requires others { All (λ p. IsPassOf self.now p × IsPrefix (view p).seen (view front.old).seen) others.old }
         ensures front { IsPassOf self.now front.new × (view front.new ≡ view front.old) }
         ensures others { AtEach (Gathers self.now (view front.new).seen) others.old others.new }
+        ensures local { front.new.local ≡ front.old.local }
     {
         for pass in others.iter_mut() {
             self.follow(front, pass);

@@ -1,8 +1,9 @@
 //! The table at the start, and its passes.
 //!
 //! The words are those of the opening world. The view that the table is opened with may act for all seats, and a pass for each is cut
-//! off it, one after the other.
+//! off it, one after the other, with a local of its own.
 ghost use Rattle.std.specs.Prelude.{◌≡◌, ℕ, ◌+◌, ◌<◌, [], IfOk, vec_len, slice_index_or};
+ghost use Rattle.kw_world.specs.Local.{resting};
 ghost use Rattle.kw_world.specs.Opening.{IsOpening, opening_words};
 ghost use Rattle.kw_world.specs.Sizes.{product};
 ghost use Rattle.kw_table.specs.Passes.{IsFresh};
@@ -17,6 +18,7 @@ use kw_words::layout::{Layout, Name};
 use kw_words::link::Link;
 use kw_words::sizes::{CELLS, SEATS};
 use kw_words::state::State;
+use kw_world::local::Local;
 use kw_world::opening::Opening;
 use std::alloc::Global;
 
@@ -42,7 +44,8 @@ impl Shared {
     /// A table in which nothing has happened, and a pass for each of its seats, numbered from 0.
     ///
     /// There are 1 to `MOST_ROWS` rows and 1 to `SEATS` passes; the clock and the epoch are from 1 to `SPENT`. The words and what the
-    /// seats know are those of `World::open` with these numbers. All memory of the table is taken here, and the only error is the
+    /// seats know are those of `World::open` with these numbers. All memory of the table and of its
+    /// passes' calls is taken here, and the only error is the
     /// want of it.
     pub fn open(
         alloc: Global,
@@ -78,21 +81,27 @@ impl Shared {
     {
         let mut passes = Vec::new(alloc);
         for number in 0..self.opening.seats {
-            let pass = self.deal(&mut rest, number);
+            let local = Box::new(alloc, Local::idle(alloc))?;
+            let pass = self.deal(&mut rest, number, local);
             passes.push(pass)?;
         }
         Ok(passes)
     }
 
     // Cuts off the first of the seats that have no pass yet.
-    fn deal(&self, rest: &mut Seat<(), View>, number: u32) -> Pass
+    fn deal(&self, rest: &mut Seat<(), View>, number: u32, local: Box<Local>) -> Pass
         requires table { rest.old.table_id ≡ self.now.table.shared.table_id }
         requires rest { rest.old.me ≡ (rest_view self.now.opening number, []) }
         requires some { number < self.now.opening.seats }
+        requires rests { local.value ≡ resting 0 }
         ensures pass { IsFresh self.now number result }
         ensures rest { (rest.new.table_id ≡ rest.old.table_id) × (rest.new.me ≡ (rest_view self.now.opening (number + 1), [])) }
     {
         let seat = self.table.shared.split_seat::<Deal>(rest);
-        Pass { number, seat }
+        Pass {
+            number,
+            seat,
+            local: Some(local),
+        }
     }
 }

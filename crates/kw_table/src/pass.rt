@@ -1,10 +1,14 @@
 //! What one caller has seen, and the seat that it steps with.
 //!
 //! The two types stand alone here, since their facts may name nothing that names them; what a pass can do is in the other modules.
+//!
+//! A pass has a local with it, in a box that is made with the table: what code that follows the pass's seat knows lies there while a call
+//! runs, so that a call takes no memory for it and moves none of it. `lend` in `lending` takes the box out.
 ghost use Rattle.kw_table.specs.Known.{IsKnown};
 
 use atomic_table::Seat;
 use kw_world::event::Event;
+use kw_world::local::Local;
 use kw_world::opening::Opening;
 use std::collections::LinkedList;
 
@@ -25,10 +29,11 @@ pub struct View {
     pub told: LinkedList<Event>,
 }
 
-/// One caller's seat of a run. It has its number, and no other bytes.
+/// One caller's seat of a run. It has its number, and the local that its calls use.
 #[derive(Drop)]
 pub struct Pass {
     pub(crate) number: u32,
     pub(crate) seat: Seat<(), View>,
+    pub(crate) local: Option<Box<Local>>,
     ghost known: { IsKnown number seat.me },
 }

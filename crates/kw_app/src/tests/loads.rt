@@ -3,11 +3,12 @@ use super::{Ended, ROOM, expect_end, ran};
 use crate::outcome::Status;
 use std::alloc::Global;
 use std::process::Abort;
+use std::sync::Wait;
 use std::test::Fail;
 use std::thread::Threads;
 
 /// Runs these words, which have a summary, on a source whose first read would fail.
-fn summarised<R: Threads + Sync + Abort>(
+fn summarised<R: Threads + Wait + Sync + Abort>(
     rt: &R,
     alloc: Global,
     texts: &[&str],

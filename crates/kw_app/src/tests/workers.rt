@@ -5,6 +5,7 @@ use crate::working::Gate;
 use kw_io::MemSource;
 use std::alloc::Global;
 use std::process::Abort;
+use std::sync::Wait;
 use std::sync::atomic::{AtomicU64, Ordering};
 use std::test::Fail;
 use std::thread;
@@ -96,7 +97,7 @@ fn quiet_lines_have_one_answer_for_every_number_of_workers(rt: HostRuntime) -> R
 }
 
 /// Whether so many updates were run on the map; each of them is answered.
-fn ran_on_the_map<R: Threads + Sync + Abort>(
+fn ran_on_the_map<R: Threads + Wait + Sync + Abort>(
     rt: &R,
     alloc: Global,
     updates: u32,

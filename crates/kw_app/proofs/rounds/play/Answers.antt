@@ -36,3 +36,8 @@ returns-clause-grew g c =
     let a = c.args.passes in
     let e = c.in_ok-passes.passes in
     grew c.args.kiwi.now c.args.block.now c.args.passes.items c.in_ok-passes.passes.items c.gathered-passes.result.items c.in_ok-passes.parts.items _ _ _ c.requires.together (omega (arith, c.in_ok-passes.ensures.len.0)) c.in_ok-passes.ensures.each c.gathered-passes.ensures.each c.in_ok-answers.ensures
+
+pub hand_out-requires-clause-idle : goal.hand_out-requires-clause-idle
+hand_out-requires-clause-idle g c lives outlives = λ k d lt.
+    let len = c.requires.together.len in
+    (c.requires.together.each k d (omega arith)).idle

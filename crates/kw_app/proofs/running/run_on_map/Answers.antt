@@ -1,4 +1,4 @@
-use Rattle.std.proofs.Common.{rules, ap, ◌∙◌, List}
+use Rattle.std.proofs.Common.{arith, rules, ap, ◌∙◌, List}
 use Rattle.kw_world.specs.declared.opening.Opening.{Opening}
 use Rattle.kw_table.specs.Passes.{view}
 use Rattle.kw_map.proofs.Ordering.{pass_ordered}
@@ -30,3 +30,17 @@ returns-clause-headline g c =
 
 pub returns-clause-ordered : goal.returns-clause-ordered
 returns-clause-ordered g c = pass_ordered c.in-Some.front
+
+pub play_all-requires-clause-together : goal.play_all-requires-clause-together
+play_all-requires-clause-together g c lives outlives =
+    let v = c.in_ok-kiwi.passes in
+    let len = c.in_ok-kiwi.ensures.len in
+    record {
+      some = search rules;
+      len = search rules;
+      each = λ i d lt. record {
+        idle = c.in_ok-kiwi.ensures.idle i d (omega (arith, len));
+        number = (c.in_ok-kiwi.ensures.each i d (omega (arith, len))).number;
+        seen = (c.in_ok-kiwi.ensures.each i d (omega (arith, len))).seen;
+      };
+    }

@@ -1,4 +1,4 @@
-use Rattle.std.proofs.Common.{arith}
+use Rattle.std.proofs.Common.{◌∙◌, arith}
 use Rattle.kw_table.proofs.Meetings.{meets_trans}
 use Rattle.kw_table.proofs.meeting.gather.Goals as goal
 
@@ -9,4 +9,4 @@ pub returns-clause-others : goal.returns-clause-others
 returns-clause-others c = λ i d e lt.
     let r = c.reach_each.ensures.others i d d lt in
     let g = c.follow_each.ensures.others i d e (omega arith) in
-    record { of_table = g.of_table; meets = meets_trans _ _ _ r.meets g.meets; seen = g.seen }
+    record { of_table = g.of_table; meets = meets_trans _ _ _ r.meets g.meets; keeps = g.keeps ∙ r.keeps; seen = g.seen }

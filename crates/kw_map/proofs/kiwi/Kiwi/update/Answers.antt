@@ -1,24 +1,28 @@
-use Rattle.std.proofs.Common.{◌∙◌}
-use Rattle.kw_world.specs.declared.answer.Answer.TheVariants.{Done, NoRows}
-use Rattle.kw_live.proofs.Asking.{none_trans}
-use Rattle.kw_follow.proofs.OwnEvents.{goes_trans}
-use Rattle.kw_map.proofs.WholeCalls.{full_within, leaves_with, room_within, whole}
+use Rattle.std.proofs.Common.{◌∙◌, ap}
+use Rattle.kw_table.specs.declared.pass.View.{View}
+use Rattle.kw_table.specs.Views.{local_in}
+use Rattle.kw_world.specs.declared.local.Local.{Local}
+use Rattle.kw_map.proofs.Lending.{calls_lent, cause_lent, goes_lent, idle_lent, of_map_lent}
 use Rattle.kw_map.proofs.kiwi.Kiwi.update.Goals as goal
 
-pub returns-in-Done-clause-calls : goal.returns-in-Done-clause-calls
-returns-in-Done-clause-calls c =
-    let leaves = leaves_with Done c.in-Done.ensures.follows c.in-Done.ensures.leaves in
-    whole c.enter.ensures.opens (c.in-Done.ensures.calls ∙ c.locate.ensures.calls) (c.leave.ensures.closes Done leaves).0
+pub update_by-done-requires-clause-table : goal.update_by-done-requires-clause-table
+update_by-done-requires-clause-table g c = of_map_lent c.args.self.now.shared c.args.pass.now c.lend-local.new.self c.lend-local.ensures.view c.lend-local.ensures.table c.requires.idle.of_map
 
-pub returns-in-Done-clause-cause : goal.returns-in-Done-clause-cause
-returns-in-Done-clause-cause c =
-    let early = none_trans c.enter.ensures.goes c.locate.ensures.goes c.enter.ensures.none c.locate.ensures.none in
-    room_within (goes_trans _ _ _ _ c.enter.ensures.goes c.locate.ensures.goes) c.in-Done.ensures.goes c.leave.ensures.goes early c.leave.ensures.none c.in-Done.ensures.cause
+pub update_by-done-requires-clause-idle : goal.update_by-done-requires-clause-idle
+update_by-done-requires-clause-idle g c = idle_lent c.args.pass.now c.lend-local.new.self c.lend-local.ensures.view c.requires.idle.idle
+
+pub returns-clause-idle : goal.returns-clause-idle
+returns-clause-idle g c = record {
+  of_map = of_map_lent c.args.self.now.shared c.update_by-done.new.pass c.give.new.self c.give.ensures.view c.give.ensures.table c.update_by-done.ensures.goes.of_table;
+  idle = idle_lent c.update_by-done.new.pass c.give.new.self c.give.ensures.view c.update_by-done.ensures.idle;
+  holds = c.give.ensures.holds;
+}
+
+pub returns-clause-goes : goal.returns-clause-goes
+returns-clause-goes g c = goes_lent c.args.pass.now c.lend-local.new.self c.update_by-done.new.pass c.give.new.self c.lend-local.ensures.view c.give.ensures.view c.give.ensures.table c.update_by-done.ensures.goes
 
 pub returns-clause-calls : goal.returns-clause-calls
-returns-clause-calls c =
-    let leaves = leaves_with NoRows c.in-RowFull.ensures.follows c.in-RowFull.ensures.leaves in
-    whole c.enter.ensures.opens (c.in-RowFull.ensures.calls ∙ c.locate.ensures.calls) (c.leave.ensures.closes NoRows leaves).0
+returns-clause-calls g c = calls_lent c.args.pass.now c.lend-local.new.self c.update_by-done.new.pass c.give.new.self c.lend-local.ensures.view c.give.ensures.view c.update_by-done.ensures.calls
 
 pub returns-clause-cause : goal.returns-clause-cause
-returns-clause-cause c = full_within (goes_trans _ _ _ _ c.enter.ensures.goes c.locate.ensures.goes) c.leave.ensures.goes c.in-RowFull.ensures.cause.1
+returns-clause-cause g c = cause_lent c.args.pass.now c.lend-local.new.self c.update_by-done.new.pass c.give.new.self c.lend-local.ensures.view c.give.ensures.view c.update_by-done.result c.update_by-done.ensures.cause

@@ -11,9 +11,11 @@ loop-pass-preserved c =
     let here : Reaches c.args.self.now c.reach.new.to c.pass-item.result c.reach.new.from = record {
       of_table = c.reach.ensures.from.0;
       meets = search rules;
+      keeps = search rules;
       seen = c.reach.ensures.seen;
     } in record {
       front = (c.reach.ensures.to.0, meets_trans _ _ _ inv.front.1 c.reach.ensures.to.1);
+      local = c.reach.ensures.locals.1 ∙ inv.local;
       done = reached_more _ _ _ _ _ _ _ _ inside inv.done c.reach.ensures.to.1.seen
           (λ d. sym (inv.rest c.loop-pass.pass-index d (le_refl _)) ∙ sym (get_or_read _ _ _ inside c.pass-item.is d)) here;
       rest = search rules;

@@ -1,0 +1,104 @@
+-- A call is made while its pass has lent its local: what is said of the pass without its local is said of the pass with it.
+use Rattle.std.proofs.Common.{ℕ, ◌≡◌, ◌<◌, ◌≤◌, ◌++◌, [], ◌∷◌, Some, List, Option, Result, Ok, Err, ap, subst, sym, ◌∙◌, length}
+use Rattle.std.specs.Prelude.{MatchResult}
+use mathlib.Core.List.{IsPrefix}
+use Rattle.kw_words.specs.declared.sizes.TheConstants.{CELLS}
+use Rattle.kw_model.specs.declared.call.Call.{Call}
+use Rattle.kw_model.specs.declared.call.Call.TheVariants.{Scan}
+use Rattle.kw_model.specs.declared.call.Reply.{Reply}
+use Rattle.kw_world.specs.declared.activity.Activity.{Activity}
+use Rattle.kw_world.specs.declared.activity.Activity.TheVariants.{Idle}
+use Rattle.kw_world.specs.declared.event.Choice.{Choice}
+use Rattle.kw_world.specs.declared.event.Event.{Event}
+use Rattle.kw_world.specs.declared.local.Local.{Local}
+use Rattle.kw_world.specs.Sizes.{product}
+use Rattle.kw_core.specs.Events.{local_of, world}
+use Rattle.kw_laws.specs.SeatCalls.{begun_at, calls_seen, ended_at}
+use Rattle.kw_table.specs.declared.pass.Pass.{Pass}
+use Rattle.kw_table.specs.declared.pass.View.{View}
+use Rattle.kw_table.specs.declared.shared.Shared.{Shared}
+use Rattle.kw_table.specs.Passes.{view, IsPassOf}
+use Rattle.kw_table.specs.Views.{local_in}
+use Rattle.kw_follow.specs.Calling.{Calls, calls_in}
+use Rattle.kw_follow.specs.Following.{GoesTo, activity_in}
+use Rattle.kw_follow.specs.OwnEvents.{Met, MetIn}
+use Rattle.kw_live.specs.Meeting.{MetClock, MetCount, MetFull, MetRoom}
+use Rattle.kw_map.specs.declared.kiwi.PutEnd.{PutEnd}
+use Rattle.kw_map.specs.declared.kiwi.ScanEnd.{ScanEnd}
+use Rattle.kw_map.specs.declared.kiwi.ScanEnd.TheVariants.{Stopped, Spent}
+use Rattle.kw_map.specs.Gather.{TakesPrefix}
+use Rattle.kw_map.specs.Kiwi.{Answers, Took}
+use Rattle.kw_map.specs.Scanning.{StoppedAt, had, knew}
+
+-- it is one of the table
+pub of_map_lent : (s : Shared) (p q : Pass) → view q ≡ view p → q.seat.table_id ≡ p.seat.table_id → IsPassOf s p → IsPassOf s q
+of_map_lent s p q same table of = (table ∙ of.0, ap (λ (v : View). v.opening) same ∙ of.1)
+
+-- it is idle
+pub idle_lent : (p q : Pass) → view q ≡ view p → activity_in p ≡ Idle → activity_in q ≡ Idle
+idle_lent p q same idle = ap (λ (v : View). (local_in v).activity) same ∙ idle
+
+module _ (p q r t : Pass) (lent : view q ≡ view p) (given : view t ≡ view r) where
+  -- it went on
+  pub goes_lent : {s : Shared} → t.seat.table_id ≡ r.seat.table_id → GoesTo s q r → GoesTo s p t
+  goes_lent {s} table g = record {
+    of_table = of_map_lent s r t given table g.of_table;
+    number = ap (λ (v : View). v.number) given ∙ (g.number ∙ ap (λ (v : View). v.number) lent);
+    opening = ap (λ (v : View). v.opening) given ∙ (g.opening ∙ ap (λ (v : View). v.opening) lent);
+    seen = subst (λ (v : View). IsPrefix v.seen (view t).seen) lent (subst (λ (w : View). IsPrefix (view q).seen w.seen) (sym given) g.seen);
+  }
+
+  -- it made a call
+  pub calls_lent : {call : Call} {reply : Reply} → Calls q r call reply → Calls p t call reply
+  calls_lent {call} {reply} c = record {
+    first = c.first;
+    last = c.last;
+    number = c.number;
+    begins = subst (λ (v : View). length v.seen ≤ c.first) lent c.begins;
+    ends = subst (λ (w : View). c.last < length w.seen) (sym given) c.ends;
+    calls = subst (λ (v : View). calls_in t ≡ calls_seen product v.opening v.number v.seen ++ ended_at c.last reply (begun_at c.first c.number call) ∷ []) lent
+        (subst (λ (w : View). calls_seen product w.opening w.number w.seen ≡ calls_in q ++ ended_at c.last reply (begun_at c.first c.number call) ∷ []) (sym given) c.calls);
+  }
+
+  -- it met an event
+  met_lent : {a : Activity} {c : Choice} {told : ℕ} → Met q r a c told → Met p t a c told
+  met_lent {a} {c} {told} m = subst (λ (v : View). MetIn v.opening v.number v.seen (view t).seen a c told) lent (subst (λ (w : View). MetIn (view q).opening (view q).number (view q).seen w.seen a c told) (sym given) m)
+
+  met_back : {a : Activity} {c : Choice} {told : ℕ} → Met p t a c told → Met q r a c told
+  met_back {a} {c} {told} m = subst (λ (v : View). MetIn v.opening v.number v.seen (view r).seen a c told) (sym lent) (subst (λ (w : View). MetIn (view p).opening (view p).number (view p).seen w.seen a c told) given m)
+
+  count_lent : {a : Activity} {given_then : ℕ} → MetCount q r a given_then → MetCount p t a given_then
+  count_lent m = record { told = m.told; met = met_lent m.met; gives = m.gives }
+
+  -- its put found room, or a full row
+  pub cause_lent : (result : Result Unit PutEnd) → MatchResult result (λ done. MetRoom CELLS q r) (λ end. MetFull CELLS q r) → MatchResult result (λ done. MetRoom CELLS p t) (λ end. MetFull CELLS p t)
+  cause_lent (Ok done) m = record { given = m.given; asked = count_lent m.asked; less = m.less; added = m.added; adds = count_lent m.adds; fewer = m.fewer; every = λ a c told asking x. m.every a c told asking (met_back x) }
+  cause_lent (Err end) m = record { activity = m.activity; at = m.at; given = m.given; met = count_lent m.met; full = m.full }
+
+  -- the gatherer of its scan stopped
+  stopped_lent : {S : Type 0} (last : S → Option ℕ) (stands : S → List (ℕ × ℕ) → Type 0) (call : Option Call) (old new : S) → StoppedAt last stands q r call old new → StoppedAt last stands p t call old new
+  stopped_lent last stands call old new m =
+      let e : knew q m.front ≡ knew p m.front = ap (λ (v : View). local_of (world product v.opening m.front) v.number) lent in
+      record {
+        front = m.front;
+        later = subst (λ (v : View). IsPrefix v.seen m.front) lent m.later;
+        here = subst (λ (w : View). IsPrefix m.front w.seen) (sym given) m.here;
+        asks = subst (λ (k : Local). k.call ≡ call) e m.asks;
+        took = subst (λ (k : Local). TakesPrefix last stands old k.pairs new) e m.took;
+      }
+
+  -- its scan was answered
+  pub answers_lent : {S : Type 0} (last : S → Option ℕ) (stands : S → List (ℕ × ℕ) → Type 0) (stops : S → ℕ) (from upto : ℕ) (old new : S) (result : Result Unit ScanEnd) → Answers last stands stops q r from upto old new result → Answers last stands stops p t from upto old new result
+  answers_lent {S} last stands stops from upto old new result a = record {
+    reply = a.reply;
+    calls = calls_lent a.calls;
+    took = took result a.took;
+    clock = a.clock;
+    met = record { met = met_lent a.met.met };
+    spent = a.spent;
+  }
+    where
+      took : (x : Result Unit ScanEnd) → Took last stands stops q r (Scan from upto) old new a.reply x → Took last stands stops p t (Scan from upto) old new a.reply x
+      took (Ok done) k = k
+      took (Err Stopped) k = (k.0, k.1, stopped_lent last stands (Some (Scan from upto)) old new k.2)
+      took (Err Spent) k = k

@@ -1,0 +1,18 @@
+use Rattle.std.proofs.Common.{◌≡◌, Some, []}
+use Rattle.kw_world.specs.declared.activity.Activity.TheVariants.{Start}
+use Rattle.kw_follow.specs.Calling.{Opens}
+use Rattle.kw_follow.specs.Following.{Follows, GoesTo, held}
+use Rattle.kw_live.specs.Meeting.{AsksNone}
+use Rattle.kw_map.proofs.kiwi.Kiwi.update_by.Given as goal
+
+abbrev pub invariant-loop : goal.invariant-loop
+invariant-loop g l = record {
+  can_next : (goal.iterator-loop g).can_next l.iterator';
+  is_finite : (goal.iterator-loop g).is_finite l.iterator';
+  goes : GoesTo l.self.shared l.fn.pass l.pass;
+  follows : Follows l.self.shared l.pass l.local;
+  activity : l.local.activity ≡ Start;
+  call : l.local.call ≡ Some l.fn.call;
+  opens : Opens l.fn.pass l.pass l.fn.call;
+  none : AsksNone l.fn.pass l.pass;
+}
