@@ -87,12 +87,7 @@ pub fn operation(seat: u32, local: &Local, choice: Choice) -> Operation
 ///
 /// Takes memory only where a scan has read a row to its end, for the row's pairs: no other call wants any, and a scan does
 /// at none but the last events of a row. Without it the local is as it was.
-pub fn resume(
-    local: &mut Local,
-    rows: u32,
-    choice: Choice,
-    told: u64,
-) -> Result<StepDone, Memory>
+pub fn resume(local: &mut Local, rows: u32, choice: Choice, told: u64) -> Result<StepDone, Memory>
     requires ranges { IsLocal product local.old }
     requires room { HasRoom product local.old }
     requires begin { CanBegin choice local.old }

@@ -8,9 +8,8 @@
 ghost use Rattle.kw_map.specs.Kiwi.{IsIdle};
 
 use kw_map::{Kiwi, Pass, PutEnd, SumGather};
-use std::io;
 use std::sync::Wait;
-use std::thread;
+use std::{io, thread};
 
 /// The rows of the map, of which each holds 64 readings.
 const ROWS: u32 = 64;
@@ -28,18 +27,30 @@ fn main(rt: HostRuntime) -> io::Result<()> {
     let Ok((kiwi, mut passes)) = Kiwi::open(rt.alloc(), ROWS, CALLERS) else {
         return println!(rt; "there is no memory for the map");
     };
-    let (Some(e), Some(d), Some(c), Some(b), Some(a)) =
-        (passes.pop(), passes.pop(), passes.pop(), passes.pop(), passes.pop())
-    else {
+    let (Some(e), Some(d), Some(c), Some(b), Some(a)) = (
+        passes.pop(),
+        passes.pop(),
+        passes.pop(),
+        passes.pop(),
+        passes.pop(),
+    ) else {
         unreachable!()
     };
     let (_, (_, (mut pass, meanwhile))) = thread::join(
         &rt,
-        || thread::join(&rt, || put_readings(&rt, &kiwi, a, 0), || put_readings(&rt, &kiwi, b, 100)),
+        || thread::join(
+            &rt,
+            || put_readings(&rt, &kiwi, a, 0),
+            || put_readings(&rt, &kiwi, b, 100),
+        ),
         || {
             thread::join(
                 &rt,
-                || thread::join(&rt, || put_readings(&rt, &kiwi, c, 200), || put_readings(&rt, &kiwi, d, 300)),
+                || thread::join(
+                    &rt,
+                    || put_readings(&rt, &kiwi, c, 200),
+                    || put_readings(&rt, &kiwi, d, 300),
+                ),
                 || add_up(&kiwi, e),
             )
         },

@@ -85,6 +85,7 @@ carried_room z l k = record {
   remembered = subst (λ n. length l.remembered ≤ n) (carried_marks z l.activity l) k.remembered;
   gathered = subst (λ n. RisesBetween 0 n l.gathered) (carried_copies z l.activity l) k.gathered;
 }
+
 -- all that a local which follows a pass holds is in range
 pub follows_ranges : (s : Shared) (p : Pass) (l : Local) → Follows s p l → IsLocal product l
 follows_ranges s p l f = subst (IsLocal product) (sym f.carries) (carried_in_range product (local_in (view p)) (known_in p (local_in (view p)) refl).ranges)

@@ -170,7 +170,7 @@ module _ (s : Shared) (p q : Pass) (l m : Local) (told : ℕ) (f : Follows s p l
   reads_in =
       let k : Local = local_in (view p) in
       let x : Local = local_in (view q) in
-            let calls : x.call ≡ k.call = ap (λ (y : Local). y.call) seat ∙ both.calls in
+      let calls : x.call ≡ k.call = ap (λ (y : Local). y.call) seat ∙ both.calls in
       record {
         call = calls;
         version = ap (λ (y : Local). y.version) seat ∙ both.drawn;

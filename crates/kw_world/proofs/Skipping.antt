@@ -53,8 +53,10 @@ skips_exactly z w v e l done knows is = (there (is_skipped l.activity e.choice) 
   where
     did : done ≡ (step z w e).done
     did = ap (λ (s : Stepped). s.done) is
+
     there : (b : Bool) → is_skipped l.activity e.choice ≡ b → done ≡ Skipped → IsSkipped w e
     there true h d = λ k knew. let same : k ≡ l = cc in subst (λ (m : Local). is_skipped m.activity e.choice ≡ true) (sym same) h
     there false h d = absurd (subst IsMade (sym did ∙ d) (step-made z w e l knows h))
+
     back : IsSkipped w e → done ≡ Skipped
     back skipped = did ∙ ap (λ (s : Stepped). s.done) (step-skipped z w e l knows (skipped l knows))

@@ -54,6 +54,7 @@ part-not_rebalance choice l = which l.activity
     walks : (b : Bool) → (if b then part.Put else part.Rows) ≢ part.Rebalance
     walks true = λ e. cc
     walks false = λ e. cc
+
     which : (a : Activity) → part_at a choice l ≢ part.Rebalance
     which Start = λ e. cc
     which Head = λ e. cc

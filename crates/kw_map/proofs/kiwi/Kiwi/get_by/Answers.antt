@@ -12,5 +12,6 @@ returns-clause-calls c =
     let both = c.leave.ensures.closes _ (leaves_with _ c.read_row.ensures.follows at) in
     let call = whole c.enter.ensures.opens (c.read_row.ensures.calls ∙ c.locate.ensures.calls) (get_closes _ _ c.leave.result both) in
     elim c.match-leave.branch [
-      in-Value w ↦ subst (Calls c.args.pass.now c.leave.new.pass (Get c.args.key)) (w.in-Value.is ∙ sym (ap found w.result-is)) call
-    | in_default w ↦ subst (Calls c.args.pass.now c.leave.new.pass (Get c.args.key)) (get_absent _ c.leave.result both.1 w.in_default.not-Value ∙ sym (ap found w.result-is)) call ]
+      | in-Value w ↦ subst (Calls c.args.pass.now c.leave.new.pass (Get c.args.key)) (w.in-Value.is ∙ sym (ap found w.result-is)) call
+      | in_default w ↦ subst (Calls c.args.pass.now c.leave.new.pass (Get c.args.key)) (get_absent _ c.leave.result both.1 w.in_default.not-Value ∙ sym (ap found w.result-is)) call
+    ]
