@@ -176,3 +176,70 @@ fn workers_run_beside_each_other(rt: HostRuntime) -> Result<(), Fail> {
     assert_eq!(rt; gate.met.load(Ordering::SeqCst), 2);
     Ok(())
 }
+
+// Worker 0 is held up before line 1 until worker 1 has answered line 3, and worker 1 before line 2 until worker 0 is held up.
+#[derive(Drop)]
+struct HoldUp {
+    held: AtomicU64,
+    answered: AtomicU64,
+    ended: AtomicU64,
+    given_up: AtomicU64,
+}
+
+impl HoldUp {
+    fn new() -> HoldUp {
+        HoldUp {
+            held: AtomicU64::new(0),
+            answered: AtomicU64::new(0),
+            ended: AtomicU64::new(0),
+            given_up: AtomicU64::new(0),
+        }
+    }
+
+    fn wait(&self, other: &AtomicU64) {
+        for _ in 0..TURNS {
+            if other.load(Ordering::SeqCst) == 1 {
+                return;
+            }
+            thread::yield_now();
+        }
+        self.given_up.fetch_add(1, Ordering::SeqCst);
+    }
+}
+
+impl Gate for HoldUp {
+    fn before(&self, worker: u32, line: u32) {
+        match (worker, line) {
+            (0, 1) => {
+                self.held.store(1, Ordering::SeqCst);
+                self.wait(&self.answered);
+            }
+            (1, 2) => self.wait(&self.held),
+            _ => {}
+        }
+    }
+
+    fn after(&self, worker: u32, line: u32) {
+        match (worker, line) {
+            (0, 1) => self.ended.store(1, Ordering::SeqCst),
+            (1, 3) => self.answered.store(1, Ordering::SeqCst),
+            _ => {}
+        }
+    }
+}
+
+#[test]
+fn a_gate_is_told_before_a_line_is_asked_and_after_it_is_answered(
+    rt: HostRuntime,
+) -> Result<(), Fail> {
+    let gate = HoldUp::new();
+    let input = Vec::from_slice(rt.alloc(), b"put 0 5\nget 1\nsum 0 9\n")?;
+    let mut source = MemSource::new(input, Vec::new(rt.alloc()));
+    let words = ["replay", "--workers", "2"];
+    let ended = ran_past(&rt, rt.alloc(), &words, &mut source, ROOM, &gate)?;
+    // The sum is asked while the put is still held up, so it sees nothing.
+    expect_end(&rt, &ended, Status::Done, 0, b"ok\nnone\n0\n")?;
+    assert_eq!(rt; gate.given_up.load(Ordering::SeqCst), 0);
+    assert_eq!(rt; gate.ended.load(Ordering::SeqCst), 1);
+    Ok(())
+}

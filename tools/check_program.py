@@ -1,0 +1,73 @@
+#!/usr/bin/env python3
+"""Runs the built program as a process and checks what no clause can say: the status with which `main` ends, and its fault line.
+
+  tools/check_program.py                        the program that ./kiwi builds
+  tools/check_program.py --program 'COMMAND'    another program, with the same words
+
+Each case has its words, its standard input and output, and what the process must print, say on standard error, and end with. It was
+worked out by hand, and the summary by a generator in Python. The last line says how many cases passed; the status is 1 where one did not."""
+
+import argparse
+import shlex
+import subprocess
+import sys
+from collections import namedtuple
+
+from kiwi_map import KIWI
+
+# What is wrong with a stream: standard input is a folder, which cannot be read; standard output is a device that is full.
+FOLDER, FULL = "/", "/dev/full"
+LONG = b"get 1\n" * 3_000_000
+
+Case = namedtuple("Case", "name words given output printed said status", defaults=(b"", None, b"", b"", 0))
+
+CASES = (
+    Case("all is printed", "replay", b"put 5 50\nget 5\n", printed=b"ok\n50\n"),
+    Case("workers and rows", "replay --rows 64 --workers 8", b"put 5 50\nwait\nsum 0 9\n", printed=b"ok\n50\n"),
+    Case("a script", "simulate", b"", printed=b"order none\n"),
+    Case("a summary", "gen 7 3", printed=b"puts 3\ndels 0\ngets 0\nfound 0\ncount 3\nsum 22218\nleast 3365\ngreatest 10868\n"),
+    Case("no such command", "rollup", said=b"bad words\n", status=2),
+    Case("a worker too many", "replay --workers 9", said=b"bad words\n", status=2),
+    Case("a bad line", "replay", b"get 1\nget\n", said=b"bad line 2\n", status=3),
+    Case("a bad line of a script", "simulate", b"call 9 get 1\n", said=b"bad line 1\n", status=3),
+    Case("an input that is too long", "replay", LONG, said=b"input too long\n", status=3),
+    Case("an input that cannot be read", "replay", FOLDER, said=b"read fault\n", status=4),
+    Case("an output that is full", "replay", b"get 1\n", FULL, said=b"write fault\n", status=5),
+)
+
+
+def ended(program, case):
+    """What the process of a case prints, what it says on standard error, and its status."""
+    words = [*program, *case.words.split()]
+    if case.given == FOLDER:
+        # The shell opens the folder for the process, since Python would refuse to.
+        words = ["sh", "-c", 'exec "$@" < /', "sh", *words]
+    with open(case.output or "/dev/null", "wb") as output:
+        run = subprocess.run(
+            words,
+            input=None if case.given == FOLDER else case.given,
+            stdout=output if case.output else subprocess.PIPE,
+            stderr=subprocess.PIPE,
+            check=False,
+        )
+    return run.stdout or b"", run.stderr, run.returncode
+
+
+def main():
+    options = argparse.ArgumentParser(description=__doc__, formatter_class=argparse.RawDescriptionHelpFormatter)
+    options.add_argument("--program", help="the command that is checked, if not ./kiwi")
+    options = options.parse_args()
+    program = shlex.split(options.program) if options.program else [KIWI]
+    subprocess.run([*program, "replay"], input=b"", check=False)  # proves and builds the program, which the first run says on standard error
+    failed = 0
+    for case in CASES:
+        got, wanted = ended(program, case), (case.printed, case.said, case.status)
+        if got != wanted:
+            failed += 1
+            print(f"{case.name}: `{case.words}`\n  got    {got}\n  wanted {wanted}")
+    print(f"{len(CASES) - failed} passed, {failed} failed")
+    return 1 if failed else 0
+
+
+if __name__ == "__main__":
+    sys.exit(main())
