@@ -13,6 +13,8 @@ use Rattle.kw_world.specs.declared.event.Event.{Event}
 use Rattle.kw_world.specs.declared.local.Local.{Local}
 use Rattle.kw_world.specs.Sizes.{product}
 use Rattle.kw_core.specs.Events.{local_of, world}
+use Rattle.kw_core.specs.Run.{history}
+use Rattle.kw_laws.specs.Laws.{IsDrawnCover}
 use Rattle.kw_laws.specs.SeatCalls.{begun_at, calls_seen, ended_at}
 use Rattle.kw_table.specs.declared.pass.Pass.{Pass}
 use Rattle.kw_table.specs.declared.pass.View.{View}
@@ -84,6 +86,8 @@ module _ (p q r t : Pass) (lent : view q ≡ view p) (given : view t ≡ view r)
         later = subst (λ (v : View). IsPrefix v.seen m.front) lent m.later;
         here = subst (λ (w : View). IsPrefix m.front w.seen) (sym given) m.here;
         asks = subst (λ (k : Local). k.call ≡ call) e m.asks;
+        bound = m.bound;
+        covers = subst (λ (v : View). IsDrawnCover (history product v.opening m.front) v.number (local_of (world product v.opening m.front) v.number) m.bound (local_of (world product v.opening m.front) v.number).pairs) lent m.covers;
         took = subst (λ (k : Local). TakesPrefix last stands old k.pairs new) e m.took;
       }
 

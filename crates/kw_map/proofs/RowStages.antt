@@ -7,6 +7,7 @@ use Rattle.kw_io.specs.Counts.{CountRose}
 use Rattle.kw_cells.specs.Cells.{pairs_of}
 use Rattle.kw_model.specs.Map.{Pairs}
 use Rattle.kw_model.specs.declared.call.Call.{Call}
+use Rattle.kw_model.specs.declared.call.Call.TheVariants.{Scan}
 use Rattle.kw_world.specs.declared.answer.Answer.TheVariants as answer
 use Rattle.kw_world.specs.declared.activity.Activity.TheVariants.{ClearScan}
 use Rattle.kw_world.specs.declared.local.Local.{Local}
@@ -14,7 +15,12 @@ use Rattle.kw_world.specs.declared.opening.Opening.{Opening}
 use Rattle.kw_world.specs.Parts.{is_walking}
 use Rattle.kw_world.specs.Sizes.{product}
 use Rattle.kw_core.specs.Events.{local_of, world}
-use Rattle.kw_core.specs.Stages.{IsGoing}
+use Rattle.kw_core.specs.Run.{history}
+use Rattle.kw_world.specs.Calls.{is_scan}
+use Rattle.kw_world.specs.Calls as asked
+use Rattle.kw_core.specs.Stages.{IsCovering, IsGoing}
+use Rattle.kw_laws.specs.Laws.{IsDrawnCover, KeepsLaws}
+use Rattle.kw_laws.proofs.LawProofs.{laws_hold}
 use Rattle.kw_table.specs.declared.pass.Pass.{Pass}
 use Rattle.kw_table.specs.declared.shared.Shared.{Shared}
 use Rattle.kw_table.specs.Passes.{view}
@@ -22,6 +28,8 @@ use Rattle.kw_table.specs.Views.{local_in}
 use Rattle.kw_table.proofs.Prefixes.{prefix_trans}
 use Rattle.kw_follow.specs.Calling.{Keeps}
 use Rattle.kw_follow.specs.Following.{Follows, GoesTo, held}
+use Rattle.kw_follow.proofs.OneEvent.{same_activity}
+use Rattle.kw_follow.proofs.Resting.{stands}
 use Rattle.kw_live.specs.Reading.{GoesOn}
 use Rattle.kw_map.specs.Gather.{last_key, IsBelow, Takes, TakesPrefix}
 use Rattle.kw_map.specs.Scanning.{IsBetween, StoppedAt, knew}
@@ -84,16 +92,37 @@ knew_then s o r goes =
     ap (λ n. local_of (world product (view o).opening (view r).seen) n) (sym goes.number)
     ∙ ap (λ (x : Opening). local_of (world product x (view r).seen) (view r).number) (sym goes.opening)
 
+-- up to some key a scan between its rows has the pairs of its range at the version that it drew
+covers_so_far : (s : Shared) (r : Pass) (l : Local) (want upto version : ℕ) (scan : (from : ℕ) × (l.call ≡ Some (Scan from upto))) → Follows s r l → GoesOn want upto version l ⊎ (l.activity ≡ ClearScan answer.Pairs)
+    → (bound : ℕ) × IsDrawnCover (history product (view r).opening (view r).seen) (view r).number (local_in (view r)) bound (held r)
+covers_so_far s r l want upto version scan follows stage = at stage
+  where
+    laws : KeepsLaws product (history product (view r).opening (view r).seen)
+    laws = laws_hold product (view r).opening r.known.opens (view r).seen r.known.valid
+
+    is_a_scan : is_scan (local_in (view r)).call ≡ true
+    is_a_scan = ap is_scan (sym (ap (λ (k : Local). k.call) follows.carries) ∙ scan.1)
+
+    at : GoesOn want upto version l ⊎ (l.activity ≡ ClearScan answer.Pairs) → (bound : ℕ) × IsDrawnCover (history product (view r).opening (view r).seen) (view r).number (local_in (view r)) bound (held r)
+    at (inl g) = ((local_in (view r)).want, laws.covers (view r).number (local_in (view r)) (stands r) is_a_scan (subst IsCovering (sym (same_activity s r l follows ∙ g.activity)) tt))
+    at (inr e) = (asked.last_key (local_in (view r)).call + 1, laws.covered (view r).number (local_in (view r)) (stands r) is_a_scan (same_activity s r l follows ∙ e))
+
 -- a scan that stops where the gatherer did
-pub stopped_here : {S : Type 0} (last : S → Option ℕ) (stands : S → Pairs → Type 0) (s : Shared) (o r q : Pass) (l : Local) (call : Option Call) (old new : S) → GoesTo s o r → GoesTo s r q → Follows s r l → l.call ≡ call →
-    TakesPrefix last stands old (held r) new → StoppedAt last stands o q call old new
-stopped_here last stands s o r q l call old new before after follows is took =
-    let e = knew_then s o r before in record {
+pub stopped_here : {S : Type 0} (last : S → Option ℕ) (stands_for : S → Pairs → Type 0) (s : Shared) (o r q : Pass) (l : Local) (call : Option Call) (old new : S) (want upto version : ℕ) → GoesTo s o r → GoesTo s r q
+    → Follows s r l → l.call ≡ call → (from : ℕ) × (l.call ≡ Some (Scan from upto)) → GoesOn want upto version l ⊎ (l.activity ≡ ClearScan answer.Pairs) → TakesPrefix last stands_for old (held r) new → StoppedAt last stands_for o q call old new
+stopped_here last stands_for s o r q l call old new want upto version before after follows is scan stage took =
+    let e = knew_then s o r before in
+    let cover = covers_so_far s r l want upto version scan follows stage in
+    record {
+      bound = cover.0;
+      covers = subst (λ (k : Local). IsDrawnCover (history product (view o).opening (view r).seen) (view o).number k cover.0 k.pairs) (sym e)
+          (subst (λ n. IsDrawnCover (history product (view o).opening (view r).seen) n (local_in (view r)) cover.0 (held r)) before.number
+          (subst (λ (x : Opening). IsDrawnCover (history product x (view r).seen) (view r).number (local_in (view r)) cover.0 (held r)) before.opening cover.1));
       front = (view r).seen;
       later = before.seen;
       here = after.seen;
       asks = ap (λ (k : Local). k.call) e ∙ (sym (ap (λ (k : Local). k.call) follows.carries) ∙ is);
-      took = subst (λ (ps : Pairs). TakesPrefix last stands old ps new) (sym (ap (λ (k : Local). k.pairs) e)) took;
+      took = subst (λ (ps : Pairs). TakesPrefix last stands_for old ps new) (sym (ap (λ (k : Local). k.pairs) e)) took;
     }
 
 -- what happened in the middle happened in the whole
@@ -107,5 +136,9 @@ stopped_within last stands s p q r t call old new before after stopped =
       later = prefix_trans _ _ _ before.seen stopped.later;
       here = prefix_trans _ _ _ stopped.here after.seen;
       asks = sym (ap (λ (k : Local). k.call) e) ∙ stopped.asks;
+      bound = stopped.bound;
+      covers = subst (λ (k : Local). IsDrawnCover (history product (view p).opening stopped.front) (view p).number k stopped.bound k.pairs) e
+          (subst (λ n. IsDrawnCover (history product (view p).opening stopped.front) n (knew q stopped.front) stopped.bound (knew q stopped.front).pairs) before.number
+          (subst (λ (x : Opening). IsDrawnCover (history product x stopped.front) (view q).number (knew q stopped.front) stopped.bound (knew q stopped.front).pairs) before.opening stopped.covers));
       took = subst (λ (ps : Pairs). TakesPrefix last stands old ps new) (ap (λ (k : Local). k.pairs) e) stopped.took;
     }

@@ -8,6 +8,8 @@ use Rattle.kw_world.specs.declared.event.Event.{Event}
 use Rattle.kw_world.specs.declared.local.Local.{Local}
 use Rattle.kw_world.specs.Sizes.{product}
 use Rattle.kw_core.specs.Events.{local_of, world}
+use Rattle.kw_core.specs.Run.{history}
+use Rattle.kw_laws.specs.Laws.{IsDrawnCover}
 use Rattle.kw_core.specs.Stages.{IsGoing}
 use Rattle.kw_table.specs.declared.pass.Pass.{Pass}
 use Rattle.kw_table.specs.Passes.{view}
@@ -25,11 +27,13 @@ knew p es = local_of (world product (view p).opening es) (view p).number
 abbrev pub had : Pass → List Event → List (ℕ × ℕ)
 had p es = (knew p es).pairs
 
--- the gatherer of this call stopped: at some moment the seat was in the middle of the call, and of the pairs that it had then the
--- gatherer took the first ones
+-- the gatherer of this call stopped: after some events the seat was in the middle of the call and had the pairs of its range at the version
+-- that it drew, up to some key; of these the gatherer took the first ones
 pub record StoppedAt {S : Type 0} (last : S → Option ℕ) (stands : S → List (ℕ × ℕ) → Type 0) (p q : Pass) (call : Option Call) (old new : S) : Type 0 where
   pub front : List Event
   pub later : IsPrefix (view p).seen front
   pub here : IsPrefix front (view q).seen
   pub asks : (knew p front).call ≡ call
+  pub bound : ℕ
+  pub covers : IsDrawnCover (history product (view p).opening front) (view p).number (knew p front) bound (had p front)
   pub took : TakesPrefix last stands old (had p front) new

@@ -139,7 +139,7 @@ impl Kiwi {
     ///
     /// The pass is one of this map and idle, as it is afterwards, and the last key that the gatherer took, if there is one, is below
     /// `from`. After `Ok` it took just the pairs of the range. `Stopped` comes only where the gatherer stopped in this call; it took the first
-    /// of the pairs. `Spent` comes exactly where the clock that this call loaded first was at `SPENT` or above; nothing was taken. A range
+    /// of the pairs of the range at the version that it drew. `Spent` comes exactly where the clock that this call loaded first was at `SPENT` or above; nothing was taken. A range
     /// with `from` above `to` has no keys. The scan takes no memory of its own and never waits.
     pub fn scan<G: Gather>(
         &self,

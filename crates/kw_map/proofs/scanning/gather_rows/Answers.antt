@@ -13,7 +13,7 @@ returns-in-Err-clause-prefix g c =
     let took = subst (λ (ps : Pairs). TakesPrefix g.G.Gather.last g.G.Gather.stands c.args.into.now ps c.gather_row.new.into) (sym r.held)
     (prefix_behind g.G.Gather.last g.G.Gather.stands c.args.into.now c.loop-pass.into c.gather_row.new.into _ _ i.takes r.prefix) in
     stopped_here g.G.Gather.last g.G.Gather.stands c.args.shared.now c.args.pass.now c.gather_row.new.pass c.stop_scan.new.pass c.gather_row.new.local c.args.local.now.call c.args.into.now c.gather_row.new.into
-    (goes_trans _ _ _ _ i.goes r.goes) c.stop_scan.ensures.goes r.follows (r.call ∙ i.asks) took
+    c.loop-pass.local.want c.args.upto c.loop-pass.local.version (goes_trans _ _ _ _ i.goes r.goes) c.stop_scan.ensures.goes r.follows (r.call ∙ i.asks) (c.requires.scan.0, (r.call ∙ i.asks) ∙ c.requires.scan.1) r.stage took
 
 pub loop-pass-preserved : goal.loop-pass-preserved
 loop-pass-preserved g c =
