@@ -161,13 +161,15 @@ impl Kiwi {
         scanned
     }
 
-    /// Both passes have then seen one list of events, which both old ones begin. No event is made, and no memory taken.
+    /// Both passes have then seen one list of events, which both old ones begin. No event is made, and no memory taken; a pass that was
+    /// idle is idle.
     pub fn meet(&self, a: &mut Pass, b: &mut Pass)
         requires one { IsPassOf self.now.shared a.old }
         requires other { IsPassOf self.now.shared b.old }
         ensures one { IsPassOf self.now.shared a.new × Meets (view a.old) (view a.new) }
         ensures other { IsPassOf self.now.shared b.new × Meets (view b.old) (view b.new) }
         ensures same { (view a.new).seen ≡ (view b.new).seen }
+        ensures idle { (IsIdle self.now a.old → IsIdle self.now a.new) × (IsIdle self.now b.old → IsIdle self.now b.new) }
     {
         kw_table::meet(&self.shared, a, b);
     }
