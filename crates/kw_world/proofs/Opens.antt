@@ -1,8 +1,9 @@
--- The world that a run begins with is sane, and each of its seats rests.
-use Rattle.std.proofs.Common.{ℕ, zero, suc, ◌≡◌, inl, ◌<◌, false, Some, None, arith, refl, sym, ◌∙◌, subst, slice_get}
+-- The world that a run begins with is sane, each of its seats rests, and a seat may know something else in range.
+use Rattle.std.proofs.Common.{ℕ, zero, suc, ◌≡◌, ◌≢◌, ◌⊎◌, inl, inr, ◌<◌, false, Some, None, arith, refl, sym, ◌∙◌, ap, subst, length, slice_get, slice_set}
 use Rattle.std.specs.Prelude.{replicate}
-use Rattle.std.proofs.lemmas.Option.{slice_get_within, get_or_from_slice_get}
-use Rattle.std.proofs.lemmas.List.{length-replicate, get_or-replicate}
+use Rattle.std.proofs.lemmas.Bool.{cases_eq}
+use Rattle.std.proofs.lemmas.Option.{slice_get_within, same_Some, get_or_from_slice_get}
+use Rattle.std.proofs.lemmas.List.{length-replicate, length-set, get_or-replicate}
 use Rattle.std.proofs.lemmas.List.Elements.{All-nil}
 use Rattle.kw_words.specs.declared.layout.Name.{Name}
 use Rattle.kw_words.specs.declared.layout.Name.TheVariants as name
@@ -14,12 +15,15 @@ use Rattle.kw_words.proofs.ScanWords.{scan_of-Quiet}
 use Rattle.kw_words.proofs.StateWords.{state_of-Free, state_of-Normal}
 use Rattle.kw_world.specs.declared.local.Local.{Local}
 use Rattle.kw_world.specs.declared.opening.Opening.{Opening}
+use Rattle.kw_world.specs.Lending.{with_local}
 use Rattle.kw_world.specs.Sizes.{Sizes}
+use Rattle.kw_world.specs.WorldView.{WorldView}
 use Rattle.kw_world.specs.Local.{resting}
 use Rattle.kw_world.specs.Opening.{IsOpening, opened, opening_word, link_to}
 use Rattle.kw_world.specs.Sane.{IsSane, IsKnown, IsWord, IsLed, IsHead, IsStateBelow, IsLinkBelow, IsRowState, IsKnownWord, IsGiven, IsEntry, IsPair, IsMark, IsCopy}
 use Rattle.kw_world.specs.Step.{word}
 use Rattle.kw_world.proofs.Begins.{opened-word, length-opened}
+use Rattle.kw_world.proofs.Lists.{get-set_same, get-set_other}
 
 -- a seat at rest knows nothing out of range
 pub rests_known : (z : Sizes) (rows n : ℕ) → IsSized z.seats z.cells rows → IsKnown z rows (resting n)
@@ -112,3 +116,19 @@ module _ (z : Sizes) (o : Opening) (i : IsOpening z o) where
     led = λ n w. subst (IsLed o.rows n) (sym (opened-word z o n i.sized w)) (opening_led n w);
     locals = each_rests z o (λ t l. IsKnown z o.rows l) (λ t. rests_known z o.rows 0 i.sized);
   }
+
+-- a sane world stays so where a seat comes to know something else that is in range
+pub with_local-sane : (z : Sizes) (w : WorldView) (s : ℕ) (l : Local) → IsSane z w → s < length w.locals → IsKnown z w.rows l → IsSane z (with_local w s l)
+unfolding word
+with_local-sane z w s l sane inside known = record {
+  sized = sane.sized;
+  words = sane.words;
+  seats = omega (arith, sane.seats, length-set w.locals s l);
+  each = sane.each;
+  led = sane.led;
+  locals = λ t k g. here t k g (cases_eq t s);
+}
+  where
+    here : (t : ℕ) (k : Local) → slice_get (slice_set w.locals s l) t ≡ Some k → (t ≡ s) ⊎ (t ≢ s) → IsKnown z w.rows k
+    here t k g (inl is) = subst (IsKnown z w.rows) (same_Some l k (sym (get-set_same w.locals s l inside) ∙ (ap (λ x. slice_get (slice_set w.locals s l) x) (sym is) ∙ g))) known
+    here t k g (inr other) = sane.locals t k (sym (get-set_other w.locals s t l other) ∙ g)
