@@ -1,13 +1,10 @@
 -- The shape holds where nothing happened.
-use Rattle.std.proofs.Common.{ℕ, zero, suc, ◌≡◌, inl, ◌<◌, false, Some, None, arith, refl, sym, ◌∙◌, ap, subst, slice_get}
+use Rattle.std.proofs.Common.{ℕ, zero, suc, ◌≡◌, inl, ◌<◌, Some, None, arith, refl, sym, ◌∙◌, ap}
 use Rattle.kw_words.specs.declared.layout.Name.{Name}
 use Rattle.kw_words.specs.declared.layout.Name.TheVariants as name
-use Rattle.kw_world.specs.declared.local.Local.{Local}
 use Rattle.kw_world.specs.Sizes.{Sizes}
 use Rattle.kw_world.specs.declared.opening.Opening.{Opening}
 use Rattle.std.specs.Prelude.{replicate}
-use Rattle.std.proofs.lemmas.Option.{slice_get_within, get_or_from_slice_get}
-use Rattle.std.proofs.lemmas.List.{length-replicate, get_or-replicate}
 use Rattle.kw_words.specs.declared.state.State.TheVariants.{Normal}
 use Rattle.kw_words.specs.Layout.{IsWithin}
 use Rattle.kw_words.specs.Count.{count_of}
@@ -17,14 +14,10 @@ use Rattle.kw_words.specs.Plain.{key_of_word}
 use Rattle.kw_world.specs.Local.{resting}
 use Rattle.kw_world.specs.Transition.{row_linked}
 use Rattle.kw_world.specs.PutTransitions.{given_of}
-use Rattle.kw_world.specs.Sane.{IsSane, IsKnown, IsWord, IsLed, IsHead, IsStateBelow, IsLinkBelow, IsRowState, IsKnownWord, IsGiven, IsEntry}
 use Rattle.kw_world.specs.Opening.{IsOpening, opened, opening_word, opening_state, link_to}
 pub use Rattle.kw_world.proofs.Opens.{all_resting, each_rests}
 use Rattle.kw_world.proofs.Opens.{opened-sane}
-use Rattle.kw_world.proofs.Begins.{opened-word, length-opened}
-use Rattle.kw_words.proofs.PendWords.{pend_of-Idle}
-use Rattle.kw_words.proofs.ScanWords.{scan_of-Quiet}
-use Rattle.kw_words.proofs.StateWords.{state_of-Free, state_of-Normal}
+use Rattle.kw_world.proofs.Begins.{opened-word}
 use Rattle.kw_shape.specs.Rooms.{adders, drawers}
 use Rattle.kw_world.specs.Step.{word}
 use Rattle.kw_core.specs.Words.{next_in, given_in}
