@@ -66,7 +66,14 @@ fn an_idle_seat_begins_a_put(rt: HostRuntime) -> Result<(), Fail> {
     let call = Call::Put(5, 10);
     assert_eq!(rt; act(&mut world, Choice::Begin(call))?, StepDone::Moved);
     assert_eq!(rt; world.local(1).activity, Activity::Enter);
-    assert_eq!(rt; (world.local(1).call, world.local(1).number, world.local(1).epoch), (Some(call), 1, 9));
+    assert_eq!(rt;
+        (
+            world.local(1).call,
+            world.local(1).number,
+            world.local(1).epoch
+        ),
+        (Some(call), 1, 9)
+    );
     assert_eq!(rt; world.local(0).activity, Activity::Idle);
     Ok(())
 }
@@ -75,7 +82,10 @@ fn an_idle_seat_begins_a_put(rt: HostRuntime) -> Result<(), Fail> {
 fn an_idle_seat_that_begins_nothing_is_skipped(rt: HostRuntime) -> Result<(), Fail> {
     let mut world = idle(rt.alloc())?;
     assert_eq!(rt; act(&mut world, Choice::Go)?, StepDone::Skipped);
-    assert_eq!(rt; (world.local(1).activity, world.local(1).number), (Activity::Idle, 0));
+    assert_eq!(rt;
+        (world.local(1).activity, world.local(1).number),
+        (Activity::Idle, 0)
+    );
     Ok(())
 }
 

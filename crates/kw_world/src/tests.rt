@@ -25,10 +25,19 @@ fn small(alloc: Global) -> Result<World, Memory>
 fn a_world_opens_with_one_row_in_its_list(rt: HostRuntime) -> Result<(), Fail> {
     let world = small(rt.alloc())?;
     assert_eq!(rt; (world.rows(), world.seats()), (3, 2));
-    assert_eq!(rt; world.word(Layout::<SEATS, CELLS>::place(3, Name::Clock)), 7);
-    assert_eq!(rt; world.word(Layout::<SEATS, CELLS>::place(3, Name::Epoch)), 9);
+    assert_eq!(rt;
+        world.word(Layout::<SEATS, CELLS>::place(3, Name::Clock)),
+        7
+    );
+    assert_eq!(rt;
+        world.word(Layout::<SEATS, CELLS>::place(3, Name::Epoch)),
+        9
+    );
     let head = Link::unpack(world.word(Layout::<SEATS, CELLS>::place(3, Name::Head)));
-    assert_eq!(rt; head.map(|link| (link.row, link.marked)), Some((Some(0), false)));
+    assert_eq!(rt;
+        head.map(|link| (link.row, link.marked)),
+        Some((Some(0), false))
+    );
     let first = State::unpack(world.word(Layout::<SEATS, CELLS>::place(3, Name::State(0))));
     assert_eq!(rt; first, Some(State::Normal));
     let last = State::unpack(world.word(Layout::<SEATS, CELLS>::place(3, Name::State(2))));
@@ -45,7 +54,10 @@ fn a_clone_is_a_world_of_its_own(rt: HostRuntime) -> Result<(), Fail> {
     copy.set_word(place, 8);
     copy.local_mut(1).activity = Activity::Enter;
     assert_eq!(rt; (copy.word(place), world.word(place)), (8, 7));
-    assert_eq!(rt; (copy.local(1).activity, world.local(1).activity), (Activity::Enter, Activity::Idle));
+    assert_eq!(rt;
+        (copy.local(1).activity, world.local(1).activity),
+        (Activity::Enter, Activity::Idle)
+    );
     assert_eq!(rt; (copy.rows(), copy.seats()), (3, 2));
     Ok(())
 }

@@ -67,7 +67,7 @@ returns-clause-sane c =
     let l : Local = c.local_mut.result.now in
     let sane : IsSane product w = c.in_ok-world.ensures.sane in
     let known : IsKnown product w.rows (record l { activity = Start }) =
-        subst (λ (x : Local). IsKnown product w.rows (record x { activity = Start })) (sym (rested w l c.in_ok-world.ensures.world c.local_mut.ensures.value)) (starts_known product w.rows sane.sized) in
+    subst (λ (x : Local). IsKnown product w.rows (record x { activity = Start })) (sym (rested w l c.in_ok-world.ensures.world c.local_mut.ensures.value)) (starts_known product w.rows sane.sized) in
     with_local-sane product w 1 (record l { activity = Start }) sane (inside w c.in_ok-world.ensures.world) known
 
 pub returns-clause-part : goal.returns-clause-part
