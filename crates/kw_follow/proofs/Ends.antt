@@ -1,9 +1,8 @@
 -- How a call begins and ends, and how a scan is over: what follows for the seat and for code.
-use Rattle.std.proofs.Common.{ℕ, ◌≡◌, ◌+◌, Bool, true, false, Some, [], nat_lt, if◌then◌else◌, refl, sym, ◌∙◌, ap, subst}
+use Rattle.std.proofs.Common.{ℕ, ◌≡◌, ◌+◌, Bool, true, false, Some, [], nat_lt, if◌then◌else◌, refl, sym, ◌∙◌, ap}
 use Rattle.kw_model.specs.declared.call.Call.{Call}
 use Rattle.kw_world.specs.declared.answer.Answer.{Answer}
 use Rattle.kw_world.specs.Answers.{reply_of}
-use Rattle.kw_world.specs.declared.activity.Activity.{Activity}
 use Rattle.kw_world.specs.declared.activity.Activity.TheVariants.{Idle, Enter, ClearScan, Leave}
 use Rattle.kw_world.specs.declared.event.Choice.{Choice}
 use Rattle.kw_world.specs.declared.event.Choice.TheVariants.{Begin, Go, Guess, Stop}

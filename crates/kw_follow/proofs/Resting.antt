@@ -1,5 +1,5 @@
 -- What a pass's seat knows before a call has read a row: nothing where it is idle, and no pairs.
-use Rattle.std.proofs.Common.{ℕ, ◌≡◌, true, Some, List, [], ◌<◌, refl, sym, ◌∙◌, ap, subst, slice_get, arith}
+use Rattle.std.proofs.Common.{ℕ, ◌≡◌, true, Some, List, ◌<◌, refl, sym, ◌∙◌, ap, subst, slice_get, arith}
 use Rattle.kw_world.specs.declared.activity.Activity.{Activity}
 use Rattle.kw_world.specs.declared.activity.Activity.TheVariants.{Idle}
 use Rattle.kw_world.specs.declared.event.Choice.{Choice}
@@ -14,11 +14,10 @@ use Rattle.kw_core.specs.Events.{is_valid, may_step}
 use Rattle.kw_reads.specs.Inv.{Inv}
 use Rattle.kw_core.specs.Run.{Run, goes_on, history, start}
 use Rattle.kw_shape.specs.Shape.{Words}
-use Rattle.kw_core.specs.Stages.{IsEarly}
 use Rattle.kw_core.proofs.Arrows.{Arrow, NextCell, NextLook, reads_cell, answers, ends_scan, scans_on, looks, counts, leaves, meets_stamped, meets_neither, is_passed, helps, finds_stamped, finds_other, counts_cells, has_no_version, has_other_key, gathers}
 use Rattle.kw_core.proofs.Events.{may_come}
 use Rattle.kw_core.proofs.Happens.{happens, each_seat}
-use Rattle.kw_reads.proofs.Keeps.{inv_goes_on, inv_holds}
+use Rattle.kw_reads.proofs.Keeps.{inv_goes_on}
 use Rattle.kw_shape.proofs.ShapeOpens.{all_resting}
 use Rattle.kw_reads.proofs.Opens.{inv_start}
 use Rattle.kw_core.proofs.Runs.{goes_on-moved, history-world, holds_of_history}

@@ -6,7 +6,6 @@ use Rattle.kw_words.specs.declared.pend.Pend.TheVariants as pend
 use Rattle.kw_words.specs.Count.{count_of}
 use Rattle.kw_words.specs.Pend.{pend_word}
 use Rattle.kw_model.specs.declared.call.Call.{Call}
-use Rattle.kw_model.specs.declared.call.Reply.{Reply}
 use Rattle.kw_world.specs.declared.answer.Answer.{Answer}
 use Rattle.kw_world.specs.Answers.{reply_of}
 use Rattle.kw_world.specs.declared.activity.Activity.{Activity}

@@ -1,45 +1,19 @@
 -- The world after a list of events: as many rows and seats as at the opening, what each seat knows in it, and that it is sane.
-use Rattle.std.proofs.Common.{◌≡◌, ℕ, ◌<◌, Bool, true, false, List, [], ◌∷◌, Option, Some, None, length, slice_get, refl, ◌∙◌, subst, length-set, arith}
+use Rattle.std.proofs.Common.{◌≡◌, ℕ, ◌<◌, true, List, [], ◌∷◌, Some, length, slice_get, refl, ◌∙◌, subst, arith}
 use Rattle.std.proofs.lemmas.List.{length-replicate}
 use Rattle.std.proofs.lemmas.Option.{slice_get-get_or}
 use Rattle.kw_world.specs.declared.event.Event.{Event}
 use Rattle.kw_world.specs.declared.opening.Opening.{Opening}
-use Rattle.kw_world.specs.declared.local.Local.{Local}
 use Rattle.kw_world.specs.Local.{resting}
 use Rattle.kw_world.specs.Sizes.{Sizes}
 use Rattle.kw_world.specs.WorldView.{WorldView}
 use Rattle.kw_world.specs.Opening.{IsOpening, opened}
 use Rattle.kw_world.specs.Sane.{IsSane}
-use Rattle.kw_world.specs.Step.{step, step_of, is_skipped}
+use Rattle.kw_world.specs.Step.{step}
+use Rattle.kw_world.proofs.Steps.{step-rows, step-seats}
 use Rattle.kw_core.specs.Events.{local_of, walked, world, is_valid}
 use Rattle.kw_core.proofs.Runs.{history-world}
 use Rattle.kw_laws.proofs.LawProofs.{laws_hold}
-
--- an event leaves the number of rows
-pub step-rows : (z : Sizes) (w : WorldView) (e : Event) → (step z w e).world.rows ≡ w.rows
-unfolding step
-step-rows z w e = go (slice_get w.locals e.seat)
-  where
-    moved : (l : Local) (b : Bool) → is_skipped l.activity e.choice ≡ b → (step_of z w e (Some l)).world.rows ≡ w.rows
-    moved l true h = rw h refl
-    moved l false h = rw h refl
-
-    go : (x : Option Local) → (step_of z w e x).world.rows ≡ w.rows
-    go (Some l) = moved l (is_skipped l.activity e.choice) refl
-    go None = refl
-
--- an event leaves the number of seats
-pub step-seats : (z : Sizes) (w : WorldView) (e : Event) → length (step z w e).world.locals ≡ length w.locals
-unfolding step
-step-seats z w e = go (slice_get w.locals e.seat)
-  where
-    moved : (l : Local) (b : Bool) → is_skipped l.activity e.choice ≡ b → length (step_of z w e (Some l)).world.locals ≡ length w.locals
-    moved l true h = rw h refl
-    moved l false h = rw h (length-set w.locals e.seat _)
-
-    go : (x : Option Local) → length (step_of z w e x).world.locals ≡ length w.locals
-    go (Some l) = moved l (is_skipped l.activity e.choice) refl
-    go None = refl
 
 walked-rows : (z : Sizes) (w : WorldView) (es : List Event) → (walked z w es).rows ≡ w.rows
 unfolding walked

@@ -1,33 +1,17 @@
 -- How often a pass asks its row for a cell.
-use Rattle.std.proofs.Common.{ℕ, ◌≡◌, ◌<◌, true, false, List, [], ◌∷◌, ◌++◌, arith, refl, sym, ◌∙◌, ap, subst, inl, inr, ◌⊎◌, length, length-append, append_assoc}
-use Rattle.std.proofs.lemmas.List.{append_cancel_left}
+use Rattle.std.proofs.Common.{ℕ, ◌≡◌, ◌<◌, true, false, refl, sym, ◌∙◌, subst}
 use mathlib.Core.Logic.{⊎_elim}
-use mathlib.Core.List.{IsPrefix}
 use Rattle.kw_words.specs.Count.{count_of}
 use Rattle.kw_world.specs.declared.activity.Activity.{Activity}
 use Rattle.kw_world.specs.declared.activity.Activity.TheVariants.{PutCount, PutAdd}
-use Rattle.kw_world.specs.declared.event.Choice.{Choice}
-use Rattle.kw_world.specs.declared.event.Event.{Event}
-use Rattle.kw_world.specs.declared.local.Local.{Local}
-use Rattle.kw_world.specs.declared.opening.Opening.{Opening}
-use Rattle.kw_world.specs.Operation.{told_by}
 use Rattle.kw_world.specs.Parts.{is_walking}
 use Rattle.kw_world.specs.PutTransitions.{given_of}
-use Rattle.kw_world.specs.WalkTransitions.{offered}
-use Rattle.kw_world.specs.Sizes.{product}
-use Rattle.kw_world.specs.Step.{word, transition_of}
-use Rattle.kw_core.specs.Events.{local_of, world, of_seat, event}
-use Rattle.kw_core.proofs.Events.{of_seat-append, of_seat-here, of_seat_own}
 use Rattle.kw_table.specs.declared.pass.Pass.{Pass}
 use Rattle.kw_table.specs.declared.shared.Shared.{Shared}
-use Rattle.kw_table.specs.Passes.{view, Makes}
-use Rattle.kw_table.proofs.Prefixes.{prefix_nil}
-use Rattle.kw_table.proofs.Stepping.{rest_is_others}
-use Rattle.kw_follow.specs.Following.{GoesTo, activity_in}
-use Rattle.kw_follow.specs.OwnEvents.{Met, MetIn, MetOnly, transition_after}
+use Rattle.kw_follow.specs.Following.{GoesTo}
+use Rattle.kw_follow.specs.OwnEvents.{Met, MetOnly}
 use Rattle.kw_follow.proofs.OwnEvents.{meets_none, met_on_one}
 use Rattle.kw_live.specs.Meeting.{AsksBelow, AsksNone, IsAsking}
-use Rattle.kw_follow.proofs.Growing.{first_own}
 
 -- a walk does not stand where a cell is asked for
 walks_on : (a : Activity) → is_walking a ≡ true → IsAsking a → ⊥

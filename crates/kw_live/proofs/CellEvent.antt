@@ -6,7 +6,7 @@ use Rattle.kw_model.specs.declared.call.Call.{Call}
 use Rattle.kw_model.specs.declared.call.Call.TheVariants.{Put, Del, Get, Scan}
 use Rattle.kw_words.specs.Plain.{version_of_word, key_of_word}
 use Rattle.kw_world.specs.declared.activity.Activity.{Activity}
-use Rattle.kw_world.specs.declared.activity.Activity.TheVariants.{Walk, LookCount, Cell, CellKey, CellValue, Leave, ClearScan}
+use Rattle.kw_world.specs.declared.activity.Activity.TheVariants.{Walk, LookCount, Cell, CellKey, CellValue}
 use Rattle.kw_world.specs.declared.event.Choice.TheVariants.{Go}
 use Rattle.kw_world.specs.declared.local.Local.{Local}
 use Rattle.kw_world.specs.Calls.{first_key, is_in_range, is_scan}
@@ -15,7 +15,6 @@ use Rattle.kw_world.specs.RowEnd.{IsInCells, passed, read_at, read_on, version_r
 use Rattle.kw_world.specs.ReadTransitions.{version_in_hand}
 use Rattle.kw_world.specs.Sizes.{Sizes, product}
 use Rattle.kw_world.specs.Step.{next_of, transition_of}
-use Rattle.kw_world.specs.Table.{transition}
 use Rattle.kw_world.proofs.Transitions.{transition_of-next}
 use Rattle.kw_laws.specs.Laws.{KeepsLaws}
 use Rattle.kw_reads.specs.Replies.{RisesBelow}

@@ -1,5 +1,5 @@
 -- The first events of a call, and those by which a scan gets its version or is stopped, as code makes them.
-use Rattle.std.proofs.Common.{ℕ, ◌≡◌, ◌<◌, ◌≤◌, ◌↔◌, ◌⊎◌, inl, inr, Bool, true, false, nat_le, nat_lt, if◌then◌else◌, Option, Some, None, [], refl, sym, ◌∙◌, ap, subst, arith}
+use Rattle.std.proofs.Common.{ℕ, ◌≡◌, ◌<◌, ◌≤◌, ◌↔◌, ◌⊎◌, inl, inr, Bool, true, false, nat_le, nat_lt, if◌then◌else◌, Option, Some, None, refl, sym, ◌∙◌, ap, subst, arith}
 use Rattle.std.proofs.lemmas.Bool.Decides.{nat_tests}
 use Rattle.std.specs.Prelude.{IfSome}
 use mathlib.Core.List.{IsPrefix}
@@ -25,10 +25,9 @@ use Rattle.kw_world.specs.Table.{transition}
 use Rattle.kw_table.specs.declared.pass.Pass.{Pass}
 use Rattle.kw_table.specs.declared.shared.Shared.{Shared}
 use Rattle.kw_table.specs.Passes.{view}
-use Rattle.kw_table.proofs.Prefixes.{prefix_trans}
 use Rattle.kw_follow.specs.Following.{Follows, GoesTo, activity_in}
 use Rattle.kw_follow.proofs.OneEvent.{same_activity}
-use Rattle.kw_follow.specs.OwnEvents.{Met, MetAs, MetIn}
+use Rattle.kw_follow.specs.OwnEvents.{Met, MetAs}
 use Rattle.kw_follow.proofs.OwnEvents.{met_later, met_earlier}
 use Rattle.kw_live.specs.Meeting.{MetClock}
 use Rattle.kw_live.specs.Stages.{HasEntered}

@@ -1,10 +1,10 @@
 -- Where a call stands between the functions that make its events.
-use Rattle.std.specs.Prelude.{◌≡◌, ℕ, ◌<◌, ◌≤◌, Option, Some, None, []}
+use Rattle.std.specs.Prelude.{ℕ, ◌<◌, ◌≤◌, Option, Some, None}
 use Rattle.kw_model.specs.declared.call.Call.{Call}
 use Rattle.kw_model.specs.declared.call.Call.TheVariants.{Put, Del, Get, Scan}
 use Rattle.kw_world.specs.declared.answer.Answer.TheVariants.{Pairs, Spent}
 use Rattle.kw_world.specs.declared.activity.Activity.{Activity}
-use Rattle.kw_world.specs.declared.activity.Activity.TheVariants.{Idle, Start, Look, LookCount, Cell, CellKey, CellValue, ClearScan, PutCount, Leave}
+use Rattle.kw_world.specs.declared.activity.Activity.TheVariants.{Start, Look, ClearScan, PutCount, Leave}
 use Rattle.kw_world.specs.declared.event.Choice.{Choice}
 use Rattle.kw_world.specs.declared.event.Choice.TheVariants.{Go, Guess}
 

@@ -9,7 +9,6 @@ use Rattle.kw_model.specs.declared.call.Reply.{Reply}
 use Rattle.kw_world.specs.declared.activity.Activity.{Activity}
 use Rattle.kw_world.specs.declared.activity.Activity.TheVariants.{Idle}
 use Rattle.kw_world.specs.declared.event.Choice.{Choice}
-use Rattle.kw_world.specs.declared.event.Event.{Event}
 use Rattle.kw_world.specs.declared.local.Local.{Local}
 use Rattle.kw_world.specs.Sizes.{product}
 use Rattle.kw_core.specs.Events.{local_of, world}
@@ -24,13 +23,13 @@ use Rattle.kw_table.specs.Views.{local_in}
 use Rattle.kw_follow.specs.Calling.{Calls, calls_in}
 use Rattle.kw_follow.specs.Following.{GoesTo, activity_in}
 use Rattle.kw_follow.specs.OwnEvents.{Met, MetIn}
-use Rattle.kw_live.specs.Meeting.{MetClock, MetCount, MetFull, MetRoom}
+use Rattle.kw_live.specs.Meeting.{MetCount, MetFull, MetRoom}
 use Rattle.kw_map.specs.declared.kiwi.PutEnd.{PutEnd}
 use Rattle.kw_map.specs.declared.kiwi.ScanEnd.{ScanEnd}
 use Rattle.kw_map.specs.declared.kiwi.ScanEnd.TheVariants.{Stopped, Spent}
 use Rattle.kw_map.specs.Gather.{TakesPrefix}
 use Rattle.kw_map.specs.Kiwi.{Answers, Took}
-use Rattle.kw_map.specs.Scanning.{StoppedAt, had, knew}
+use Rattle.kw_map.specs.Scanning.{StoppedAt, knew}
 
 -- it is one of the table
 pub of_map_lent : (s : Shared) (p q : Pass) → view q ≡ view p → q.seat.table_id ≡ p.seat.table_id → IsPassOf s p → IsPassOf s q

@@ -1,5 +1,5 @@
 -- Where a scan stands once it has entered.
-use Rattle.std.proofs.Common.{ℕ, ◌≡◌, ◌≤◌, Option, Some, [], inl, inr, refl, sym, ap, ◌∙◌, subst, slice_get}
+use Rattle.std.proofs.Common.{ℕ, ◌≡◌, ◌≤◌, Option, Some, inl, inr, refl, sym, ap, ◌∙◌, subst, slice_get}
 use Rattle.kw_model.specs.declared.call.Call.TheVariants.{Scan}
 use Rattle.kw_world.specs.declared.answer.Answer.{Answer}
 use Rattle.kw_world.specs.declared.answer.Answer.TheVariants as answer

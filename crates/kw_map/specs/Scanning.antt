@@ -1,5 +1,5 @@
 -- Where a scan stands between its rows, and what it took when it stopped.
-use Rattle.std.specs.Prelude.{◌≡◌, ◌⊎◌, ℕ, Option, List, []}
+use Rattle.std.specs.Prelude.{◌≡◌, ◌⊎◌, ℕ, Option, List}
 use mathlib.Core.List.{IsPrefix}
 use Rattle.kw_model.specs.declared.call.Call.{Call}
 use Rattle.kw_world.specs.declared.answer.Answer.TheVariants.{Pairs}

@@ -8,7 +8,7 @@ use Rattle.kw_world.specs.declared.event.Event.{Event}
 use Rattle.kw_world.specs.declared.activity.Activity.{Activity}
 use Rattle.kw_world.specs.declared.activity.Activity.TheVariants.{Idle}
 use Rattle.kw_world.specs.declared.event.Choice.{Choice}
-use Rattle.kw_world.specs.declared.event.Choice.TheVariants.{Begin, Go, Guess, Stop}
+use Rattle.kw_world.specs.declared.event.Choice.TheVariants.{Begin}
 use Rattle.kw_world.specs.declared.event.StepDone.{StepDone}
 use Rattle.kw_world.specs.declared.event.StepDone.TheVariants.{Moved, Ended, Skipped}
 use Rattle.kw_world.specs.declared.local.Local.{Local}

@@ -15,7 +15,6 @@ use Rattle.kw_core.specs.Step.{Step}
 use Rattle.kw_words.proofs.Refusals.{none_unless}
 use Rattle.kw_model.specs.declared.call.Call.{Call}
 use Rattle.kw_model.specs.declared.call.Call.TheVariants.{Put, Del, Get, Scan}
-use Rattle.kw_model.specs.declared.call.Reply.{Reply}
 use Rattle.kw_world.specs.declared.answer.Answer.TheVariants.{Done, Value, Absent, Pairs, NoRows, Spent, Stopped}
 use Rattle.kw_world.specs.declared.activity.Activity.TheVariants.{Leave}
 use Rattle.kw_world.specs.Calls.{first_key, last_key, put_value, is_scan}

@@ -23,12 +23,12 @@ use Rattle.kw_world.specs.declared.local.Local.{Local}
 use Rattle.kw_world.specs.declared.marks.Mark.{Mark}
 use Rattle.kw_world.specs.declared.event.Choice.{Choice}
 use Rattle.kw_world.specs.Sizes.{Sizes}
-use Rattle.kw_world.specs.Local.{resting}
 use Rattle.kw_world.specs.Marks.{mark_of}
 use Rattle.kw_world.specs.Calls.{first_key, last_key}
 use Rattle.kw_world.specs.Transition.{row_linked, row_or_first, leave}
 use Rattle.kw_world.specs.ReadTransitions.{with_pairs, gathering, remembering}
 use Rattle.kw_world.specs.Sane.{IsVersion, IsEntry, IsWord, IsLed, IsOffered, IsPair, IsAnswer, IsMark, IsCopy, IsActivity, IsRowBelow, IsLocal, IsLocalBelow, IsKnown, RisesBetween, marks_by, copies_by}
+use Rattle.kw_world.proofs.Opens.{rests_known}
 use Rattle.kw_core.specs.Words.{Words}
 use Rattle.kw_shape.specs.Shape.{Chain}
 use Rattle.kw_core.proofs.Events.{IsBegun}
@@ -58,35 +58,6 @@ at_activity z rows a l e k = record {
   below = k.below;
   remembered = subst (λ q. length l.remembered ≤ marks_by z q l) e k.room.remembered;
   gathered = subst (λ q. RisesBetween 0 (copies_by z q l) l.gathered) e k.room.gathered;
-}
-
--- a seat at rest knows nothing out of range
-pub rests_known : (z : Sizes) (rows n : ℕ) → IsSized z.seats z.cells rows → IsKnown z rows (resting n)
-rests_known z rows n sized = record {
-  ranges = record {
-    activity = tt;
-    call = tt;
-    epoch = (omega arith, omega arith);
-    want = omega arith;
-    lower = omega arith;
-    upper = omega arith;
-    waiting = (omega arith, omega arith);
-    drawn = (omega arith, omega arith);
-    version = (omega arith, omega arith);
-    pairs = All-nil IsPair;
-    looked = omega (arith, sized.some_seats);
-    met = omega (arith, sized.some_cells);
-    helping = (omega arith, omega arith);
-    marks = All-nil (IsMark z);
-    count = omega arith;
-    place = omega (arith, sized.some_cells);
-    place_version = (omega arith, omega arith);
-    place_key = omega arith;
-    copies = All-nil IsCopy;
-    cell = omega (arith, sized.some_cells);
-  };
-  below = record { row = omega (arith, sized.some_rows); candidate = omega (arith, sized.some_rows); next = tt };
-  room = record { remembered = omega arith; gathered = omega arith };
 }
 
 -- the entry that was met

@@ -1,7 +1,6 @@
 -- What an arrow leaves of the call that a seat makes.
 use Rattle.std.proofs.Common.{ℕ, ◌≡◌, ◌⊎◌, inl, inr, ◌≤◌, Option, Some, None, arith, refl}
 use Rattle.kw_words.specs.declared.layout.Name.TheVariants as name
-use Rattle.kw_model.specs.Map.{found}
 use Rattle.kw_world.specs.declared.answer.Answer.{Answer}
 use Rattle.kw_world.specs.Answers.{answer_found}
 use Rattle.kw_world.specs.declared.answer.Answer.TheVariants.{Done, Value, Absent, Pairs, NoRows, Spent, Stopped}

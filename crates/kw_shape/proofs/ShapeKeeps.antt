@@ -34,7 +34,6 @@ use Rattle.kw_shape.proofs.Known.{AreSane, at_activity, known_by}
 use Rattle.kw_shape.proofs.InTable.{words_sane}
 use Rattle.std.proofs.Common.{◌&&◌}
 use Rattle.std.proofs.lemmas.Bool.{and_parts}
-use Rattle.kw_model.specs.Map.{found}
 use Rattle.kw_model.specs.declared.call.Call.{Call}
 use Rattle.kw_model.specs.declared.call.Call.TheVariants.{Put, Del, Get, Scan}
 use Rattle.kw_world.specs.declared.answer.Answer.{Answer}

@@ -15,3 +15,5 @@ mod resume_entries;
 mod resume_put;
 mod resume_scan;
 pub mod step;
+#[cfg(test)]
+mod tests;

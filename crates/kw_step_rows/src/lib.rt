@@ -9,3 +9,5 @@
 pub mod operation;
 pub mod resume;
 pub mod step;
+#[cfg(test)]
+mod tests;

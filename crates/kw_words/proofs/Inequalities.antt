@@ -50,10 +50,6 @@ new_rows_are_odd = refl
 pub puts_pay_for_rows : MOST_NEW_ROWS * (SEATS + 1) ≤ 3 * (CELLS - BUILT - SEATS)
 puts_pay_for_rows = omega arith
 
--- a try of each seat after the last cell leaves the count of a row far below its frozen bit
-pub count_has_room : CELLS + SEATS < 2 ^ 31
-count_has_room = omega arith
-
 -- a try of each seat after the last cell does not reach the frozen bit
 pub tries_below_frozen : CELLS + SEATS < FROZEN_BIT
 tries_below_frozen = omega arith

@@ -2,9 +2,10 @@
 //!
 //! An event is one operation of a seat on one word of the table. Its kind says what the operation is for. Scripts name the
 //! kinds as `KINDS` lists them, in the order in which they are declared here.
-ghost use Rattle.std.specs.Prelude.{◌≡◌, ◌↔◌, Some, slice_get, IsTrue};
+ghost use Rattle.std.specs.Prelude.{◌≡◌, ◌↔◌, Some, length, slice_get, IsTrue};
 ghost use Rattle.kw_words.specs.Kind.{name_of, place_in_kinds};
 ghost use Rattle.kw_words.specs.declared.kind.Kind.{Kind};
+ghost use Rattle.kw_words.specs.declared.kind.TheConstants.Kind.{ALL};
 
 /// A kind of event.
 #[derive(Clone, Copy, Debug, PartialEq, Eq)]
@@ -214,6 +215,16 @@ impl Kind {
         ensures { IsTrue result ↔ (name_of self ≡ name.now) }
     {
         self.name() == name
+    }
+
+    /// The place of this kind in `KINDS` and in `ALL`, counted from 0. Both list each kind once.
+    pub fn place(self) -> usize
+        ensures place { result ≡ place_in_kinds self }
+        ensures own { slice_get ALL result ≡ Some self }
+        ensures named { slice_get KINDS.now result ≡ Some (record { now = name_of self }) }
+        ensures many { length KINDS.now ≡ length ALL }
+    {
+        self as usize
     }
 
     /// The name of this kind in `KINDS`.

@@ -6,7 +6,7 @@ use crate::link::Link;
 use crate::pend::Pend;
 use crate::plain;
 use crate::scan::ScanWord;
-use crate::sizes::{CELLS, NUMBER_END, SEATS, VERSION_END};
+use crate::sizes::{CELLS, NUMBER_END, SEATS, SPENT, VERSION_END};
 use crate::state::State;
 
 #[test]
@@ -15,6 +15,14 @@ fn tables_have_their_sizes(rt: HostRuntime) {
     assert_eq!(rt; Layout::<16, 128>::words(65_536), 34_930_740);
     assert_eq!(rt; Layout::<1, 1>::words(1), 17);
     assert_eq!(rt; Layout::<SEATS, CELLS>::words(64), 17_244);
+}
+
+// 2^48, and twice that
+#[test]
+fn clocks_and_epochs_are_spent_at_their_bound(rt: HostRuntime) {
+    assert_eq!(rt; SPENT, 281_474_976_710_656);
+    assert_eq!(rt; VERSION_END, 562_949_953_421_312);
+    assert_eq!(rt; NUMBER_END, 562_949_953_421_312);
 }
 
 #[test]

@@ -7,3 +7,4 @@ pub mod Steps
 pub mod Skipping
 pub mod Replies
 pub mod Begins
+pub mod Opens

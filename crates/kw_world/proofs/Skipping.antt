@@ -1,5 +1,5 @@
 -- An event is skipped exactly where its seat is idle and begins nothing.
-use Rattle.std.proofs.Common.{ℕ, ◌≡◌, ◌↔◌, Bool, true, false, nat_lt, Option, Some, None, if◌then◌else◌, refl, ap, sym, ◌∙◌, subst, slice_get}
+use Rattle.std.proofs.Common.{ℕ, ◌≡◌, ◌↔◌, Bool, true, false, Option, Some, None, refl, ap, sym, ◌∙◌, subst, slice_get}
 use Rattle.kw_world.specs.declared.activity.Activity.{Activity}
 use Rattle.kw_world.specs.declared.activity.Activity.TheVariants.{Idle}
 use Rattle.kw_world.specs.declared.local.Local.{Local}
@@ -13,7 +13,7 @@ use Rattle.kw_world.specs.WorldView.{WorldView}
 use Rattle.kw_world.specs.Operation.{told_by}
 use Rattle.kw_world.specs.WalkTransitions.{offered}
 use Rattle.kw_world.specs.Step.{word, transition_of, transition_at, step, stepped, Stepped, is_skipped, IsSkipped, IsMade}
-use Rattle.kw_world.proofs.Made.{Goes, goes_on}
+use Rattle.kw_world.proofs.Made.{goes_on}
 use Rattle.kw_world.proofs.Steps.{step-absent, step-moved, step-skipped}
 
 -- an event that is not skipped is not where its guess is not offered

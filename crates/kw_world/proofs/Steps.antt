@@ -1,5 +1,5 @@
 -- What the definition of one event comes to in each case. The layers above cite these, and do not open it.
-use Rattle.std.proofs.Common.{ℕ, ◌≡◌, Some, None, true, false, refl, slice_get, slice_set, slice_index, ap, sym, ◌∙◌}
+use Rattle.std.proofs.Common.{ℕ, ◌≡◌, Bool, Option, Some, None, true, false, refl, length, slice_get, slice_set, slice_index, length-set, ap, sym, ◌∙◌}
 use Rattle.kw_words.specs.Layout.{place_of}
 use Rattle.kw_world.specs.declared.local.Local.{Local}
 use Rattle.kw_world.specs.declared.event.Event.{Event}
@@ -13,7 +13,7 @@ use Rattle.kw_world.specs.Operation.{word_after, told_by}
 use Rattle.kw_world.specs.Transition.{Transition, Outcome, outcome}
 use Rattle.kw_world.specs.WalkTransitions.{offered}
 use Rattle.kw_world.specs.Table.{transition}
-use Rattle.kw_world.specs.Step.{word, transition_of, transition_at, next_of, followed, step, moved_of, stepped, is_skipped, kind_of}
+use Rattle.kw_world.specs.Step.{word, transition_of, transition_at, next_of, followed, step, step_of, moved_of, stepped, is_skipped, kind_of}
 use Rattle.kw_world.proofs.Transitions.{transition_of-next}
 
 -- the line of a seat is that of its activity
@@ -45,6 +45,32 @@ kind_of-moved z w e l known goes = rw (known, goes)
 pub kind_of-skipped : (z : Sizes) (w : WorldView) (e : Event) (l : Local) → slice_get w.locals e.seat ≡ Some l → is_skipped l.activity e.choice ≡ true → kind_of z w e ≡ None
 unfolding kind_of
 kind_of-skipped z w e l known skipped = rw (known, skipped)
+
+-- an event leaves the number of rows
+pub step-rows : (z : Sizes) (w : WorldView) (e : Event) → (step z w e).world.rows ≡ w.rows
+unfolding step
+step-rows z w e = go (slice_get w.locals e.seat)
+  where
+    moved : (l : Local) (b : Bool) → is_skipped l.activity e.choice ≡ b → (step_of z w e (Some l)).world.rows ≡ w.rows
+    moved l true h = rw h refl
+    moved l false h = rw h refl
+
+    go : (x : Option Local) → (step_of z w e x).world.rows ≡ w.rows
+    go (Some l) = moved l (is_skipped l.activity e.choice) refl
+    go None = refl
+
+-- an event leaves the number of seats
+pub step-seats : (z : Sizes) (w : WorldView) (e : Event) → length (step z w e).world.locals ≡ length w.locals
+unfolding step
+step-seats z w e = go (slice_get w.locals e.seat)
+  where
+    moved : (l : Local) (b : Bool) → is_skipped l.activity e.choice ≡ b → length (step_of z w e (Some l)).world.locals ≡ length w.locals
+    moved l true h = rw h refl
+    moved l false h = rw h (length-set w.locals e.seat _)
+
+    go : (x : Option Local) → length (step_of z w e x).world.locals ≡ length w.locals
+    go (Some l) = moved l (is_skipped l.activity e.choice) refl
+    go None = refl
 
 -- a world with the event's word set and the acting seat's local replaced is the world after the event
 made : (z : Sizes) (w : WorldView) (e : Event) (l k : Local) (done : StepDone) → slice_get w.locals e.seat ≡ Some l → is_skipped l.activity e.choice ≡ false

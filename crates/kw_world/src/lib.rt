@@ -24,4 +24,6 @@ pub mod marks;
 pub mod opening;
 pub mod operation;
 pub mod part;
+#[cfg(test)]
+mod tests;
 pub mod world;

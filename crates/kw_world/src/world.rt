@@ -8,6 +8,7 @@ ghost use Rattle.std.specs.Borrow.{sem};
 ghost use Rattle.kw_world.specs.Lending.{LendsLocal};
 ghost use Rattle.kw_world.specs.Sizes.{product};
 ghost use Rattle.kw_world.specs.Opening.{IsOpening, opened, opening_word};
+ghost use Rattle.kw_world.specs.Sane.{IsSane};
 ghost use Rattle.kw_world.specs.Step.{word};
 ghost use Rattle.kw_words.specs.Layout.{IsWithin};
 ghost use Rattle.kw_words.specs.declared.layout.Name.{Name};
@@ -40,9 +41,9 @@ impl Model for World {
 impl World {
     /// The world that a run begins with.
     ///
-    /// There are 1 to `MOST_ROWS` rows and 1 to `SEATS` seats; the clock and the epoch are from 1 to `SPENT`. Transition 0 is
+    /// There are 1 to `MOST_ROWS` rows and 1 to `SEATS` seats; the clock and the epoch are from 1 to `SPENT`. Row 0 is
     /// normal, may hold every key and has no next row, the list begins with it, all other rows are free, and every seat
-    /// is idle.
+    /// is idle. All that the world holds is in range.
     pub fn open(
         alloc: Global,
         rows: u32,
@@ -52,6 +53,8 @@ impl World {
     ) -> Result<World, Memory>
         requires { IsOpening product (record { rows = rows; seats = seats; clock = clock; epoch = epoch }) }
         ensures world { IfOk result (λ world. world ≡ opened product (record { rows = rows; seats = seats; clock = clock; epoch = epoch })) }
+
+        ensures sane { IfOk result (λ world. IsSane product world) }
 
         // the words by name
         ensures named { IfOk result (λ world. (name : Name) → IsWithin SEATS CELLS rows name → word product world name ≡ opening_word (record { rows = rows; seats = seats; clock = clock; epoch = epoch }) name) }

@@ -1,6 +1,5 @@
-use Rattle.std.proofs.Common.{◌≡◌, refl, subst, sym}
+use Rattle.std.proofs.Common.{refl, subst, sym}
 use Rattle.kw_world.specs.declared.event.Choice.TheVariants.{Go}
-use Rattle.kw_world.specs.declared.event.StepDone.TheVariants.{Ended, Moved, Skipped}
 use Rattle.kw_core.specs.Stages.{IsBusy}
 use Rattle.kw_follow.proofs.Ends.{end_idles, end_replies, end_rests, ends}
 use Rattle.kw_follow.proofs.Growing.{closes}

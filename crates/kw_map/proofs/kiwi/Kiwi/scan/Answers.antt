@@ -1,7 +1,3 @@
-use Rattle.std.proofs.Common.{◌∙◌, ap}
-use Rattle.kw_table.specs.declared.pass.View.{View}
-use Rattle.kw_table.specs.Views.{local_in}
-use Rattle.kw_world.specs.declared.local.Local.{Local}
 use Rattle.kw_map.proofs.Lending.{answers_lent, goes_lent, idle_lent, of_map_lent}
 use Rattle.kw_map.proofs.Ordering.{pass_ordered}
 use Rattle.kw_map.proofs.kiwi.Kiwi.scan.Goals as goal

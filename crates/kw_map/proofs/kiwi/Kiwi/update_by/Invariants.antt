@@ -1,7 +1,7 @@
-use Rattle.std.proofs.Common.{◌≡◌, Some, []}
+use Rattle.std.proofs.Common.{◌≡◌, Some}
 use Rattle.kw_world.specs.declared.activity.Activity.TheVariants.{Start}
 use Rattle.kw_follow.specs.Calling.{Opens}
-use Rattle.kw_follow.specs.Following.{Follows, GoesTo, held}
+use Rattle.kw_follow.specs.Following.{Follows, GoesTo}
 use Rattle.kw_live.specs.Meeting.{AsksNone}
 use Rattle.kw_map.proofs.kiwi.Kiwi.update_by.Given as goal
 
