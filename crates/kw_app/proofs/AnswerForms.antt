@@ -13,7 +13,8 @@ use Rattle.kw_line.specs.declared.answer.Answer.{Answer}
 use Rattle.kw_line.specs.declared.answer.Answer.TheVariants as answer
 use Rattle.kw_line.specs.declared.item.Form.{Form}
 use Rattle.kw_line.specs.declared.item.Form.TheVariants as form
-use Rattle.kw_line.specs.Answered.{IsReplyOf, answer_for, answer_of_pairs, answers_for, number_or_nothing, is_update, is_get, is_range, least, greatest, values}
+use Rattle.kw_model.specs.Values.{least, greatest, values}
+use Rattle.kw_line.specs.Answered.{IsReplyOf, answer_for, answer_of_pairs, answers_for, number_or_nothing, is_update, is_get, is_range}
 use Rattle.kw_line.specs.Line.{IsCallOf}
 use Rattle.kw_app.specs.Running.{is_refused}
 

@@ -12,7 +12,7 @@ use Rattle.kw_world.specs.declared.event.Event.{Event}
 use Rattle.kw_world.specs.declared.opening.Opening.{Opening}
 use Rattle.kw_table.specs.declared.pass.Pass.{Pass}
 use Rattle.kw_table.specs.Passes.{view}
-use Rattle.kw_table.specs.Meetings.{AtEach, Gathers, front_seen}
+use Rattle.kw_table.specs.Meetings.{AtEach, MeetsAt, front_seen}
 use Rattle.kw_table.proofs.Prefixes.{prefix_self}
 use Rattle.kw_follow.specs.Following.{GoesTo}
 use Rattle.kw_map.specs.declared.kiwi.Kiwi.{Kiwi}
@@ -71,7 +71,7 @@ worked_each m b ps js ds (Ok r) n same a e jobs dones len passes parts = λ i d 
 
 -- the whole block: what all workers did, in the list that all passes then have seen
 pub grew : (m : Kiwi) (b : Dealt) (ps qs rs : List Pass) (parts : List (Vec Answered Global)) (E E' : List Event) (answers : List Answer) → AreTogether m b.workers E ps → length qs ≡ length ps
-    → WorkedEach m b ps qs parts → AtEach (Gathers m.shared E') qs rs → answers ≡ map (λ (a : Answered). a.answer) (merge b.workers (answers_of parts) no_answer [] b.lines)
+    → WorkedEach m b ps qs parts → AtEach (MeetsAt m.shared E') qs rs → answers ≡ map (λ (a : Answered). a.answer) (merge b.workers (answers_of parts) no_answer [] b.lines)
     → Grew m.shared.opening b.workers b.lines E E' answers
 grew m b ps qs rs parts E E' answers together same worked met is = record {
   longer = (one 0 together.some).longer;
@@ -91,7 +91,7 @@ grew m b ps qs rs parts E E' answers together same worked met is = record {
 
 -- the passes are together again
 pub together_again : (m : Kiwi) (b : Dealt) (ps qs rs : List Pass) (parts : List (Vec Answered Global)) (E E' : List Event) → AreTogether m b.workers E ps → length qs ≡ length ps → length rs ≡ length qs
-    → WorkedEach m b ps qs parts → AtEach (Gathers m.shared E') qs rs → AreTogether m b.workers E' rs
+    → WorkedEach m b ps qs parts → AtEach (MeetsAt m.shared E') qs rs → AreTogether m b.workers E' rs
 together_again m b ps qs rs parts E E' together same again worked met = record {
   some = together.some;
   len = again ∙ (same ∙ together.len);

@@ -1,5 +1,5 @@
 -- Which inputs are bad: a good one has no bad line, and a bad one has one line that is told.
-use Rattle.std.proofs.Common.{◌≡◌, ℕ, Bool, ◌≤◌, ◌<◌, List, length, inl, sym, ◌∙◌, subst, arith, Option, Some, None}
+use Rattle.std.proofs.Common.{◌≡◌, ℕ, Bool, ◌≤◌, ◌<◌, List, length, inl, inr, sym, ◌∙◌, arith, Option, Some, None}
 use mathlib.Core.Logic.{⊎_elim}
 use Rattle.std.specs.Prelude.{IfSome}
 use Rattle.kw_line.specs.declared.parse.TheConstants.{MOST_BYTES}
@@ -9,17 +9,17 @@ use Rattle.kw_command.specs.declared.command.Command.{Command}
 use Rattle.kw_command.specs.declared.command.Command.TheVariants as command
 use Rattle.kw_app.specs.declared.outcome.Outcome.{Outcome}
 use Rattle.kw_app.specs.declared.outcome.Status.TheVariants as status
-use Rattle.kw_app.specs.Ends.{IsPrinted, IsFirstBad, IsToldBad, Prints, Reads, Tells}
+use Rattle.kw_app.specs.Ends.{IsPrinted, IsFirstOutside, IsToldBad, Reads}
 use Rattle.kw_app.proofs.Scripts.{commands_or_bad, same_bad_line}
 
 -- what has a text has no bad line
-printed_or_bad : (c : Command) (front : Option Pass) (refused : Bool) (bytes printed : List ℕ) (at : ℕ) → IsPrinted c front refused bytes printed → IsFirstBad c bytes at → ⊥
+printed_or_bad : (c : Command) (front : Option Pass) (refused : Bool) (bytes printed : List ℕ) (at : ℕ) → IsPrinted c front refused bytes printed → IsFirstOutside c bytes at → ⊥
 printed_or_bad (command.Replay w r) front refused bytes printed at good bad = items_or_bad bytes good.items at good.lines bad
 printed_or_bad (command.Simulate r) front refused bytes printed at good bad = commands_or_bad r bytes good.2.commands at good.2.lines bad
 printed_or_bad (command.Gen s n w r) front refused bytes printed at good bad = bad
 
 -- there is one first bad line at most
-one_bad : (c : Command) (bytes : List ℕ) (m n : ℕ) → IsFirstBad c bytes m → IsFirstBad c bytes n → m ≡ n
+one_bad : (c : Command) (bytes : List ℕ) (m n : ℕ) → IsFirstOutside c bytes m → IsFirstOutside c bytes n → m ≡ n
 one_bad (command.Replay w r) bytes m n h k = same_bad bytes m n h k
 one_bad (command.Simulate r) bytes m n h k = same_bad_line r bytes m n h k
 one_bad (command.Gen s i w r) bytes m n h k = absurd h
@@ -32,7 +32,7 @@ good_is_not_bad c front refused bytes printed outcome short good at bad = absurd
     at_length long = omega arith
 
 -- the first bad line is the line that is told
-pub bad_is_told : (c : Command) (bytes : List ℕ) (outcome : Outcome) (n : ℕ) → length bytes ≤ MOST_BYTES → outcome.status ≡ status.BadInput → outcome.line ≡ n → IsFirstBad c bytes n → IsToldBad c outcome bytes
+pub bad_is_told : (c : Command) (bytes : List ℕ) (outcome : Outcome) (n : ℕ) → length bytes ≤ MOST_BYTES → outcome.status ≡ status.BadInput → outcome.line ≡ n → IsFirstOutside c bytes n → IsToldBad c outcome bytes
 bad_is_told c bytes outcome n short is_bad is_at first at bad = inl (is_bad, ⊎_elim (λ long. absurd (at_length long.0)) (λ other. is_at ∙ one_bad c bytes n at first other.1) bad.1)
   where
     at_length : MOST_BYTES < length bytes → ⊥
@@ -45,28 +45,16 @@ long_is_told c bytes outcome long is_bad is_none at bad = inl (is_bad, ⊎_elim 
     at_length : length bytes ≤ MOST_BYTES → ⊥
     at_length short = omega arith
 
--- what is told of the bytes that were read is told of all that was left to read
-pub told_of_left : (c : Command) (left : Option (List ℕ)) (bytes : List ℕ) (outcome : Outcome) → IfSome left (λ all. bytes ≡ all) → IsToldBad c outcome bytes → IfSome left (IsToldBad c outcome)
-told_of_left c None bytes outcome e h = tt
-told_of_left c (Some all) bytes outcome e h = subst (IsToldBad c outcome) e h
+-- want of memory excuses that no bad line is told, and so does a read that failed
+pub memory_is_told : (c : Command) (left : Option (List ℕ)) (outcome : Outcome) → outcome.status ≡ status.OutOfMemory → IfSome left (IsToldBad c outcome)
+memory_is_told c None outcome e = tt
+memory_is_told c (Some all) outcome e = λ at bad. inr (inr e)
 
--- what is printed of the bytes that were read is printed of all that was left to read
-pub prints_of_left : (P : List ℕ → Type 0) (left : Option (List ℕ)) (bytes : List ℕ) → IfSome left (λ all. bytes ≡ all) → P bytes → IfSome left P
-prints_of_left P None bytes e h = tt
-prints_of_left P (Some all) bytes e h = subst P e h
+pub fault_is_told : (c : Command) (left : Option (List ℕ)) (outcome : Outcome) → outcome.status ≡ status.ReadFault → IfSome left (IsToldBad c outcome)
+fault_is_told c None outcome e = tt
+fault_is_told c (Some all) outcome e = λ at bad. inr (inl e)
 
--- the text, the pass and whether a reply is a refusal, as the outcome has them
-pub prints : (c : Command) (front shown : Option Pass) (refused said : Bool) (Writes : List ℕ → Type 0) (bytes printed : List ℕ) → shown ≡ front → refused ≡ said → length bytes ≤ MOST_BYTES
-    → IsPrinted c front refused bytes printed → Writes printed → Prints c shown said Writes bytes
-prints c front shown refused said Writes bytes printed e h short is writes = record {
-  short = short;
-  printed = printed;
-  is_printed = subst (λ (x : Option Pass). IsPrinted c x said bytes printed) (sym e) (subst (λ (x : Bool). IsPrinted c front x bytes printed) h is);
-  writes = writes;
-}
-
--- what is written of an input is what the command tells
-pub tells_of : (c : Command) (left : Option (List ℕ)) (front : Option Pass) (refused : Bool) (Writes : List ℕ → Type 0) → Reads c → IfSome left (Prints c front refused Writes) → Tells c left front refused Writes
-tells_of (command.Replay w r) left front refused Writes reads h = h
-tells_of (command.Simulate r) left front refused Writes reads h = h
-tells_of (command.Gen s n w r) left front refused Writes reads h = absurd reads
+-- a command that reads nothing has no bad input
+pub unread_is_told : (c : Command) (left : Option (List ℕ)) (outcome : Outcome) → (Reads c → ⊥) → IfSome left (IsToldBad c outcome)
+unread_is_told c None outcome none = tt
+unread_is_told c (Some all) outcome none = λ at bad. absurd (none bad.0)

@@ -10,18 +10,19 @@ use Rattle.kw_line.specs.declared.item.Form.TheVariants as form
 use Rattle.kw_line.specs.Answered.{IsReplyOf, is_range, answer_for, answer_of_pairs}
 use Rattle.kw_line.specs.Line.{IsCallOf}
 use Rattle.kw_table.specs.declared.pass.Pass.{Pass}
-use Rattle.kw_map.specs.Kiwi.{Answers as Scans}
-use Rattle.kw_app.specs.Working.{LineAnswered, MetSpent}
+use Rattle.kw_map.specs.Gather.{Takes}
+use Rattle.kw_map.specs.Kiwi.{AnswersScan}
+use Rattle.kw_app.specs.Working.{LineAnswered}
 
 -- a scan whose gatherer was new answers what the gatherer says of the lists for which it stands
-pub gathered : {S : Type 0} (last : S → Option ℕ) (stands : S → Pairs → Type 0) (stops : S → ℕ) (p q : Pass) (from upto : ℕ) (old new : S) (f : Form) (answer : Answer)
-    → IsTrue (is_range f) → Scans last stands stops p q from upto old new (Ok tt) → stands old [] → ((list : Pairs) → stands new list → answer ≡ answer_of_pairs f list) → LineAnswered p q (Scan from upto) f answer
-gathered last stands stops p q from upto old new f answer range scan start gives = record {
+pub gathered : {S : Type 0} (last : S → Option ℕ) (stands : S → Pairs → Type 0) (Counted Same : Type 0) (p q : Pass) (from upto : ℕ) (old new : S) (f : Form) (answer : Answer)
+    → IsTrue (is_range f) → AnswersScan (λ pairs. Takes last stands old pairs new) Counted Same p q from upto (Ok tt) → stands old [] → ((list : Pairs) → stands new list → answer ≡ answer_of_pairs f list) → LineAnswered p q (Scan from upto) f answer
+gathered last stands Counted Same p q from upto old new f answer range scan start gives = record {
   reply = scan.reply;
   calls = scan.calls;
-  is_reply = subst (IsReplyOf f) (sym scan.took.1) range;
-  answer_is = gives scan.took.0 (scan.took.2.follows [] start) ∙ sym (ap (answer_for f) scan.took.1);
-  cause = λ e. let bad : reply.Pairs scan.took.0 ≡ reply.Spent = sym scan.took.1 ∙ e in absurd (cc);
+  is_reply = subst (IsReplyOf f) (sym scan.gave.1) range;
+  answer_is = gives scan.gave.0 (scan.gave.2.follows [] start) ∙ sym (ap (answer_for f) scan.gave.1);
+  cause = λ e. let bad : reply.Pairs scan.gave.0 ≡ reply.Spent = sym scan.gave.1 ∙ e in absurd (cc);
 }
 
 -- the form of a put's line

@@ -66,7 +66,7 @@ so_far_call items i m made c f s l e =
       completes = append_assoc made (answer_for f (answer m c) ∷ []) (answers_from (after m c) (drop (i + 1) items)) ∙ (ap (λ (r : List Item). made ++ answers_from m r) (sym is) ∙ s.completes);
     }
 
--- a wait is passed over
+-- a wait is left out
 pub so_far_wait : (items : List Item) (i : ℕ) (m : Pairs) (made : List Answer) → SoFar items i m made → i < length items → item.Wait ≡ get_or items i item.Wait → SoFar items (i + 1) m made
 so_far_wait items i m made s l e =
     let is : drop i items ≡ item.Wait ∷ drop (i + 1) items = rest_is items i item.Wait l e in

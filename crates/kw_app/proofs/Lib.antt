@@ -19,4 +19,5 @@ pub mod LineOrdersPlaces
 pub mod LineOrders
 pub mod AnswerForms
 pub mod Headlines
-pub mod Loads
+pub mod QuietGenerated
+pub mod RunEnds

@@ -4,7 +4,7 @@ use Rattle.std.specs.List.{slice_get}
 use Rattle.std.proofs.lemmas.Bool.Decides.{Decides-eqb}
 use Rattle.std.proofs.lemmas.List.{take-append-drop}
 use Rattle.std.proofs.lemmas.Option.{same_Some}
-use Rattle.kw_order.proofs.Turns.{filtered_at, place_of, passed_more, passed_once}
+use Rattle.kw_order.proofs.Turns.{filtered_at, place_of, counted_more, counted_once}
 use Rattle.kw_work.specs.declared.line.Line.{Line}
 use Rattle.kw_work.specs.Dealing.{worker_of, part}
 use Rattle.kw_work.specs.Collecting.{merge}
@@ -38,17 +38,17 @@ pub share_of : (n w k : ℕ) (lines : List Line) (l : Line) → slice_get (part 
 unfolding part
 share_of n w k lines l e =
     let p = place_of (λ m. worker_of n m == w) lines k l e in
-    record { place = p.place; here = p.here; worker = (Decides-eqb (worker_of n l) w).0 p.passes; before = p.before }
+    record { place = p.place; here = p.here; worker = (Decides-eqb (worker_of n l) w).0 p.is_true; before = p.before }
 
 -- a later line of a worker has a later place in its part
 pub own_before_more : (n w i j : ℕ) (lines : List Line) (l : Line) → i < j → slice_get lines i ≡ Some l → worker_of n l ≡ w → own_before n w lines i < own_before n w lines j
 unfolding part
-own_before_more n w i j lines l lt e is = passed_more (λ m. worker_of n m == w) lines i j l lt e (eq-eqb (worker_of n l) w is)
+own_before_more n w i j lines l lt e is = counted_more (λ m. worker_of n m == w) lines i j l lt e (eq-eqb (worker_of n l) w is)
 
 -- and no two lines of a worker have the same
 pub own_before_once : (n w i j : ℕ) (lines : List Line) (l m : Line) → slice_get lines i ≡ Some l → slice_get lines j ≡ Some m → worker_of n l ≡ w → worker_of n m ≡ w → own_before n w lines i ≡ own_before n w lines j → i ≡ j
 unfolding part
-own_before_once n w i j lines l m e f a b same = passed_once (λ q. worker_of n q == w) lines i j l m e (eq-eqb (worker_of n l) w a) f (eq-eqb (worker_of n m) w b) same
+own_before_once n w i j lines l m e f a b same = counted_once (λ q. worker_of n q == w) lines i j l m e (eq-eqb (worker_of n l) w a) f (eq-eqb (worker_of n m) w b) same
 
 -- the first lines of the first lines
 take_less : {X : Type 0} (m j : ℕ) (xs : List X) → m ≤ j → take m (take j xs) ≡ take m xs

@@ -13,7 +13,7 @@ use Rattle.kw_laws.proofs.SeatCalls.{calls_still}
 use Rattle.kw_table.specs.declared.pass.Pass.{Pass}
 use Rattle.kw_table.specs.Passes.{view}
 use Rattle.kw_table.specs.Views.{Meets}
-use Rattle.kw_table.specs.Meetings.{Gathers}
+use Rattle.kw_table.specs.Meetings.{MeetsAt}
 use Rattle.kw_table.proofs.Prefixes.{prefix_trans}
 use Rattle.kw_table.proofs.Stepping.{rest_is_others}
 use Rattle.kw_follow.specs.Calling.{calls_in, now_in}
@@ -46,7 +46,7 @@ calls_seated m E i p at =
     ∙ (ap (λ n. calls_seen product m.shared.opening n (view p).seen) at.number ∙ ap (λ es. calls_seen product m.shared.opening i es) at.seen)
 
 -- the pass that met is seated again
-pub seated_again : (m : Kiwi) (b : Dealt) (E E' : List Event) (i : ℕ) (p q r : Pass) (answers : List Answered) → IsSeated m E i p → Worked m b p q answers → Gathers m.shared E' q r → IsSeated m E' i r
+pub seated_again : (m : Kiwi) (b : Dealt) (E E' : List Event) (i : ℕ) (p q r : Pass) (answers : List Answered) → IsSeated m E i p → Worked m b p q answers → MeetsAt m.shared E' q r → IsSeated m E' i r
 seated_again m b E E' i p q r answers at worked met = record {
   idle = record { of_map = met.of_table; idle = ap (λ (l : Local). l.activity) met.meets.local ∙ worked.idle.idle; holds = (worked.idle.holds.0, met.keeps ∙ worked.idle.holds.1, worked.idle.holds.2) };
   number = met.meets.number ∙ (worked.goes.number ∙ at.number);
@@ -63,7 +63,7 @@ pub record OneGrew (o : Opening) (n : ℕ) (lines : List Line) (E E' : List Even
   pub answers_are : answers ≡ answered_by (part n w lines) (more_calls o E E' w)
 
 -- it is what the worker's pass knew when it had answered its lines
-pub one_grew : (m : Kiwi) (b : Dealt) (E E' : List Event) (w : ℕ) (p q r : Pass) (answers : List Answered) → IsSeated m E w p → Worked m b p q answers → Gathers m.shared E' q r
+pub one_grew : (m : Kiwi) (b : Dealt) (E E' : List Event) (w : ℕ) (p q r : Pass) (answers : List Answered) → IsSeated m E w p → Worked m b p q answers → MeetsAt m.shared E' q r
     → OneGrew m.shared.opening b.workers b.lines E E' w answers
 one_grew m b E E' w p q r answers at worked met =
     let o : Opening = m.shared.opening in

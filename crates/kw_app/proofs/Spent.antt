@@ -1,12 +1,11 @@
 -- A call that was told as spent, and the event by which its seat found the versions spent.
-use Rattle.std.proofs.Common.{ℕ, zero, suc, ◌≡◌, ◌+◌, ◌<◌, ◌≤◌, ◌⊎◌, inl, inr, true, List, [], ◌∷◌, ◌++◌, length, All, Option, Some, None, refl, sym, ap, ◌∙◌, subst, arith, length-append}
+use Rattle.std.proofs.Common.{ℕ, zero, suc, ◌≡◌, ◌+◌, ◌<◌, ◌≤◌, ◌⊎◌, inl, inr, true, List, [], ◌∷◌, ◌++◌, length, Some, None, refl, sym, ap, ◌∙◌, subst, arith}
 use Rattle.std.specs.List.{slice_get}
 use Rattle.std.proofs.lemmas.Bool.{cases_lt}
-use Rattle.std.proofs.lemmas.Option.{same_Some, slice_get_within}
+use Rattle.std.proofs.lemmas.Option.{same_Some}
 use Rattle.kw_model.specs.declared.call.Call.{Call}
 use Rattle.kw_model.specs.declared.call.Reply.{Reply}
 use Rattle.kw_model.specs.declared.call.Reply.TheVariants.{Spent}
-use Rattle.kw_world.specs.declared.activity.Activity.{Activity}
 use Rattle.kw_world.specs.declared.activity.Activity.TheVariants.{Idle, ScanClock}
 use Rattle.kw_world.specs.declared.event.Choice.TheVariants.{Go}
 use Rattle.kw_world.specs.declared.event.Event.{Event}
@@ -17,10 +16,9 @@ use Rattle.kw_core.specs.declared.history.End.{End}
 use Rattle.kw_core.specs.Events.{is_valid, world, local_of, event}
 use Rattle.kw_core.specs.Stages.{IsBusy}
 use Rattle.kw_core.proofs.Events.{valid_front}
-use Rattle.kw_laws.specs.SeatCalls.{CallSeen, calls_seen, begun_at, ended_at, AreInTurn, AreStill, IsStill, HasLast, KeepsTurns}
+use Rattle.kw_laws.specs.SeatCalls.{CallSeen, calls_seen, begun_at, ended_at, AreInTurn, AreStill, IsStill, HasLast}
 use Rattle.kw_laws.proofs.SeatCalls.{calls_in_turn, calls_last}
 use Rattle.kw_table.specs.declared.pass.Pass.{Pass}
-use Rattle.kw_table.specs.declared.shared.Shared.{Shared}
 use Rattle.kw_table.specs.Passes.{view}
 use Rattle.kw_table.proofs.Prefixes.{prefix_nil, prefix_trans}
 use Rattle.kw_follow.specs.Calling.{Calls}

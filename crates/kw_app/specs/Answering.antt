@@ -34,7 +34,8 @@ pub record IsRun (o : Opening) (items : List Item) (answers : List Answer) (p : 
   pub shows : Shows o items answers (view p)
   pub headline : Headline o (view p).seen items answers
 
--- the answers are those of the map of one thread, since more lines than a row has cells set a value or take a key away
+-- for now, until full rows are rebalanced: the answers are those of the map of one thread, since more lines than a row has cells set a value
+-- or take a key away
 pub record IsAlone (items : List Item) (answers : List Answer) : Type 0 where
   pub many : CELLS < updates items
   pub answers_are : answers ≡ answers_to items

@@ -1,4 +1,4 @@
--- The lines of a generated load.
+-- The lines that the generator makes.
 use Rattle.std.specs.Prelude.{ℕ, zero, suc, ◌+◌, ◌-◌, ◌*◌, ◌/◌, ◌%◌, ◌^◌, ◌==◌, nat_lt, if◌then◌else◌, List, [], ◌∷◌, ◌++◌}
 use Rattle.kw_model.specs.declared.call.Call.TheVariants as call
 use Rattle.kw_line.specs.declared.item.Form.{Form}
@@ -38,6 +38,6 @@ of_all f = item.Call (call.Scan 0 (2 ^ 32 - 1)) f
 abbrev pub last_lines : List Item
 last_lines = item.Wait ∷ of_all form.Count ∷ of_all form.Sum ∷ of_all form.Least ∷ of_all form.Greatest ∷ []
 
--- the lines of a generated load that begins with this number and has this many lines before the last ones
+-- the lines that are made from this number on: this many, and the last ones
 abbrev pub generated : ℕ → ℕ → List Item
 generated start count = lines_after (start % MODULUS) count ++ last_lines

@@ -10,5 +10,5 @@ pub mod Answering
 pub mod Replay
 pub mod Generated
 pub mod Summary
-pub mod Load
+pub mod Gen
 pub mod Ends

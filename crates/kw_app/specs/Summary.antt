@@ -1,4 +1,4 @@
--- The summary of the replies to a generated load.
+-- The summary of the replies to generated lines.
 use Rattle.std.specs.Prelude.{ℕ, Bool, true, false, ◌+◌, ◌-◌, ◌&&◌, if◌then◌else◌, List, [], ◌∷◌, ◌++◌, length, drop, codes, decimal}
 use Rattle.std.specs.List.{count_by}
 use Rattle.kw_line.specs.declared.item.Form.{Form}

@@ -1,15 +1,14 @@
-//! The answers to the lines of an input or of a generated load.
+//! The answers to the lines of an input or to generated lines.
 //!
 //! The lines are asked of the concurrent map, by as many workers as asked, where those that set a value or take a key away are no more
 //! than a row has cells. The map has no rebalances yet, so longer inputs are asked of a plain list in line order.
-//! `specs/Answering.antt` says what the answers are worth in both cases; `replay` and `load` print them.
+//! `specs/Answering.antt` says what the answers are worth in both cases; `replay` and `gen_command` print them.
 ghost use Rattle.std.specs.Prelude.{◌≡◌, ◌<◌, ◌^◌, length, IfOk};
 ghost use Rattle.std.specs.List.{AllByRecursion};
 ghost use Rattle.kw_line.specs.Line.{IsItem};
-ghost use Rattle.kw_world.specs.Opening.{IsOpening};
-ghost use Rattle.kw_world.specs.Sizes.{product};
-ghost use Rattle.kw_app.specs.Answering.{IsAnswered, opening, some_refused, updates};
+ghost use Rattle.kw_app.specs.Answering.{IsAnswered, some_refused, updates};
 
+use crate::crew::Crew;
 use crate::plain::answers;
 use crate::running::run_on_map;
 use crate::working::Gate;
@@ -22,29 +21,26 @@ use std::alloc::Global;
 use std::sync::Wait;
 use std::thread::Threads;
 
-/// The answers to these items, by this many workers on a map of this many rows, and the pass that has seen the run where they came from
-/// the concurrent map.
+/// The crew's answers to these items, and the pass that has seen the run where they came from the concurrent map.
 pub fn answered<R: Threads + Wait + Sync, G: Gate + Sync>(
     rt: &R,
     alloc: Global,
-    workers: u32,
-    rows: u32,
+    crew: &Crew<'_, G>,
     items: &[Item],
-    gate: &G,
 ) -> Result<(Option<Pass>, Vec<Answer>), Memory>
-    requires opening { IsOpening product (opening workers rows) }
     requires few { length items.now < 2 ^ 32 }
     requires items { AllByRecursion IsItem items.now }
-    ensures { IfOk result (λ both. IsAnswered workers rows items.now both.1.items both.0) }
+    ensures { IfOk result (λ both. IsAnswered crew.now.workers crew.now.rows
+        items.now both.1.items both.0) }
 {
     if updates(items) > CELLS {
         return Ok((None, answers(alloc, items)?));
     }
-    let (front, answers) = run_on_map(rt, alloc, rows, workers, items, gate)?;
+    let (front, answers) = run_on_map(rt, alloc, crew, items)?;
     Ok((Some(front), answers))
 }
 
-/// How many lines set a value or take a key away.
+/// How many lines set a value or take a key away. For now that decides who answers; it is not asked any more once full rows are rebalanced.
 fn updates(items: &[Item]) -> usize
     ensures { result ≡ updates items.now }
 {

@@ -6,13 +6,12 @@ ghost use Rattle.std.specs.Prelude.{◌≡◌, ◌<◌, IfOk};
 ghost use Rattle.kw_words.specs.declared.sizes.TheConstants.{VALUE_END};
 ghost use Rattle.kw_line.specs.declared.answer.Answer.TheVariants as answer;
 ghost use Rattle.kw_line.specs.declared.item.Form.TheVariants as form;
-ghost use Rattle.kw_line.specs.Answered.{number_or_nothing};
 ghost use Rattle.kw_follow.specs.Following.{GoesTo};
 ghost use Rattle.kw_map.specs.Kiwi.{IsIdle};
 ghost use Rattle.kw_work.specs.Dealing.{IsLine};
 ghost use Rattle.kw_app.specs.Working.{LineAnswered};
 
-use kw_line::answer::Answer;
+use kw_line::answer::{Answer, number_or_nothing};
 use kw_line::item::Form;
 use kw_map::gather_list::ListGather;
 use kw_map::gather_numbers::{CountGather, GreatestGather, LeastGather, SumGather};
@@ -39,7 +38,8 @@ pub fn ask<R: Wait>(
     requires line { IsLine line }
     ensures idle { IsIdle kiwi.now pass.new }
     ensures goes { GoesTo kiwi.now.shared pass.old pass.new }
-    ensures answers { IfOk result (λ answer. LineAnswered pass.old pass.new line.call line.form answer) }
+    ensures answers { IfOk result (λ answer. LineAnswered pass.old pass.new line.call line.form
+        answer) }
 {
     match line.call {
         Call::Put(key, value) => Ok(put(rt, kiwi, pass, key, value)),
@@ -154,7 +154,8 @@ fn list(alloc: Global, kiwi: &Kiwi, pass: &mut Pass, from: u32, upto: u32) -> Re
     requires { IsIdle kiwi.now pass.old }
     ensures idle { IsIdle kiwi.now pass.new }
     ensures goes { GoesTo kiwi.now.shared pass.old pass.new }
-    ensures answers { IfOk result (λ answer. LineAnswered pass.old pass.new (Call.Scan from upto) form.List answer) }
+    ensures answers { IfOk result (λ answer. LineAnswered pass.old pass.new
+        (Call.Scan from upto) form.List answer) }
 {
     let mut into = ListGather::new(alloc);
     match kiwi.scan(pass, from, upto, &mut into) {
@@ -168,10 +169,4 @@ fn number(value: u64) -> Answer
     ensures { result ≡ answer.Number value }
 {
     Answer::Number(u128::from(value))
-}
-
-fn number_or_nothing(value: Option<u64>) -> Answer
-    ensures { result ≡ number_or_nothing value }
-{
-    value.map_or(Answer::Nothing, |value| Answer::Number(u128::from(value)))
 }

@@ -2,7 +2,7 @@
 ghost use Rattle.std.specs.Prelude.{◌≡◌, ◌++◌, ◌≤◌, OnOk, OnErr, codes, decimal};
 ghost use Rattle.std.specs.Io.KnownBytes.{Appends};
 ghost use Rattle.kw_io.specs.Bytes.{AppendsPrefix};
-ghost use Rattle.kw_io.specs.Counts.{CountRose};
+ghost use Rattle.kw_model.specs.Counts.{CountRose};
 ghost use Rattle.kw_app.specs.Status.{fault_text, line_of, status_text};
 
 use crate::outcome::{Outcome, Status};
@@ -15,8 +15,10 @@ use kw_line::words::LINE_FEED;
 ///
 /// `WriteFault` comes only where the sink counted a fault in this call; a prefix of the line was then written.
 pub fn write_fault<K: Sink>(outcome: &Outcome, sink: &mut K) -> Result<(), WriteFault>
-    ensures all { OnOk result (Appends (K.written sink.old) (K.written sink.new) (fault_text outcome.now)) }
-    ensures prefix { OnErr result (AppendsPrefix (K.written sink.old) (K.written sink.new) (fault_text outcome.now)) }
+    ensures all { OnOk result (Appends (K.written sink.old) (K.written sink.new)
+        (fault_text outcome.now)) }
+    ensures prefix { OnErr result (AppendsPrefix (K.written sink.old) (K.written sink.new)
+        (fault_text outcome.now)) }
     ensures fault { OnErr result (CountRose (K.faults sink.old) (K.faults sink.new)) }
     ensures never_falls { K.faults sink.old ≤ K.faults sink.new }
 {
@@ -46,7 +48,8 @@ fn fixed_line(status: Status) -> &'static [u8]
 
 /// Writes that this line is bad, and a line feed.
 fn write_bad_line<K: Sink>(sink: &mut K, line: u32) -> Result<(), WriteFault>
-    ensures all { OnOk result (Appends (K.written sink.old) (K.written sink.new) (line_of (codes "bad line " ++ decimal line))) }
+    ensures all { OnOk result (Appends (K.written sink.old) (K.written sink.new)
+        (line_of (codes "bad line " ++ decimal line))) }
     ensures prefix { OnErr result
         (AppendsPrefix (K.written sink.old) (K.written sink.new) (line_of (codes "bad line " ++ decimal line))) }
     ensures fault { OnErr result (CountRose (K.faults sink.old) (K.faults sink.new)) }

@@ -1,7 +1,7 @@
-//! The lines of a generated load.
+//! The lines that the generator makes.
 //!
 //! A [`Generator`] is a number that each draw replaces by the next of a fixed sequence, so the same start gives the same lines
-//! everywhere. `specs/Generated.antt` says what a draw gives and which line three draws make. The load ends with a wait and four
+//! everywhere. `specs/Generated.antt` says what a draw gives and which line three draws make. The last ones are a wait and four
 //! lines on all keys, which the summary of a run prints.
 ghost use Rattle.std.specs.Prelude.{◌≡◌, ◌<◌, ◌%◌, ◌^◌, ◌++◌, IfOk};
 ghost use Rattle.std.specs.List.{AllByRecursion};
@@ -80,7 +80,7 @@ impl Generator {
     }
 }
 
-/// The lines of the load that begins with this number: as many as `count` says, and the last five.
+/// The lines that are made from this number on: as many as `count` says, and the last five.
 pub fn generate(alloc: Global, start: u32, count: u32) -> Result<Vec<Item>, Memory>
     ensures lines { IfOk result (λ lines. lines.items ≡ generated start count) }
     ensures items { IfOk result (λ lines. AllByRecursion IsItem lines.items) }
@@ -98,6 +98,15 @@ pub fn generate(alloc: Global, start: u32, count: u32) -> Result<Vec<Item>, Memo
 mod tests {
     use super::*;
     use std::test::Fail;
+
+    #[test]
+    fn the_numbers_of_the_generator(rt: HostRuntime) {
+        assert_eq!(rt; MULTIPLIER, 1_103_515_245);
+        assert_eq!(rt; INCREMENT, 12_345);
+        assert_eq!(rt; MODULUS, 2_147_483_648);
+        assert_eq!(rt; DRAW_UNIT, 65_536);
+        assert_eq!(rt; KEYS, 4_096);
+    }
 
     #[test]
     fn three_draws_make_a_line(rt: HostRuntime) -> Result<(), Fail> {

@@ -5,7 +5,8 @@
 //! on the contract of `run`. The modules below it:
 //!
 //! - `kw_command`, a crate of its own, reads the words of the command line.
-//! - `text`, `printed` and `replay` make the text of an input's replies; `load`, `generate` and `summary` the summary of a generated load.
+//! - `text`, `printed` and `replay` make the text of an input's replies; `gen_command`, `generate` and `summary` the summary of the replies to
+//!   generated lines. `crew` has who answers them.
 //! - `answering` asks the lines, of the concurrent map or of the plain list (`plain`).
 //! - `running`, `rounds`, `working` and `asking` run lines on the concurrent map: all blocks, one block, one worker, one line. Block after
 //!   block, each worker answers in a thread of its own the lines that are dealt to it; then all passes meet, so that all have seen one list
@@ -15,9 +16,10 @@
 
 mod answering;
 mod asking;
+mod crew;
 mod fault;
+mod gen_command;
 mod generate;
-mod load;
 mod outcome;
 mod plain;
 mod printed;

@@ -1,4 +1,4 @@
-//! The plain list, asked as the map.
+//! The plain list, asked as the map. It is there for now alone, until full rows are rebalanced.
 ghost use Rattle.std.specs.Prelude.{◌≡◌, IfOk, OnOk, OnErr};
 ghost use Rattle.std.specs.List.{AllByRecursion};
 ghost use Rattle.kw_line.specs.Line.{IsItem};

@@ -3,7 +3,7 @@
 //! Each pass gets a job, the lines of the block that are dealt to it, and a thread. When all have ended, the passes meet: all have then seen
 //! one list of events. Only after that are the answers collected, so a block's calls have all ended before anything of a later one.
 ghost use Rattle.std.specs.Prelude.{◌≡◌, All, IfOk, Ok, vec_len};
-ghost use Rattle.kw_table.specs.Meetings.{AtEach, Gathers, front_seen};
+ghost use Rattle.kw_table.specs.Meetings.{AtEach, MeetsAt, front_seen};
 ghost use Rattle.kw_table.specs.Passes.{IsPassOf};
 ghost use Rattle.kw_map.specs.Kiwi.{IsIdle};
 ghost use Rattle.kw_work.specs.Dealing.{IsLine};
@@ -54,7 +54,8 @@ fn jobs(alloc: Global, kiwi: &Kiwi, block: &Block, passes: Vec<Pass>) -> Result<
     requires lines { All IsLine block.now.lines }
     ensures each { IfOk result (λ jobs. AtEach (IsJob block.now) passes.items jobs.items) }
     ensures len { IfOk result (λ jobs. vec_len jobs ≡ vec_len passes) }
-    ensures ready { IfOk result (λ jobs. All (λ job. IsIdle kiwi.now job.pass × All IsLine job.lines.items) jobs.items) }
+    ensures ready { IfOk result (λ jobs. All (λ job. IsIdle kiwi.now job.pass
+        × All IsLine job.lines.items) jobs.items) }
 {
     let mut jobs = Vec::new(alloc);
     for pass in passes {
@@ -88,9 +89,12 @@ fn finish_all<R: Threads + Wait + Sync, G: Gate + Sync>(
 
 /// The passes and the answers, where no worker wanted memory.
 fn parted(alloc: Global, dones: Vec<Done>) -> Result<(Vec<Pass>, Vec<Vec<Answered>>), Memory>
-    ensures len { IfOk result (λ both. (vec_len both.0 ≡ vec_len dones) × (vec_len both.1 ≡ vec_len dones)) }
-    ensures passes { IfOk result (λ both. AtEach (λ done pass. done.pass ≡ pass) dones.items both.0.items) }
-    ensures parts { IfOk result (λ both. AtEach (λ done part. done.answers ≡ Ok part) dones.items both.1.items) }
+    ensures len { IfOk result (λ both. (vec_len both.0 ≡ vec_len dones)
+        × (vec_len both.1 ≡ vec_len dones)) }
+    ensures passes { IfOk result (λ both. AtEach (λ done pass. done.pass
+        ≡ pass) dones.items both.0.items) }
+    ensures parts { IfOk result (λ both. AtEach (λ done part. done.answers
+        ≡ Ok part) dones.items both.1.items) }
 {
     let mut passes = Vec::new(alloc);
     let mut parts = Vec::new(alloc);
@@ -114,8 +118,10 @@ fn hand_out<R: Threads + Wait + Sync, G: Gate + Sync>(
 ) -> Result<(Vec<Pass>, Vec<Vec<Answered>>), Memory>
     requires idle { All (IsIdle kiwi.now) passes.items }
     requires lines { All IsLine block.now.lines }
-    ensures len { IfOk result (λ both. (vec_len both.0 ≡ vec_len passes) × (vec_len both.1 ≡ vec_len passes)) }
-    ensures each { IfOk result (λ both. WorkedEach kiwi.now block.now passes.items both.0.items both.1.items) }
+    ensures len { IfOk result (λ both. (vec_len both.0 ≡ vec_len passes)
+        × (vec_len both.1 ≡ vec_len passes)) }
+    ensures each { IfOk result (λ both. WorkedEach kiwi.now block.now passes.items both.0.items
+        both.1.items) }
 {
     let jobs = jobs(alloc, kiwi, block, passes)?;
     let dones = finish_all(rt, alloc, kiwi, jobs, gate)?;
@@ -123,13 +129,14 @@ fn hand_out<R: Threads + Wait + Sync, G: Gate + Sync>(
 }
 
 /// The passes, which have then all seen one list of events.
-fn gathered(kiwi: &Kiwi, passes: Vec<Pass>) -> Vec<Pass>
+fn met(kiwi: &Kiwi, passes: Vec<Pass>) -> Vec<Pass>
     requires { All (IsPassOf kiwi.now.shared) passes.items }
     ensures len { vec_len result ≡ vec_len passes }
-    ensures each { AtEach (Gathers kiwi.now.shared (front_seen result.items)) passes.items result.items }
+    ensures each { AtEach (MeetsAt kiwi.now.shared (front_seen result.items)) passes.items
+        result.items }
 {
     let mut passes = passes;
-    kiwi.gather_all(passes.as_mut_slice());
+    kiwi.meet_all(passes.as_mut_slice());
     passes
 }
 
@@ -146,16 +153,19 @@ pub(crate) fn play<R: Threads + Wait + Sync, G: Gate + Sync>(
     passes: Vec<Pass>,
     gate: &G,
 ) -> Result<(Vec<Pass>, Vec<Answer>), Memory>
-    requires together { AreTogether kiwi.now block.now.workers (front_seen passes.items) passes.items }
+    requires together { AreTogether kiwi.now block.now.workers
+        (front_seen passes.items) passes.items }
     requires lines { All IsLine block.now.lines }
-    ensures together { IfOk result (λ both. AreTogether kiwi.now block.now.workers (front_seen both.0.items) both.0.items) }
-    ensures grew { IfOk result (λ both. Grew kiwi.now.shared.opening block.now.workers block.now.lines (front_seen passes.items) (front_seen both.0.items) both.1.items) }
+    ensures together { IfOk result (λ both. AreTogether kiwi.now block.now.workers
+        (front_seen both.0.items) both.0.items) }
+    ensures grew { IfOk result (λ both. Grew kiwi.now.shared.opening block.now.workers
+        block.now.lines (front_seen passes.items) (front_seen both.0.items) both.1.items) }
 {
     if block.lines().is_empty() {
         return Ok((passes, Vec::new(alloc)));
     }
     let (passes, parts) = hand_out(rt, alloc, kiwi, block, passes, gate)?;
-    let passes = gathered(kiwi, passes);
+    let passes = met(kiwi, passes);
     let answers = collect(alloc, block, parts)?;
     Ok((passes, answers))
 }

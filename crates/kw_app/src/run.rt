@@ -2,15 +2,13 @@
 //!
 //! Everything the program promises is a clause of [`run`]. It is generic in the source and the sink, so the same clauses hold of
 //! the process's streams, of whose bytes nothing is known, and of streams in memory, whose bytes the clauses name.
-ghost use Rattle.std.specs.Prelude.{◌≡◌, ◌≢◌, ◌≤◌, ◌⊎◌, Bool, true, false, None, length, IfSome};
-ghost use Rattle.std.specs.Io.KnownBytes.{Appends};
-ghost use Rattle.kw_io.specs.Bytes.{AppendsPrefix};
-ghost use Rattle.kw_io.specs.Counts.{CountRose};
+ghost use Rattle.std.specs.Prelude.{◌≡◌, ◌≢◌, ◌≤◌, ◌⊎◌, Some, length};
 ghost use Rattle.kw_command.specs.declared.command.Command.{Command as AnyCommand};
 ghost use Rattle.kw_command.specs.Words.{AreInRange, Means};
-ghost use Rattle.kw_app.specs.Ends.{IsBadInput, IsToldBad, Prints, Reads, Tells};
+ghost use Rattle.kw_app.specs.Ends.{Reads, ReadsInput, WritesPrinted, WritesText};
 
-use crate::load::load;
+use crate::crew::Crew;
+use crate::gen_command::summarized;
 use crate::outcome::{Outcome, Status};
 use crate::printed::Printed;
 use crate::text::{InputError, text_of};
@@ -42,35 +40,20 @@ pub fn run<R: Threads + Wait + Sync, S: Source, K: Sink, G: Gate + Sync>(
     // The text of the command was written, whole or up to a fault: for `replay` the replies to the lines in order, for `simulate` the
     // output of the script, for `gen` the summary of the replies to the lines it made. The replies come from the concurrent map where the
     // lines that set a value or take a key away fit one row. The pass in `front` then shows the run, for any number of workers, and the
-    // replies are those of one thread in an order of the lines that keeps what came before what.
-    ensures done { result.status ≡ Status.Done → (command : AnyCommand) → Means words.now command →
-        Tells command (S.left source.old) result.front false (Appends (K.written sink.old) (K.written sink.new)) }
-    ensures refused { result.status ≡ Status.Refused → (command : AnyCommand) → Means words.now command →
-        Tells command (S.left source.old) result.front true (Appends (K.written sink.old) (K.written sink.new)) }
-    ensures cut_short { result.status ≡ Status.WriteFault → (command : AnyCommand) → Means words.now command →
-        (refused : Bool) × Tells command (S.left source.old) result.front refused (AppendsPrefix (K.written sink.old) (K.written sink.new)) }
-    ensures write_fault { result.status ≡ Status.WriteFault → CountRose (K.faults sink.old) (K.faults sink.new) }
+    // replies are those of one thread in an order of the lines that keeps what came before what. At every other status nothing was written.
+    ensures writes { WritesText K.written K.faults (Means words.now) (S.left source.old)
+        result sink.old sink.new }
 
-    // Nothing was written at every other status, and none of the run is shown; each has its cause.
-    ensures unwritten { result.status ≢ Status.Done → result.status ≢ Status.Refused → result.status ≢ Status.WriteFault → sink.new ≡ sink.old }
-    ensures no_front { result.status ≢ Status.Done → result.status ≢ Status.Refused → result.status ≢ Status.WriteFault → result.front ≡ None }
-    ensures bad_words { result.status ≡ Status.BadWords → (command : AnyCommand) → Means words.now command → ⊥ }
-    ensures unread { result.status ≡ Status.BadWords → source.new ≡ source.old }
-    ensures read_fault { result.status ≡ Status.ReadFault → CountRose (S.faults source.old) (S.faults source.new) }
-    ensures bad_input { result.status ≡ Status.BadInput → (command : AnyCommand) → Means words.now command →
-        IfSome (S.left source.old) (IsBadInput command result.line) }
-    ensures reads_nothing { (command : AnyCommand) → Means words.now command → (Reads command → ⊥) →
-        (source.new ≡ source.old) × (result.status ≢ Status.ReadFault) × (result.status ≢ Status.BadInput) }
+    // Each status has its cause. Bad input is told, unless a read failed before or memory was wanted.
+    ensures reads { ReadsInput S.left S.faults (Means words.now) result source.old source.new }
 
     // Bad words are told before anything is read, unless memory was wanted.
+    ensures bad_words { result.status ≡ Status.BadWords →
+        (command : AnyCommand) → Means words.now command → ⊥ }
+    ensures unread { result.status ≡ Status.BadWords → source.new ≡ source.old }
     ensures told_words { ((command : AnyCommand) → Means words.now command → ⊥) →
-        (source.new ≡ source.old) × ((result.status ≡ Status.BadWords) ⊎ (result.status ≡ Status.OutOfMemory)) }
-
-    // Bad input is told, and its first bad line, unless a read failed before or memory was wanted.
-    ensures told { (command : AnyCommand) → Means words.now command → IfSome (S.left source.old) (IsToldBad command result) }
-    ensures no_line { result.status ≢ Status.BadInput → result.line ≡ 0 }
-    ensures source_count { S.faults source.old ≤ S.faults source.new }
-    ensures sink_count { K.faults sink.old ≤ K.faults sink.new }
+        (source.new ≡ source.old)
+        × ((result.status ≡ Status.BadWords) ⊎ (result.status ≡ Status.OutOfMemory)) }
 {
     match command_of(alloc, words) {
         Ok(Some(command)) => run_command(rt, alloc, command, source, sink, gate),
@@ -89,24 +72,11 @@ fn run_command<R: Threads + Wait + Sync, S: Source, K: Sink, G: Gate + Sync>(
     gate: &G,
 ) -> Outcome
     requires { AreInRange command }
-    ensures done { result.status ≡ Status.Done →
-        Tells command (S.left source.old) result.front false (Appends (K.written sink.old) (K.written sink.new)) }
-    ensures refused { result.status ≡ Status.Refused →
-        Tells command (S.left source.old) result.front true (Appends (K.written sink.old) (K.written sink.new)) }
-    ensures cut_short { result.status ≡ Status.WriteFault →
-        (refused : Bool) × Tells command (S.left source.old) result.front refused (AppendsPrefix (K.written sink.old) (K.written sink.new)) }
-    ensures write_fault { result.status ≡ Status.WriteFault → CountRose (K.faults sink.old) (K.faults sink.new) }
-    ensures unwritten { result.status ≢ Status.Done → result.status ≢ Status.Refused → result.status ≢ Status.WriteFault → sink.new ≡ sink.old }
-    ensures no_front { result.status ≢ Status.Done → result.status ≢ Status.Refused → result.status ≢ Status.WriteFault → result.front ≡ None }
     ensures words { result.status ≢ Status.BadWords }
-    ensures read_fault { result.status ≡ Status.ReadFault → CountRose (S.faults source.old) (S.faults source.new) }
-    ensures bad_input { result.status ≡ Status.BadInput → IfSome (S.left source.old) (IsBadInput command result.line) }
-    ensures reads_nothing { (Reads command → ⊥) →
-        (source.new ≡ source.old) × (result.status ≢ Status.ReadFault) × (result.status ≢ Status.BadInput) }
-    ensures told { IfSome (S.left source.old) (IsToldBad command result) }
-    ensures no_line { result.status ≢ Status.BadInput → result.line ≡ 0 }
-    ensures source_count { S.faults source.old ≤ S.faults source.new }
-    ensures sink_count { K.faults sink.old ≤ K.faults sink.new }
+    ensures writes { WritesText K.written K.faults (λ asked. asked ≡ command) (S.left source.old)
+        result sink.old sink.new }
+    ensures reads { ReadsInput S.left S.faults (λ asked. asked ≡ command)
+        result source.old source.new }
 {
     match command {
         Command::Replay { .. } => read_and_answer(rt, alloc, command, source, sink, gate),
@@ -116,10 +86,17 @@ fn run_command<R: Threads + Wait + Sync, S: Source, K: Sink, G: Gate + Sync>(
             count,
             workers,
             rows,
-        } => match load(rt, alloc, start, count, workers, rows, gate) {
-            Ok(printed) => written(printed, sink),
-            Err(_) => Outcome::of(Status::OutOfMemory),
-        },
+        } => {
+            let crew = Crew {
+                workers,
+                rows,
+                gate,
+            };
+            match summarized(rt, alloc, start, count, &crew) {
+                Ok(printed) => written(printed, sink),
+                Err(_) => Outcome::of(Status::OutOfMemory),
+            }
+        }
     }
 }
 
@@ -134,22 +111,11 @@ fn read_and_answer<R: Threads + Wait + Sync, S: Source, K: Sink, G: Gate + Sync>
 ) -> Outcome
     requires reads { Reads command }
     requires range { AreInRange command }
-    ensures done { result.status ≡ Status.Done →
-        IfSome (S.left source.old) (Prints command result.front false (Appends (K.written sink.old) (K.written sink.new))) }
-    ensures refused { result.status ≡ Status.Refused →
-        IfSome (S.left source.old) (Prints command result.front true (Appends (K.written sink.old) (K.written sink.new))) }
-    ensures cut_short { result.status ≡ Status.WriteFault →
-        (refused : Bool) × IfSome (S.left source.old) (Prints command result.front refused (AppendsPrefix (K.written sink.old) (K.written sink.new))) }
-    ensures write_fault { result.status ≡ Status.WriteFault → CountRose (K.faults sink.old) (K.faults sink.new) }
-    ensures unwritten { result.status ≢ Status.Done → result.status ≢ Status.Refused → result.status ≢ Status.WriteFault → sink.new ≡ sink.old }
-    ensures no_front { result.status ≢ Status.Done → result.status ≢ Status.Refused → result.status ≢ Status.WriteFault → result.front ≡ None }
     ensures words { result.status ≢ Status.BadWords }
-    ensures read_fault { result.status ≡ Status.ReadFault → CountRose (S.faults source.old) (S.faults source.new) }
-    ensures bad_input { result.status ≡ Status.BadInput → IfSome (S.left source.old) (IsBadInput command result.line) }
-    ensures told { IfSome (S.left source.old) (IsToldBad command result) }
-    ensures no_line { result.status ≢ Status.BadInput → result.line ≡ 0 }
-    ensures source_count { S.faults source.old ≤ S.faults source.new }
-    ensures sink_count { K.faults sink.old ≤ K.faults sink.new }
+    ensures writes { WritesText K.written K.faults (λ asked. asked ≡ command) (S.left source.old)
+        result sink.old sink.new }
+    ensures reads { ReadsInput S.left S.faults (λ asked. asked ≡ command)
+        result source.old source.new }
 {
     match read_all(alloc, source, READ_LIMIT) {
         Ok(bytes) => answer(rt, alloc, command, &bytes, sink, gate),
@@ -171,21 +137,11 @@ fn answer<R: Threads + Wait + Sync, K: Sink, G: Gate + Sync>(
     requires reads { Reads command }
     requires range { AreInRange command }
     requires short { length bytes.now ≤ MOST_BYTES }
-    ensures done { result.status ≡ Status.Done →
-        Prints command result.front false (Appends (K.written sink.old) (K.written sink.new)) bytes.now }
-    ensures refused { result.status ≡ Status.Refused →
-        Prints command result.front true (Appends (K.written sink.old) (K.written sink.new)) bytes.now }
-    ensures cut_short { result.status ≡ Status.WriteFault →
-        (refused : Bool) × Prints command result.front refused (AppendsPrefix (K.written sink.old) (K.written sink.new)) bytes.now }
-    ensures write_fault { result.status ≡ Status.WriteFault → CountRose (K.faults sink.old) (K.faults sink.new) }
-    ensures unwritten { result.status ≢ Status.Done → result.status ≢ Status.Refused → result.status ≢ Status.WriteFault → sink.new ≡ sink.old }
-    ensures no_front { result.status ≢ Status.Done → result.status ≢ Status.Refused → result.status ≢ Status.WriteFault → result.front ≡ None }
     ensures words { result.status ≢ Status.BadWords }
-    ensures read { result.status ≢ Status.ReadFault }
-    ensures bad_input { result.status ≡ Status.BadInput → IsBadInput command result.line bytes.now }
-    ensures told { IsToldBad command result bytes.now }
-    ensures no_line { result.status ≢ Status.BadInput → result.line ≡ 0 }
-    ensures sink_count { K.faults sink.old ≤ K.faults sink.new }
+    ensures writes { WritesText K.written K.faults (λ asked. asked ≡ command) (Some bytes.now)
+        result sink.old sink.new }
+    ensures reads { ReadsInput (λ all. Some all) (λ all. 0) (λ asked. asked ≡ command)
+        result bytes.now bytes.now }
 {
     match text_of(rt, alloc, command, bytes, gate) {
         Ok(printed) => written(printed, sink),
@@ -196,17 +152,7 @@ fn answer<R: Threads + Wait + Sync, K: Sink, G: Gate + Sync>(
 
 /// Writes the text of a command, and says how that ended.
 fn written<K: Sink>(printed: Printed, sink: &mut K) -> Outcome
-    ensures done { result.status ≡ Status.Done →
-        (printed.refused ≡ false) × Appends (K.written sink.old) (K.written sink.new) printed.text.items }
-    ensures refused { result.status ≡ Status.Refused →
-        (printed.refused ≡ true) × Appends (K.written sink.old) (K.written sink.new) printed.text.items }
-    ensures cut_short { result.status ≡ Status.WriteFault →
-        AppendsPrefix (K.written sink.old) (K.written sink.new) printed.text.items }
-    ensures write_fault { result.status ≡ Status.WriteFault → CountRose (K.faults sink.old) (K.faults sink.new) }
-    ensures status { (result.status ≡ Status.Done) ⊎ ((result.status ≡ Status.Refused) ⊎ (result.status ≡ Status.WriteFault)) }
-    ensures front { result.front ≡ printed.front }
-    ensures no_line { result.line ≡ 0 }
-    ensures sink_count { K.faults sink.old ≤ K.faults sink.new }
+    ensures { WritesPrinted K.written K.faults printed result sink.old sink.new }
 {
     let Printed {
         text,

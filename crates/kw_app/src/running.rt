@@ -9,12 +9,12 @@ ghost use Rattle.kw_table.specs.Meetings.{front_seen};
 ghost use Rattle.kw_table.specs.Passes.{view};
 ghost use Rattle.kw_map.specs.Kiwi.{IsOrdered};
 ghost use Rattle.kw_work.specs.Dealing.{IsLine};
-ghost use Rattle.kw_world.specs.Opening.{IsOpening};
-ghost use Rattle.kw_world.specs.Sizes.{product};
+ghost use Rattle.kw_app.specs.Answering.{opening};
 ghost use Rattle.kw_app.specs.Headline.{Headline};
 ghost use Rattle.kw_app.specs.Rounds.{AreTogether};
 ghost use Rattle.kw_app.specs.Running.{Ran, Shows};
 
+use crate::crew::Crew;
 use crate::rounds::play;
 use crate::working::Gate;
 use kw_line::answer::Answer;
@@ -32,51 +32,50 @@ use std::thread::Threads;
 fn play_all<R: Threads + Wait + Sync, G: Gate + Sync>(
     rt: &R,
     alloc: Global,
+    crew: &Crew<'_, G>,
     kiwi: &Kiwi,
     blocks: &[Block],
-    workers: u32,
     passes: Vec<Pass>,
-    gate: &G,
 ) -> Result<(Vec<Pass>, Vec<Answer>), Memory>
-    requires together { AreTogether kiwi.now workers [] passes.items }
-    requires workers { All (λ block. block.workers ≡ workers) blocks.now }
+    requires together { AreTogether kiwi.now crew.now.workers [] passes.items }
+    requires workers { All (λ block. block.workers ≡ crew.now.workers) blocks.now }
     requires lines { All (λ block. All IsLine block.lines) blocks.now }
-    ensures together { IfOk result (λ both. AreTogether kiwi.now workers (front_seen both.0.items) both.0.items) }
-    ensures ran { IfOk result (λ both. Ran kiwi.now.shared.opening workers (map (λ block. block.lines) blocks.now) (front_seen both.0.items) both.1.items) }
+    ensures together { IfOk result (λ both.
+        AreTogether kiwi.now crew.now.workers (front_seen both.0.items) both.0.items) }
+    ensures ran { IfOk result (λ both. Ran kiwi.now.shared.opening crew.now.workers
+        (map (λ block. block.lines) blocks.now) (front_seen both.0.items) both.1.items) }
 {
     let mut passes = passes;
     let mut answers = Vec::new(alloc);
     for block in blocks {
-        let (next, mut more) = play(rt, alloc, kiwi, block, passes, gate)?;
+        let (next, mut more) = play(rt, alloc, kiwi, block, passes, crew.gate)?;
         passes = next;
         answers.append(&mut more)?;
     }
     Ok((passes, answers))
 }
 
-/// Makes the calls of an input's items on an empty map of this many rows, by this many workers beside each other, block by block.
+/// Makes the calls of an input's items on an empty map of the crew's rows, by its workers beside each other, block by block.
 /// Gives the first worker's pass, which has seen all events of the run, and the answers in line order.
 ///
-/// There are 1 to `MOST_ROWS` rows, 1 to `SEATS` workers and fewer than 2^32 items, each one that a line may be. The gate is told of each line. The only
-/// error is the want of memory.
+/// There are fewer than 2^32 items, each one that a line may be. The gate is told of each line. The only error is the want of memory.
 pub fn run_on_map<R: Threads + Wait + Sync, G: Gate + Sync>(
     rt: &R,
     alloc: Global,
-    rows: u32,
-    workers: u32,
+    crew: &Crew<'_, G>,
     items: &[Item],
-    gate: &G,
 ) -> Result<(Pass, Vec<Answer>), Memory>
-    requires opening { IsOpening product (record { rows = rows; seats = workers; clock = 1; epoch = 1 }) }
     requires few { length items.now < 2 ^ 32 }
     requires items { AllByRecursion IsItem items.now }
-    ensures shows { IfOk result (λ both. Shows (record { rows = rows; seats = workers; clock = 1; epoch = 1 }) items.now both.1.items (view both.0)) }
+    ensures shows { IfOk result (λ both. Shows (opening crew.now.workers crew.now.rows)
+        items.now both.1.items (view both.0)) }
     ensures ordered { IfOk result (λ both. IsOrdered (view both.0)) }
-    ensures headline { IfOk result (λ both. Headline (record { rows = rows; seats = workers; clock = 1; epoch = 1 }) (view both.0).seen items.now both.1.items) }
+    ensures headline { IfOk result (λ both. Headline (opening crew.now.workers crew.now.rows)
+        (view both.0).seen items.now both.1.items) }
 {
-    let (kiwi, passes) = Kiwi::open(alloc, rows, workers)?;
-    let blocks = deal(alloc, items, workers)?;
-    let (passes, answers) = play_all(rt, alloc, &kiwi, blocks.as_slice(), workers, passes, gate)?;
+    let (kiwi, passes) = Kiwi::open(alloc, crew.rows, crew.workers)?;
+    let blocks = deal(alloc, items, crew.workers)?;
+    let (passes, answers) = play_all(rt, alloc, crew, &kiwi, blocks.as_slice(), passes)?;
     let Some(front) = passes.into_iter().next() else {
         unreachable!()
     };

@@ -10,8 +10,8 @@ use std::sync::Wait;
 use std::test::Fail;
 use std::thread::Threads;
 
+mod generated;
 mod lines;
-mod loads;
 mod scripts;
 mod streams;
 mod workers;

@@ -4,8 +4,9 @@
 //! `run` need not know which command it was.
 ghost use Rattle.std.specs.Prelude.{◌≤◌, length, IfOk};
 ghost use Rattle.kw_command.specs.Words.{AreInRange};
-ghost use Rattle.kw_app.specs.Ends.{IfBad, IsPrinted, Reads};
+ghost use Rattle.kw_app.specs.Ends.{IfOutside, IsPrinted, Reads};
 
+use crate::crew::Crew;
 use crate::printed::Printed;
 use crate::replay::replay;
 use crate::working::Gate;
@@ -38,15 +39,23 @@ pub fn text_of<R: Threads + Wait + Sync, G: Gate + Sync>(
     requires reads { Reads command }
     requires range { AreInRange command }
     requires short { length bytes.now ≤ MOST_BYTES }
-    ensures printed { IfOk result (λ printed. IsPrinted command printed.front printed.refused bytes.now printed.text.items) }
-    ensures bad { IfBad command bytes.now result }
+    ensures printed { IfOk result (λ printed. IsPrinted command printed.front printed.refused
+        bytes.now printed.text.items) }
+    ensures bad { IfOutside command bytes.now result }
 {
     match command {
-        Command::Replay { workers, rows } => match replay(rt, alloc, workers, rows, bytes, gate) {
-            Ok(printed) => Ok(printed),
-            Err(LineError::Bad { line }) => Err(InputError::Bad { line }),
-            Err(LineError::Memory) => Err(InputError::Memory),
-        },
+        Command::Replay { workers, rows } => {
+            let crew = Crew {
+                workers,
+                rows,
+                gate,
+            };
+            match replay(rt, alloc, &crew, bytes) {
+                Ok(printed) => Ok(printed),
+                Err(LineError::Bad { line }) => Err(InputError::Bad { line }),
+                Err(LineError::Memory) => Err(InputError::Memory),
+            }
+        }
         Command::Simulate { rows } => match run_script(alloc, rows, bytes) {
             Ok(text) => Ok(Printed::of(text)),
             Err(ScriptError::Bad { line }) => Err(InputError::Bad { line }),

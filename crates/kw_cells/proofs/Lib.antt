@@ -3,6 +3,8 @@ pub mod Ranges
 pub mod Best
 pub mod Least
 pub mod Next
+pub mod InOrder
+pub mod FirstFit
 pub mod Rising
 pub mod Shown
 pub mod Passing

@@ -28,7 +28,7 @@ pub struct Cell {
 
 impl Cell {
     /// Whether this cell has a greater version than the other, or at one version a greater place.
-    fn is_later(&self, other: &Cell) -> bool
+    pub(crate) fn is_later(&self, other: &Cell) -> bool
         ensures { result ≡ is_later self.now other.now }
     {
         self.version > other.version || self.version == other.version && self.place > other.place
@@ -48,7 +48,7 @@ impl Cell {
     }
 
     /// Whether this is a cell of the key with a version at most `version`.
-    fn fits(&self, key: u32, version: u64) -> bool
+    pub(crate) fn fits(&self, key: u32, version: u64) -> bool
         ensures { result ≡ fits key version self.now }
     {
         self.key == key && self.version <= version
@@ -75,7 +75,8 @@ pub fn best(cells: &[Cell], key: u32, version: u64) -> Option<Cell>
 
 /// The cell found so far where it is later than this one, and else this one.
 fn later(found: Option<Cell>, cell: Cell) -> Cell
-    ensures { MatchOption found (result ≡ cell) (λ before. result ≡ (if is_later before cell then before else cell)) }
+    ensures { MatchOption found (result ≡ cell) (λ before. result
+        ≡ (if is_later before cell then before else cell)) }
 {
     match found {
         Some(before) if before.is_later(&cell) => before,
@@ -92,7 +93,8 @@ fn value_at(cells: &[Cell], key: u32, version: u64) -> Option<u64>
 
 /// The least key of the cells that is at least `from` and at most `to`.
 fn least_key(cells: &[Cell], from: u32, to: u32) -> Option<u32>
-    ensures { MatchOption result (All (λ cell. from ≤ cell.key → to < cell.key) cells.now) (IsLeastKey cells.now from to) }
+    ensures { MatchOption result (All (λ cell. from ≤ cell.key → to < cell.key) cells.now)
+        (IsLeastKey cells.now from to) }
 {
     let mut least = None;
     for cell in cells {
@@ -111,10 +113,12 @@ fn least_key(cells: &[Cell], from: u32, to: u32) -> Option<u32>
 /// read each cell twice for each key of the row.
 pub fn next_pair(cells: &[Cell], from: u32, to: u32, version: u64) -> Option<(u32, u64)>
     ensures next { IfSome result (IsNextPair cells.now from to version) }
-    ensures none { IfNone result ((key : ℕ) → from ≤ key → key ≤ to → shown_at cells.now version key ≡ None) }
+    ensures none { IfNone result ((key : ℕ) → from ≤ key → key ≤ to → shown_at cells.now version key
+        ≡ None) }
 
     // the same in the words of all pairs of the range
-    ensures pairs { IfSome result (λ pair. pairs_of cells.now from to version ≡ pair ∷ pairs_of cells.now (pair.0 + 1) to version) }
+    ensures pairs { IfSome result (λ pair. pairs_of cells.now from to version
+        ≡ pair ∷ pairs_of cells.now (pair.0 + 1) to version) }
     ensures no_pairs { IfNone result (pairs_of cells.now from to version ≡ []) }
 {
     let mut low = from;

@@ -30,7 +30,8 @@ pub fn keep(cells: &[Cell], needed: &[u64]) -> Kept
     ensures given { All (Contains cells.now) result.items }
     ensures few { HasFew (length needed.now + 1) result.items }
     ensures shows { (key : ℕ) → All (ShowsTheSame cells.now result.items key) needed.now }
-    ensures shows_newest { (key version : ℕ) → All (λ cell. cell.version ≤ version) cells.now → ShowsTheSame cells.now result.items key version }
+    ensures shows_newest { (key version : ℕ) → All (λ cell. cell.version ≤ version) cells.now →
+        ShowsTheSame cells.now result.items key version }
     ensures shows_last { (key : ℕ) → ShowsTheSame cells.now result.items key (2 ^ 64 - 1) }
 {
     let ordered = in_order(cells);

@@ -1,5 +1,7 @@
 //! A map of one thread that keeps every entry it was given.
 //!
+//! It is there for now alone: the program asks it where an input has more updates than a row has cells, until full rows are rebalanced.
+//!
 //! The list of entries is the truth: a key has the value of its last entry, and a delete is an entry without a value.
 //! Beside it stands a tree from each key to the place of its last entry, so that a get and a scan need not walk the
 //! list. Contracts see the list alone; that the tree fits it is the invariant of the type, which `put` keeps.
@@ -61,7 +63,8 @@ impl Plain {
     /// The value of the key's last entry. None where that is a delete, or where the key has no entry.
     pub fn get(&self, key: u32) -> Option<u64>
         ensures value { result ≡ shown_last self.now key }
-        ensures none { IsNone result ↔ ((last_of self.now key ≡ None) ⊎ (last_of self.now key ≡ Some None)) }
+        ensures none { IsNone result ↔ ((last_of self.now key ≡ None)
+            ⊎ (last_of self.now key ≡ Some None)) }
     {
         let place = *self.newest.get(&key)?;
         self.entries[place].1

@@ -66,7 +66,8 @@ pub enum Name {
 
 /// The command that these words mean, or none where they are bad.
 pub fn command_of(alloc: Global, words: &[Word]) -> Result<Option<Command>, Memory>
-    ensures meant { IfOk result (λ found. MatchOption found ((command : AnyCommand) → Means words.now command → ⊥) (Means words.now)) }
+    ensures meant { IfOk result (λ found. MatchOption found ((command : AnyCommand) →
+        Means words.now command → ⊥) (Means words.now)) }
     ensures range { IfOk result (λ found. IfSome found AreInRange) }
 {
     let Some(name) = first_name(words) else {
@@ -83,7 +84,8 @@ pub fn command_of(alloc: Global, words: &[Word]) -> Result<Option<Command>, Memo
 
 /// Words mean one command at most. Nothing runs here: the clause is the statement.
 pub fn one_meaning()
-    ensures { (words : List (List ℕ)) (one other : AnyCommand) → Means words one → Means words other → one ≡ other }
+    ensures { (words : List (List ℕ)) (one other : AnyCommand) → Means words one →
+        Means words other → one ≡ other }
 {}
 
 /// The command whose own word is the first one.

@@ -2,8 +2,9 @@
 --
 -- There is one constructor for each arrow. It carries what the event found, so that a law by cases on the arrow splits no test of
 -- the table again; where a law does not matter for most arrows, one catch-all serves them. The words are a function of names.
--- What follows where a look, or a cell, has no event of its own is an arrow of its own type, `NextLook` and `NextCell`.
-use Rattle.std.proofs.Common.{ℕ, ◌≡◌, ◌≢◌, ◌⊎◌, inl, inr, ◌+◌, ◌<◌, ◌≤◌, ◌==◌, Option, Some, None, Bool, true, false, nat_lt, nat_le, [], arith, refl, sym, ◌∙◌, ap, subst, if◌then◌else◌}
+-- What follows where the end of the looks, or of a row's cells, has no event of its own is an arrow of its own type, `NextLook` and
+-- `NextRest`.
+use Rattle.std.proofs.Common.{ℕ, ◌≡◌, ◌≢◌, ◌⊎◌, inl, inr, ◌+◌, ◌<◌, ◌≤◌, ◌==◌, Option, Some, None, Bool, true, false, nat_lt, nat_le, [], arith, refl, sym, ◌∙◌, ap, subst, if◌then◌else◌, unwrap_or}
 use Rattle.std.proofs.lemmas.Bool.Decides.{nat_tests}
 use Rattle.kw_words.specs.declared.layout.Name.TheVariants as name
 use Rattle.kw_words.specs.declared.pend.Pend.{Pend}
@@ -16,7 +17,8 @@ use Rattle.kw_words.specs.Pend.{pend_of, pend_word}
 use Rattle.kw_words.specs.Scan.{scan_of}
 use Rattle.kw_words.specs.State.{state_of}
 use Rattle.kw_words.specs.Link.{link_of}
-use Rattle.kw_words.specs.Plain.{key_of_word, value_of_word, version_of_word}
+use Rattle.kw_words.specs.Plain.{key_of_word, value_of_word, version_of_word, cell_link_word, cell_of_link_word}
+use Rattle.kw_words.proofs.PlainWords.{number_word-number_of_word}
 use Rattle.kw_cells.specs.Cells.{shown_at}
 use Rattle.kw_model.specs.declared.call.Call.{Call}
 use Rattle.kw_model.specs.declared.call.Call.TheVariants.{Put, Del, Get, Scan}
@@ -24,7 +26,7 @@ use Rattle.kw_world.specs.declared.answer.Answer.{Answer}
 use Rattle.kw_world.specs.declared.answer.Answer.TheVariants.{Done, Pairs, Spent, Stopped}
 use Rattle.kw_world.specs.Answers.{answer_found}
 use Rattle.kw_world.specs.declared.activity.Activity.{Activity}
-use Rattle.kw_world.specs.declared.activity.Activity.TheVariants.{Idle, Enter, ScanClock, ScanWait, ScanDraw, ScanSettle, Start, Head, GuessMin, Walk, WalkMin, Look, LookKey, LookClock, LookHelp, LookCount, Cell, CellKey, CellValue, ClearScan, PutCount, PutAdd, PutKey, PutValue, Announce, PutClock, Stamp, PutVersion, PutClear, Leave}
+use Rattle.kw_world.specs.declared.activity.Activity.TheVariants.{Idle, Enter, ScanClock, ScanWait, ScanDraw, ScanSettle, Start, Head, GuessMin, Walk, WalkMin, Look, LookKey, LookClock, LookHelp, ListFrom, ListKey, ListVer, ListVal, RestKey, RestVal, ClearScan, PutCount, PutAdd, PutKey, PutValue, Announce, PutClock, Stamp, PutVersion, InsFrom, InsKey, InsVer, InsSet, Insert, PutClear, Leave}
 use Rattle.kw_world.specs.declared.local.Local.{Local}
 use Rattle.kw_world.specs.declared.limits.TheConstants.{NEWEST}
 use Rattle.kw_world.specs.declared.event.Choice.{Choice}
@@ -35,26 +37,29 @@ use Rattle.kw_world.specs.Calls.{first_key, last_key, is_in_range, is_scan, is_r
 use Rattle.kw_world.specs.Transition.{Outcome, to, leave, row_linked, row_or_first}
 use Rattle.kw_world.specs.ScanTransitions.{begun, entered, version_settled, answer_or_stopped}
 use Rattle.kw_world.specs.WalkTransitions.{start_transition, guess_met, arrive, link_met, walk_transition, is_stopped}
-use Rattle.kw_world.specs.ReadTransitions.{to_look, look_met, help_met, remembering, count_read, to_cell, row_read, get_answered, scan_ended, scan_on, with_pairs, row_scanned, version_in_hand, version_met, gathering}
+use Rattle.kw_world.specs.declared.marks.Mark.{Mark}
+use Rattle.kw_world.specs.Marks.{unmarked, least_mark}
+use Rattle.kw_world.specs.ReadTransitions.{to_look, look_met, help_met, remembering, reaching, rest_of, to_rest, list_met, list_past, row_read, get_answered, scan_ended, scan_on, with_pairs, row_scanned, gathering}
 use Rattle.kw_world.specs.PutTransitions.{full, has_room, given_of, stamp_met}
+use Rattle.kw_world.specs.ListTransitions.{link_name, meeting, losing, to_insert, insert_from, insert_past, is_newer, insert_tried}
 use Rattle.kw_world.specs.Table.{transition}
 use Rattle.kw_world.specs.Step.{followed, is_skipped}
 use Rattle.kw_core.specs.Words.{Words, next_in, least_in}
 use Rattle.kw_core.specs.Stages.{is_put}
 use Rattle.kw_core.proofs.Events.{IsBegun}
 
--- what a reader does after the entries below j: the next look, or the count
+-- what a reader does after the entries below j: the next look, or the row's list
 pub data NextLook (z : Sizes) (j : ℕ) : Activity → Type 0 where
   looks : j < z.seats → NextLook z j (Look j)
-  counts : z.seats ≤ j → NextLook z j LookCount
+  lists : z.seats ≤ j → NextLook z j ListFrom
 
--- what a seat that reads knows after the cells below j: it reads the next one, or the row is read
-pub data NextCell (l : Local) (j : ℕ) : Local → Type 0 where
-  reads_cell : j < l.count → NextCell l j (record l { activity = Cell j })
-  answers : l.count ≤ j → is_scan l.call ≡ false → NextCell l j (leave (answer_found (shown_at l.gathered NEWEST (first_key l.call))) l).local
-  ends_scan : l.count ≤ j → is_scan l.call ≡ true → (l.next ≡ None) ⊎ (last_key l.call < l.upper) → NextCell l j (scan_ended (with_pairs (last_key l.call) l)).local
-  scans_on : (r : ℕ) → l.count ≤ j → is_scan l.call ≡ true → l.next ≡ Some r → l.upper ≤ last_key l.call →
-      NextCell l j (record (with_pairs (last_key l.call) l) { row = r; lower = l.upper; want = l.upper; next = None; upper = 0; activity = Walk })
+-- what a reader knows once its walk is over, or a remembered cell is read: it reads the next one that it remembers, or the row is read
+pub data NextRest (l : Local) : Local → Type 0 where
+  rests : (m : Mark) → least_mark l.remembered ≡ Some m → NextRest l (record l { place = m.cell; place_version = m.version; remembered = unmarked m.cell l.remembered; activity = RestKey })
+  answers : least_mark l.remembered ≡ None → is_scan l.call ≡ false → NextRest l (leave (answer_found (shown_at l.gathered NEWEST (first_key l.call))) l).local
+  ends_scan : least_mark l.remembered ≡ None → is_scan l.call ≡ true → (l.next ≡ None) ⊎ (last_key l.call < l.upper) → NextRest l (scan_ended (with_pairs (last_key l.call) l)).local
+  scans_on : (r : ℕ) → least_mark l.remembered ≡ None → is_scan l.call ≡ true → l.next ≡ Some r → l.upper ≤ last_key l.call →
+      NextRest l (record (with_pairs (last_key l.call) l) { row = r; lower = l.upper; want = l.upper; next = None; upper = 0; activity = Walk })
 
 -- the word is neither a pending nor a stamped entry
 pub record IsNeither (w : ℕ) : Type 0 where
@@ -93,11 +98,11 @@ pub data Arrow (z : Sizes) (v : Words) (s : ℕ) (choice : Choice) (l : Local) :
   guess_is_above : l.want < least_in v l.row → Arrow z v s choice l GuessMin (record l { activity = Head })
   stops : is_stopped choice l ≡ true → Arrow z v s choice l Walk (leave Stopped l).local
   puts_in_last : is_put l.call ≡ true → next_in v l.row ≡ None → Arrow z v s choice l Walk (record l { next = None; upper = 0; activity = PutCount })
-  reads_last : is_put l.call ≡ false → next_in v l.row ≡ None → Arrow z v s choice l Walk (record l { next = None; upper = 0; remembered = []; gathered = []; activity = Look 0 })
+  reads_last : is_put l.call ≡ false → next_in v l.row ≡ None → Arrow z v s choice l Walk (record l { next = None; upper = 0; remembered = []; gathered = []; link = None; walked = 0; activity = Look 0 })
   meets_next : (q : ℕ) → next_in v l.row ≡ Some q → Arrow z v s choice l Walk (record l { candidate = q; activity = WalkMin })
   walks_on : least_in v l.candidate ≤ l.want → Arrow z v s choice l WalkMin (record l { row = l.candidate; lower = least_in v l.candidate; activity = Walk })
   puts_before : is_put l.call ≡ true → l.want < least_in v l.candidate → Arrow z v s choice l WalkMin (record l { next = Some l.candidate; upper = least_in v l.candidate; activity = PutCount })
-  reads_before : is_put l.call ≡ false → l.want < least_in v l.candidate → Arrow z v s choice l WalkMin (record l { next = Some l.candidate; upper = least_in v l.candidate; remembered = []; gathered = []; activity = Look 0 })
+  reads_before : is_put l.call ≡ false → l.want < least_in v l.candidate → Arrow z v s choice l WalkMin (record l { next = Some l.candidate; upper = least_in v l.candidate; remembered = []; gathered = []; link = None; walked = 0; activity = Look 0 })
   -- a reader looks at the entries
   meets_pending : (i c : ℕ) → pend_of (v (name.Pend l.row i)) ≡ Some (pend.Pending c) → Arrow z v s choice l (Look i) (record l { looked = i; met = c; activity = LookKey })
   meets_stamped : (i c version : ℕ) (next : Activity) → pend_of (v (name.Pend l.row i)) ≡ Some (pend.Stamped c version) → NextLook z (i + 1) next → Arrow z v s choice l (Look i) (record (remembering c version l) { activity = next })
@@ -108,13 +113,17 @@ pub data Arrow (z : Sizes) (v : Words) (s : ℕ) (choice : Choice) (l : Local) :
   helps : (next : Activity) → pend_of (v (name.Pend l.row l.looked)) ≡ Some (pend.Pending l.met) → NextLook z (l.looked + 1) next → Arrow z v s choice l LookHelp (record (remembering l.met l.helping l) { activity = next })
   finds_stamped : (c version : ℕ) (next : Activity) → pend_of (v (name.Pend l.row l.looked)) ≡ Some (pend.Stamped c version) → NextLook z (l.looked + 1) next → Arrow z v s choice l LookHelp (record (remembering c version l) { activity = next })
   finds_other : (next : Activity) → IsNot l.met (v (name.Pend l.row l.looked)) → NextLook z (l.looked + 1) next → Arrow z v s choice l LookHelp (record l { activity = next })
-  -- a reader reads the cells
-  counts_cells : (next : Local) → NextCell (record l { count = count_read z (count_of (v (name.Count l.row))) }) 0 next → Arrow z v s choice l LookCount next
-  has_version : (j version : ℕ) → version_in_hand j (version_of_word (v (name.Version l.row j))) l ≡ Some version → Arrow z v s choice l (Cell j) (record l { place = j; place_version = version; activity = CellKey })
-  has_no_version : (j : ℕ) (next : Local) → version_in_hand j (version_of_word (v (name.Version l.row j))) l ≡ None → NextCell l (j + 1) next → Arrow z v s choice l (Cell j) next
-  has_key : is_in_range l.call (key_of_word (v (name.Key l.row l.place))) ≡ true → Arrow z v s choice l CellKey (record l { place_key = key_of_word (v (name.Key l.row l.place)); activity = CellValue })
-  has_other_key : (next : Local) → is_in_range l.call (key_of_word (v (name.Key l.row l.place))) ≡ false → NextCell l (l.place + 1) next → Arrow z v s choice l CellKey next
-  gathers : (next : Local) → NextCell (gathering (value_of_word (v (name.Value l.row l.place))) l) (l.place + 1) next → Arrow z v s choice l CellValue next
+  -- a reader walks along the row's list, and reads what it remembers and did not meet
+  list_leads : (c : ℕ) → cell_of_link_word (v (link_name l.row l.link)) ≡ Some c → Arrow z v s choice l ListFrom (record (reaching z c l) { activity = ListKey })
+  list_ends : (next : Local) → cell_of_link_word (v (link_name l.row l.link)) ≡ None → NextRest l next → Arrow z v s choice l ListFrom next
+  key_below : key_of_word (v (name.Key l.row l.place)) < first_key l.call → Arrow z v s choice l ListKey (list_past l).local
+  key_within : first_key l.call ≤ key_of_word (v (name.Key l.row l.place)) → key_of_word (v (name.Key l.row l.place)) ≤ last_key l.call → Arrow z v s choice l ListKey (record l { place_key = key_of_word (v (name.Key l.row l.place)); activity = ListVer })
+  key_above : (next : Local) → last_key l.call < key_of_word (v (name.Key l.row l.place)) → NextRest l next → Arrow z v s choice l ListKey next
+  loads_version : Arrow z v s choice l ListVer (record l { place_version = unwrap_or (version_of_word (v (name.Version l.row l.place))) 1; activity = ListVal })
+  gathers_listed : Arrow z v s choice l ListVal (list_past (gathering z (value_of_word (v (name.Value l.row l.place))) l)).local
+  rest_wanted : is_in_range l.call (key_of_word (v (name.Key l.row l.place))) ≡ true → Arrow z v s choice l RestKey (record l { place_key = key_of_word (v (name.Key l.row l.place)); activity = RestVal })
+  rest_passed : (next : Local) → is_in_range l.call (key_of_word (v (name.Key l.row l.place))) ≡ false → NextRest l next → Arrow z v s choice l RestKey next
+  gathers_rest : (next : Local) → NextRest (gathering z (value_of_word (v (name.Value l.row l.place))) l) next → Arrow z v s choice l RestVal next
   -- a scan is over
   clears_scan : (answer : Answer) → Arrow z v s choice l (ClearScan answer) (leave (answer_or_stopped answer choice) l).local
   -- a put or a delete
@@ -130,7 +139,18 @@ pub data Arrow (z : Sizes) (v : Words) (s : ℕ) (choice : Choice) (l : Local) :
   stamps : pend_of (v (name.Pend l.row s)) ≡ Some (pend.Pending l.cell) → Arrow z v s choice l Stamp (record l { activity = PutVersion })
   is_stamped : (version : ℕ) → pend_of (v (name.Pend l.row s)) ≡ Some (pend.Stamped l.cell version) → Arrow z v s choice l Stamp (record l { version = version; activity = PutVersion })
   is_not_own : IsNotOwn l.cell (v (name.Pend l.row s)) → Arrow z v s choice l Stamp (full l).local
-  stores_version : Arrow z v s choice l PutVersion (record l { activity = PutClear })
+  stores_version : Arrow z v s choice l PutVersion (to_insert l).local
+  -- its cell is inserted
+  meets_cell : (c : ℕ) → cell_of_link_word (v (link_name l.row l.link)) ≡ Some c → Arrow z v s choice l InsFrom (record (meeting z c l) { activity = InsKey })
+  meets_none : cell_of_link_word (v (link_name l.row l.link)) ≡ None → Arrow z v s choice l InsFrom (record l { held = None; activity = InsSet })
+  key_before : key_of_word (v (name.Key l.row l.place)) < first_key l.call → Arrow z v s choice l InsKey (insert_past l).local
+  key_same : key_of_word (v (name.Key l.row l.place)) ≡ first_key l.call → Arrow z v s choice l InsKey (record l { activity = InsVer })
+  key_after : first_key l.call < key_of_word (v (name.Key l.row l.place)) → Arrow z v s choice l InsKey (record l { activity = InsSet })
+  version_before : is_newer (v (name.Version l.row l.place)) l.place l ≡ true → Arrow z v s choice l InsVer (insert_past l).local
+  version_after : is_newer (v (name.Version l.row l.place)) l.place l ≡ false → Arrow z v s choice l InsVer (record l { activity = InsSet })
+  stores_after : Arrow z v s choice l InsSet (record l { activity = Insert })
+  inserts : v (link_name l.row l.link) ≡ cell_link_word l.held → Arrow z v s choice l Insert (record l { activity = PutClear })
+  loses : v (link_name l.row l.link) ≢ cell_link_word l.held → Arrow z v s choice l Insert (record (losing z l) { activity = InsFrom })
   clears : Arrow z v s choice l PutClear (leave Done l).local
   -- the call ends
   leaves : (answer : Answer) → Arrow z v s choice l (Leave answer) (resting l.number)
@@ -149,6 +169,18 @@ below x y e = grind (arith, nat_tests)
 pub not_below : (x y : ℕ) → nat_lt x y ≡ false → y ≤ x
 not_below x y e = grind (arith, nat_tests)
 
+-- a number that is neither smaller nor the same is greater
+apart_above : (x y : ℕ) → nat_lt x y ≡ false → (x == y) ≡ false → y < x
+apart_above x y e f = grind (arith, nat_tests)
+
+-- a version's word is its number, and 0 for none
+unwrap_or-version_of_word : (w : ℕ) → unwrap_or (version_of_word w) 0 ≡ w
+unwrap_or-version_of_word w = met (version_of_word w) refl
+  where
+    met : (x : Option ℕ) → version_of_word w ≡ x → unwrap_or x 0 ≡ w
+    met (Some n) e = rw e at (number_word-number_of_word w)
+    met None e = rw e at (number_word-number_of_word w)
+
 pub at_most : (x y : ℕ) → nat_le x y ≡ true → x ≤ y
 at_most x y e = grind (arith, nat_tests)
 
@@ -161,34 +193,34 @@ above x y e = grind (arith, nat_tests)
 next_look : (z : Sizes) (j : ℕ) (l : Local) (P : Local → Type 0) → ((next : Activity) → NextLook z j next → P (record l { activity = next })) → P (to_look z j l).local
 next_look z j l P f = met (nat_lt j z.seats) refl
   where
-    met : (b : Bool) → nat_lt j z.seats ≡ b → P (let x : Outcome = if b then to (Look j) l else to LookCount l in x).local
+    met : (b : Bool) → nat_lt j z.seats ≡ b → P (let x : Outcome = if b then to (Look j) l else to ListFrom l in x).local
     met true e = f (Look j) (looks (below j z.seats e))
-    met false e = f LookCount (counts (not_below j z.seats e))
+    met false e = f ListFrom (lists (not_below j z.seats e))
 
 -- what follows the end of a row's cells, for a scan
-scan_goes_on : (l : Local) (j : ℕ) (n : Option ℕ) → l.count ≤ j → is_scan l.call ≡ true → l.next ≡ n → NextCell l j (scan_on n (last_key l.call) (with_pairs (last_key l.call) l)).local
-scan_goes_on l j None c s e = ends_scan c s (inl e)
-scan_goes_on l j (Some r) c s e = met (nat_lt (last_key l.call) l.upper) refl
+scan_goes_on : (l : Local) (n : Option ℕ) → least_mark l.remembered ≡ None → is_scan l.call ≡ true → l.next ≡ n → NextRest l (scan_on n (last_key l.call) (with_pairs (last_key l.call) l)).local
+scan_goes_on l None c s e = ends_scan c s (inl e)
+scan_goes_on l (Some r) c s e = met (nat_lt (last_key l.call) l.upper) refl
   where
-    met : (b : Bool) → nat_lt (last_key l.call) l.upper ≡ b → NextCell l j (let x : Outcome = if b then scan_ended (with_pairs (last_key l.call) l) else to Walk (record (with_pairs (last_key l.call) l) { row = r; lower = l.upper; want = l.upper; next = None; upper = 0 }) in x).local
+    met : (b : Bool) → nat_lt (last_key l.call) l.upper ≡ b → NextRest l (let x : Outcome = if b then scan_ended (with_pairs (last_key l.call) l) else to Walk (record (with_pairs (last_key l.call) l) { row = r; lower = l.upper; want = l.upper; next = None; upper = 0 }) in x).local
     met true h = ends_scan c s (inr (below _ _ h))
     met false h = scans_on r c s e (not_below _ _ h)
 
 -- what follows the end of a row's cells
-read_arrow : (l : Local) (j : ℕ) (call : Option Call) → l.count ≤ j → l.call ≡ call → NextCell l j (row_read call l).local
-read_arrow l j (Some (Put key value)) c e = subst (λ x. NextCell l j (get_answered (first_key x) l).local) e (answers c (ap is_scan e))
-read_arrow l j (Some (Del key)) c e = subst (λ x. NextCell l j (get_answered (first_key x) l).local) e (answers c (ap is_scan e))
-read_arrow l j (Some (Get key)) c e = subst (λ x. NextCell l j (get_answered (first_key x) l).local) e (answers c (ap is_scan e))
-read_arrow l j (Some (Scan from upto)) c e = subst (λ x. NextCell l j (row_scanned (last_key x) l).local) e (scan_goes_on l j l.next c (ap is_scan e) refl)
-read_arrow l j None c e = subst (λ x. NextCell l j (get_answered (first_key x) l).local) e (answers c (ap is_scan e))
+read_arrow : (l : Local) (call : Option Call) → least_mark l.remembered ≡ None → l.call ≡ call → NextRest l (row_read call l).local
+read_arrow l (Some (Put key value)) c e = subst (λ x. NextRest l (get_answered (first_key x) l).local) e (answers c (ap is_scan e))
+read_arrow l (Some (Del key)) c e = subst (λ x. NextRest l (get_answered (first_key x) l).local) e (answers c (ap is_scan e))
+read_arrow l (Some (Get key)) c e = subst (λ x. NextRest l (get_answered (first_key x) l).local) e (answers c (ap is_scan e))
+read_arrow l (Some (Scan from upto)) c e = subst (λ x. NextRest l (row_scanned (last_key x) l).local) e (scan_goes_on l l.next c (ap is_scan e) refl)
+read_arrow l None c e = subst (λ x. NextRest l (get_answered (first_key x) l).local) e (answers c (ap is_scan e))
 
--- the next cell, over the test
-pub next_cell : (l : Local) (j : ℕ) → NextCell l j (to_cell j l).local
-next_cell l j = met (nat_lt j l.count) refl
+-- the next remembered cell, or the end
+pub next_rest : (l : Local) → NextRest l (to_rest l).local
+next_rest l = met (least_mark l.remembered) refl
   where
-    met : (b : Bool) → nat_lt j l.count ≡ b → NextCell l j (let x : Outcome = if b then to (Cell j) l else row_read l.call l in x).local
-    met true e = reads_cell (below j l.count e)
-    met false e = read_arrow l j l.call (not_below j l.count e) refl
+    met : (o : Option Mark) → least_mark l.remembered ≡ o → NextRest l (rest_of o l).local
+    met (Some m) e = rests m e
+    met None e = read_arrow l l.call e refl
 
 module _ (z : Sizes) (rows : ℕ) (v : Words) (s : ℕ) (choice : Choice) (l : Local) where
   enter_arrow : (c : Option Call) → l.call ≡ c → Arrow z v s choice l Enter (entered c l).local
@@ -265,9 +297,9 @@ module _ (z : Sizes) (rows : ℕ) (v : Words) (s : ℕ) (choice : Choice) (l : L
   help_arrow (Some pend.Frozen) e = next_look z (l.looked + 1) l (Arrow z v s choice l LookHelp) (λ a n. finds_other a (record { pending = λ q. let y : Some pend.Frozen ≡ Some (pend.Pending l.met) = sym e ∙ q in cc; stamped = λ c u q. let y : Some pend.Frozen ≡ Some (pend.Stamped c u) = sym e ∙ q in cc }) n)
   help_arrow None e = next_look z (l.looked + 1) l (Arrow z v s choice l LookHelp) (λ a n. finds_other a (record { pending = λ q. let y : None ≡ Some (pend.Pending l.met) = sym e ∙ q in cc; stamped = λ c u q. let y : None ≡ Some (pend.Stamped c u) = sym e ∙ q in cc }) n)
 
-  cell_arrow : (j : ℕ) (x : Option ℕ) → version_in_hand j (version_of_word (v (name.Version l.row j))) l ≡ x → Arrow z v s choice l (Cell j) (version_met j x l).local
-  cell_arrow j (Some version) e = has_version j version e
-  cell_arrow j None e = has_no_version j _ e (next_cell l (j + 1))
+  list_arrow : (x : Option ℕ) → cell_of_link_word (v (link_name l.row l.link)) ≡ x → Arrow z v s choice l ListFrom (list_met z x l).local
+  list_arrow (Some c) e = list_leads c e
+  list_arrow None e = list_ends _ e (next_rest l)
 
   stamp_arrow : (x : Option Pend) → pend_of (v (name.Pend l.row s)) ≡ x → Arrow z v s choice l Stamp (stamp_met x l).local
   stamp_arrow (Some pend.Idle) e = is_not_own (record { pending = λ q. let y : Some pend.Idle ≡ Some (pend.Pending l.cell) = sym e ∙ q in cc; stamped = λ u q. let y : Some pend.Idle ≡ Some (pend.Stamped l.cell u) = sym e ∙ q in cc })
@@ -283,6 +315,10 @@ module _ (z : Sizes) (rows : ℕ) (v : Words) (s : ℕ) (choice : Choice) (l : L
       met false h = is_not_own (record { pending = λ q. let y : Some (pend.Stamped cell version) ≡ Some (pend.Pending l.cell) = sym e ∙ q in cc; stamped = λ u q. let y : Some (pend.Stamped cell version) ≡ Some (pend.Stamped l.cell u) = sym e ∙ q in eq_not cell l.cell h (cc) })
   stamp_arrow (Some pend.Frozen) e = is_not_own (record { pending = λ q. let y : Some pend.Frozen ≡ Some (pend.Pending l.cell) = sym e ∙ q in cc; stamped = λ u q. let y : Some pend.Frozen ≡ Some (pend.Stamped l.cell u) = sym e ∙ q in cc })
   stamp_arrow None e = is_not_own (record { pending = λ q. let y : None ≡ Some (pend.Pending l.cell) = sym e ∙ q in cc; stamped = λ u q. let y : None ≡ Some (pend.Stamped l.cell u) = sym e ∙ q in cc })
+
+  insert_arrow : (x : Option ℕ) → cell_of_link_word (v (link_name l.row l.link)) ≡ x → Arrow z v s choice l InsFrom (insert_from z x l).local
+  insert_arrow (Some c) e = meets_cell c e
+  insert_arrow None e = meets_none e
 
   -- every event that is not skipped takes an arrow
   pub arrow : (a : Activity) → IsBegun a choice → is_skipped a choice ≡ false → Arrow z v s choice l a (followed rows (transition z a s choice l) (v (transition z a s choice l).operation.name)).local
@@ -317,14 +353,22 @@ module _ (z : Sizes) (rows : ℕ) (v : Words) (s : ℕ) (choice : Choice) (l : L
       met false e = next_look z (l.looked + 1) l (Arrow z v s choice l LookKey) (λ a n. is_passed a e n)
   arrow LookClock b m = loads_to_help
   arrow LookHelp b m = help_arrow (pend_of (v (name.Pend l.row l.looked))) refl
-  arrow LookCount b m = counts_cells _ (next_cell (record l { count = count_read z (count_of (v (name.Count l.row))) }) 0)
-  arrow (Cell j) b m = cell_arrow j (version_in_hand j (version_of_word (v (name.Version l.row j))) l) refl
-  arrow CellKey b m = met (is_in_range l.call (key_of_word (v (name.Key l.row l.place)))) refl
+  arrow ListFrom b m = list_arrow (cell_of_link_word (v (link_name l.row l.link))) refl
+  arrow ListKey b m = met (nat_lt (key_of_word (v (name.Key l.row l.place))) (first_key l.call)) (nat_le (key_of_word (v (name.Key l.row l.place))) (last_key l.call)) refl refl
     where
-      met : (b : Bool) → is_in_range l.call (key_of_word (v (name.Key l.row l.place))) ≡ b → Arrow z v s choice l CellKey (let x : Outcome = if b then to CellValue (record l { place_key = key_of_word (v (name.Key l.row l.place)) }) else to_cell (l.place + 1) l in x).local
-      met true e = has_key e
-      met false e = has_other_key _ e (next_cell l (l.place + 1))
-  arrow CellValue b m = gathers _ (next_cell (gathering (value_of_word (v (name.Value l.row l.place))) l) (l.place + 1))
+      met : (b c : Bool) → nat_lt (key_of_word (v (name.Key l.row l.place))) (first_key l.call) ≡ b → nat_le (key_of_word (v (name.Key l.row l.place))) (last_key l.call) ≡ c →
+          Arrow z v s choice l ListKey (let x : Outcome = if b then list_past l else if c then to ListVer (record l { place_key = key_of_word (v (name.Key l.row l.place)) }) else to_rest l in x).local
+      met true c e f = key_below (below _ _ e)
+      met false true e f = key_within (not_below _ _ e) (at_most _ _ f)
+      met false false e f = key_above _ (above _ _ f) (next_rest l)
+  arrow ListVer b m = loads_version
+  arrow ListVal b m = gathers_listed
+  arrow RestKey b m = met (is_in_range l.call (key_of_word (v (name.Key l.row l.place)))) refl
+    where
+      met : (b : Bool) → is_in_range l.call (key_of_word (v (name.Key l.row l.place))) ≡ b → Arrow z v s choice l RestKey (let x : Outcome = if b then to RestVal (record l { place_key = key_of_word (v (name.Key l.row l.place)) }) else to_rest l in x).local
+      met true e = rest_wanted e
+      met false e = rest_passed _ e (next_rest l)
+  arrow RestVal b m = gathers_rest _ (next_rest (gathering z (value_of_word (v (name.Value l.row l.place))) l))
   arrow (ClearScan answer) b m = clears_scan answer
   arrow PutCount b m = met (has_room z (count_of (v (name.Count l.row)))) refl
     where
@@ -346,5 +390,24 @@ module _ (z : Sizes) (rows : ℕ) (v : Words) (s : ℕ) (choice : Choice) (l : L
   arrow PutClock b m = loads_clock
   arrow Stamp b m = stamp_arrow (pend_of (v (name.Pend l.row s))) refl
   arrow PutVersion b m = stores_version
+  arrow InsFrom b m = insert_arrow (cell_of_link_word (v (link_name l.row l.link))) refl
+  arrow InsKey b m = met (nat_lt (key_of_word (v (name.Key l.row l.place))) (first_key l.call)) (key_of_word (v (name.Key l.row l.place)) == first_key l.call) refl refl
+    where
+      met : (b c : Bool) → nat_lt (key_of_word (v (name.Key l.row l.place))) (first_key l.call) ≡ b → (key_of_word (v (name.Key l.row l.place)) == first_key l.call) ≡ c →
+          Arrow z v s choice l InsKey (let x : Outcome = if b then insert_past l else if c then to InsVer l else to InsSet l in x).local
+      met true c e f = key_before (below _ _ e)
+      met false true e f = key_same (eq_from _ _ f)
+      met false false e f = key_after (apart_above _ _ e f)
+  arrow InsVer b m = rw (unwrap_or-version_of_word (v (name.Version l.row l.place))) (met (is_newer (v (name.Version l.row l.place)) l.place l) refl)
+    where
+      met : (b : Bool) → is_newer (v (name.Version l.row l.place)) l.place l ≡ b → Arrow z v s choice l InsVer (let x : Outcome = if b then insert_past l else to InsSet l in x).local
+      met true e = version_before e
+      met false e = version_after e
+  arrow InsSet b m = stores_after
+  arrow Insert b m = met (v (link_name l.row l.link) == cell_link_word l.held) refl
+    where
+      met : (b : Bool) → (v (link_name l.row l.link) == cell_link_word l.held) ≡ b → Arrow z v s choice l Insert (insert_tried z b l).local
+      met true e = inserts (eq_from _ _ e)
+      met false e = loses (eq_not _ _ e)
   arrow PutClear b m = clears
   arrow (Leave answer) b m = leaves answer

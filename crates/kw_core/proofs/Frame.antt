@@ -2,8 +2,9 @@
 --
 -- For each family of words one lemma says when a word of it is kept. Its premises compute to nothing at every activity that writes
 -- no word of the family.
-use Rattle.std.proofs.Common.{ℕ, ◌≡◌, ◌≢◌, ◌⊎◌, inl, inr, ◌+◌, ◌<◌, ◌≤◌, Bool, true, false, Option, Some, None, arith, refl, sym, ◌∙◌, ap, subst}
+use Rattle.std.proofs.Common.{ℕ, ◌≡◌, ◌≢◌, ◌⊎◌, inl, inr, ◌+◌, ◌<◌, ◌≤◌, Bool, true, false, Option, Some, None, arith, refl, sym, ◌∙◌, ap, subst, if◌then◌else◌}
 use Rattle.std.proofs.lemmas.Bool.{cases_eq}
+use Rattle.std.proofs.lemmas.Option.{same_Some}
 use Rattle.kw_words.specs.declared.layout.Name.{Name}
 use Rattle.kw_words.specs.declared.layout.Name.TheVariants as name
 use Rattle.kw_words.specs.declared.count.Count.{Count as Counted}
@@ -11,7 +12,7 @@ use Rattle.kw_words.specs.Layout.{IsWithin}
 use Rattle.kw_words.specs.Count.{count_of}
 use Rattle.kw_words.proofs.CountWords.{count_of_next}
 use Rattle.kw_world.specs.declared.activity.Activity.{Activity}
-use Rattle.kw_world.specs.declared.activity.Activity.TheVariants.{Enter, ScanWait, ScanDraw, ScanSettle, Start, Walk, LookHelp, ClearScan, PutAdd, PutKey, PutValue, Announce, Stamp, PutVersion, PutClear, Leave}
+use Rattle.kw_world.specs.declared.activity.Activity.TheVariants.{Enter, ScanWait, ScanDraw, ScanSettle, Start, Walk, LookHelp, ClearScan, PutAdd, PutKey, PutValue, Announce, Stamp, PutVersion, InsSet, Insert, PutClear, Leave}
 use Rattle.kw_world.specs.declared.local.Local.{Local}
 use Rattle.kw_world.specs.declared.event.Choice.{Choice}
 use Rattle.kw_world.specs.declared.operation.Action.{Action}
@@ -20,11 +21,13 @@ use Rattle.kw_world.specs.Table.{transition}
 use Rattle.kw_world.specs.declared.event.Choice.TheVariants.{Begin, Go, Guess, Stop}
 use Rattle.kw_world.specs.Sizes.{Sizes}
 use Rattle.kw_world.specs.PutTransitions.{given_of}
+use Rattle.kw_world.specs.ListTransitions.{link_name}
 use Rattle.kw_world.specs.WalkTransitions.{start_transition, walk_transition, is_stopped}
-use Rattle.kw_world.specs.Sane.{IsGiven}
+use Rattle.kw_world.specs.Sane.{IsGiven, IsCellBelow}
+use Rattle.kw_world.proofs.Transitions.{link_within}
 use Rattle.kw_world.specs.Step.{word}
 use Rattle.kw_core.specs.Run.{Run}
-use Rattle.kw_core.specs.Stages.{IsHelp, IsPutVersion}
+use Rattle.kw_core.specs.Stages.{IsHelp, IsPutVersion, IsInsSet, IsInsert}
 use Rattle.kw_core.specs.Words.{Words, given_in}
 use Rattle.kw_core.proofs.Happens.{Happens}
 
@@ -51,6 +54,8 @@ writes PutValue s b l = Some (name.Value l.row l.cell)
 writes Announce s b l = Some (name.Pend l.row s)
 writes Stamp s b l = Some (name.Pend l.row s)
 writes PutVersion s b l = Some (name.Version l.row l.cell)
+writes InsSet s b l = Some (name.After l.row l.cell)
+writes Insert s b l = Some (link_name l.row l.link)
 writes PutClear s b l = Some (name.Pend l.row s)
 writes (Leave answer) s b l = Some (name.Pass s)
 writes _ s b l = None
@@ -100,6 +105,8 @@ is_written (name.Pend q seat) = true
 is_written (name.Key q cell) = true
 is_written (name.Value q cell) = true
 is_written (name.Version q cell) = true
+is_written (name.First q) = true
+is_written (name.After q cell) = true
 is_written _ = false
 
 may_write : Option Name → Bool
@@ -108,6 +115,11 @@ may_write None = true
 
 written : (a : Activity) (s : ℕ) (b : Bool) (l : Local) → may_write (writes a s b l) ≡ true
 unfolding may_write
+written Insert s b l = links l.link
+  where
+    links : (link : Option ℕ) → may_write (Some (link_name l.row link)) ≡ true
+    links (Some c) = refl
+    links None = refl
 written Walk s true l = refl
 written Walk s false l = refl
 written _ s b l = refl
@@ -119,24 +131,9 @@ never_writes a s b l n f e = let x : true ≡ false = sym (written a s b l) ∙ 
 pub fixed : {z : Sizes} {r r' : Run} {s : ℕ} {choice : Choice} {l l' : Local} (a : Activity) → Happens z r r' s choice l l' a → (n : Name) → IsWithin z.seats z.cells r.world.rows n → is_written n ≡ false → word z r'.world n ≡ word z r.world n
 fixed {z} {r} {r'} {s} {choice} {l} {l'} a h n i f = unwritten a h n i (never_writes a s (is_stopped choice l) l n f)
 
--- the rows after an event are those before it
-pub record SameRows (rows : ℕ) (v v' : Words) : Type 0 where
-  pub head : v' name.Head ≡ v name.Head
-  pub state : (q : ℕ) → q < rows → v' (name.State q) ≡ v (name.State q)
-  pub least : (q : ℕ) → q < rows → v' (name.Min q) ≡ v (name.Min q)
-  pub next : (q : ℕ) → q < rows → v' (name.Next q) ≡ v (name.Next q)
-
-pub same_rows : {z : Sizes} {r r' : Run} {s : ℕ} {choice : Choice} {l l' : Local} (a : Activity) → Happens z r r' s choice l l' a → SameRows r.world.rows (word z r.world) (word z r'.world)
-same_rows a h = record {
-  head = fixed a h name.Head tt refl;
-  state = λ q i. fixed a h (name.State q) i refl;
-  least = λ q i. fixed a h (name.Min q) i refl;
-  next = λ q i. fixed a h (name.Next q) i refl;
-}
-
 -- The families of words that events write.
 
--- which activities write an entry of their seat, a count, the clock, a key, a value
+-- which activities write an entry of their seat, a count, the clock, a pass, a key, a value
 abbrev pub WritesOwnEntry : Activity → Type 0
 WritesOwnEntry Announce = Unit {0}
 WritesOwnEntry Stamp = Unit {0}
@@ -150,6 +147,11 @@ WritesCount _ = ⊥
 abbrev pub WritesClock : Activity → Type 0
 WritesClock ScanDraw = Unit {0}
 WritesClock _ = ⊥
+
+abbrev pub WritesPass : Activity → Type 0
+WritesPass Enter = Unit {0}
+WritesPass (Leave answer) = Unit {0}
+WritesPass _ = ⊥
 
 abbrev pub WritesKey : Activity → Type 0
 WritesKey PutKey = Unit {0}
@@ -169,6 +171,9 @@ same_count q x e = cc
 same_scan : (q x : ℕ) → Some (name.Scan q) ≡ Some (name.Scan x) → q ≡ x
 same_scan q x e = cc
 
+same_pass : (q x : ℕ) → Some (name.Pass q) ≡ Some (name.Pass x) → q ≡ x
+same_pass q x e = cc
+
 same_key : (q t x y : ℕ) → Some (name.Key q t) ≡ Some (name.Key x y) → (q ≡ x) × (t ≡ y)
 same_key q t x y e = (cc, cc)
 
@@ -178,23 +183,52 @@ same_value q t x y e = (cc, cc)
 same_version : (q t x y : ℕ) → Some (name.Version q t) ≡ Some (name.Version x y) → (q ≡ x) × (t ≡ y)
 same_version q t x y e = (cc, cc)
 
+-- a link between cells is no word of another family
+abbrev pub is_link : Name → Bool
+is_link (name.First q) = true
+is_link (name.After q c) = true
+is_link _ = false
+
+pub no_link : {A : Type 0} (q : ℕ) (link : Option ℕ) (n : Name) → is_link n ≡ false → Some (link_name q link) ≡ Some n → A
+no_link q (Some c) n f e = let x : true ≡ false = ap is_link (same_Some (name.After q c) n e) ∙ f in absurd (cc)
+no_link q None n f e = let x : true ≡ false = ap is_link (same_Some (name.First q) n e) ∙ f in absurd (cc)
+
+-- nor is what is no link one
+abbrev is_unlinked : Option Name → Bool
+is_unlinked (Some n) = if is_link n then false else true
+is_unlinked None = true
+
+not_linked : {A : Type 0} (q : ℕ) (at : Option ℕ) (w : Option Name) → w ≡ Some (link_name q at) → is_unlinked w ≡ true → A
+not_linked q (Some c) w e f = let x : false ≡ true = ap is_unlinked (sym e) ∙ f in absurd (cc)
+not_linked q None w e f = let x : false ≡ true = ap is_unlinked (sym e) ∙ f in absurd (cc)
+
+-- links between cells that are one word are one link
+same_link : (q p : ℕ) (at x : Option ℕ) → link_name q at ≡ link_name p x → (q ≡ p) × (at ≡ x)
+same_link q p (Some c) (Some d) e = (cc, cc)
+same_link q p (Some c) None e = let f : name.After q c ≡ name.First p = e in absurd (cc)
+same_link q p None (Some d) e = let f : name.First q ≡ name.After p d = e in absurd (cc)
+same_link q p None None e = (cc, refl)
+
 not_pend : (a : Activity) (s : ℕ) (b : Bool) (l : Local) (q t : ℕ) → (WritesOwnEntry a → q ≡ l.row → t ≡ s → ⊥) → (IsHelp a → q ≡ l.row → t ≡ l.looked → ⊥) → writes a s b l ≢ Some (name.Pend q t)
 not_pend Announce s b l q t f g e = let x = same_pend l.row s q t e in f tt (sym x.0) (sym x.1)
 not_pend Stamp s b l q t f g e = let x = same_pend l.row s q t e in f tt (sym x.0) (sym x.1)
 not_pend PutClear s b l q t f g e = let x = same_pend l.row s q t e in f tt (sym x.0) (sym x.1)
 not_pend LookHelp s b l q t f g e = let x = same_pend l.row l.looked q t e in g tt (sym x.0) (sym x.1)
+not_pend Insert s b l q t f g e = no_link l.row l.link (name.Pend q t) refl e
 not_pend Walk s true l q t f g e = let x : Some (name.Scan s) ≡ Some (name.Pend q t) = e in cc
 not_pend Walk s false l q t f g e = let x : None ≡ Some (name.Pend q t) = e in cc
 not_pend _ s b l q t f g e = cc
 
 not_count : (a : Activity) (s : ℕ) (b : Bool) (l : Local) (q : ℕ) → (WritesCount a → q ≡ l.row → ⊥) → writes a s b l ≢ Some (name.Count q)
 not_count PutAdd s b l q f e = f tt (sym (same_count l.row q e))
+not_count Insert s b l q f e = no_link l.row l.link (name.Count q) refl e
 not_count Walk s true l q f e = let x : Some (name.Scan s) ≡ Some (name.Count q) = e in cc
 not_count Walk s false l q f e = let x : None ≡ Some (name.Count q) = e in cc
 not_count _ s b l q f e = cc
 
 not_clock : (a : Activity) (s : ℕ) (b : Bool) (l : Local) → (WritesClock a → ⊥) → writes a s b l ≢ Some name.Clock
 not_clock ScanDraw s b l f e = f tt
+not_clock Insert s b l f e = no_link l.row l.link (name.Clock) refl e
 not_clock Walk s true l f e = let x : Some (name.Scan s) ≡ Some name.Clock = e in cc
 not_clock Walk s false l f e = let x : None ≡ Some name.Clock = e in cc
 not_clock _ s b l f e = cc
@@ -203,27 +237,47 @@ not_scan : (a : Activity) (s : ℕ) (b : Bool) (l : Local) (t : ℕ) → t ≢ s
 not_scan ScanWait s b l t d e = d (sym (same_scan s t e))
 not_scan ScanSettle s b l t d e = d (sym (same_scan s t e))
 not_scan (ClearScan answer) s b l t d e = d (sym (same_scan s t e))
+not_scan Insert s b l t d e = no_link l.row l.link (name.Scan t) refl e
 not_scan Walk s true l t d e = d (sym (same_scan s t e))
 not_scan Walk s false l t d e = let x : None ≡ Some (name.Scan t) = e in cc
 not_scan _ s b l t d e = cc
 
+not_pass : (a : Activity) (s : ℕ) (b : Bool) (l : Local) (t : ℕ) → (WritesPass a → t ≡ s → ⊥) → writes a s b l ≢ Some (name.Pass t)
+not_pass Enter s b l t f e = f tt (sym (same_pass s t e))
+not_pass (Leave answer) s b l t f e = f tt (sym (same_pass s t e))
+not_pass Insert s b l t f e = no_link l.row l.link (name.Pass t) refl e
+not_pass Walk s true l t f e = let x : Some (name.Scan s) ≡ Some (name.Pass t) = e in cc
+not_pass Walk s false l t f e = let x : None ≡ Some (name.Pass t) = e in cc
+not_pass _ s b l t f e = cc
+
 not_key : (a : Activity) (s : ℕ) (b : Bool) (l : Local) (q c : ℕ) → (WritesKey a → q ≡ l.row → c ≡ l.cell → ⊥) → writes a s b l ≢ Some (name.Key q c)
 not_key PutKey s b l q c f e = let x = same_key l.row l.cell q c e in f tt (sym x.0) (sym x.1)
+not_key Insert s b l q c f e = no_link l.row l.link (name.Key q c) refl e
 not_key Walk s true l q c f e = let x : Some (name.Scan s) ≡ Some (name.Key q c) = e in cc
 not_key Walk s false l q c f e = let x : None ≡ Some (name.Key q c) = e in cc
 not_key _ s b l q c f e = cc
 
 not_value : (a : Activity) (s : ℕ) (b : Bool) (l : Local) (q c : ℕ) → (WritesValue a → q ≡ l.row → c ≡ l.cell → ⊥) → writes a s b l ≢ Some (name.Value q c)
 not_value PutValue s b l q c f e = let x = same_value l.row l.cell q c e in f tt (sym x.0) (sym x.1)
+not_value Insert s b l q c f e = no_link l.row l.link (name.Value q c) refl e
 not_value Walk s true l q c f e = let x : Some (name.Scan s) ≡ Some (name.Value q c) = e in cc
 not_value Walk s false l q c f e = let x : None ≡ Some (name.Value q c) = e in cc
 not_value _ s b l q c f e = cc
 
 not_version : (a : Activity) (s : ℕ) (b : Bool) (l : Local) (q c : ℕ) → (IsPutVersion a → q ≡ l.row → c ≡ l.cell → ⊥) → writes a s b l ≢ Some (name.Version q c)
 not_version PutVersion s b l q c f e = let x = same_version l.row l.cell q c e in f tt (sym x.0) (sym x.1)
+not_version Insert s b l q c f e = no_link l.row l.link (name.Version q c) refl e
 not_version Walk s true l q c f e = let x : Some (name.Scan s) ≡ Some (name.Version q c) = e in cc
 not_version Walk s false l q c f e = let x : None ≡ Some (name.Version q c) = e in cc
 not_version _ s b l q c f e = cc
+
+-- a link between cells is kept, unless the seat stores it or exchanges it
+not_link : (a : Activity) (s : ℕ) (b : Bool) (l : Local) (q : ℕ) (at : Option ℕ) → (IsInsSet a → q ≡ l.row → at ≡ Some l.cell → ⊥) → (IsInsert a → q ≡ l.row → at ≡ l.link → ⊥) → writes a s b l ≢ Some (link_name q at)
+not_link InsSet s b l q at f g e = let x = same_link l.row q (Some l.cell) at (same_Some (name.After l.row l.cell) (link_name q at) e) in f tt (sym x.0) (sym x.1)
+not_link Insert s b l q at f g e = let x = same_link l.row q l.link at (same_Some (link_name l.row l.link) (link_name q at) e) in g tt (sym x.0) (sym x.1)
+not_link Walk s true l q at f g e = not_linked q at _ e refl
+not_link Walk s false l q at f g e = not_linked q at _ e refl
+not_link _ s b l q at f g e = not_linked q at _ e refl
 
 -- one more cell is asked for
 pub given-next : (w : ℕ) (c : Option Counted) → count_of w ≡ c → IsGiven c → given_of (count_of (w + 1)) ≡ given_of (count_of w) + 1
@@ -247,6 +301,10 @@ module _ {z : Sizes} {r r' : Run} {s : ℕ} {choice : Choice} {l l' : Local} whe
   pub scan_kept : (a : Activity) → Happens z r r' s choice l l' a → (t : ℕ) → t < z.seats → t ≢ s → word z r'.world (name.Scan t) ≡ word z r.world (name.Scan t)
   scan_kept a h t o d = unwritten a h (name.Scan t) o (not_scan a s (is_stopped choice l) l t d)
 
+  -- a pass is kept, unless its seat enters or leaves
+  pub pass_kept : (a : Activity) → Happens z r r' s choice l l' a → (t : ℕ) → t < z.seats → (WritesPass a → t ≡ s → ⊥) → word z r'.world (name.Pass t) ≡ word z r.world (name.Pass t)
+  pass_kept a h t o f = unwritten a h (name.Pass t) o (not_pass a s (is_stopped choice l) l t f)
+
   -- a key, a value, a version is kept, unless the seat stores it there
   pub key_kept : (a : Activity) → Happens z r r' s choice l l' a → (q c : ℕ) → q < r.world.rows → c < z.cells → (WritesKey a → q ≡ l.row → c ≡ l.cell → ⊥) → word z r'.world (name.Key q c) ≡ word z r.world (name.Key q c)
   key_kept a h q c i o f = unwritten a h (name.Key q c) (i, o) (not_key a s (is_stopped choice l) l q c f)
@@ -256,6 +314,10 @@ module _ {z : Sizes} {r r' : Run} {s : ℕ} {choice : Choice} {l l' : Local} whe
 
   pub version_kept : (a : Activity) → Happens z r r' s choice l l' a → (q c : ℕ) → q < r.world.rows → c < z.cells → (IsPutVersion a → q ≡ l.row → c ≡ l.cell → ⊥) → word z r'.world (name.Version q c) ≡ word z r.world (name.Version q c)
   version_kept a h q c i o f = unwritten a h (name.Version q c) (i, o) (not_version a s (is_stopped choice l) l q c f)
+
+  -- a link between cells is kept, unless the seat stores it or exchanges it
+  pub link_kept : (a : Activity) → Happens z r r' s choice l l' a → (q : ℕ) (at : Option ℕ) → q < r.world.rows → IsCellBelow z.cells at → (IsInsSet a → q ≡ l.row → at ≡ Some l.cell → ⊥) → (IsInsert a → q ≡ l.row → at ≡ l.link → ⊥) → word z r'.world (link_name q at) ≡ word z r.world (link_name q at)
+  link_kept a h q at i o f g = unwritten a h (link_name q at) (link_within z r.world.rows q at o i) (not_link a s (is_stopped choice l) l q at f g)
 
   -- the clock does not fall
   pub clock_grows : (a : Activity) → Happens z r r' s choice l l' a → word z r.world name.Clock ≤ word z r'.world name.Clock

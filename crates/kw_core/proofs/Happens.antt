@@ -36,6 +36,7 @@ use Rattle.kw_core.proofs.Events.{IsBegun}
 use Rattle.kw_core.proofs.Arrows.{Arrow, arrow}
 use Rattle.kw_core.specs.Stages.{IsReached}
 use Rattle.kw_core.specs.Ledger.{ledger_after}
+use Rattle.kw_core.specs.Listed.{listed_after}
 
 -- the words changed as a line of the table says
 pub record Changed (z : Sizes) (rows : ℕ) (v v' : Words) (it : Transition) : Type 0 where
@@ -78,6 +79,7 @@ pub record Happens (z : Sizes) (r r' : Run) (s : ℕ) (choice : Choice) (l l' : 
   pub log : r'.seats s ≡ seat_after z a choice l (found_at z (word z r.world) a s choice l) l'.activity (r.seats s) r.origin r.history
   pub logs : (t : ℕ) → t ≢ s → r'.seats t ≡ r.seats t
   pub ledger : r'.ledger ≡ ledger_after z a s l (found_at z (word z r.world) a s choice l) (word z r.world) (length r.history.log) r.ledger
+  pub listed : r'.listed ≡ listed_after a l (found_at z (word z r.world) a s choice l) r.listed
   pub origin : r'.origin ≡ origins_after z a l (found_at z (word z r.world) a s choice l) r.origin r.history
 
 -- Every event that is noted happens.
@@ -123,6 +125,7 @@ happens z r e l sane reached begins knows moves =
       log = rw (eq-eqb e.seat e.seat refl) refl;
       logs = λ t d. rw (ne_eqb t e.seat d) refl;
       ledger = refl;
+      listed = refl;
       origin = refl;
     }
 

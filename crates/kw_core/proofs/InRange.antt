@@ -1,6 +1,9 @@
 -- What a seat remembers, gathers and answers is in range where its parts are.
-use Rattle.std.proofs.Common.{ℕ, zero, suc, ◌≡◌, inl, inr, ◌+◌, ◌-◌, ◌<◌, ◌≤◌, ◌==◌, Bool, true, false, Option, Some, None, List, [], ◌∷◌, ◌++◌, arith, refl, sym, subst, All}
+use Rattle.std.proofs.Common.{ℕ, zero, suc, ◌≡◌, inl, inr, ◌+◌, ◌-◌, ◌<◌, ◌≤◌, Bool, true, false, Option, Some, None, List, [], ◌∷◌, arith, refl, sym, subst, All, length, nat_lt, if◌then◌else◌, unwrap_or}
 use Rattle.std.proofs.lemmas.List.Elements.{All-nil, All-cons, All-head, All-tail, All-contains}
+use Rattle.std.proofs.lemmas.List.Elements.{All-filter}
+use Rattle.std.proofs.lemmas.List.Sums.{length-filter, count_by-le-length}
+use Rattle.std.proofs.lemmas.Bool.Decides.{nat_tests}
 use Rattle.std.proofs.lemmas.Option.{same_Some}
 use Rattle.kw_words.specs.declared.sizes.TheConstants.{KEY_END, VALUE_END, VERSION_END}
 use Rattle.kw_words.specs.Plain.{IsValue, value_of_word, version_of_word}
@@ -12,6 +15,8 @@ use Rattle.kw_words.specs.Scan.{scan_of}
 use Rattle.kw_words.proofs.ScanWords.{IsScan-scan_of}
 use Rattle.kw_cells.specs.declared.cell.Cell as kw_cell
 use Rattle.kw_cells.specs.Cells.{best_of, value_in, shown_at, pairs_of}
+use Rattle.kw_cells.specs.InOrder.{stands_before, with_cell}
+use Rattle.kw_cells.proofs.InOrder.{with_cell-all}
 use Rattle.kw_cells.specs.Pairs.{with_shown, pairs_along, pairs_between}
 use Rattle.kw_cells.proofs.Best.{best_is}
 use Rattle.kw_model.specs.declared.call.Call.{Call}
@@ -24,45 +29,45 @@ use Rattle.kw_world.specs.declared.event.Choice.{Choice}
 use Rattle.kw_world.specs.declared.event.Choice.TheVariants.{Begin, Go, Guess, Stop}
 use Rattle.kw_world.specs.Sizes.{Sizes}
 use Rattle.kw_world.specs.Calls.{first_key, last_key, put_value}
-use Rattle.kw_world.specs.Marks.{version_marked}
+use Rattle.kw_world.specs.Marks.{is_other, unmarked, lesser_of, least_mark}
 use Rattle.kw_world.specs.Transition.{row_linked}
 use Rattle.kw_world.specs.ScanTransitions.{version_settled, answer_or_stopped}
-use Rattle.kw_world.specs.ReadTransitions.{version_in_hand}
-use Rattle.kw_world.specs.Sane.{IsVersion, IsValueWord, IsLinkBelow, IsRowBelow, IsCall, IsPair, IsAnswer, IsMark, IsCopy, RisesBetween}
+use Rattle.kw_world.specs.ReadTransitions.{cell_in_hand, gathering}
+use Rattle.kw_world.specs.Sane.{IsVersion, IsValueWord, IsLinkBelow, IsRowBelow, IsCall, IsPair, IsAnswer, IsCopy}
 
--- The places of cells.
+-- Marks and versions.
 
--- cells that lie below a place lie below every greater one
-pub rises-wider : (low high more : ℕ) (cs : List kw_cell.Cell) → high ≤ more → RisesBetween low high cs → RisesBetween low more cs
-rises-wider low high more [] o h = omega (arith, h, o)
-rises-wider low high more (c ∷ cs) o h = (h.0, rises-wider (suc c.place) high more cs o h.1)
+-- the marks of other cells are in range
+pub unmarked_in_range : (P : Mark → Type 0) (c : ℕ) (marks : List Mark) → All P marks → All P (unmarked c marks)
+unmarked_in_range P c marks h = All-filter (is_other c) P marks h
 
--- one more cell, above those that are there
-pub rises-snoc : (low place high : ℕ) (cs : List kw_cell.Cell) (c : kw_cell.Cell) → RisesBetween low place cs → place ≤ c.place → c.place < high → RisesBetween low high (cs ++ c ∷ [])
-rises-snoc low place high [] c h o u = (omega (arith, h, o), omega (arith, u))
-rises-snoc low place high (d ∷ cs) c h o u = (h.0, rises-snoc (suc d.place) place high cs c h.1 o u)
+-- and no more
+pub unmarked_few : (c : ℕ) (marks : List Mark) → length (unmarked c marks) ≤ length marks
+unmarked_few c marks = omega (arith, length-filter (is_other c) marks, count_by-le-length (is_other c) marks)
 
--- Versions.
-
--- the version that a mark has
-pub mark_version : (z : Sizes) (j : ℕ) (marks : List Mark) (version : ℕ) → version_marked j marks ≡ Some version → All (IsMark z) marks → IsVersion version
-mark_version z j [] version e h = let x : None ≡ Some version = e in absurd (cc)
-mark_version z j (m ∷ marks) version e h = met (m.cell == j) refl (λ f. mark_version z j marks version f (All-tail (IsMark z) m marks h))
+-- the mark of the least cell is one of them
+pub least_holds : (P : Mark → Type 0) (marks : List Mark) (m : Mark) → least_mark marks ≡ Some m → All P marks → P m
+least_holds P [] m e h = let x : None ≡ Some m = e in absurd (cc)
+least_holds P (n ∷ marks) m e h = met (least_mark marks) refl e (λ k f. least_holds P marks k f (All-tail P n marks h))
   where
-    met : (b : Bool) → (m.cell == j) ≡ b → (version_marked j marks ≡ Some version → IsVersion version) → IsVersion version
-    met true y rest = let x : Some m.version ≡ Some version = rw y at e in subst IsVersion (same_Some m.version version x) (All-head (IsMark z) m marks h).1
-    met false y rest = rest (rw y at e)
+    met : (o : Option Mark) → least_mark marks ≡ o → Some (lesser_of n o) ≡ Some m → ((k : Mark) → least_mark marks ≡ Some k → P k) → P m
+    met None f g rest = subst P (same_Some n m g) (All-head P n marks h)
+    met (Some k) f g rest = which (nat_lt k.cell n.cell) g
+      where
+        which : (b : Bool) → Some (if b then k else n) ≡ Some m → P m
+        which true x = subst P (same_Some k m x) (rest k f)
+        which false x = subst P (same_Some n m x) (All-head P n marks h)
 
--- the version of a cell's word, or the one that is remembered
-pub version_at_hand : (z : Sizes) (j w version : ℕ) (l : Local) → version_in_hand j (version_of_word w) l ≡ Some version → w < VERSION_END → All (IsMark z) l.remembered → IsVersion version
-version_at_hand z j w version l e o h = met (version_of_word w) refl e
+-- the version of a cell's word
+pub version_in_hand : (w : ℕ) → w < VERSION_END → IsVersion (unwrap_or (version_of_word w) 1)
+version_in_hand w o = met (version_of_word w) refl
   where
-    met : (x : Option ℕ) → version_of_word w ≡ x → version_in_hand j x l ≡ Some version → IsVersion version
-    met (Some n) y f =
+    met : (x : Option ℕ) → version_of_word w ≡ x → IsVersion (unwrap_or x 1)
+    met (Some n) y =
         let same : n ≡ w = rw y at (number_word-number_of_word w) in
         let counted : 1 ≤ n = rw y at (IsCounted-number_of_word w) in
-        subst IsVersion (same_Some n version f) (counted, omega (arith, same, o))
-    met None y f = mark_version z j l.remembered version f h
+        (counted, omega (arith, same, o))
+    met None y = (omega arith, omega arith)
 
 -- the version that a scan is settled at
 pub version_of_scan : (w drawn : ℕ) → IsVersion drawn → IsVersion (version_settled (scan_of w) drawn)
@@ -75,6 +80,36 @@ version_of_scan w drawn h = met (scan_of w) refl
     met None e = h
 
 -- Cells and pairs.
+
+-- what the gathered cells and the new one have
+pub with_cell_in_range : (P : kw_cell.Cell → Type 0) (c : kw_cell.Cell) (cells : List kw_cell.Cell) → P c → All P cells → All P (with_cell c cells)
+with_cell_in_range P c cells p h = with_cell-all P c cells p h
+
+-- no more than one is put among them
+pub with_cell_few : (c : kw_cell.Cell) (cells : List kw_cell.Cell) → length (with_cell c cells) ≤ length cells + 1
+with_cell_few c [] = omega arith
+with_cell_few c (d ∷ cells) = which (stands_before d c) (stands_before c d) (with_cell_few c cells)
+  where
+    which : (x y : Bool) → length (with_cell c cells) ≤ length cells + 1 → length (if x then d ∷ with_cell c cells else if y then c ∷ d ∷ cells else d ∷ cells) ≤ suc (length cells) + 1
+    which true y i = omega arith
+    which false true i = omega arith
+    which false false i = omega arith
+
+-- what is gathered, whether the cell is put there or not
+pub gathered_in_range : (z : Sizes) (P : kw_cell.Cell → Type 0) (value : Option ℕ) (l : Local) → P (cell_in_hand value l) → All P l.gathered → All P (gathering z value l).gathered
+gathered_in_range z P value l p h = which (nat_lt (length l.gathered) z.cells)
+  where
+    which : (b : Bool) → All P (if b then with_cell (cell_in_hand value l) l.gathered else l.gathered)
+    which true = with_cell-all P (cell_in_hand value l) l.gathered p h
+    which false = h
+
+-- and no more cells than a row has
+pub gathered_few : (z : Sizes) (value : Option ℕ) (l : Local) → length l.gathered ≤ z.cells → length (gathering z value l).gathered ≤ z.cells
+gathered_few z value l u = which (nat_lt (length l.gathered) z.cells) refl
+  where
+    which : (b : Bool) → nat_lt (length l.gathered) z.cells ≡ b → length (if b then with_cell (cell_in_hand value l) l.gathered else l.gathered) ≤ z.cells
+    which true e = let w : length l.gathered < z.cells = grind (arith, nat_tests) in omega (arith, w, with_cell_few (cell_in_hand value l) l.gathered)
+    which false e = u
 
 -- what a version shows is a value in range
 pub shown_in_range : (cells : List kw_cell.Cell) (version key value : ℕ) → All IsCopy cells → shown_at cells version key ≡ Some value → value < VALUE_END

@@ -11,8 +11,8 @@ pub mod Runs
 pub mod Arrows
 pub mod Happens
 pub mod Frame
+pub mod Beyond
 pub mod Changes
 pub mod SeatLogs
 pub mod InRange
 pub mod Marks
-pub mod Ends

@@ -2,13 +2,13 @@
 use Rattle.std.proofs.Common.{ℕ, ◌≡◌, [], length, ◌==◌, Bool, true, false, if◌then◌else◌, Some, None, arith, refl, ap}
 use Rattle.kw_words.specs.Count.{count_of}
 use Rattle.kw_world.specs.declared.activity.Activity.{Activity}
-use Rattle.kw_world.specs.declared.activity.Activity.TheVariants.{Idle, ScanDraw, Look, LookKey, LookClock, LookHelp, LookCount, Cell, CellKey, CellValue, PutAdd, PutClock, Stamp, PutVersion, PutClear}
+use Rattle.kw_world.specs.declared.activity.Activity.TheVariants.{Idle, ScanDraw, Look, LookKey, LookClock, LookHelp, ListFrom, ListKey, ListVer, ListVal, RestKey, RestVal, PutAdd, PutClock, Stamp, PutVersion, InsFrom, InsKey, InsVer, InsSet, Insert, PutClear}
 use Rattle.kw_world.specs.declared.local.Local.{Local}
 use Rattle.kw_world.specs.declared.event.Choice.{Choice}
 use Rattle.kw_world.specs.Sizes.{Sizes}
 use Rattle.kw_world.specs.PutTransitions.{has_room}
 use Rattle.kw_core.specs.History.{History}
-use Rattle.kw_core.specs.Run.{SeatLog, Origins, seat_after, log_gathered, is_at_cell}
+use Rattle.kw_core.specs.Run.{SeatLog, Origins, seat_after, log_gathered, place_gathered, is_at_cell}
 use Rattle.kw_core.specs.Stages.{IsPublished, IsReading, IsUnderway}
 use Rattle.kw_core.proofs.Happens.{not_chosen}
 
@@ -25,10 +25,10 @@ IsNoDraw _ = Unit {0}
 
 -- the event may be the last one in a row
 abbrev pub IsEnding : Activity → Type 0
-IsEnding LookCount = Unit {0}
-IsEnding (Cell j) = Unit {0}
-IsEnding CellKey = Unit {0}
-IsEnding CellValue = Unit {0}
+IsEnding ListFrom = Unit {0}
+IsEnding ListKey = Unit {0}
+IsEnding RestKey = Unit {0}
+IsEnding RestVal = Unit {0}
 IsEnding _ = ⊥
 
 module _ (z : Sizes) (choice : Choice) (l : Local) (found : ℕ) (next : Activity) (g : SeatLog) (o : Origins) (h : History) where
@@ -36,10 +36,10 @@ module _ (z : Sizes) (choice : Choice) (l : Local) (found : ℕ) (next : Activit
   pub call_kept : (a : Activity) → IsUnderway a → (seat_after z a choice l found next g o h).call ≡ g.call
   call_kept Idle u = absurd u
   call_kept (Look i) u = either (λ (q : SeatLog). q.call) (i == 0) (record g { looked = length h.log; ids = []; read = None }) g g.call refl refl
-  call_kept LookCount u = either (λ (q : SeatLog). q.call) (is_at_cell next) g (record g { read = Some l.row }) g.call refl refl
-  call_kept (Cell j) u = either (λ (q : SeatLog). q.call) (is_at_cell next) g (record g { read = Some l.row }) g.call refl refl
-  call_kept CellKey u = either (λ (q : SeatLog). q.call) (is_at_cell next) g (record g { read = Some l.row }) g.call refl refl
-  call_kept CellValue u = let k = log_gathered (o l.row l.place) g in either (λ (q : SeatLog). q.call) (is_at_cell next) k (record k { read = Some l.row }) g.call refl refl
+  call_kept ListFrom u = either (λ (q : SeatLog). q.call) (is_at_cell next) g (record g { read = Some l.row }) g.call refl refl
+  call_kept ListKey u = either (λ (q : SeatLog). q.call) (is_at_cell next) g (record g { read = Some l.row }) g.call refl refl
+  call_kept RestKey u = either (λ (q : SeatLog). q.call) (is_at_cell next) g (record g { read = Some l.row }) g.call refl refl
+  call_kept RestVal u = let k = log_gathered (o l.row l.place) (place_gathered l found) g in either (λ (q : SeatLog). q.call) (is_at_cell next) k (record k { read = Some l.row }) g.call refl refl
   call_kept PutAdd u = either (λ (q : SeatLog). q.call) (has_room z (count_of found)) (record g { own = length h.attempts }) g g.call refl refl
   call_kept _ u = refl
 
@@ -48,10 +48,10 @@ module _ (z : Sizes) (choice : Choice) (l : Local) (found : ℕ) (next : Activit
   draw_kept Idle u = absurd u
   draw_kept ScanDraw u = absurd u
   draw_kept (Look i) u = either (λ (q : SeatLog). q.drawn) (i == 0) (record g { looked = length h.log; ids = []; read = None }) g g.drawn refl refl
-  draw_kept LookCount u = either (λ (q : SeatLog). q.drawn) (is_at_cell next) g (record g { read = Some l.row }) g.drawn refl refl
-  draw_kept (Cell j) u = either (λ (q : SeatLog). q.drawn) (is_at_cell next) g (record g { read = Some l.row }) g.drawn refl refl
-  draw_kept CellKey u = either (λ (q : SeatLog). q.drawn) (is_at_cell next) g (record g { read = Some l.row }) g.drawn refl refl
-  draw_kept CellValue u = let k = log_gathered (o l.row l.place) g in either (λ (q : SeatLog). q.drawn) (is_at_cell next) k (record k { read = Some l.row }) g.drawn refl refl
+  draw_kept ListFrom u = either (λ (q : SeatLog). q.drawn) (is_at_cell next) g (record g { read = Some l.row }) g.drawn refl refl
+  draw_kept ListKey u = either (λ (q : SeatLog). q.drawn) (is_at_cell next) g (record g { read = Some l.row }) g.drawn refl refl
+  draw_kept RestKey u = either (λ (q : SeatLog). q.drawn) (is_at_cell next) g (record g { read = Some l.row }) g.drawn refl refl
+  draw_kept RestVal u = let k = log_gathered (o l.row l.place) (place_gathered l found) g in either (λ (q : SeatLog). q.drawn) (is_at_cell next) k (record k { read = Some l.row }) g.drawn refl refl
   draw_kept PutAdd u = either (λ (q : SeatLog). q.drawn) (has_room z (count_of found)) (record g { own = length h.attempts }) g g.drawn refl refl
   draw_kept _ u = refl
 
@@ -61,10 +61,12 @@ module _ (z : Sizes) (choice : Choice) (l : Local) (found : ℕ) (next : Activit
   look_kept LookKey u = refl
   look_kept LookClock u = refl
   look_kept LookHelp u = refl
-  look_kept LookCount u = either (λ (q : SeatLog). q.looked) (is_at_cell next) g (record g { read = Some l.row }) g.looked refl refl
-  look_kept (Cell j) u = either (λ (q : SeatLog). q.looked) (is_at_cell next) g (record g { read = Some l.row }) g.looked refl refl
-  look_kept CellKey u = either (λ (q : SeatLog). q.looked) (is_at_cell next) g (record g { read = Some l.row }) g.looked refl refl
-  look_kept CellValue u = let k = log_gathered (o l.row l.place) g in either (λ (q : SeatLog). q.looked) (is_at_cell next) k (record k { read = Some l.row }) g.looked refl refl
+  look_kept ListFrom u = either (λ (q : SeatLog). q.looked) (is_at_cell next) g (record g { read = Some l.row }) g.looked refl refl
+  look_kept ListKey u = either (λ (q : SeatLog). q.looked) (is_at_cell next) g (record g { read = Some l.row }) g.looked refl refl
+  look_kept ListVer u = refl
+  look_kept ListVal u = refl
+  look_kept RestKey u = either (λ (q : SeatLog). q.looked) (is_at_cell next) g (record g { read = Some l.row }) g.looked refl refl
+  look_kept RestVal u = let k = log_gathered (o l.row l.place) (place_gathered l found) g in either (λ (q : SeatLog). q.looked) (is_at_cell next) k (record k { read = Some l.row }) g.looked refl refl
   look_kept _ u = absurd u
 
   -- the attempt of a seat that has announced it stays its own
@@ -72,13 +74,18 @@ module _ (z : Sizes) (choice : Choice) (l : Local) (found : ℕ) (next : Activit
   own_kept PutClock u = refl
   own_kept Stamp u = refl
   own_kept PutVersion u = refl
+  own_kept InsFrom u = refl
+  own_kept InsKey u = refl
+  own_kept InsVer u = refl
+  own_kept InsSet u = refl
+  own_kept Insert u = refl
   own_kept PutClear u = refl
   own_kept _ u = absurd u
 
   -- a reader that does not go on to a cell has read the row
   pub read_to_end : (a : Activity) → IsEnding a → is_at_cell next ≡ false → (seat_after z a choice l found next g o h).read ≡ Some l.row
-  read_to_end LookCount u e = rw e refl
-  read_to_end (Cell j) u e = rw e refl
-  read_to_end CellKey u e = rw e refl
-  read_to_end CellValue u e = rw e refl
+  read_to_end ListFrom u e = rw e refl
+  read_to_end ListKey u e = rw e refl
+  read_to_end RestKey u e = rw e refl
+  read_to_end RestVal u e = rw e refl
   read_to_end _ u e = absurd u

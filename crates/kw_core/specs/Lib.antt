@@ -12,3 +12,4 @@ pub mod Recording
 pub mod Remarks
 pub mod Stages
 pub mod Ledger
+pub mod Listed

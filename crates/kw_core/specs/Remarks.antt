@@ -1,17 +1,17 @@
 -- What an event adds to the log of its seat, known before the event but for whether the seat goes on to a cell of its row.
-use Rattle.std.specs.Prelude.{ℕ, ◌<◌, ◌==◌, if◌then◌else◌, None, unwrap_or, [], ◌∷◌, ◌++◌, length}
+use Rattle.std.specs.Prelude.{ℕ, ◌<◌, ◌≤◌, ◌==◌, if◌then◌else◌, None, unwrap_or, [], insert, length}
 use Rattle.kw_words.specs.Count.{count_of}
 use Rattle.kw_world.specs.declared.activity.Activity.{Activity}
-use Rattle.kw_world.specs.declared.activity.Activity.TheVariants.{Idle, ScanClock, ScanDraw, Look, LookClock, LookCount, Cell, CellKey, CellValue, PutAdd, PutClock}
+use Rattle.kw_world.specs.declared.activity.Activity.TheVariants.{Idle, ScanClock, ScanDraw, Look, LookClock, ListFrom, ListKey, ListVal, RestKey, RestVal, PutAdd, PutClock}
 use Rattle.kw_world.specs.declared.local.Local.{Local}
 use Rattle.kw_world.specs.declared.event.Choice.{Choice}
 use Rattle.kw_world.specs.declared.event.Choice.TheVariants.{Begin, Go, Guess, Stop}
 use Rattle.kw_world.specs.Sizes.{Sizes}
 use Rattle.kw_world.specs.PutTransitions.{has_room}
 use Rattle.kw_core.specs.History.{History}
-use Rattle.kw_core.specs.Run.{SeatLog, Origins, log_read}
+use Rattle.kw_core.specs.Run.{SeatLog, Origins, log_read, place_gathered}
 use Rattle.kw_core.specs.declared.seat_log.Remark.{Remark}
-use Rattle.kw_core.specs.declared.seat_log.Remark.TheVariants.{Same, BeginsCall, LooksFirst, LoadsClock, DrawsVersion, ReadsRow, GathersCell, GetsCell}
+use Rattle.kw_core.specs.declared.seat_log.Remark.TheVariants.{Same, BeginsCall, LooksFirst, LoadsClock, DrawsVersion, ReadsRow, GathersListed, GathersRest, GetsCell}
 
 -- a call begins
 abbrev pub remark_begun : Choice → History → Remark
@@ -27,10 +27,11 @@ remark_of z ScanClock choice l found o h = LoadsClock (length h.log)
 remark_of z ScanDraw choice l found o h = DrawsVersion (length h.log)
 remark_of z (Look i) choice l found o h = if i == 0 then LooksFirst (length h.log) else Same
 remark_of z LookClock choice l found o h = LoadsClock (length h.log)
-remark_of z LookCount choice l found o h = ReadsRow l.row
-remark_of z (Cell j) choice l found o h = ReadsRow l.row
-remark_of z CellKey choice l found o h = ReadsRow l.row
-remark_of z CellValue choice l found o h = GathersCell (unwrap_or (o l.row l.place) 0) l.row
+remark_of z ListFrom choice l found o h = ReadsRow l.row
+remark_of z ListKey choice l found o h = ReadsRow l.row
+remark_of z ListVal choice l found o h = GathersListed (unwrap_or (o l.row l.place) 0) (place_gathered l found)
+remark_of z RestKey choice l found o h = ReadsRow l.row
+remark_of z RestVal choice l found o h = GathersRest (unwrap_or (o l.row l.place) 0) (place_gathered l found) l.row
 remark_of z PutAdd choice l found o h = if has_room z (count_of found) then GetsCell (length h.attempts) else Same
 remark_of z PutClock choice l found o h = LoadsClock (length h.log)
 remark_of z _ choice l found o h = Same
@@ -43,10 +44,12 @@ remarked (LooksFirst at) next g = record g { looked = at; ids = []; read = None 
 remarked (LoadsClock at) next g = record g { loaded = at }
 remarked (DrawsVersion at) next g = record g { drawn = at }
 remarked (ReadsRow row) next g = log_read next row g
-remarked (GathersCell p row) next g = log_read next row (record g { ids = g.ids ++ p ∷ [] })
+remarked (GathersListed p at) next g = record g { ids = insert g.ids at p }
+remarked (GathersRest p at row) next g = log_read next row (record g { ids = insert g.ids at p })
 remarked (GetsCell p) next g = record g { own = p }
 
--- the log has room for one more gathered cell, where there is one
+-- the log has room for one more gathered cell at its place, where there is one
 abbrev pub HasRoomFor : ℕ → Remark → SeatLog → Type 0
-HasRoomFor cells (GathersCell p row) g = length g.ids < cells
+HasRoomFor cells (GathersListed p at) g = (length g.ids < cells) × (at ≤ length g.ids)
+HasRoomFor cells (GathersRest p at row) g = (length g.ids < cells) × (at ≤ length g.ids)
 HasRoomFor cells _ g = Unit {0}

@@ -1,24 +1,27 @@
 -- What led to a world: the world, the record of its history, and what the laws alone need beside them, by one fold over the
 -- events.
 --
--- Beside the record stands, for each seat, what it did last, for each cell, to which attempt it was given, and the ledger of rows. The
--- fold goes by the activity of the acting seat: `change_of` says what its event adds to the record, `seat_after` what it adds to the
--- seat's own log, `origins_after` to which attempt a cell is given, and `ledger_after` what becomes of the ledger.
-use Rattle.std.specs.Prelude.{ℕ, ◌+◌, ◌==◌, Bool, true, false, ◌&&◌, if◌then◌else◌, Option, Some, None, unwrap_or, List, [], ◌∷◌, ◌++◌, length, slice_get}
+-- Beside the record stands, for each seat, what it did last, for each cell, to which attempt it was given, the ledger of rows, and which
+-- cells are listed. The fold goes by the activity of the acting seat: `change_of` says what its event adds to the record, `seat_after`
+-- what it adds to the seat's own log, `origins_after` to which attempt a cell is given, `ledger_after` what becomes of the ledger, and
+-- `listed_after` which cells are listed.
+use Rattle.std.specs.Prelude.{ℕ, ◌+◌, ◌==◌, Bool, true, false, ◌&&◌, if◌then◌else◌, Option, Some, None, unwrap_or, List, [], ◌∷◌, length, insert, slice_get}
 use Rattle.kw_words.specs.declared.layout.Name.TheVariants.{Clock}
 use Rattle.kw_words.specs.declared.kind.Kind.{Kind}
 use Rattle.kw_words.specs.declared.pend.Pend.TheVariants as pend
 use Rattle.kw_words.specs.Pend.{pend_word}
 use Rattle.kw_words.specs.Count.{count_of}
+use Rattle.kw_words.specs.Plain.{value_of_word}
 use Rattle.kw_cells.specs.declared.cell.Cell as kw_cell
 use Rattle.kw_cells.specs.Cells.{best_of}
+use Rattle.kw_cells.specs.InOrder.{place_in}
 use Rattle.kw_model.specs.declared.call.Call.{Call}
 use Rattle.kw_model.specs.declared.call.Call.TheVariants.{Put, Del, Get, Scan}
 use Rattle.kw_world.specs.declared.answer.Answer.{Answer}
 use Rattle.kw_world.specs.declared.answer.Answer.TheVariants.{Done, Value, Absent, Pairs, NoRows, Spent, Stopped}
 use Rattle.kw_world.specs.Answers.{reply_of}
 use Rattle.kw_world.specs.declared.activity.Activity.{Activity}
-use Rattle.kw_world.specs.declared.activity.Activity.TheVariants.{Idle, ScanClock, ScanDraw, Look, LookClock, LookHelp, LookCount, Cell, CellKey, CellValue, PutAdd, Announce, PutClock, Stamp, Leave}
+use Rattle.kw_world.specs.declared.activity.Activity.TheVariants.{Idle, ScanClock, ScanDraw, Look, LookClock, LookHelp, ListFrom, ListKey, ListVer, ListVal, RestKey, RestVal, PutAdd, Announce, PutClock, Stamp, Leave}
 use Rattle.kw_world.specs.declared.local.Local.{Local}
 use Rattle.kw_world.specs.declared.limits.TheConstants.{NEWEST}
 use Rattle.kw_world.specs.declared.event.Choice.{Choice}
@@ -30,6 +33,7 @@ use Rattle.kw_world.specs.WorldView.{WorldView}
 use Rattle.kw_world.specs.Calls.{first_key, put_value}
 use Rattle.kw_world.specs.Opening.{opened}
 use Rattle.kw_world.specs.PutTransitions.{has_room, given_of}
+use Rattle.kw_world.specs.ReadTransitions.{cell_in_hand}
 use Rattle.kw_world.specs.WalkTransitions.{offered}
 use Rattle.kw_world.specs.Step.{word, transition_at, moved_of, followed, is_skipped}
 -- what a seat did last
@@ -37,6 +41,7 @@ pub use Rattle.kw_core.specs.declared.seat_log.SeatLog.{SeatLog}
 use Rattle.kw_core.specs.History.{History, Logged, Drawn}
 use Rattle.kw_core.specs.Noted.{Change, Nothing, Begins, Adds, Announces, Stamps, Ends, noted, nothing_yet}
 use Rattle.kw_core.specs.Ledger.{Ledger, ledger_after, ledger_at_first}
+use Rattle.kw_core.specs.Listed.{Listed, listed_after, none_listed}
 
 -- to which attempt each cell of each row was given
 abbrev pub Origins : Type 0
@@ -49,6 +54,7 @@ pub record Run : Type 0 where
   pub seats : ℕ → SeatLog
   pub origin : Origins
   pub ledger : Ledger
+  pub listed : Listed
 
 -- the logs with that of one seat set
 abbrev pub with_seat : (ℕ → SeatLog) → ℕ → SeatLog → (ℕ → SeatLog)
@@ -132,18 +138,25 @@ log_look i now g = if i == 0 then record g { looked = now; ids = []; read = None
 
 -- the seat goes on to a cell of the row
 abbrev pub is_at_cell : Activity → Bool
-is_at_cell (Cell j) = true
-is_at_cell CellKey = true
-is_at_cell CellValue = true
+is_at_cell ListFrom = true
+is_at_cell ListKey = true
+is_at_cell ListVer = true
+is_at_cell ListVal = true
+is_at_cell RestKey = true
+is_at_cell RestVal = true
 is_at_cell _ = false
 
 -- a seat that does not go on to a cell of the row has read it
 abbrev pub log_read : Activity → ℕ → SeatLog → SeatLog
 log_read next row g = if is_at_cell next then g else record g { read = Some row }
 
--- one more cell is gathered
-abbrev pub log_gathered : Option ℕ → SeatLog → SeatLog
-log_gathered p g = record g { ids = g.ids ++ unwrap_or p 0 ∷ [] }
+-- one more cell is gathered, and its attempt is put beside it
+abbrev pub log_gathered : Option ℕ → ℕ → SeatLog → SeatLog
+log_gathered p at g = record g { ids = insert g.ids at (unwrap_or p 0) }
+
+-- the place among the gathered cells at which the cell in hand is put, where its value is this word
+abbrev pub place_gathered : Local → ℕ → ℕ
+place_gathered l found = place_in (cell_in_hand (value_of_word found) l) l.gathered
 
 -- the log after the event of an activity, where the seat goes on to the activity `next`
 abbrev pub seat_after : Sizes → Activity → Choice → Local → ℕ → Activity → SeatLog → Origins → History → SeatLog
@@ -152,10 +165,11 @@ seat_after z ScanClock choice l found next g o h = record g { loaded = length h.
 seat_after z ScanDraw choice l found next g o h = record g { drawn = length h.log }
 seat_after z (Look i) choice l found next g o h = log_look i (length h.log) g
 seat_after z LookClock choice l found next g o h = record g { loaded = length h.log }
-seat_after z LookCount choice l found next g o h = log_read next l.row g
-seat_after z (Cell j) choice l found next g o h = log_read next l.row g
-seat_after z CellKey choice l found next g o h = log_read next l.row g
-seat_after z CellValue choice l found next g o h = log_read next l.row (log_gathered (o l.row l.place) g)
+seat_after z ListFrom choice l found next g o h = log_read next l.row g
+seat_after z ListKey choice l found next g o h = log_read next l.row g
+seat_after z ListVal choice l found next g o h = log_gathered (o l.row l.place) (place_gathered l found) g
+seat_after z RestKey choice l found next g o h = log_read next l.row g
+seat_after z RestVal choice l found next g o h = log_read next l.row (log_gathered (o l.row l.place) (place_gathered l found) g)
 seat_after z PutAdd choice l found next g o h = if has_room z (count_of found) then record g { own = length h.attempts } else g
 seat_after z PutClock choice l found next g o h = record g { loaded = length h.log }
 seat_after z _ choice l found next g o h = g
@@ -183,6 +197,7 @@ noted_by z r e l = record {
   seats = with_seat r.seats e.seat (seat_after z l.activity (offered r.world.rows e.choice) l (found_by z r.world e l) (followed r.world.rows (transition_at z r.world e l) (found_by z r.world e l)).local.activity (r.seats e.seat) r.origin r.history);
   origin = origins_after z l.activity l (found_by z r.world e l) r.origin r.history;
   ledger = ledger_after z l.activity e.seat l (found_by z r.world e l) (word z r.world) (length r.history.log) r.ledger;
+  listed = listed_after l.activity l (found_by z r.world e l) r.listed;
 }
 
 -- an event of a seat that knows this; an event that is skipped leaves all as it was
@@ -205,7 +220,7 @@ no_log = record { call = 0; own = 0; looked = 0; loaded = 0; drawn = 0; ids = []
 
 -- where nothing happened yet
 abbrev pub start : Sizes → Opening → Run
-start z o = record { world = opened z o; history = nothing_yet; seats = λ s. no_log; origin = λ r c. None; ledger = ledger_at_first o }
+start z o = record { world = opened z o; history = nothing_yet; seats = λ s. no_log; origin = λ r c. None; ledger = ledger_at_first o; listed = none_listed }
 
 -- all that led to the world after these events
 unfoldable pub history : Sizes → Opening → List Event → Run

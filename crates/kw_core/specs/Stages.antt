@@ -8,7 +8,7 @@ use Rattle.kw_world.specs.declared.answer.Answer.TheVariants.{Done, Pairs}
 use Rattle.kw_world.specs.declared.activity.Activity.{Activity}
 use Rattle.kw_core.specs.declared.stage.Stage.{Stage}
 use Rattle.kw_core.specs.declared.stage.Stage.TheVariants.{Resting, Entering, Drawing, Walking, Looking, Taking, Clearing, Putting, Leaving}
-use Rattle.kw_world.specs.declared.activity.Activity.TheVariants.{Idle, Enter, ScanClock, ScanWait, ScanDraw, ScanSettle, Start, Head, GuessMin, Walk, WalkMin, Look, LookKey, LookClock, LookHelp, LookCount, Cell, CellKey, CellValue, ClearScan, PutCount, PutAdd, PutKey, PutValue, Announce, PutClock, Stamp, PutVersion, PutClear, Leave}
+use Rattle.kw_world.specs.declared.activity.Activity.TheVariants.{Idle, Enter, ScanClock, ScanWait, ScanDraw, ScanSettle, Start, Head, GuessMin, Walk, WalkMin, Look, LookKey, LookClock, LookHelp, ListFrom, ListKey, ListVer, ListVal, RestKey, RestVal, ClearScan, PutCount, PutAdd, PutKey, PutValue, Announce, PutClock, Stamp, PutVersion, InsFrom, InsKey, InsVer, InsSet, Insert, PutClear, Leave}
 
 -- Calls.
 
@@ -39,10 +39,12 @@ stage_of (Look i) = Looking
 stage_of LookKey = Looking
 stage_of LookClock = Looking
 stage_of LookHelp = Looking
-stage_of LookCount = Looking
-stage_of (Cell j) = Taking
-stage_of CellKey = Taking
-stage_of CellValue = Taking
+stage_of ListFrom = Taking
+stage_of ListKey = Taking
+stage_of ListVer = Taking
+stage_of ListVal = Taking
+stage_of RestKey = Taking
+stage_of RestVal = Taking
 stage_of (ClearScan answer) = Clearing
 stage_of PutCount = Putting
 stage_of PutAdd = Putting
@@ -52,8 +54,29 @@ stage_of Announce = Putting
 stage_of PutClock = Putting
 stage_of Stamp = Putting
 stage_of PutVersion = Putting
+stage_of InsFrom = Putting
+stage_of InsKey = Putting
+stage_of InsVer = Putting
+stage_of InsSet = Putting
+stage_of Insert = Putting
 stage_of PutClear = Putting
 stage_of (Leave answer) = Leaving
+
+-- the call walks to the row of the wanted key, for code that goes on as long as it does
+abbrev pub is_walking_stage : Stage → Bool
+is_walking_stage Walking = true
+is_walking_stage _ = false
+
+abbrev pub is_walking : Activity → Bool
+is_walking a = is_walking_stage (stage_of a)
+
+-- a put or a delete is at its row, for code that goes on as long as it is
+abbrev pub is_putting_stage : Stage → Bool
+is_putting_stage Putting = true
+is_putting_stage _ = false
+
+abbrev pub is_putting : Activity → Bool
+is_putting a = is_putting_stage (stage_of a)
 
 -- a seat may come to this activity
 abbrev pub IsReached : Activity → Type 0
@@ -66,6 +89,15 @@ IsBusyStage _ = Unit {0}
 -- the seat makes a call
 abbrev pub IsBusy : Activity → Type 0
 IsBusy a = IsBusyStage (stage_of a)
+
+abbrev IsPassingStage : Stage → Type 0
+IsPassingStage Resting = ⊥
+IsPassingStage Entering = ⊥
+IsPassingStage _ = Unit {0}
+
+-- the seat is in a pass: it has stored the epoch of its call, and has not cleared it
+abbrev pub IsPassing : Activity → Type 0
+IsPassing a = IsPassingStage (stage_of a)
 
 abbrev IsUnderwayStage : Stage → Type 0
 IsUnderwayStage Resting = ⊥
@@ -189,6 +221,11 @@ IsPutting Announce = Unit {0}
 IsPutting PutClock = Unit {0}
 IsPutting Stamp = Unit {0}
 IsPutting PutVersion = Unit {0}
+IsPutting InsFrom = Unit {0}
+IsPutting InsKey = Unit {0}
+IsPutting InsVer = Unit {0}
+IsPutting InsSet = Unit {0}
+IsPutting Insert = Unit {0}
 IsPutting PutClear = Unit {0}
 IsPutting _ = ⊥
 
@@ -215,6 +252,11 @@ abbrev pub IsPublished : Activity → Type 0
 IsPublished PutClock = Unit {0}
 IsPublished Stamp = Unit {0}
 IsPublished PutVersion = Unit {0}
+IsPublished InsFrom = Unit {0}
+IsPublished InsKey = Unit {0}
+IsPublished InsVer = Unit {0}
+IsPublished InsSet = Unit {0}
+IsPublished Insert = Unit {0}
 IsPublished PutClear = Unit {0}
 IsPublished _ = ⊥
 
@@ -232,6 +274,11 @@ IsStamp _ = ⊥
 -- it is stamped
 abbrev pub IsStamped : Activity → Type 0
 IsStamped PutVersion = Unit {0}
+IsStamped InsFrom = Unit {0}
+IsStamped InsKey = Unit {0}
+IsStamped InsVer = Unit {0}
+IsStamped InsSet = Unit {0}
+IsStamped Insert = Unit {0}
 IsStamped PutClear = Unit {0}
 IsStamped _ = ⊥
 
@@ -241,6 +288,46 @@ IsPutVersion PutVersion = Unit {0}
 IsPutVersion _ = ⊥
 
 -- its version is stored
+abbrev pub IsStored : Activity → Type 0
+IsStored InsFrom = Unit {0}
+IsStored InsKey = Unit {0}
+IsStored InsVer = Unit {0}
+IsStored InsSet = Unit {0}
+IsStored Insert = Unit {0}
+IsStored PutClear = Unit {0}
+IsStored _ = ⊥
+
+-- it inserts its cell in the row's list
+abbrev pub IsInserting : Activity → Type 0
+IsInserting InsFrom = Unit {0}
+IsInserting InsKey = Unit {0}
+IsInserting InsVer = Unit {0}
+IsInserting InsSet = Unit {0}
+IsInserting Insert = Unit {0}
+IsInserting _ = ⊥
+
+-- it has met a cell on its walk along the list
+abbrev pub IsMeeting : Activity → Type 0
+IsMeeting InsKey = Unit {0}
+IsMeeting InsVer = Unit {0}
+IsMeeting _ = ⊥
+
+-- its cell is not listed yet
+abbrev pub IsUnlisted : Activity → Type 0
+IsUnlisted PutClear = ⊥
+IsUnlisted a = IsPutting a
+
+-- it is about to store the link after its cell
+abbrev pub IsInsSet : Activity → Type 0
+IsInsSet InsSet = Unit {0}
+IsInsSet _ = ⊥
+
+-- it is about to exchange the link before its cell
+abbrev pub IsInsert : Activity → Type 0
+IsInsert Insert = Unit {0}
+IsInsert _ = ⊥
+
+-- its cell is listed
 abbrev pub IsPutClear : Activity → Type 0
 IsPutClear PutClear = Unit {0}
 IsPutClear _ = ⊥
@@ -258,7 +345,6 @@ HasLooked (Look i) = 1 ≤ i
 HasLooked LookKey = Unit {0}
 HasLooked LookClock = Unit {0}
 HasLooked LookHelp = Unit {0}
-HasLooked LookCount = Unit {0}
 HasLooked _ = ⊥
 
 -- it met a pending entry
@@ -279,15 +365,45 @@ abbrev pub IsHelp : Activity → Type 0
 IsHelp LookHelp = Unit {0}
 IsHelp _ = ⊥
 
--- it has the version of a cell in hand
+-- it has met a cell in the row's list
+abbrev pub IsAtListed : Activity → Type 0
+IsAtListed ListKey = Unit {0}
+IsAtListed ListVer = Unit {0}
+IsAtListed ListVal = Unit {0}
+IsAtListed _ = ⊥
+
+-- it walks along the row's list
+abbrev pub IsListing : Activity → Type 0
+IsListing ListFrom = Unit {0}
+IsListing a = IsAtListed a
+
+-- it reads a remembered cell that it did not meet
+abbrev pub IsResting : Activity → Type 0
+IsResting RestKey = Unit {0}
+IsResting RestVal = Unit {0}
+IsResting _ = ⊥
+
+-- it has a cell in hand
+abbrev pub HasPlace : Activity → Type 0
+HasPlace ListKey = Unit {0}
+HasPlace ListVer = Unit {0}
+HasPlace ListVal = Unit {0}
+HasPlace RestKey = Unit {0}
+HasPlace RestVal = Unit {0}
+HasPlace _ = ⊥
+
+-- it has the version of that cell in hand
 abbrev pub HasVersion : Activity → Type 0
-HasVersion CellKey = Unit {0}
-HasVersion CellValue = Unit {0}
+HasVersion ListVal = Unit {0}
+HasVersion RestKey = Unit {0}
+HasVersion RestVal = Unit {0}
 HasVersion _ = ⊥
 
--- it has the key of that cell in hand too
+-- it has the key of that cell in hand, which is in its range
 abbrev pub HasCellKey : Activity → Type 0
-HasCellKey CellValue = Unit {0}
+HasCellKey ListVer = Unit {0}
+HasCellKey ListVal = Unit {0}
+HasCellKey RestVal = Unit {0}
 HasCellKey _ = ⊥
 
 -- it has looked at the first entry, or reads the cells
@@ -296,10 +412,12 @@ IsReading (Look i) = 1 ≤ i
 IsReading LookKey = Unit {0}
 IsReading LookClock = Unit {0}
 IsReading LookHelp = Unit {0}
-IsReading LookCount = Unit {0}
-IsReading (Cell j) = Unit {0}
-IsReading CellKey = Unit {0}
-IsReading CellValue = Unit {0}
+IsReading ListFrom = Unit {0}
+IsReading ListKey = Unit {0}
+IsReading ListVer = Unit {0}
+IsReading ListVal = Unit {0}
+IsReading RestKey = Unit {0}
+IsReading RestVal = Unit {0}
 IsReading _ = ⊥
 
 -- Scans.

@@ -2,14 +2,14 @@
 //!
 //! Beside each gathered cell stands the attempt to which it was given. A row has `CELLS` cells, so the list lies in place and
 //! takes no memory.
-ghost use Rattle.std.specs.Prelude.{◌≡◌, ◌<◌, ◌++◌, ◌∷◌, [], length};
+ghost use Rattle.std.specs.Prelude.{◌≡◌, ◌<◌, ◌≤◌, [], insert, length};
 ghost use Rattle.kw_words.specs.declared.sizes.TheConstants.{CELLS};
 
 use arrayvec::ArrayVec;
 use kw_words::sizes::CELLS;
 use std::marker::Model;
 
-/// Attempts by their places in the history, in the order in which their cells were gathered; at most `CELLS`.
+/// Attempts by their places in the history, in the order of their cells; at most `CELLS`.
 #[derive(Debug, Drop)]
 pub struct AttemptIds {
     items: ArrayVec<usize, CELLS>,
@@ -40,12 +40,12 @@ impl AttemptIds {
         self.items.clear();
     }
 
-    /// Adds an attempt at the end. There must be room.
-    pub fn push(&mut self, attempt: usize)
-        requires { length self.old < CELLS }
-        ensures { self.new ≡ self.old ++ attempt ∷ [] }
+    /// Puts an attempt at a place among them. There must be room.
+    pub fn insert(&mut self, at: usize, attempt: usize)
+        requires { (length self.old < CELLS) × (at ≤ length self.old) }
+        ensures { self.new ≡ insert self.old at attempt }
     {
-        self.items.push(attempt);
+        self.items.insert(at, attempt);
     }
 
     /// The attempts, in order.

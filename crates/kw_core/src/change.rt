@@ -23,11 +23,11 @@ use crate::step::operation;
 use kw_cells::cell::{Cell, best};
 use kw_model::call::Call;
 use kw_model::memory::Memory;
-use kw_words::count::Count;
+use kw_step_put::resume_put::room;
 use kw_words::kind::Kind;
 use kw_words::layout::{Layout, Name};
 use kw_words::pend::Pend;
-use kw_words::sizes::{CELL_COUNT, CELLS, SEATS};
+use kw_words::sizes::{CELLS, SEATS};
 use kw_world::activity::Activity;
 use kw_world::answer::Answer;
 use kw_world::calls::{first_key, put_value};
@@ -56,7 +56,8 @@ impl Happening {
     pub fn of(world: &World, event: Event) -> Happening
         requires sane { IsSane product world.now }
         requires seat { event.seat < length world.now.locals }
-        ensures { (l : Local) → slice_get world.now.locals event.seat ≡ Some l → result ≡ happening_at product world.now event l }
+        ensures { (l : Local) → slice_get world.now.locals event.seat ≡ Some l →
+            result ≡ happening_at product world.now event l }
     {
         let choice = event.choice.offered(world.rows());
         let operation = operation(event.seat, world.local(event.seat), choice);
@@ -94,7 +95,8 @@ pub fn change_of(
     requires ranges { IsLocal product local.now }
     requires begin { CanBegin happening.choice local.now }
     requires origins { local.now.row * CELLS + CELLS ≤ length origins.now }
-    ensures { IfOk result (λ change. change ≡ change_of product local.now.activity happening.seat happening.choice local.now happening.found log.now (origin_in product origins.now)) }
+    ensures { IfOk result (λ change. change ≡ change_of product local.now.activity happening.seat
+        happening.choice local.now happening.found log.now (origin_in product origins.now)) }
 {
     Ok(match local.activity {
         Activity::Idle => beginning(happening, local),
@@ -116,16 +118,6 @@ pub fn origin_at(origins: &[Option<usize>], row: u32, cell: u32) -> Option<usize
     origins[row as usize * CELLS + cell as usize]
 }
 
-/// The cell that a row with this count gives, if it gives one more.
-pub fn room(found: u64) -> Option<u32>
-    ensures value { result ≡ (if has_room product (count_of found) then Some (given_of (count_of found)) else None) }
-{
-    match Count::unpack(found) {
-        Some(count) if !count.frozen && count.given < CELL_COUNT => Some(count.given),
-        _ => None,
-    }
-}
-
 /// An idle seat begins a call.
 fn beginning(happening: Happening, local: &Local) -> Change
     requires { CanBeginAt Activity.Idle happening.choice local.now }
@@ -145,7 +137,9 @@ fn beginning(happening: Happening, local: &Local) -> Change
 fn helping(local: &Local, found: u64, log: &SeatLog, origins: &[Option<usize>]) -> Change
     requires ranges { IsLocal product local.now }
     requires origins { local.now.row * CELLS + CELLS ≤ length origins.now }
-    ensures { result ≡ (if found == pend_word (pend.Pending local.now.met) then helping (origin_in product origins.now local.now.row local.now.met) local.now.helping log.now.loaded else Change.Nothing) }
+    ensures { result ≡ (if found == pend_word (pend.Pending local.now.met)
+        then helping (origin_in product origins.now local.now.row local.now.met) local.now.helping
+        log.now.loaded else Change.Nothing) }
 {
     if found != Pend::Pending(local.met).pack() {
         return Change::Nothing;
@@ -163,7 +157,9 @@ fn helping(local: &Local, found: u64, log: &SeatLog, origins: &[Option<usize>]) 
 /// A put or a delete asks its row for a cell.
 fn adding(local: &Local, happening: Happening, log: &SeatLog) -> Change
     requires { IsLocal product local.now }
-    ensures { result ≡ (if has_room product (count_of happening.found) then Change.Adds log.now.call happening.seat (first_key local.now.call) (put_value local.now.call) local.now.row (given_of (count_of happening.found)) else Change.Nothing) }
+    ensures { result ≡ (if has_room product (count_of happening.found) then Change.Adds log.now.call
+        happening.seat (first_key local.now.call) (put_value local.now.call) local.now.row
+        (given_of (count_of happening.found)) else Change.Nothing) }
 {
     match room(happening.found) {
         Some(cell) => Change::Adds {
@@ -180,7 +176,8 @@ fn adding(local: &Local, happening: Happening, log: &SeatLog) -> Change
 
 /// A put or a delete announces its cell.
 fn announcing(found: u64, log: &SeatLog) -> Change
-    ensures { result ≡ (if found == pend_word pend.Idle then Change.Announces log.now.own else Change.Nothing) }
+    ensures { result ≡ (if found == pend_word pend.Idle then Change.Announces log.now.own
+        else Change.Nothing) }
 {
     if found == Pend::Idle.pack() {
         Change::Announces(log.own)
@@ -192,7 +189,8 @@ fn announcing(found: u64, log: &SeatLog) -> Change
 /// A put or a delete stamps its cell.
 fn stamping(local: &Local, found: u64, log: &SeatLog) -> Change
     requires { IsLocal product local.now }
-    ensures { result ≡ (if found == pend_word (pend.Pending local.now.cell) then Change.Stamps log.now.own local.now.version log.now.loaded else Change.Nothing) }
+    ensures { result ≡ (if found == pend_word (pend.Pending local.now.cell)
+        then Change.Stamps log.now.own local.now.version log.now.loaded else Change.Nothing) }
 {
     if found == Pend::Pending(local.cell).pack() {
         Change::Stamps {
@@ -207,7 +205,9 @@ fn stamping(local: &Local, found: u64, log: &SeatLog) -> Change
 
 /// A call ends with this answer.
 fn ending(local: &Local, answer: Answer, log: &SeatLog) -> Result<Change, Memory>
-    ensures { IfOk result (λ change. change ≡ Change.Ends log.now.call (reply_of answer local.now.pairs) (answering local.now.call local.now log.now) (drawing answer local.now log.now)) }
+    ensures { IfOk result (λ change. change ≡ Change.Ends log.now.call
+        (reply_of answer local.now.pairs) (answering local.now.call local.now log.now)
+        (drawing answer local.now log.now)) }
 {
     let pairs = local.pairs.clone()?;
     Ok(Change::Ends {

@@ -237,7 +237,8 @@ impl History {
         requires some { 1 ≤ length self.old.log }
         requires within { IsWithin self.old change }
         ensures log { self.new.log ≡ self.old.log }
-        ensures attempts { self.new.attempts ≡ attempts_set (length self.old.log - 1) self.old change }
+        ensures attempts { self.new.attempts ≡ attempts_set (length self.old.log - 1) self.old
+            change }
         ensures calls { self.new.calls ≡ calls_set (length self.old.log - 1) self.old change }
     {
         write_change(&self.log, &mut self.attempts, &mut self.calls, change);
@@ -268,9 +269,12 @@ fn write_change(
     change: Change,
 )
     requires some { 1 ≤ length log.now }
-    requires within { IsWithin (record { log = log.now; attempts = attempts.old.items; calls = calls.old.items }) change }
-    ensures attempts { attempts.new.items ≡ attempts_set (length log.now - 1) (record { log = log.now; attempts = attempts.old.items; calls = calls.old.items }) change }
-    ensures calls { calls.new.items ≡ calls_set (length log.now - 1) (record { log = log.now; attempts = attempts.old.items; calls = calls.old.items }) change }
+    requires within { IsWithin (record { log = log.now; attempts = attempts.old.items; calls =
+        calls.old.items }) change }
+    ensures attempts { attempts.new.items ≡ attempts_set (length log.now - 1)
+        (record { log = log.now; attempts = attempts.old.items; calls = calls.old.items }) change }
+    ensures calls { calls.new.items ≡ calls_set (length log.now - 1)
+        (record { log = log.now; attempts = attempts.old.items; calls = calls.old.items }) change }
 {
     let now = log.len() as u64 - 1;
     match change {

@@ -6,13 +6,16 @@ ghost use Rattle.std.specs.Prelude.{◌≡◌, ◌<◌, ◌≤◌, ◌+◌, ◌*
 ghost use Rattle.kw_words.specs.declared.sizes.TheConstants.{CELLS};
 ghost use Rattle.kw_world.specs.Sizes.{product};
 ghost use Rattle.kw_world.specs.Sane.{IsLocal};
-ghost use Rattle.kw_core.specs.Run.{is_at_cell, log_read, no_log};
+ghost use Rattle.kw_core.specs.Run.{is_at_cell, log_read, no_log, place_gathered};
 ghost use Rattle.kw_core.specs.Recording.{origin_in};
 ghost use Rattle.kw_core.specs.Remarks.{remark_of, remarked, HasRoomFor};
 
 use crate::attempt_ids::AttemptIds;
-use crate::change::{Happening, origin_at, room};
+use crate::change::{Happening, origin_at};
 use crate::history::History;
+use kw_cells::cell::Cell;
+use kw_step_put::resume_put::room;
+use kw_words::plain::unpack_value;
 use kw_words::sizes::CELLS;
 use kw_world::activity::Activity;
 use kw_world::event::Choice;
@@ -49,8 +52,11 @@ pub enum Remark {
     DrawsVersion(u64),
     /// The row is read, unless the seat goes on to one of its cells.
     ReadsRow(u32),
-    /// A cell is gathered, which was given to this attempt; then the row is read, unless the seat goes on to one of its cells.
-    GathersCell(usize, u32),
+    /// A cell of the row's list is gathered, which was given to this attempt, at this place among those that were.
+    GathersListed(usize, usize),
+    /// A remembered cell is gathered, which was given to this attempt, at this place; then the row is read, unless the seat goes on
+    /// to one of its cells.
+    GathersRest(usize, usize, u32),
     /// The seat is given a cell, as this attempt.
     GetsCell(usize),
 }
@@ -92,8 +98,9 @@ impl SeatLog {
             Remark::LoadsClock(at) => self.loaded = at,
             Remark::DrawsVersion(at) => self.drawn = at,
             Remark::ReadsRow(row) => self.note_read(row, next),
-            Remark::GathersCell(attempt, row) => {
-                self.ids.push(attempt);
+            Remark::GathersListed(attempt, at) => self.ids.insert(at, attempt),
+            Remark::GathersRest(attempt, at, row) => {
+                self.ids.insert(at, attempt);
                 self.note_read(row, next);
             }
             Remark::GetsCell(attempt) => self.own = attempt,
@@ -120,7 +127,8 @@ impl Remark {
     ) -> Remark
         requires ranges { IsLocal product local.now }
         requires origins { local.now.row * CELLS + CELLS ≤ length origins.now }
-        ensures { result ≡ remark_of product local.now.activity happening.choice local.now happening.found (origin_in product origins.now) history.now }
+        ensures { result ≡ remark_of product local.now.activity happening.choice local.now
+            happening.found (origin_in product origins.now) history.now }
     {
         match &local.activity {
             Activity::Idle => match happening.choice {
@@ -132,12 +140,17 @@ impl Remark {
                 Remark::LoadsClock(history.now())
             }
             Activity::ScanDraw => Remark::DrawsVersion(history.now()),
-            Activity::LookCount | Activity::Cell(_) | Activity::CellKey => {
+            Activity::ListFrom | Activity::ListKey | Activity::RestKey => {
                 Remark::ReadsRow(local.row)
             }
-            Activity::CellValue => {
+            Activity::ListVal => {
                 let attempt = origin_at(origins, local.row, local.place).unwrap_or(0);
-                Remark::GathersCell(attempt, local.row)
+                Remark::GathersListed(attempt, place_gathered(local, happening.found))
+            }
+            Activity::RestVal => {
+                let attempt = origin_at(origins, local.row, local.place).unwrap_or(0);
+                let at = place_gathered(local, happening.found);
+                Remark::GathersRest(attempt, at, local.row)
             }
             Activity::PutAdd if room(happening.found).is_some() => {
                 Remark::GetsCell(history.attempts().len())
@@ -152,7 +165,25 @@ fn is_at_cell(next: &Activity) -> bool
     ensures { result ≡ is_at_cell next.now }
 {
     match next {
-        Activity::Cell(_) | Activity::CellKey | Activity::CellValue => true,
+        Activity::ListFrom
+        | Activity::ListKey
+        | Activity::ListVer
+        | Activity::ListVal
+        | Activity::RestKey
+        | Activity::RestVal => true,
         _ => false,
     }
+}
+
+/// The place among the gathered cells at which the cell in hand is put, where its value is this word.
+fn place_gathered(local: &Local, found: u64) -> usize
+    ensures { result ≡ place_gathered local.now found }
+{
+    let cell = Cell {
+        key: local.place_key,
+        place: local.place,
+        version: local.place_version,
+        value: unpack_value(found),
+    };
+    local.gathered.place_of(&cell)
 }

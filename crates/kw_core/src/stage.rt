@@ -3,7 +3,7 @@
 //! A call goes through its stages in their order; a scan comes back from the cells of a row to the walk. What holds of a seat is
 //! mostly said by stages (`specs/Stages.antt`), and code that goes on as long as a stage lasts asks for it here.
 ghost use Rattle.std.specs.Prelude.{◌≡◌};
-ghost use Rattle.kw_core.specs.Stages.{stage_of};
+ghost use Rattle.kw_core.specs.Stages.{stage_of, is_walking_stage, is_putting_stage};
 
 use kw_world::activity::Activity;
 
@@ -22,10 +22,10 @@ pub enum Stage {
     /// It walks to the row of the wanted key.
     Walking,
 
-    /// A get or a scan looks at the entries of the row, and loads its count.
+    /// A get or a scan looks at the entries of the row.
     Looking,
 
-    /// A get or a scan reads the cells of the row.
+    /// A get or a scan walks along the row's list, and reads the remembered cells that it did not meet.
     Taking,
 
     /// A scan is over, and clears its word.
@@ -53,12 +53,14 @@ impl Stage {
             | Activity::GuessMin
             | Activity::Walk
             | Activity::WalkMin => Stage::Walking,
-            Activity::Look(_)
-            | Activity::LookKey
-            | Activity::LookClock
-            | Activity::LookHelp
-            | Activity::LookCount => Stage::Looking,
-            Activity::Cell(_) | Activity::CellKey | Activity::CellValue => Stage::Taking,
+            Activity::Look(_) | Activity::LookKey | Activity::LookClock | Activity::LookHelp =>
+                Stage::Looking,
+            Activity::ListFrom
+            | Activity::ListKey
+            | Activity::ListVer
+            | Activity::ListVal
+            | Activity::RestKey
+            | Activity::RestVal => Stage::Taking,
             Activity::ClearScan(_) => Stage::Clearing,
             Activity::PutCount
             | Activity::PutAdd
@@ -68,8 +70,33 @@ impl Stage {
             | Activity::PutClock
             | Activity::Stamp
             | Activity::PutVersion
+            | Activity::InsFrom
+            | Activity::InsKey
+            | Activity::InsVer
+            | Activity::InsSet
+            | Activity::Insert
             | Activity::PutClear => Stage::Putting,
             Activity::Leave(_) => Stage::Leaving,
+        }
+    }
+
+    /// Whether the call walks to the row of the wanted key.
+    pub fn is_walking(self) -> bool
+        ensures { result ≡ is_walking_stage self }
+    {
+        match self {
+            Stage::Walking => true,
+            _ => false,
+        }
+    }
+
+    /// Whether a put or a delete is at its row.
+    pub fn is_putting(self) -> bool
+        ensures { result ≡ is_putting_stage self }
+    {
+        match self {
+            Stage::Putting => true,
+            _ => false,
         }
     }
 }

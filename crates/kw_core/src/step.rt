@@ -2,8 +2,8 @@
 //!
 //! Each part of the table is made by a crate of its own; `part` of the acting seat's local says which, and here they are one. `step` is the definition of one event, and `kind_of` names what it is for before
 //! it is made: the laws over lists of events and the simulator stand on these two. `operation` and `resume` are the halves
-//! of an event, before and after its word; the running map puts them around a word of its own table. `read_on` is the
-//! second half at the cells of a row without the end of the row, for whoever passes that itself.
+//! of an event, before and after its word; the running map puts them around a word of its own table. What a reader learns from its
+//! events in a row is passed on by itself, for whoever makes those events one by one.
 ghost use Rattle.std.specs.Prelude.{◌≡◌, ◌<◌, ◌↔◌, None, length, IfOk, IfSome, OnErr};
 ghost use Rattle.kw_world.specs.Transition.{outcome};
 ghost use Rattle.kw_world.specs.Sane.{IsSane, IsLocal, HasRoom, CanStep, CanBegin};
@@ -13,7 +13,7 @@ ghost use Rattle.kw_world.specs.RowEnd.{MayEndRow, MayEndRowAt};
 
 use kw_model::memory::Memory;
 use kw_step_put::operation::put_operation;
-pub use kw_step_put::reading::read_on;
+pub use kw_step_put::reading::{gather, hold_version, meet, pass_cell, take_remembered};
 use kw_step_put::resume::put_resume;
 use kw_step_put::step::put_step;
 use kw_step_rows::operation::rows_operation;
@@ -57,7 +57,8 @@ pub fn kind_of(world: &World, event: Event) -> Option<Kind>
     requires sane { IsSane product world.now }
     requires seat { event.seat < length world.now.locals }
     ensures kind { result ≡ kind_of product world.now event }
-    ensures skipped { result ≡ None → step product world.now event ≡ stepped world.now StepDone.Skipped }
+    ensures skipped { result ≡ None → step product world.now event
+        ≡ stepped world.now StepDone.Skipped }
     ensures made { IfSome result (λ kind. IsMade (step product world.now event).done) }
 {
     let local = world.local(event.seat);
@@ -91,7 +92,8 @@ pub fn resume(local: &mut Local, rows: u32, choice: Choice, told: u64) -> Result
     requires ranges { IsLocal product local.old }
     requires room { HasRoom product local.old }
     requires begin { CanBegin choice local.old }
-    ensures ok { IfOk result (λ done. outcome local.new done ≡ next_of product rows choice local.old told) }
+    ensures ok { IfOk result (λ done. outcome local.new done ≡ next_of product rows choice local.old
+        told) }
     ensures err { OnErr result (local.new ≡ local.old) }
     ensures memory { OnErr result (MayEndRow local.old) }
 {

@@ -3,7 +3,7 @@
 --
 -- One lemma for each part of the table, over what the seat knows. A record update of the whole computes, so that each line is one
 -- equation, but for the tests that a line makes.
-use Rattle.std.proofs.Common.{ℕ, ◌≡◌, ◌+◌, ◌==◌, ◌&&◌, Bool, true, false, nat_lt, nat_le, if◌then◌else◌, Option, Some, None, List, refl, ap}
+use Rattle.std.proofs.Common.{ℕ, ◌≡◌, ◌+◌, ◌==◌, ◌&&◌, Bool, true, false, nat_lt, nat_le, if◌then◌else◌, Option, Some, None, List, unwrap_or, refl, ap}
 use Rattle.kw_words.specs.declared.pend.Pend.{Pend}
 use Rattle.kw_words.specs.declared.pend.Pend.TheVariants as pend
 use Rattle.kw_words.specs.declared.state.State.{State}
@@ -12,20 +12,21 @@ use Rattle.kw_words.specs.declared.sizes.TheConstants.{SPENT}
 use Rattle.kw_words.specs.Count.{count_of}
 use Rattle.kw_words.specs.Link.{link_of}
 use Rattle.kw_words.specs.Pend.{pend_of, pend_word}
-use Rattle.kw_words.specs.Plain.{key_of_word}
+use Rattle.kw_words.specs.Plain.{key_of_word, version_of_word, cell_of_link_word, cell_link_word}
 use Rattle.kw_words.specs.Scan.{scan_of}
 use Rattle.kw_words.specs.State.{state_of}
 use Rattle.kw_model.specs.declared.call.Call.{Call}
 use Rattle.kw_model.specs.declared.call.Call.TheVariants.{Put, Del, Get, Scan}
 use Rattle.kw_world.specs.declared.answer.Answer.{Answer}
 use Rattle.kw_world.specs.declared.activity.Activity.{Activity}
-use Rattle.kw_world.specs.declared.activity.Activity.TheVariants.{Idle, Enter, ScanClock, ScanWait, ScanDraw, ScanSettle, Start, Head, GuessMin, Walk, WalkMin, Look, LookKey, LookClock, LookHelp, LookCount, Cell, CellKey, CellValue, ClearScan, PutCount, PutAdd, PutKey, PutValue, Announce, PutClock, Stamp, PutVersion, PutClear, Leave}
+use Rattle.kw_world.specs.declared.activity.Activity.TheVariants.{Idle, Enter, ScanClock, ScanWait, ScanDraw, ScanSettle, Start, Head, GuessMin, Walk, WalkMin, Look, LookKey, LookClock, LookHelp, ListFrom, ListKey, ListVer, ListVal, RestKey, RestVal, ClearScan, PutCount, PutAdd, PutKey, PutValue, Announce, PutClock, Stamp, PutVersion, InsFrom, InsKey, InsVer, InsSet, Insert, PutClear, Leave}
 use Rattle.kw_world.specs.declared.event.Choice.{Choice}
 use Rattle.kw_world.specs.declared.event.Choice.TheVariants.{Begin, Go, Guess, Stop}
 use Rattle.kw_world.specs.declared.event.StepDone.TheVariants.{Moved}
 use Rattle.kw_world.specs.declared.local.Local.{Local}
-use Rattle.kw_world.specs.Calls.{is_in_range, is_range_empty, is_scan}
+use Rattle.kw_world.specs.Calls.{first_key, is_in_range, is_range_empty, is_scan}
 use Rattle.kw_world.specs.Transition.{Outcome, row_linked, leave}
+use Rattle.kw_world.specs.ListTransitions.{insert_from, insert_tried, is_newer}
 use Rattle.kw_world.specs.PutTransitions.{has_room, stamp_met}
 use Rattle.kw_world.specs.ReadTransitions.{to_look, look_met, help_met, remembering}
 use Rattle.kw_world.specs.ScanTransitions.{entered, answer_or_stopped, settled, version_settled}
@@ -126,6 +127,15 @@ module _ (c : Choice) where
   stamps (Some pend.Frozen) l = record { local = refl; done = refl; held = λ g. refl }
   stamps None l = record { local = refl; done = refl; held = λ g. refl }
 
+  -- the walk of a put along the row's list, and its exchange
+  inserts_from : (z : Sizes) (cell : Option ℕ) (l : Local) → Carries c l.pairs (insert_from z cell l) (insert_from z cell (carried l))
+  inserts_from z (Some cell) l = record { local = refl; done = refl; held = λ g. refl }
+  inserts_from z None l = record { local = refl; done = refl; held = λ g. refl }
+
+  inserts_tried : (z : Sizes) (b : Bool) (l : Local) → Carries c l.pairs (insert_tried z b l) (insert_tried z b (carried l))
+  inserts_tried z true l = record { local = refl; done = refl; held = λ g. refl }
+  inserts_tried z false l = record { local = refl; done = refl; held = λ g. refl }
+
 -- a walk is stopped by the choice to stop alone
 not_stopped : (c : Choice) (l : Local) → is_stop c ≡ false → is_stopped c l ≡ false
 not_stopped c l n = ap (λ b. b && (is_scan l.call && l.has_read)) n
@@ -140,10 +150,12 @@ clears Stop answer l = record { local = refl; done = refl; held = λ g. refl }
 -- the seat is in the middle of a call, and reads no cell
 abbrev pub IsGoingOn : Activity → Type 0
 IsGoingOn Idle = ⊥
-IsGoingOn LookCount = ⊥
-IsGoingOn (Cell j) = ⊥
-IsGoingOn CellKey = ⊥
-IsGoingOn CellValue = ⊥
+IsGoingOn ListFrom = ⊥
+IsGoingOn ListKey = ⊥
+IsGoingOn ListVer = ⊥
+IsGoingOn ListVal = ⊥
+IsGoingOn RestKey = ⊥
+IsGoingOn RestVal = ⊥
 IsGoingOn (Leave answer) = ⊥
 IsGoingOn _ = Unit {0}
 
@@ -164,10 +176,12 @@ carries z (Look i) s c l rows told u = meets c z i (pend_of told) l
 carries z LookKey s c l rows told u = either c (is_in_range l.call (key_of_word told)) l.pairs _ _ _ _ (record { local = refl; done = refl; held = λ g. refl }) (looks c z (l.looked + 1) l)
 carries z LookClock s c l rows told u = record { local = refl; done = refl; held = λ g. refl }
 carries z LookHelp s c l rows told u = helps c z (pend_of told) l
-carries z LookCount s c l rows told u = absurd u
-carries z (Cell j) s c l rows told u = absurd u
-carries z CellKey s c l rows told u = absurd u
-carries z CellValue s c l rows told u = absurd u
+carries z ListFrom s c l rows told u = absurd u
+carries z ListKey s c l rows told u = absurd u
+carries z ListVer s c l rows told u = absurd u
+carries z ListVal s c l rows told u = absurd u
+carries z RestKey s c l rows told u = absurd u
+carries z RestVal s c l rows told u = absurd u
 carries z (ClearScan answer) s c l rows told u = clears c answer l
 carries z PutCount s c l rows told u = either c (has_room z (count_of told)) l.pairs _ _ _ _ (record { local = refl; done = refl; held = λ g. refl }) (record { local = refl; done = refl; held = λ g. refl })
 carries z PutAdd s c l rows told u = either c (has_room z (count_of told)) l.pairs _ _ _ _ (record { local = refl; done = refl; held = λ g. refl }) (record { local = refl; done = refl; held = λ g. refl })
@@ -177,6 +191,11 @@ carries z Announce s c l rows told u = either c (told == pend_word pend.Idle) l.
 carries z PutClock s c l rows told u = record { local = refl; done = refl; held = λ g. refl }
 carries z Stamp s c l rows told u = stamps c (pend_of told) l
 carries z PutVersion s c l rows told u = record { local = refl; done = refl; held = λ g. refl }
+carries z InsFrom s c l rows told u = inserts_from c z (cell_of_link_word told) l
+carries z InsKey s c l rows told u = either c (nat_lt (key_of_word told) (first_key l.call)) l.pairs _ _ _ _ (record { local = refl; done = refl; held = λ g. refl }) (either c (key_of_word told == first_key l.call) l.pairs _ _ _ _ (record { local = refl; done = refl; held = λ g. refl }) (record { local = refl; done = refl; held = λ g. refl }))
+carries z InsVer s c l rows told u = either c (is_newer (unwrap_or (version_of_word told) 0) l.place l) l.pairs _ _ _ _ (record { local = refl; done = refl; held = λ g. refl }) (record { local = refl; done = refl; held = λ g. refl })
+carries z InsSet s c l rows told u = record { local = refl; done = refl; held = λ g. refl }
+carries z Insert s c l rows told u = inserts_tried c z (told == cell_link_word l.held) l
 carries z PutClear s c l rows told u = record { local = refl; done = refl; held = λ g. refl }
 carries z (Leave answer) s c l rows told u = absurd u
 

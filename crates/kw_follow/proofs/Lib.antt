@@ -2,6 +2,8 @@ pub mod Carrying
 pub mod Growing
 pub mod Resting
 pub mod OneEvent
+pub mod PutEvents
+pub mod ReadEvents
 pub mod Ends
 pub mod Fronts
 pub mod OwnEvents

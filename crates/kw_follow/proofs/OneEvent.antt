@@ -3,7 +3,7 @@ use Rattle.std.proofs.Common.{ℕ, ◌≡◌, ◌≤◌, Bool, true, false, [], 
 use Rattle.std.proofs.lemmas.List.Elements.{All-nil}
 use mathlib.Core.List.{IsPrefix}
 use Rattle.kw_world.specs.declared.activity.Activity.{Activity}
-use Rattle.kw_world.specs.declared.activity.Activity.TheVariants.{Idle, LookKey, LookClock, LookHelp, CellKey, CellValue, ClearScan, Leave}
+use Rattle.kw_world.specs.declared.activity.Activity.TheVariants.{Idle, LookKey, LookClock, LookHelp, ClearScan, Leave}
 use Rattle.kw_world.specs.declared.event.Choice.{Choice}
 use Rattle.kw_world.specs.declared.event.Choice.TheVariants.{Begin, Go, Guess, Stop}
 use Rattle.kw_world.specs.declared.event.StepDone.{StepDone}
@@ -14,7 +14,7 @@ use Rattle.kw_world.specs.declared.operation.Operation.{Operation}
 use Rattle.kw_world.specs.Operation.{told_by}
 use Rattle.kw_world.specs.Transition.{Outcome, outcome}
 use Rattle.kw_world.specs.WalkTransitions.{offered, is_stop}
-use Rattle.kw_world.specs.Sane.{IsPair, IsLocal, HasRoom, RisesBetween, marks_by, copies_by}
+use Rattle.kw_world.specs.Sane.{IsPair, IsLocal, HasRoom, marks_by}
 use Rattle.kw_world.specs.Sizes.{Sizes, product}
 use Rattle.kw_world.specs.Step.{is_skipped, next_of, transition_of, word}
 use Rattle.kw_world.proofs.Transitions.{transition_of-next}
@@ -60,12 +60,15 @@ carried_in_range z l k = record {
   met = k.met;
   helping = k.helping;
   marks = k.marks;
-  count = k.count;
   place = k.place;
   place_version = k.place_version;
   place_key = k.place_key;
   copies = k.copies;
   cell = k.cell;
+  link = k.link;
+  held = k.held;
+  walked = k.walked;
+  lost = k.lost;
 }
 
 -- how much room a seat has does not depend on what code leaves out
@@ -75,15 +78,10 @@ carried_marks z LookClock l = refl
 carried_marks z LookHelp l = refl
 carried_marks z _ l = refl
 
-carried_copies : (z : Sizes) (a : Activity) (l : Local) → copies_by z a l ≡ copies_by z a (carried l)
-carried_copies z CellKey l = refl
-carried_copies z CellValue l = refl
-carried_copies z _ l = refl
-
 carried_room : (z : Sizes) (l : Local) → HasRoom z l → HasRoom z (carried l)
 carried_room z l k = record {
   remembered = subst (λ n. length l.remembered ≤ n) (carried_marks z l.activity l) k.remembered;
-  gathered = subst (λ n. RisesBetween 0 n l.gathered) (carried_copies z l.activity l) k.gathered;
+  gathered = k.gathered;
 }
 
 -- all that a local which follows a pass holds is in range
@@ -184,6 +182,22 @@ goes_stay _ u = tt
 pub same_activity : (s : Shared) (p : Pass) (l : Local) → Follows s p l → activity_in p ≡ l.activity
 same_activity s p l f = sym (ap (λ (k : Local). k.activity) f.carries)
 
+-- the event is among the pass's own since
+pub makes_met : {s : Shared} {p q : Pass} {c : Choice} {l : Local} {told : ℕ} → Follows s p l → Makes s p c told q → MetAs p q l c told
+makes_met {s} {p} {q} {c} {l} {told} f makes = record {
+  met = record {
+    front = makes.step.front;
+    later = makes.step.later;
+    here = subst (λ es. IsPrefix (makes.step.front ++ event (view p).number c ∷ []) es) (sym makes.step.seen) (prefix_self _);
+    activity = ap (λ (k : Local). k.activity) makes.step.here ∙ same_activity s p l f;
+    tells = subst
+        (λ (k : Local). told ≡ told_by (transition_of product (view p).number (offered (view p).opening.rows c) k).operation.action (word product (world product (view p).opening makes.step.front) (transition_of product (view p).number (offered (view p).opening.rows c) k).operation.name))
+        (sym makes.step.here) makes.step.told_there;
+  };
+  first = first_own makes;
+  knew = ap known makes.step.here ∙ f.knows;
+}
+
 -- Both after an event.
 
 -- what follows for the seat and what follows for code
@@ -219,16 +233,4 @@ module _ {s : Shared} {p q : Pass} {c : Choice} {l after : Local} {done : StepDo
 
   -- it is among the pass's events since
   pub went_met : Went s p q c l after done told → IsWithinCall l.activity → MetAs p q l c told
-  went_met w u = record {
-    met = record {
-      front = w.makes.step.front;
-      later = w.makes.step.later;
-      here = subst (λ es. IsPrefix (w.makes.step.front ++ event (view p).number c ∷ []) es) (sym w.makes.step.seen) (prefix_self _);
-      activity = ap (λ (k : Local). k.activity) w.makes.step.here ∙ same_activity s p l w.follows;
-      tells = subst
-          (λ (k : Local). told ≡ told_by (transition_of product (view p).number (offered (view p).opening.rows c) k).operation.action (word product (world product (view p).opening w.makes.step.front) (transition_of product (view p).number (offered (view p).opening.rows c) k).operation.name))
-          (sym w.makes.step.here) w.makes.step.told_there;
-    };
-    first = first_own w.makes;
-    knew = ap known w.makes.step.here ∙ w.follows.knows;
-  }
+  went_met w u = makes_met w.follows w.makes

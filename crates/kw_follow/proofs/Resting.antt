@@ -14,7 +14,7 @@ use Rattle.kw_core.specs.Events.{is_valid, may_step}
 use Rattle.kw_reads.specs.Inv.{Inv}
 use Rattle.kw_core.specs.Run.{Run, goes_on, history, start}
 use Rattle.kw_shape.specs.Shape.{Words}
-use Rattle.kw_core.proofs.Arrows.{Arrow, NextCell, NextLook, reads_cell, answers, ends_scan, scans_on, looks, counts, leaves, meets_stamped, meets_neither, is_passed, helps, finds_stamped, finds_other, counts_cells, has_no_version, has_other_key, gathers}
+use Rattle.kw_core.proofs.Arrows.{Arrow, NextLook, NextRest, rests, answers, ends_scan, scans_on, looks, lists, leaves, meets_stamped, meets_neither, is_passed, helps, finds_stamped, finds_other, list_ends, key_above, rest_passed, gathers_rest}
 use Rattle.kw_core.proofs.Events.{may_come}
 use Rattle.kw_core.proofs.Happens.{happens, each_seat}
 use Rattle.kw_reads.proofs.Keeps.{inv_goes_on}
@@ -33,13 +33,13 @@ Rests _ l = Unit {0}
 
 look_rests : (z : Sizes) (j : ℕ) (next : Activity) (l : Local) → NextLook z j next → Rests next l
 look_rests z j next l (looks w) = tt
-look_rests z j next l (counts w) = tt
+look_rests z j next l (lists w) = tt
 
-cell_rests : (l : Local) (j : ℕ) (k : Local) → NextCell l j k → Rests k.activity k
-cell_rests l j k (reads_cell w) = tt
-cell_rests l j k (answers w e) = tt
-cell_rests l j k (ends_scan w e f) = tt
-cell_rests l j k (scans_on q w e f g) = tt
+rest_rests : (l : Local) (k : Local) → NextRest l k → Rests k.activity k
+rest_rests l k (rests m e) = tt
+rest_rests l k (answers w e) = tt
+rest_rests l k (ends_scan w e f) = tt
+rest_rests l k (scans_on q w e f g) = tt
 
 -- so it is after every event
 arrow_rests : (z : Sizes) (v : Words) (s : ℕ) (choice : Choice) (l : Local) (a : Activity) (k : Local) → Arrow z v s choice l a k → Rests k.activity k
@@ -50,10 +50,10 @@ arrow_rests z v s choice l a k (is_passed next e n) = look_rests z _ next _ n
 arrow_rests z v s choice l a k (helps next e n) = look_rests z _ next _ n
 arrow_rests z v s choice l a k (finds_stamped c version next e n) = look_rests z _ next _ n
 arrow_rests z v s choice l a k (finds_other next e n) = look_rests z _ next _ n
-arrow_rests z v s choice l a k (counts_cells next n) = cell_rests _ _ _ n
-arrow_rests z v s choice l a k (has_no_version j next e n) = cell_rests _ _ _ n
-arrow_rests z v s choice l a k (has_other_key next e n) = cell_rests _ _ _ n
-arrow_rests z v s choice l a k (gathers next n) = cell_rests _ _ _ n
+arrow_rests z v s choice l a k (list_ends next e n) = rest_rests _ _ n
+arrow_rests z v s choice l a k (key_above next e n) = rest_rests _ _ n
+arrow_rests z v s choice l a k (rest_passed next e n) = rest_rests _ _ n
+arrow_rests z v s choice l a k (gathers_rest next n) = rest_rests _ _ n
 arrow_rests z v s choice l a k _ = tt
 
 -- every seat of a run rests where it is idle

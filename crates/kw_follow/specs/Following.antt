@@ -7,6 +7,7 @@ use Rattle.std.specs.Prelude.{◌≡◌, ℕ, List, []}
 use mathlib.Core.List.{IsPrefix}
 use Rattle.kw_world.specs.declared.activity.Activity.{Activity}
 use Rattle.kw_world.specs.declared.local.Local.{Local}
+use Rattle.kw_world.specs.Transition.{Outcome}
 use Rattle.kw_table.specs.declared.pass.Pass.{Pass}
 use Rattle.kw_table.specs.declared.shared.Shared.{Shared}
 use Rattle.kw_table.specs.Passes.{view, IsPassOf}
@@ -19,6 +20,11 @@ known l = record l { number = 0; pairs = [] }
 -- what code that follows a seat has, where the seat knows this: it has no pairs, and counts the call that it makes as its first one
 abbrev pub carried : Local → Local
 carried l = record l { number = 1; pairs = [] }
+
+-- what code that had the first local has after an event from which this follows in the core: the same, but for the number of calls and
+-- the pairs, which stay
+abbrev pub unpaired : Local → Outcome → Local
+unpaired l o = record o.local { number = l.number; pairs = l.pairs }
 
 -- the pairs that the pass's seat has added
 abbrev pub held : Pass → List (ℕ × ℕ)

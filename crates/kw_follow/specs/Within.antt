@@ -1,14 +1,16 @@
 -- The middle of a call.
 use Rattle.kw_world.specs.declared.activity.Activity.{Activity}
-use Rattle.kw_world.specs.declared.activity.Activity.TheVariants.{Idle, LookCount, Cell, CellKey, CellValue, ClearScan, Leave}
+use Rattle.kw_world.specs.declared.activity.Activity.TheVariants.{Idle, ListFrom, ListKey, ListVer, ListVal, RestKey, RestVal, ClearScan, Leave}
 
 -- the seat is in the middle of a call, and its next event neither ends the call or a scan nor reads a cell
 abbrev pub IsWithinCall : Activity → Type 0
 IsWithinCall Idle = ⊥
-IsWithinCall LookCount = ⊥
-IsWithinCall (Cell j) = ⊥
-IsWithinCall CellKey = ⊥
-IsWithinCall CellValue = ⊥
+IsWithinCall ListFrom = ⊥
+IsWithinCall ListKey = ⊥
+IsWithinCall ListVer = ⊥
+IsWithinCall ListVal = ⊥
+IsWithinCall RestKey = ⊥
+IsWithinCall RestVal = ⊥
 IsWithinCall (ClearScan answer) = ⊥
 IsWithinCall (Leave answer) = ⊥
 IsWithinCall _ = Unit {0}

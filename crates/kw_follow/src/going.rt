@@ -27,12 +27,13 @@ use kw_world::answer::Answer;
 use kw_world::event::{Choice, StepDone};
 use kw_world::local::Local;
 
-/// Makes the operation of the pass's next event with this choice, which is the one that the local names. The answer is what the event
-/// was told. Takes no memory.
+// Makes the operation of the pass's next event with this choice, which is the one that the local names. The answer is what the event
+// was told.
 #[inline(always)]
-pub fn ask(shared: &Shared, pass: &mut Pass, local: &Local, choice: Choice) -> u64
+fn ask(shared: &Shared, pass: &mut Pass, local: &Local, choice: Choice) -> u64
     requires ranges { IsLocal product local.now }
-    requires asks { Asks shared.now pass.old choice (transition_of product (view pass.old).number (offered shared.now.opening.rows choice) local.now).operation }
+    requires asks { Asks shared.now pass.old choice (transition_of product (view pass.old).number
+        (offered shared.now.opening.rows choice) local.now).operation }
     ensures { Makes shared.now pass.old choice result pass.new }
 {
     let offered = choice.offered(shared.rows());
@@ -46,21 +47,23 @@ pub fn ask(shared: &Shared, pass: &mut Pass, local: &Local, choice: Choice) -> u
 
 // What an event was told, and what it did.
 #[derive(Drop)]
-struct Happened {
-    told: u64,
-    done: StepDone,
+pub(crate) struct Happened {
+    pub(crate) told: u64,
+    pub(crate) done: StepDone,
 }
 
 // Makes the next event of the pass with this choice, and brings the local up to it. It is not the last event of a scan at a row.
 #[inline(always)]
-fn event(shared: &Shared, pass: &mut Pass, local: &mut Local, choice: Choice) -> Happened
+pub(crate) fn event(shared: &Shared, pass: &mut Pass, local: &mut Local, choice: Choice) -> Happened
     requires ranges { IsLocal product local.old }
     requires room { HasRoom product local.old }
     requires begins { CanBegin (offered shared.now.opening.rows choice) local.old }
     requires on { MayEndRow local.old → ⊥ }
-    requires asks { Asks shared.now pass.old choice (transition_of product (view pass.old).number (offered shared.now.opening.rows choice) local.old).operation }
+    requires asks { Asks shared.now pass.old choice (transition_of product (view pass.old).number
+        (offered shared.now.opening.rows choice) local.old).operation }
     ensures makes { Makes shared.now pass.old choice result.told pass.new }
-    ensures line { outcome local.new result.done ≡ next_of product shared.now.opening.rows (offered shared.now.opening.rows choice) local.old result.told }
+    ensures line { outcome local.new result.done ≡ next_of product shared.now.opening.rows
+        (offered shared.now.opening.rows choice) local.old result.told }
 {
     let told = ask(shared, pass, local, choice);
     let rows = shared.rows();
@@ -95,7 +98,8 @@ pub fn go(shared: &Shared, pass: &mut Pass, local: &mut Local, choice: Choice) -
     requires within { IsWithinCall local.old.activity }
     ensures goes { GoesTo shared.now pass.old pass.new }
     ensures follows { Follows shared.now pass.new local.new }
-    ensures line { outcome local.new StepDone.Moved ≡ next_of product (view pass.old).opening.rows (offered (view pass.old).opening.rows choice) local.old result }
+    ensures line { outcome local.new StepDone.Moved ≡ next_of product (view pass.old).opening.rows
+        (offered (view pass.old).opening.rows choice) local.old result }
     ensures met { MetAs pass.old pass.new local.old choice result }
     ensures only { MetOnly pass.old pass.new local.old.activity result }
     ensures calls { Keeps pass.old pass.new }
@@ -111,8 +115,10 @@ pub fn clear(shared: &Shared, pass: &mut Pass, local: &mut Local, choice: Choice
     requires over { (answer : Answer) × (local.old.activity ≡ Activity.ClearScan answer) }
     ensures goes { GoesTo shared.now pass.old pass.new }
     ensures follows { Follows shared.now pass.new local.new }
-    ensures leaves { (answer : Answer) → activity_in pass.old ≡ Activity.ClearScan answer → activity_in pass.new ≡ Activity.Leave (answer_or_stopped answer choice) }
-    ensures activity { (answer : Answer) → local.old.activity ≡ Activity.ClearScan answer → local.new.activity ≡ Activity.Leave (answer_or_stopped answer choice) }
+    ensures leaves { (answer : Answer) → activity_in pass.old ≡ Activity.ClearScan answer →
+        activity_in pass.new ≡ Activity.Leave (answer_or_stopped answer choice) }
+    ensures activity { (answer : Answer) → local.old.activity ≡ Activity.ClearScan answer →
+        local.new.activity ≡ Activity.Leave (answer_or_stopped answer choice) }
     ensures calls { Keeps pass.old pass.new }
     ensures held { is_stop choice ≡ false → held pass.new ≡ held pass.old }
 {
@@ -126,7 +132,8 @@ pub fn end(shared: &Shared, pass: &mut Pass, local: &mut Local) -> Reply
     ensures goes { GoesTo shared.now pass.old pass.new }
     ensures idle { activity_in pass.new ≡ Activity.Idle }
     ensures rests { local.new ≡ resting 0 }
-    ensures closes { (answer : Answer) → activity_in pass.old ≡ Activity.Leave answer → Closes pass.old pass.new (reply_of answer (held pass.old)) × (result ≡ reply_of answer []) }
+    ensures closes { (answer : Answer) → activity_in pass.old ≡ Activity.Leave answer →
+        Closes pass.old pass.new (reply_of answer (held pass.old)) × (result ≡ reply_of answer []) }
     ensures only { (told : ℕ) × MetOnly pass.old pass.new (activity_in pass.old) told }
 {
     let happened = event(shared, pass, local, Choice::Go);

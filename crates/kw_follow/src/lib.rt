@@ -2,8 +2,8 @@
 //!
 //! Code follows a seat with a `Local`, which is what the seat knows but for the number of its calls and the pairs of a scan. The
 //! functions here make one event of a pass each, and bring the local up to it by the core's `operation` and `resume`: `begin` a
-//! call's first one, `go` those in the middle of it, `clear` the one at the end of a scan, and `end` the last one. `ask` makes the
-//! operation alone, for whoever goes on by a part of the core's `resume` of its own.
+//! call's first one, `go` those in the middle of it, `clear` the one at the end of a scan, and `end` the last one. `go_put` makes those of
+//! a put at its row, and `go_read` those of a reader along the list of its row: each by its own step of the table.
 //!
 //! `specs/Following.antt` says what it is to follow a pass and what it is that a pass went on, `specs/Calling.antt` how the calls of
 //! a pass go on, and `specs/OwnEvents.antt` which events it made. The crates that put stages of a call together from single events
@@ -11,5 +11,9 @@
 #![tactic(auto)]
 
 mod going;
+mod putting;
+mod reading;
 
-pub use going::{ask, begin, clear, end, go};
+pub use going::{begin, clear, end, go};
+pub use putting::go_put;
+pub use reading::go_read;

@@ -79,7 +79,8 @@ impl Entries {
 
     /// Drops the entry of a row, if there is one. Takes no memory.
     pub fn remove(&mut self, row: u32)
-        ensures list { self.new ≡ record { rows = self.old.rows; list = without row self.old.list } }
+        ensures list { self.new ≡ record { rows = self.old.rows; list = without row self.old.list }
+            }
         ensures absent { All (λ e. e.row ≢ row) self.new.list }
     {
         if let Some(at) = place_of(&self.list, row) {
@@ -93,7 +94,8 @@ impl Entries {
     pub fn insert(&mut self, entry: Entry)
         requires in_range { entry.row < self.old.rows }
         requires new_row { All (λ e. e.row ≢ entry.row) self.old.list }
-        ensures { self.new ≡ record { rows = self.old.rows; list = with_entry entry self.old.list } }
+        ensures { self.new ≡ record { rows = self.old.rows; list = with_entry entry self.old.list }
+            }
     {
         let at = count_below(&self.list, entry.min);
         if has_min_at(&self.list, at, entry.min) {
@@ -126,7 +128,8 @@ fn place_of(list: &[Entry], row: u32) -> Option<usize>
 fn count_below(list: &[Entry], min: u32) -> usize
     requires { AllPairs (λ e f. e.min < f.min) list.now }
     ensures bound { result ≤ length list.now }
-    ensures parted { IsPartitionPoint (λ e. nat_lt e.min min ≡ true) (λ e. nat_lt e.min min ≡ false) list.now result }
+    ensures parted { IsPartitionPoint (λ e. nat_lt e.min min ≡ true) (λ e. nat_lt e.min min ≡ false)
+        list.now result }
 {
     list.partition_point(|entry| entry.min < min)
 }

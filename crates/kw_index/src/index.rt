@@ -194,7 +194,8 @@ const STATES: u64 = 4;
 
 // The word with one reader more, where readers may come and one more can be counted.
 fn one_reader_more(word: u64) -> Option<u64>
-    ensures { IfSome result (λ counted. IsTurn word counted × (readers word < readers counted) × (counted % 4 < 3)) }
+    ensures { IfSome result (λ counted. IsTurn word counted × (readers word < readers counted)
+        × (counted % 4 < 3)) }
 {
     let is_open = word % STATES == PRESENT && word % LOW_HALF / ONE_READER < MOST_READERS;
     if is_open {
@@ -214,7 +215,8 @@ fn is_unread(word: u64) -> bool
 // The one entry with which an index begins.
 fn first_entries(alloc: Global, rows: u32) -> Result<Entries, Memory>
     requires { 1 ≤ rows }
-    ensures list { IfOk result (λ first. first ≡ record { rows = rows; list = record { min = 0; row = 0 } ∷ [] }) }
+    ensures list { IfOk result (λ first. first ≡ record { rows = rows; list = record { min = 0; row
+        = 0 } ∷ [] }) }
     ensures lawful { IfOk result (IsOf rows) }
 {
     let mut first = Entries::new(alloc, rows)?;

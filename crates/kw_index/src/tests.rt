@@ -3,7 +3,7 @@ ghost use Rattle.std.specs.Prelude.{◌≡◌, ◌<◌, IfOk};
 ghost use Rattle.kw_index.specs.Turns.{handed_back};
 
 use crate::entries::{Entries, Entry};
-use crate::index::{Copied, Index, Published};
+use crate::index::{Copied, Index, Published, TRIES};
 use crate::memory::Memory;
 use std::alloc::Global;
 use std::sync::atomic::{AtomicBool, Ordering};
@@ -94,6 +94,11 @@ fn a_guess_is_the_nearest_row_to_the_left(rt: HostRuntime) -> Result<(), Fail> {
     let high = (entries.guess(LAST_KEY - 1), entries.guess(LAST_KEY));
     assert_eq!(rt; high, (Some(6), Some(4)));
     Ok(())
+}
+
+#[test]
+fn the_tries_of_a_turn(rt: HostRuntime) {
+    assert_eq!(rt; TRIES, 64);
 }
 
 #[test]

@@ -1,6 +1,7 @@
 //! A sink into memory, with little room, some of whose writes fail.
 ghost use Rattle.std.specs.Prelude.{◌≡◌, ◌^◌, ◌<◌, ◌≤◌, ◌||◌, ◌==◌, length, take, min, [], ◌++◌, IfOk, OnOk, OnErr, is_err};
-ghost use Rattle.kw_io.specs.Counts.{CountRose, next_count, counted};
+ghost use Rattle.kw_io.specs.Counts.{next_count, counted};
+ghost use Rattle.kw_model.specs.Counts.{CountRose};
 ghost use Rattle.kw_io.specs.Fakes.{is_listed, free_room};
 
 use crate::errors::{Failed, Memory};

@@ -1,7 +1,8 @@
 //! A source over bytes in memory, some of whose reads fail.
 ghost use Rattle.std.specs.Prelude.{◌≡◌, ◌^◌, ◌<◌, ◌≤◌, length, take, drop, min, [], ◌++◌, IfOk, OnOk, OnErr, is_err};
 ghost use Rattle.std.specs.Io.KnownBytes.{Consumes, IsAtEnd, Keeps};
-ghost use Rattle.kw_io.specs.Counts.{CountRose, next_count, counted};
+ghost use Rattle.kw_io.specs.Counts.{next_count, counted};
+ghost use Rattle.kw_model.specs.Counts.{CountRose};
 ghost use Rattle.kw_io.specs.Fakes.{is_listed};
 
 use crate::errors::Failed;

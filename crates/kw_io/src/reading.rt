@@ -2,7 +2,7 @@
 ghost use Rattle.std.specs.Prelude.{◌≡◌, ◌+◌, ◌^◌, ◌<◌, ◌≤◌, ℕ, List, Option, length, take, IfOk, OnOk, OnErr, IfSome, IsErrOf};
 ghost use Rattle.std.specs.Io.KnownBytes.{Consumes, IsAtEnd, Keeps};
 ghost use Rattle.kw_io.specs.Bytes.{ConsumesSome};
-ghost use Rattle.kw_io.specs.Counts.{CountRose};
+ghost use Rattle.kw_model.specs.Counts.{CountRose};
 
 use crate::errors::{Failed, ReadError};
 use std::alloc::Global;

@@ -4,7 +4,8 @@
 //! proved is that a failure is counted and that nothing else is.
 ghost use Rattle.std.specs.Prelude.{◌≡◌, ◌^◌, ◌<◌, ◌≤◌, length, IfOk, OnErr, is_err};
 ghost use Rattle.std.specs.Io.KnownBytes.{ReadConsumes, WriteAppends};
-ghost use Rattle.kw_io.specs.Counts.{CountRose, counted};
+ghost use Rattle.kw_io.specs.Counts.{counted};
+ghost use Rattle.kw_model.specs.Counts.{CountRose};
 
 use crate::errors::Failed;
 use crate::reading::Source;

@@ -2,7 +2,8 @@
 //! on, and the errors' texts.
 use crate::std_streams::{read_counted, write_counted};
 use crate::{
-    Failed, MemSink, MemSource, Memory, ReadError, Sink, Source, WriteFault, read_all, write_all,
+    Failed, MemSink, MemSource, Memory, PIECE, ReadError, Sink, Source, WriteFault, read_all,
+    write_all,
 };
 use std::alloc::{AllocError, Global};
 use std::io;
@@ -17,6 +18,11 @@ fn source(alloc: Global, text: &[u8], fails: &[u32]) -> Result<MemSource, AllocE
         Vec::from_slice(alloc, text)?,
         Vec::from_slice(alloc, fails)?,
     ))
+}
+
+#[test]
+fn the_length_of_a_piece(rt: HostRuntime) {
+    assert_eq!(rt; PIECE, 4096);
 }
 
 #[test]

@@ -2,7 +2,7 @@
 ghost use Rattle.std.specs.Prelude.{◌≡◌, ◌^◌, ◌<◌, ◌≤◌, ℕ, List, Option, length, take, IfOk, OnOk, OnErr};
 ghost use Rattle.std.specs.Io.KnownBytes.{Appends, Keeps};
 ghost use Rattle.kw_io.specs.Bytes.{AppendsPrefix};
-ghost use Rattle.kw_io.specs.Counts.{CountRose};
+ghost use Rattle.kw_model.specs.Counts.{CountRose};
 
 use crate::errors::{Failed, WriteFault};
 

@@ -11,46 +11,84 @@ ghost use Rattle.kw_kept.specs.Readers.{Before, Front, GoesOn, Reads, Knows};
 /// A finite set of puts that were given their cells at different events has a greatest for each key and version. Two greatest of
 /// one set are one. What a set shows goes from set to set, through one that has a greatest.
 pub fn greatest_laws()
-    ensures found { (puts : ℕ → Put) (a : ℕ → Bool) (n k u : ℕ) → ((p : ℕ) → On a p → p < n) → AreApart puts (On a) → HasGreatest puts (On a) k u }
-    ensures one { (puts : ℕ → Put) (a : ℕ → Bool) (k u : ℕ) (o q : Option ℕ) → Greatest puts (On a) k u o → Greatest puts (On a) k u q → o ≡ q }
-    ensures through { (puts : ℕ → Put) (a b c : ℕ → Bool) (k u : ℕ) → HasGreatest puts (On b) k u → Shows puts (On a) (On b) k u → Shows puts (On b) (On c) k u → Shows puts (On a) (On c) k u }
+    ensures found { (puts : ℕ → Put) (a : ℕ → Bool) (n k u : ℕ) → ((p : ℕ) → On a p → p < n) →
+        AreApart puts (On a) → HasGreatest puts (On a) k u }
+    ensures one { (puts : ℕ → Put) (a : ℕ → Bool) (k u : ℕ) (o q : Option ℕ) →
+        Greatest puts (On a) k u o → Greatest puts (On a) k u q → o ≡ q }
+    ensures through { (puts : ℕ → Put) (a b c : ℕ → Bool) (k u : ℕ) → HasGreatest puts (On b) k u →
+        Shows puts (On a) (On b) k u → Shows puts (On b) (On c) k u → Shows puts (On a) (On c) k u }
 {}
 
 /// Rows that have kept what is needed still have after a stamp. At a version that shows the new put its row shows what all stamped
 /// puts show, whatever it had kept before.
 pub fn stamp_laws()
-    ensures own { (puts later : ℕ → Put) (a b : ℕ → ℕ → Bool) (c d : ℕ → Bool) (e f : ℕ → ℕ → Bool) (row o u : ℕ) → Stamps puts later (OnEach a) (OnEach b) (On c) (On d) (OnEach e) (OnEach f) row o → (later o).version ≤ u → Shows later (OnEach b row) (On d) (later o).key u }
-    ensures kept { (puts later : ℕ → Put) (a b : ℕ → ℕ → Bool) (c d : ℕ → Bool) (e f : ℕ → ℕ → Bool) (needed : ℕ → Bool) (row o : ℕ) → Stamps puts later (OnEach a) (OnEach b) (On c) (On d) (OnEach e) (OnEach f) row o → Kept puts (OnEach a) (On c) (OnEach e) (On needed) → Kept later (OnEach b) (On d) (OnEach f) (On needed) }
+    ensures own { (puts later : ℕ → Put) (a b : ℕ → ℕ → Bool) (c d : ℕ → Bool) (e f : ℕ → ℕ → Bool)
+        (row o u : ℕ) → Stamps puts later (OnEach a) (OnEach b) (On c) (On d) (OnEach e) (OnEach f)
+        row o → (later o).version ≤ u → Shows later (OnEach b row) (On d) (later o).key u }
+    ensures kept { (puts later : ℕ → Put) (a b : ℕ → ℕ → Bool) (c d : ℕ → Bool) (e f : ℕ → ℕ → Bool)
+        (needed : ℕ → Bool) (row o : ℕ) → Stamps puts later (OnEach a) (OnEach b) (On c) (On d)
+        (OnEach e) (OnEach f) row o → Kept puts (OnEach a) (On c) (OnEach e) (On needed) →
+        Kept later (OnEach b) (On d) (OnEach f) (On needed) }
 {}
 
 /// A row that was built of another shows what that showed, at each version that is listed or at least every version in it. So rows
 /// that have kept what is needed still have when some are replaced.
 pub fn replace_laws()
-    ensures rebuilt { (puts : ℕ → Put) (old new stamped listed : ℕ → Bool) (k u most newest : ℕ) → Rebuilds puts (On old) (On new) (On listed) k most newest → most ≤ newest → On listed u ⊎ (most ≤ u) → Shows puts (On old) (On stamped) k u → Shows puts (On new) (On stamped) k u }
-    ensures kept { (puts : ℕ → Put) (a b : ℕ → ℕ → Bool) (stamped : ℕ → Bool) (e f : ℕ → ℕ → Bool) (needed listed : ℕ → Bool) (most newest : ℕ) → Replaces puts (OnEach a) (OnEach b) (OnEach e) (OnEach f) (On needed) (On listed) most newest → Kept puts (OnEach a) (On stamped) (OnEach e) (On needed) → Kept puts (OnEach b) (On stamped) (OnEach f) (On needed) }
+    ensures rebuilt { (puts : ℕ → Put) (old new stamped listed : ℕ → Bool) (k u most newest : ℕ) →
+        Rebuilds puts (On old) (On new) (On listed) k most newest → most ≤ newest → On listed u
+        ⊎ (most ≤ u) → Shows puts (On old) (On stamped) k u → Shows puts (On new) (On stamped) k u }
+    ensures kept { (puts : ℕ → Put) (a b : ℕ → ℕ → Bool) (stamped : ℕ → Bool) (e f : ℕ → ℕ → Bool)
+        (needed listed : ℕ → Bool) (most newest : ℕ) →
+        Replaces puts (OnEach a) (OnEach b) (OnEach e) (OnEach f) (On needed) (On listed) most
+        newest → Kept puts (OnEach a) (On stamped) (OnEach e) (On needed) →
+        Kept puts (OnEach b) (On stamped) (OnEach f) (On needed) }
 {}
 
 /// What is needed was needed before, so rows that have kept what was needed still have. What a rebuild has listed covers what is
 /// needed through the seats that it passed, whatever goes on meanwhile, and when all are passed it covers all that is needed.
 pub fn needed_laws()
-    ensures shrinks { (clock later : ℕ) (waits after : ℕ → ℕ) (a b : ℕ → ℕ → Bool) (u : ℕ) → Moves clock later waits after (OnEach a) (OnEach b) → IsNeeded later (OnEach b) u → IsNeeded clock (OnEach a) u }
-    ensures kept { (puts : ℕ → Put) (a : ℕ → ℕ → Bool) (stamped : ℕ → Bool) (e : ℕ → ℕ → Bool) (before now : ℕ → Bool) → ((u : ℕ) → On now u → On before u) → Kept puts (OnEach a) (On stamped) (OnEach e) (On before) → Kept puts (OnEach a) (On stamped) (OnEach e) (On now) }
-    ensures covered { (clock later : ℕ) (waits after : ℕ → ℕ) (a b : ℕ → ℕ → Bool) (passed listed : ℕ → Bool) (most : ℕ) → Moves clock later waits after (OnEach a) (OnEach b) → most ≤ clock → IsCovered (OnEach a) (On passed) (On listed) most → IsCovered (OnEach b) (On passed) (On listed) most }
-    ensures early { (waits : ℕ → ℕ) (a : ℕ → ℕ → Bool) (since most : ℕ) → ((i : ℕ) → waits i ≤ since) → IsLate since waits (OnEach a) most }
-    ensures late { (clock later : ℕ) (waits after : ℕ → ℕ) (a b : ℕ → ℕ → Bool) (since most : ℕ) → Moves clock later waits after (OnEach a) (OnEach b) → most ≤ clock → IsLate since waits (OnEach a) most → IsLate since after (OnEach b) most }
-    ensures passes { (waits : ℕ → ℕ) (a : ℕ → ℕ → Bool) (passed now listed more : ℕ → Bool) (since most s : ℕ) → Passes since waits (OnEach a) (On passed) (On now) (On listed) (On more) s → IsLate since waits (OnEach a) most → IsCovered (OnEach a) (On passed) (On listed) most → IsCovered (OnEach a) (On now) (On more) most }
-    ensures all { (clock : ℕ) (a : ℕ → ℕ → Bool) (passed listed : ℕ → Bool) (most u : ℕ) → most ≤ clock → ((i : ℕ) (v : ℕ) → OnEach a i v → On passed i) → IsCovered (OnEach a) (On passed) (On listed) most → IsNeeded clock (OnEach a) u → On listed u ⊎ (most ≤ u) }
+    ensures shrinks { (clock later : ℕ) (waits after : ℕ → ℕ) (a b : ℕ → ℕ → Bool) (u : ℕ) →
+        Moves clock later waits after (OnEach a) (OnEach b) → IsNeeded later (OnEach b) u →
+        IsNeeded clock (OnEach a) u }
+    ensures kept { (puts : ℕ → Put) (a : ℕ → ℕ → Bool) (stamped : ℕ → Bool) (e : ℕ → ℕ → Bool)
+        (before now : ℕ → Bool) → ((u : ℕ) → On now u → On before u) →
+        Kept puts (OnEach a) (On stamped) (OnEach e) (On before) →
+        Kept puts (OnEach a) (On stamped) (OnEach e) (On now) }
+    ensures covered { (clock later : ℕ) (waits after : ℕ → ℕ) (a b : ℕ → ℕ → Bool)
+        (passed listed : ℕ → Bool) (most : ℕ) → Moves clock later waits after (OnEach a) (OnEach b)
+        → most ≤ clock → IsCovered (OnEach a) (On passed) (On listed) most →
+        IsCovered (OnEach b) (On passed) (On listed) most }
+    ensures early { (waits : ℕ → ℕ) (a : ℕ → ℕ → Bool) (since most : ℕ) →
+        ((i : ℕ) → waits i ≤ since) → IsLate since waits (OnEach a) most }
+    ensures late { (clock later : ℕ) (waits after : ℕ → ℕ) (a b : ℕ → ℕ → Bool) (since most : ℕ) →
+        Moves clock later waits after (OnEach a) (OnEach b) → most ≤ clock →
+        IsLate since waits (OnEach a) most → IsLate since after (OnEach b) most }
+    ensures passes { (waits : ℕ → ℕ) (a : ℕ → ℕ → Bool) (passed now listed more : ℕ → Bool)
+        (since most s : ℕ) → Passes since waits (OnEach a) (On passed) (On now) (On listed)
+        (On more) s → IsLate since waits (OnEach a) most →
+        IsCovered (OnEach a) (On passed) (On listed) most →
+        IsCovered (OnEach a) (On now) (On more) most }
+    ensures all { (clock : ℕ) (a : ℕ → ℕ → Bool) (passed listed : ℕ → Bool) (most u : ℕ) →
+        most ≤ clock → ((i : ℕ) (v : ℕ) → OnEach a i v → On passed i) →
+        IsCovered (OnEach a) (On passed) (On listed) most → IsNeeded clock (OnEach a) u →
+        On listed u ⊎ (most ≤ u) }
 {}
 
 /// Where a row shows what all stamped puts show, its cells stamped before a position that no stamp has reached show what all puts
 /// stamped before it show; and that stays, whatever is stamped later.
 pub fn front_laws()
-    ensures starts { (puts : ℕ → Put) (row stamped : ℕ → Bool) (a k u : ℕ) → ((p : ℕ) → On stamped p → (puts p).at < a) → ((p : ℕ) → On row p → On stamped p) → Shows puts (On row) (On stamped) k u → Front puts (On row) (On stamped) a k u }
-    ensures stays { (puts later : ℕ → Put) (row next stamped now : ℕ → Bool) (a k u : ℕ) → GoesOn puts later (On row) (On next) (On stamped) (On now) a → Front puts (On row) (On stamped) a k u → Front later (On next) (On now) a k u }
+    ensures starts { (puts : ℕ → Put) (row stamped : ℕ → Bool) (a k u : ℕ) →
+        ((p : ℕ) → On stamped p → (puts p).at < a) → ((p : ℕ) → On row p → On stamped p) →
+        Shows puts (On row) (On stamped) k u → Front puts (On row) (On stamped) a k u }
+    ensures stays { (puts later : ℕ → Put) (row next stamped now : ℕ → Bool) (a k u : ℕ) →
+        GoesOn puts later (On row) (On next) (On stamped) (On now) a →
+        Front puts (On row) (On stamped) a k u → Front later (On next) (On now) a k u }
 {}
 
 /// What a reader of a row knows at its end: it answers what a gap shows, and of the attempts that were announced before it began each
 /// is lost, or stamped and not after that gap.
 pub fn reader_laws()
-    ensures { (puts : ℕ → Put) (row gathered stamped before here early lost : ℕ → Bool) (k v : ℕ) (best : Option ℕ) → Reads puts (On row) (On gathered) (On stamped) (On before) (On here) (On early) (On lost) k v best → Knows puts (On stamped) (On early) (On lost) k v best }
+    ensures { (puts : ℕ → Put) (row gathered stamped before here early lost : ℕ → Bool) (k v : ℕ)
+        (best : Option ℕ) → Reads puts (On row) (On gathered) (On stamped) (On before) (On here)
+        (On early) (On lost) k v best → Knows puts (On stamped) (On early) (On lost) k v best }
 {}

@@ -1,5 +1,5 @@
 -- What an event adds to a record can be written there: all that it names is there.
-use Rattle.std.proofs.Common.{ℕ, suc, ◌≡◌, ◌+◌, ◌*◌, ◌<◌, ◌==◌, Bool, true, false, nat_lt, if◌then◌else◌, Option, Some, List, [], ◌∷◌, arith, refl, sym, ap, subst, length, length-append, slice_get}
+use Rattle.std.proofs.Common.{ℕ, suc, ◌≡◌, ◌+◌, ◌*◌, ◌<◌, ◌==◌, Bool, true, false, nat_lt, if◌then◌else◌, Option, Some, None, List, [], ◌∷◌, arith, refl, sym, ap, subst, length, length-append, slice_get}
 use Rattle.std.proofs.lemmas.Option.{slice_get_within}
 use Rattle.kw_words.specs.declared.pend.Pend.TheVariants as pend
 use Rattle.kw_words.specs.Pend.{pend_word}
@@ -7,7 +7,7 @@ use Rattle.kw_words.specs.Count.{count_of}
 use Rattle.kw_cells.specs.declared.cell.Cell as kw_cell
 use Rattle.kw_model.specs.declared.call.Call.{Call}
 use Rattle.kw_world.specs.declared.activity.Activity.{Activity}
-use Rattle.kw_world.specs.declared.activity.Activity.TheVariants.{Idle, Look, LookHelp, CellValue, PutAdd, Announce, Stamp}
+use Rattle.kw_world.specs.declared.activity.Activity.TheVariants.{Idle, Look, LookHelp, ListVal, RestVal, PutAdd, Announce, Stamp}
 use Rattle.kw_world.specs.declared.local.Local.{Local}
 use Rattle.kw_world.specs.declared.event.Event.{Event}
 use Rattle.kw_world.specs.declared.event.Choice.{Choice}
@@ -15,9 +15,8 @@ use Rattle.kw_world.specs.declared.event.Choice.TheVariants.{Begin, Go, Guess, S
 use Rattle.kw_world.specs.Sizes.{Sizes}
 use Rattle.kw_world.specs.PutTransitions.{has_room, given_of}
 use Rattle.kw_world.specs.WalkTransitions.{offered}
-use Rattle.kw_world.specs.Sane.{RisesBetween, IsKnown, CanBegin, CanBeginAt, copies_by}
+use Rattle.kw_world.specs.Sane.{IsKnown, CanBegin, CanBeginAt}
 use Rattle.kw_world.specs.Step.{transition_of, is_skipped}
-use Rattle.kw_world.proofs.Rooms.{length-rises}
 use Rattle.kw_core.specs.History.{History}
 use Rattle.kw_core.specs.declared.history.Logged.{Logged}
 use Rattle.kw_core.specs.declared.history.Change.{Change}
@@ -28,7 +27,12 @@ use Rattle.kw_core.specs.Appended.{appended}
 use Rattle.kw_reads.specs.Inv.{Inv}
 use Rattle.kw_core.specs.Run.{Run, Origins, change_of, found_by, beginning, helping, noted_by}
 use Rattle.kw_core.specs.declared.seat_log.SeatLog.{SeatLog}
-use Rattle.kw_reads.specs.Readers.{AreCopies}
+use Rattle.kw_lists.specs.Rows.{Row}
+use Rattle.kw_cells.proofs.InOrder.{place_in-within}
+use Rattle.kw_words.specs.Plain.{value_of_word}
+use Rattle.kw_world.specs.ReadTransitions.{cell_in_hand}
+use Rattle.kw_reads.specs.Readers.{AreCopies, ReadsList, Apart}
+use Rattle.kw_reads.proofs.ApartKeeps.{hand_fresh, gather_room}
 use Rattle.kw_core.specs.Stages.{IsTaking}
 use Rattle.kw_core.specs.Recording.{Recording, origin_in}
 use Rattle.kw_core.specs.Remarks.{remark_of, HasRoomFor}
@@ -103,9 +107,28 @@ as_many h q call [] (p ∷ ids) a = absurd a
 as_many h q call (c ∷ cells) [] a = absurd a
 as_many h q call (c ∷ cells) (p ∷ ids) a = ap suc (as_many h q call cells ids a.1)
 
+-- a reader loads the value of the cell in hand, which it gathers
+abbrev Gathering : Activity → Type 0
+Gathering ListVal = Unit {0}
+Gathering RestVal = Unit {0}
+Gathering _ = ⊥
+
+-- it takes cells
+gathering_takes : (a : Activity) → Gathering a → IsTaking a
+gathering_takes ListVal x = tt
+gathering_takes RestVal x = tt
+gathering_takes _ x = absurd x
+
+-- and fewer than there are cells are gathered: the one in hand is not
+gathering_room : (z : Sizes) (row : Row) (a : Activity) (l : Local) → Gathering a → ReadsList z.cells row a l → Apart z row a l → l.place < z.cells → length l.gathered < z.cells
+gathering_room z row ListVal l x k m w = gather_room z row ListVal l None m w (hand_fresh z row l k m) (m.hand tt)
+gathering_room z row RestVal l x k m w = gather_room z row RestVal l None m w (m.fresh tt) (m.hand tt)
+gathering_room z row _ l x k m w = absurd x
+
 -- only the load of a value gathers a cell
-room_for : (z : Sizes) (a : Activity) (choice : Choice) (l : Local) (found : ℕ) (o : Origins) (h : History) (g : SeatLog) → (a ≡ CellValue → length g.ids < z.cells) → HasRoomFor z.cells (remark_of z a choice l found o h) g
-room_for z CellValue choice l found o h g f = f refl
+room_for : (z : Sizes) (a : Activity) (choice : Choice) (l : Local) (found : ℕ) (o : Origins) (h : History) (g : SeatLog) → (Gathering a → (length g.ids < z.cells) × (length l.gathered ≡ length g.ids)) → HasRoomFor z.cells (remark_of z a choice l found o h) g
+room_for z ListVal choice l found o h g f = let x = f tt in (x.0, omega (arith, place_in-within (cell_in_hand (value_of_word found) l) l.gathered, x.1))
+room_for z RestVal choice l found o h g f = let x = f tt in (x.0, omega (arith, place_in-within (cell_in_hand (value_of_word found) l) l.gathered, x.1))
 room_for z Idle (Begin call) l found o h g f = tt
 room_for z Idle Go l found o h g f = tt
 room_for z Idle (Guess r) l found o h g f = tt
@@ -148,13 +171,12 @@ can_settle z k r e l i inv begins knows moves = record {
     may : MayNote r.history at (change_of z l.activity e.seat (offered r.world.rows e.choice) l (found_by z r.world e l) (r.seats e.seat) r.origin)
     may = may_note z r (noted_by z r e l) e.seat (offered r.world.rows e.choice) l l.activity _ (happens z r e l inv.shape.sane (inv.shape.kinds e.seat l knows).reached begins knows moves) inv
 
-    taken : l.activity ≡ CellValue → length (log_of k e.seat).ids < z.cells
+    taken : Gathering l.activity → (length (log_of k e.seat).ids < z.cells) × (length l.gathered ≡ length (log_of k e.seat).ids)
     taken is =
-        let g = inv.readers.gathers e.seat l knows in
-        let copies = as_many r.history l.row l.call l.gathered (r.seats e.seat).ids (g.taking (subst IsTaking (sym is) tt)) in
+        let copies = as_many r.history l.row l.call l.gathered (r.seats e.seat).ids ((inv.readers.gathers e.seat l knows).taking (gathering_takes l.activity is)) in
         let same = ap (λ (x : SeatLog). length x.ids) (i.logs e.seat (slice_get_within r.world.locals e.seat l knows)) in
-        let rises = length-rises 0 l.place l.gathered (subst (λ (n : ℕ). RisesBetween 0 n l.gathered) (ap (λ (a : Activity). copies_by z a l) is) known.room.gathered) in
-        omega (arith, copies, same, rises, known.ranges.place)
+        let room = gathering_room z _ l.activity l is (inv.readers.walks e.seat l knows) (inv.readers.apart e.seat l knows (gathering_takes l.activity is)) known.ranges.place in
+        (omega (arith, copies, same, room), omega (arith, copies, same))
 
 -- a call that may begin does so whether or not the choice is offered
 pub can_offer : (rows : ℕ) (choice : Choice) (l : Local) → CanBegin choice l → CanBegin (offered rows choice) l

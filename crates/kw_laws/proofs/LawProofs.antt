@@ -1,5 +1,5 @@
 -- The laws, from what every event keeps.
-use Rattle.std.proofs.Common.{ℕ, zero, suc, ◌≡◌, ◌<◌, ◌≤◌, true, Option, Some, None, List, [], ◌∷◌, get_or, arith, refl, sym, ◌∙◌, subst, slice_get, length}
+use Rattle.std.proofs.Common.{ℕ, zero, suc, ◌≡◌, ◌+◌, ◌<◌, ◌≤◌, true, false, Option, Some, None, List, [], ◌∷◌, get_or, arith, refl, sym, ◌∙◌, subst, slice_get, length}
 use Rattle.std.specs.Prelude.{Contains}
 use Rattle.kw_words.specs.declared.layout.Name.TheVariants as name
 use Rattle.kw_words.specs.declared.pend.Pend.{Pend}
@@ -8,7 +8,8 @@ use Rattle.kw_words.specs.Scan.{scan_of}
 use Rattle.kw_words.proofs.ScanWords.{scan_of-Waiting}
 use Rattle.kw_cells.specs.declared.cell.Cell as kw_cell
 use Rattle.kw_model.specs.Map.{RisesFrom}
-use Rattle.kw_world.specs.declared.activity.Activity.TheVariants.{ScanSettle}
+use Rattle.kw_world.specs.declared.activity.Activity.{Activity}
+use Rattle.kw_world.specs.declared.activity.Activity.TheVariants.{InsFrom, InsKey, InsVer, InsSet, Insert, ScanSettle}
 use Rattle.kw_world.specs.declared.local.Local.{Local}
 use Rattle.kw_world.specs.declared.opening.Opening.{Opening}
 use Rattle.kw_world.specs.declared.event.Event.{Event}
@@ -19,9 +20,22 @@ use Rattle.kw_world.specs.Step.{word}
 use Rattle.kw_core.specs.History.{History}
 use Rattle.kw_core.specs.Events.{is_valid}
 use Rattle.kw_core.specs.Run.{Run, history}
+use Rattle.kw_core.specs.Words.{least_in}
+use Rattle.kw_rows.specs.Ledger.{IsFresh}
+use Rattle.kw_rows.proofs.Named.{above_least, held_by}
+use Rattle.kw_shape.specs.RowsIn.{rows_in}
 use Rattle.kw_shape.specs.Shape.{Walks}
-use Rattle.kw_core.specs.Stages.{IsKeeping, IsWaiting}
-use Rattle.kw_reads.specs.Readers.{IsDue, IsCopyOf, AreCopies}
+use Rattle.kw_shape.proofs.RowsStay.{fresh_linked, holds_wanted, next_known}
+use Rattle.kw_core.specs.Stages.{IsAtRow, IsAtListed, IsKeeping, IsWaiting, IsInserting, IsUnlisted, IsMeeting}
+use Rattle.kw_lists.specs.Rows.{Row, IsBehind, IsSound}
+use Rattle.kw_lists.specs.Walks.{IsWalking}
+use Rattle.kw_lists.proofs.Putting.{put_lost}
+use Rattle.kw_lists.proofs.Inserting.{at_next}
+use Rattle.kw_lists.proofs.Walking.{walk_goes_on, walked_most, walked_fewer}
+use Rattle.kw_puts.specs.Lists.{list_in, Inserts, WalksList}
+use Rattle.kw_puts.proofs.ListWords.{link_is}
+use Rattle.kw_reads.specs.Readers.{IsDue, ReadsList, IsCopyOf, AreCopies}
+use Rattle.kw_reads.proofs.WalksKeep.{has_met}
 use Rattle.kw_reads.specs.Replies.{RisesBelow}
 use Rattle.kw_reads.specs.Inv.{Inv}
 use Rattle.kw_laws.specs.Unfrozen.{HasCellOfOwn, IsUnfrozen}
@@ -69,17 +83,52 @@ cell_or_frozen own (Some (Stamped cell version)) h = h
 cell_or_frozen own (Some Frozen) h = absurd h
 cell_or_frozen own None h = h
 
+-- a put that has met a cell stands at a link before it
+meets_behind : (z : Sizes) (row : Row) (a : Activity) (l : Local) → IsMeeting a → WalksList z.cells row a l → IsBehind row l.link l.place
+meets_behind z row InsKey l m w = w.0
+meets_behind z row InsVer l m w = w.0
+meets_behind z row _ l m w = absurd m
+
+-- a put whose own cell is not listed has met fewer cells than there are
+walked_less : (z : Sizes) (row : Row) (l : Local) → row.listed l.cell ≡ false → l.cell < z.cells → IsWalking z.cells row l.link l.walked → l.walked < z.cells
+walked_less z row l u o w = walked_fewer z.cells row l.link l.walked l.cell o u w
+
+-- and has lost fewer exchanges
+lost_less : (z : Sizes) (row : Row) (a : Activity) (l : Local) → IsInserting a → l.cell < z.cells → Inserts z.cells row a l → l.lost < z.cells
+lost_less z row InsFrom l m o i = put_lost z.cells row l.cell l.lost l.link o i
+lost_less z row InsKey l m o i = put_lost z.cells row l.cell l.lost l.link o i.0.from
+lost_less z row InsVer l m o i = put_lost z.cells row l.cell l.lost l.link o i.0.from
+lost_less z row InsSet l m o i = put_lost z.cells row l.cell l.lost l.link o i.0.from
+lost_less z row Insert l m o i = put_lost z.cells row l.cell l.lost l.link o i.met.from
+lost_less z row _ l m o i = absurd m
+
+-- a reader that has met a cell stands at a link before it
+reader_behind : (z : Sizes) (row : Row) (a : Activity) (l : Local) → IsAtListed a → ReadsList z.cells row a l → IsBehind row l.link l.place
+reader_behind z row a l m w = (has_met z.cells row a l m w).behind
+
+-- a reader at a link that leads to a cell has met fewer cells than there are
+reader_less : (z : Sizes) (row : Row) (l : Local) (c : ℕ) → IsSound z.cells row → row.link l.link ≡ Some c → IsWalking z.cells row l.link l.walked → l.walked < z.cells
+reader_less z row l c s e w =
+    let next = at_next row l.link (row.link l.link) c (s.list l.link w.on) e in
+    omega (arith, walked_most z.cells row (Some c) (l.walked + 1) (walk_goes_on z.cells row l.link l.walked c (s.below c next.listed) next.listed next.behind w))
+
 -- the laws of a run in which all of it holds
 laws_from : (z : Sizes) (r : Run) → Inv z r → IsUnfrozen z r.world → KeepsLaws z r
 laws_from z r i u = record {
   sane = i.shape.sane;
-  links = λ q n. i.shape.chain.rises q n;
+  rows = i.shape.rows;
+  beyond = i.shape.beyond;
+  still = i.shape.still;
+  passes = i.shape.passes;
+  numbers = i.shape.numbers;
+  links = λ q n. i.shape.rows.closed.rises q n;
   walks = i.shape.walks;
-  climbs = λ t l g a. let x = subst (λ q. Walks r.world.rows (word z r.world) q l) a (i.shape.walks t l g) in omega (arith, x.lower tt, i.shape.chain.rises l.row l.candidate x.on.0 x.on.2);
+  after = λ t l g y. next_known z r i.shape t l ((i.shape.walks t l g).at y);
+  climbs = λ t l g a. let x = subst (λ q. Walks (word z r.world) r.ledger.rows t q l) a (i.shape.walks t l g) in omega (arith, x.lower tt, above l.row (least_in (word z r.world) l.candidate) t x.on.0 x.on.3);
   climbs_on = λ t l g y n e.
       let x = i.shape.walks t l g in
       let at = x.at y in
-      omega (arith, x.lower (past l.activity y), at.upper n e, i.shape.chain.rises l.row n at.linked (sym at.next ∙ e));
+      omega (arith, x.lower (past l.activity y), above l.row l.upper t at.fresh (at.next n e).ends);
   pairs = λ t l g s c. let x = (i.replies.pairs t l g).covers s c in rising_from 0 (first_key l.call) l.pairs (omega arith) (rising (first_key l.call) l.want l.pairs x.rises);
   below = λ t l g s c. let x = i.replies.pairs t l g in record { rises = (x.covers s c).rises; from = x.from s c; upto = x.upto s c };
   covers = λ t l g s c. let d = i.positions.draws t l g in let x = covering_draws l.activity c in record { drawn = d.drawn s x; drawn_first = d.drawn_first s x; covers = (i.replies.pairs t l g).covers s c };
@@ -89,13 +138,22 @@ laws_from z r i u = record {
   announces = λ t l g a. idle_or_frozen _ (u.announces t l g a);
   stamps = λ t l g a. cell_or_frozen l.cell _ (u.stamps t l g a);
   settles = settles;
+  meets = λ t l g m. meets_behind z _ l.activity l m (i.lists.walks t l g);
+  walked = λ t l g a. walked_less z _ l ((i.lists.own t l g).unlisted (subst IsUnlisted (sym a) tt)) (i.shape.sane.locals t l g).ranges.cell (subst (λ q. WalksList z.cells (list_in (word z r.world) r.listed l.row) q l) a (i.lists.walks t l g));
+  lost = λ t l g a. lost_less z _ l.activity l a (i.shape.sane.locals t l g).ranges.cell (i.lists.inserts t l g);
+  reader_meets = λ t l g m. reader_behind z _ l.activity l m (i.readers.walks t l g);
+  reads_on = λ t l g a c e. reader_less z _ l c (i.lists.leads l.row (fresh_linked r.ledger.rows t l.row ((i.shape.walks t l g).at (subst IsAtRow (sym a) tt)).fresh)) (link_is (word z r.world) l.row l.link ∙ e) (subst (λ q. ReadsList z.cells (list_in (word z r.world) r.listed l.row) q l) a (i.readers.walks t l g));
   stamped = λ p h. let a = i.history.laws.attempted p (in_range r.history p h) in record { announced = a.load h; load = a.at h; found = i.history.laws.loaded p h };
   seen = seen;
-  live = λ t l g y. ((i.shape.walks t l g).at y).linked;
-  holds = λ t l g y. let x = (i.shape.walks t l g).at y in record { from = x.from; below = λ n e. let f : l.next ≡ Some n = x.next ∙ e in subst (λ u. l.want < u) (x.upper n f) (x.below n f) };
+  live = λ t l g y. ((i.shape.walks t l g).at y).fresh;
+  holds = λ t l g y. holds_wanted (word z r.world) r.ledger.rows t l ((i.shape.walks t l g).at y);
   history = i.history.laws;
 }
   where
+    -- the end of a row's range is above its beginning
+    above : (q u t : ℕ) → IsFresh r.ledger.rows t q → (r.ledger.rows.fates q).upper ≡ Some u → least_in (word z r.world) q < u
+    above q u t f e = above_least (rows_in (word z r.world)) r.ledger.rows i.shape.rows.closed q u (held_by r.ledger.rows t q f) e
+
     settles : (t : ℕ) (l : Local) → slice_get r.world.locals t ≡ Some l → l.activity ≡ ScanSettle → IsWaitingOrDrawn l.waiting (scan_of (word z r.world (name.Scan t)))
     settles t l g a =
         let w = (i.shape.sane.locals t l g).ranges.waiting in

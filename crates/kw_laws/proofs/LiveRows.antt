@@ -1,5 +1,5 @@
--- The row of a seat is met from Head now, and so not before anything that the seat did.
-use Rattle.std.proofs.Common.{ℕ, ◌≡◌, ◌≤◌, true, List, arith, sym, subst, length}
+-- The row of a seat is met from Head now, as long as no row is rebalanced, and so not before anything that the seat did.
+use Rattle.std.proofs.Common.{ℕ, ◌≡◌, ◌≤◌, true, Some, List, arith, sym, subst, length, slice_get}
 use Rattle.std.proofs.lemmas.List.{take_all}
 use Rattle.kw_world.specs.declared.event.Event.{Event}
 use Rattle.kw_world.specs.declared.opening.Opening.{Opening}
@@ -7,7 +7,10 @@ use Rattle.kw_world.specs.Opening.{IsOpening}
 use Rattle.kw_world.specs.Sizes.{Sizes}
 use Rattle.kw_world.specs.Step.{word}
 use Rattle.kw_core.specs.Events.{world, is_valid, event}
-use Rattle.kw_shape.proofs.FollowRows.{linked_met}
+use Rattle.kw_core.specs.Run.{history}
+use Rattle.kw_core.proofs.Runs.{history-world}
+use Rattle.kw_shape.proofs.FollowRows.{live_met}
+use Rattle.kw_shape.proofs.RowsStay.{fresh_linked, still_live}
 use Rattle.kw_shape.proofs.ShapeHolds.{shape_holds}
 use Rattle.kw_shape.specs.MetRows.{IsMet}
 use Rattle.kw_laws.specs.Live.{WasMet, AreLive}
@@ -26,4 +29,10 @@ lives z o i es v t l g a = record {
 }
   where
     met : IsMet (word z (world z o es)) l.row
-    met = let s = shape_holds z o es i v in linked_met (world z o es).rows (word z (world z o es)) s.chain l.row ((s.walks t l g).at a).linked
+    met =
+        let s = shape_holds z o es i v in
+        let r = history z o es in
+        let e = history-world z o es in
+        let at = (s.walks t l (subst (λ w. slice_get w.locals t ≡ Some l) (sym e) g)).at a in
+        let live = still_live (word z r.world) r.ledger.rows l.row (s.still l.row) (fresh_linked r.ledger.rows t l.row at.fresh) in
+        subst (λ w. IsMet (word z w) l.row) e (live_met (word z r.world) r.ledger.rows s.rows.chain l.row live)

@@ -1,7 +1,8 @@
 -- That the record says of draws and answers what the events say, kept along a list: beside the mirror, of each seat whose scan has drawn
 -- or settled where it did, and of each busy seat where it read the cells that it has gathered.
 use Rattle.std.proofs.Common.{ℕ, ◌≡◌, ◌⊎◌, inl, inr, ◌<◌, ◌==◌, Bool, true, false, Option, Some, None, List, [], ◌∷◌, ◌++◌, arith, refl, sym, ◌∙◌, ap, subst, length, slice_get, if◌then◌else◌, unwrap_or, Contains}
-use Rattle.std.proofs.lemmas.List.Elements.{Contains-append_cases}
+use Rattle.std.specs.Prelude.{insert}
+use Rattle.kw_core.proofs.Marks.{contains_back}
 use Rattle.std.proofs.lemmas.Option.{same_Some}
 use Rattle.kw_words.specs.declared.kind.Kind.TheVariants as kind
 use Rattle.kw_words.specs.declared.layout.Name.TheVariants as name
@@ -15,7 +16,7 @@ use Rattle.kw_world.specs.declared.answer.Answer.{Answer}
 use Rattle.kw_model.specs.declared.call.Reply.TheVariants as reply
 use Rattle.kw_world.specs.declared.answer.Answer.TheVariants.{Done, Value, Absent, Pairs, NoRows, Spent, Stopped}
 use Rattle.kw_world.specs.declared.activity.Activity.{Activity}
-use Rattle.kw_world.specs.declared.activity.Activity.TheVariants.{Idle, ScanDraw, ScanSettle, Look, LookCount, Cell, CellKey, CellValue, PutAdd, Leave}
+use Rattle.kw_world.specs.declared.activity.Activity.TheVariants.{Idle, ScanDraw, ScanSettle, Look, ListFrom, ListKey, ListVal, RestKey, RestVal, PutAdd, Leave}
 use Rattle.kw_world.specs.declared.event.Choice.{Choice}
 use Rattle.kw_world.specs.declared.event.Choice.TheVariants.{Begin, Go, Guess, Stop}
 use Rattle.kw_world.specs.declared.event.Event.{Event}
@@ -33,8 +34,8 @@ use Rattle.kw_core.specs.declared.history.CallLog.{CallLog}
 use Rattle.kw_core.specs.declared.history.Drawn as history
 use Rattle.kw_core.specs.declared.seat_log.SeatLog.{SeatLog}
 use Rattle.kw_core.specs.History.{History, attempt, called}
-use Rattle.kw_core.specs.Run.{Run, Origins, seat_after, is_at_cell, log_gathered, id_at, id_of, answering, drawing}
-use Rattle.kw_core.specs.Stages.{IsBusy, IsUnderway, IsSettling, HasDrawn}
+use Rattle.kw_core.specs.Run.{Run, Origins, seat_after, is_at_cell, log_gathered, place_gathered, id_at, id_of, answering, drawing}
+use Rattle.kw_core.specs.Stages.{IsBusy, IsUnderway, IsTaking, IsSettling, HasDrawn, HasPlace}
 use Rattle.kw_core.proofs.Changes.{made}
 use Rattle.kw_core.proofs.Happens.{Happens, each_seat}
 use Rattle.kw_shape.specs.Shape.{IsKind, IsAnswerOf}
@@ -47,11 +48,11 @@ use Rattle.kw_reads.specs.Readers.{IsInHand}
 use Rattle.kw_reads.proofs.HistoryKeeps.{history_step}
 use Rattle.kw_reads.proofs.Relying.{goes_on_by}
 use Rattle.kw_laws.specs.Mirror.{Acts, operation}
-use Rattle.kw_laws.specs.MirrorReads.{HasSettled, HasRead, MirrorsReads, settling}
+use Rattle.kw_laws.specs.MirrorReads.{HasSettled, IsLoadingValue, HasRead, MirrorsReads, settling}
 use Rattle.kw_laws.proofs.Mirroring.{Kept, acts_here}
 use Rattle.kw_laws.proofs.Occurs.{occurs_within, acts_lasts}
 use Rattle.kw_laws.proofs.Over.{CallOver, goes_on, is_ended, IsCallNow, call_over, call_was}
-use Rattle.std.proofs.Common.{zero, suc, get_or}
+use Rattle.std.proofs.Common.{suc}
 use Rattle.kw_core.specs.Words.{Words}
 use Rattle.kw_core.specs.Step.{Step}
 use Rattle.kw_core.specs.Run.{start}
@@ -74,14 +75,6 @@ pub record KeptReads (z : Sizes) (o : Opening) (es : List Event) (r : Run) : Typ
   pub drawing : (t : ℕ) (l : Local) → slice_get r.world.locals t ≡ Some l → IsSettling l.activity → Acts z o es (r.seats t).drawn t ScanDraw (operation kind.Draw name.Clock (Add 1)) l.drawn
   pub settled : (t : ℕ) (l : Local) → slice_get r.world.locals t ≡ Some l → is_scan l.call ≡ true → HasDrawn l.activity → HasSettled z o es t (r.seats t).drawn l.version
   pub reads : (t : ℕ) (l : Local) → slice_get r.world.locals t ≡ Some l → IsBusy l.activity → (p : ℕ) → Contains (r.seats t).ids p → HasRead z o es r.history t (called r.history (r.seats t).call).first (length es) p
-
--- the only one of a list of one
-only : (q p : ℕ) → Contains (q ∷ []) p → q ≡ p
-only q p c = first c.0 c.1 c.2
-  where
-    first : (k : ℕ) → k < 1 → get_or (q ∷ []) k p ≡ p → q ≡ p
-    first zero o e = e
-    first (suc k) o e = absurd (omega (arith, o))
 
 -- What lasts.
 
@@ -106,6 +99,8 @@ read_lasts z o es e h h' og og' s first last till p w g t =
       after = t.after;
       before = omega (arith, t.before, w);
       found = t.found;
+      activity = t.activity;
+      loads = t.loads;
       acts = rw (same.row, same.cell) (acts_lasts z o es e t.at s _ _ _ t.acts);
       value = t.value ∙ sym same.value;
     }
@@ -142,32 +137,33 @@ left : (ids : List ℕ) (b : Bool) (x y : SeatLog) → x.ids ≡ ids → y.ids �
 left ids true x y p q = p
 left ids false x y p q = q
 
--- what an event leaves of them: none where a call begins or a row is looked at anew, all of them, or one more where the value of a cell is
--- loaded
+-- what an event leaves of them: none where a call begins or a row is looked at anew, all of them, or one more, at its place, where the
+-- value of a cell is loaded
 module _ (z : Sizes) (choice : Choice) (l : Local) (found : ℕ) (next : Activity) (g : SeatLog) (o : Origins) (h : History) where
   abbrev after : Activity → SeatLog
   after a = seat_after z a choice l found next g o h
 
   abbrev Ids : Activity → Type 0
-  Ids a = ((after a).ids ≡ []) ⊎ (IsBusy a × ((after a).ids ≡ g.ids)) ⊎ ((a ≡ CellValue) × ((after a).ids ≡ g.ids ++ unwrap_or (o l.row l.place) 0 ∷ []))
+  Ids a = ((after a).ids ≡ []) ⊎ (IsBusy a × ((after a).ids ≡ g.ids)) ⊎ IsLoadingValue a × ((after a).ids ≡ insert g.ids (place_gathered l found) (unwrap_or (o l.row l.place) 0))
 
   ids_after : (a : Activity) → is_skipped a choice ≡ false → Ids a
   ids_after Idle m = begun choice m
     where
-      begun : (c : Choice) → is_skipped Idle c ≡ false → ((seat_after z Idle c l found next g o h).ids ≡ []) ⊎ (⊥ × ((seat_after z Idle c l found next g o h).ids ≡ g.ids)) ⊎ ((Idle ≡ CellValue) × ((seat_after z Idle c l found next g o h).ids ≡ g.ids ++ unwrap_or (o l.row l.place) 0 ∷ []))
+      begun : (c : Choice) → is_skipped Idle c ≡ false → ((seat_after z Idle c l found next g o h).ids ≡ []) ⊎ (⊥ × ((seat_after z Idle c l found next g o h).ids ≡ g.ids)) ⊎ ⊥ × ((seat_after z Idle c l found next g o h).ids ≡ insert g.ids (place_gathered l found) (unwrap_or (o l.row l.place) 0))
       begun (Begin call) n = inl refl
       begun Go n = let x : true ≡ false = n in absurd (cc)
       begun (Guess q) n = let x : true ≡ false = n in absurd (cc)
       begun Stop n = let x : true ≡ false = n in absurd (cc)
   ids_after (Look i) m = looked (i == 0)
     where
-      looked : (b : Bool) → ((let k : SeatLog = if b then record g { looked = length h.log; ids = []; read = None } else g in k).ids ≡ []) ⊎ (Unit {0} × ((let k : SeatLog = if b then record g { looked = length h.log; ids = []; read = None } else g in k).ids ≡ g.ids)) ⊎ ((Look i ≡ CellValue) × ((let k : SeatLog = if b then record g { looked = length h.log; ids = []; read = None } else g in k).ids ≡ g.ids ++ unwrap_or (o l.row l.place) 0 ∷ []))
+      looked : (b : Bool) → ((let k : SeatLog = if b then record g { looked = length h.log; ids = []; read = None } else g in k).ids ≡ []) ⊎ (Unit {0} × ((let k : SeatLog = if b then record g { looked = length h.log; ids = []; read = None } else g in k).ids ≡ g.ids)) ⊎ ⊥ × ((let k : SeatLog = if b then record g { looked = length h.log; ids = []; read = None } else g in k).ids ≡ insert g.ids (place_gathered l found) (unwrap_or (o l.row l.place) 0))
       looked true = inl refl
       looked false = inr (inl (tt, refl))
-  ids_after LookCount m = inr (inl (tt, left g.ids (is_at_cell next) g (record g { read = Some l.row }) refl refl))
-  ids_after (Cell j) m = inr (inl (tt, left g.ids (is_at_cell next) g (record g { read = Some l.row }) refl refl))
-  ids_after CellKey m = inr (inl (tt, left g.ids (is_at_cell next) g (record g { read = Some l.row }) refl refl))
-  ids_after CellValue m = let k = log_gathered (o l.row l.place) g in inr (inr (refl, left k.ids (is_at_cell next) k (record k { read = Some l.row }) refl refl))
+  ids_after ListFrom m = inr (inl (tt, left g.ids (is_at_cell next) g (record g { read = Some l.row }) refl refl))
+  ids_after ListKey m = inr (inl (tt, left g.ids (is_at_cell next) g (record g { read = Some l.row }) refl refl))
+  ids_after ListVal m = inr (inr (tt, refl))
+  ids_after RestKey m = inr (inl (tt, left g.ids (is_at_cell next) g (record g { read = Some l.row }) refl refl))
+  ids_after RestVal m = let k = log_gathered (o l.row l.place) (place_gathered l found) g in inr (inr (tt, left k.ids (is_at_cell next) k (record k { read = Some l.row }) refl refl))
   ids_after PutAdd m = inr (inl (tt, left g.ids (has_room z (count_of found)) (record g { own = length h.attempts }) g refl refl))
   ids_after _ m = inr (inl (tt, refl))
 
@@ -189,6 +185,23 @@ pairs_of_scan (Some (Del key)) h = absurd h
 pairs_of_scan (Some (Get key)) h = absurd h
 pairs_of_scan (Some (Scan from upto)) h = refl
 pairs_of_scan None h = absurd h
+
+-- a reader that loads a value is in its call
+loading_calls : (a : Activity) → IsLoadingValue a → IsBusy a × IsUnderway a
+loading_calls ListVal x = (tt, tt)
+loading_calls RestVal x = (tt, tt)
+loading_calls _ x = absurd x
+
+-- and has a cell in hand
+loading_takes : (a : Activity) → IsLoadingValue a → IsTaking a
+loading_takes ListVal x = tt
+loading_takes RestVal x = tt
+loading_takes _ x = absurd x
+
+loading_place : (a : Activity) → IsLoadingValue a → HasPlace a
+loading_place ListVal x = tt
+loading_place RestVal x = tt
+loading_place _ x = absurd x
 
 -- One more event.
 
@@ -257,19 +270,26 @@ module _ (z : Sizes) (o : Opening) (es : List Event) (e : Event) (r r' : Run) (l
       (read_lasts z o es e r.history r'.history r.origin r'.origin e.seat _ _ _ p longer goes (n.reads e.seat l h.knows (subst IsBusy (sym h.activity) b) p c))
 
   -- the one that it makes now
-  read_now : (is : a ≡ CellValue) (p : ℕ) → unwrap_or (r.origin l.row l.place) 0 ≡ p → HasRead z o (es ++ e ∷ []) r'.history e.seat (called r'.history (r'.seats e.seat).call).first (length (es ++ e ∷ [])) p
+  read_now : (is : IsLoadingValue a) (p : ℕ) → unwrap_or (r.origin l.row l.place) 0 ≡ p → HasRead z o (es ++ e ∷ []) r'.history e.seat (called r'.history (r'.seats e.seat).call).first (length (es ++ e ∷ [])) p
   read_now is p q = subst (HasRead z o (es ++ e ∷ []) r'.history e.seat (called r'.history (r'.seats e.seat).call).first (length (es ++ e ∷ []))) (sym (ap (λ x. unwrap_or x 0) hand.origin) ∙ q) (record {
     within = omega (arith, place.within, goes.more_attempts);
     at = length r.history.log;
-    after = omega (arith, call_first z r r' e.seat (offered r.world.rows e.choice) l a l' h.arrow h (lower i) step (subst IsUnderway (sym is) tt), i.history.past.first (r.seats e.seat).call calling.within);
+    after = omega (arith, call_first z r r' e.seat (offered r.world.rows e.choice) l a l' h.arrow h (lower i) step (loading_calls a is).1, i.history.past.first (r.seats e.seat).call calling.within);
     before = omega (arith, k.mirrors.events, length-append es (e ∷ []));
     found = word z r.world (name.Value l.row l.place);
-    acts = rw (same.row, same.cell, place.row, place.cell) (acts_here z o es e r r' l l' a h k CellValue (operation kind.LoadValue (name.Value l.row l.place) Load) (word z r.world (name.Value l.row l.place)) is refl refl);
+    activity = a;
+    loads = is;
+    acts = rw (same.row, same.cell, place.row, place.cell) (acts_loading a is h);
     value = value_stands (lower i) l.row l.place hand.put hand.origin hand.stamped ∙ sym same.value;
   })
     where
-      hand : IsInHand r.history r.origin CellValue l
-      hand = (cells_before (subst (Happens z r r' e.seat (offered r.world.rows e.choice) l l') is h) i tt).hand tt
+      hand : IsInHand r.history r.origin a l
+      hand = (cells_before h i (loading_takes a is)).hand (loading_place a is)
+
+      acts_loading : (b : Activity) → IsLoadingValue b → Happens z r r' e.seat (offered r.world.rows e.choice) l l' b → Acts z o (es ++ e ∷ []) (length r.history.log) e.seat b (operation kind.LoadValue (name.Value l.row l.place) Load) (word z r.world (name.Value l.row l.place))
+      acts_loading ListVal x g = acts_here z o es e r r' l l' ListVal g k ListVal (operation kind.LoadValue (name.Value l.row l.place) Load) (word z r.world (name.Value l.row l.place)) refl refl refl
+      acts_loading RestVal x g = acts_here z o es e r r' l l' RestVal g k RestVal (operation kind.LoadValue (name.Value l.row l.place) Load) (word z r.world (name.Value l.row l.place)) refl refl refl
+      acts_loading _ x g = absurd x
 
       place : HasCell r.history l.row l.place hand.put
       place = i.puts.places.owner l.row l.place hand.put hand.origin
@@ -278,7 +298,7 @@ module _ (z : Sizes) (o : Opening) (es : List Event) (e : Event) (r r' : Run) (l
       same = goes.attempts hand.put place.within
 
       calling : Calling r.history e.seat l.activity l (r.seats e.seat)
-      calling = i.positions.calling e.seat l h.knows (subst IsBusy (sym (h.activity ∙ is)) tt)
+      calling = i.positions.calling e.seat l h.knows (subst IsBusy (sym h.activity) (loading_calls a is).0)
 
   reads_own : IsBusy l'.activity → (p : ℕ) → Contains (r'.seats e.seat).ids p → HasRead z o (es ++ e ∷ []) r'.history e.seat (called r'.history (r'.seats e.seat).call).first (length (es ++ e ∷ [])) p
   reads_own b p c = which (ids_after z (offered r.world.rows e.choice) l (found_at z (word z r.world) a e.seat (offered r.world.rows e.choice) l) l'.activity (r.seats e.seat) r.origin r.history a h.moves)
@@ -286,14 +306,14 @@ module _ (z : Sizes) (o : Opening) (es : List Event) (e : Event) (r r' : Run) (l
       has : Contains (seat_after z a (offered r.world.rows e.choice) l (found_at z (word z r.world) a e.seat (offered r.world.rows e.choice) l) l'.activity (r.seats e.seat) r.origin r.history).ids p
       has = subst (λ (g : SeatLog). Contains g.ids p) h.log c
 
-      cases : (is : a ≡ CellValue) → Contains (r.seats e.seat).ids p ⊎ Contains (unwrap_or (r.origin l.row l.place) 0 ∷ []) p → HasRead z o (es ++ e ∷ []) r'.history e.seat (called r'.history (r'.seats e.seat).call).first (length (es ++ e ∷ [])) p
-      cases is (inl x) = read_before (subst IsUnderway (sym is) tt) (subst IsBusy (sym is) tt) p x
-      cases is (inr x) = read_now is p (only _ p x)
+      cases : IsLoadingValue a → (unwrap_or (r.origin l.row l.place) 0 ≡ p) ⊎ Contains (r.seats e.seat).ids p → HasRead z o (es ++ e ∷ []) r'.history e.seat (called r'.history (r'.seats e.seat).call).first (length (es ++ e ∷ [])) p
+      cases is (inr x) = read_before (loading_calls a is).1 (loading_calls a is).0 p x
+      cases is (inl x) = read_now is p x
 
       which : Ids z (offered r.world.rows e.choice) l (found_at z (word z r.world) a e.seat (offered r.world.rows e.choice) l) l'.activity (r.seats e.seat) r.origin r.history a → HasRead z o (es ++ e ∷ []) r'.history e.seat (called r'.history (r'.seats e.seat).call).first (length (es ++ e ∷ [])) p
       which (inl f) = let x = subst (λ ids. Contains ids p) f has in absurd (omega (arith, x.1))
       which (inr (inl f)) = read_before (stays_busy z (word z r.world) e.seat (offered r.world.rows e.choice) l a l' h.arrow f.0 b) f.0 p (subst (λ ids. Contains ids p) f.1 has)
-      which (inr (inr f)) = cases f.0 (Contains-append_cases (r.seats e.seat).ids (unwrap_or (r.origin l.row l.place) 0 ∷ []) p (subst (λ ids. Contains ids p) f.1 has))
+      which (inr (inr f)) = cases f.0 (contains_back (r.seats e.seat).ids _ (unwrap_or (r.origin l.row l.place) 0) p (subst (λ ids. Contains ids p) f.1 has))
 
   pub reads_keep : (t : ℕ) (m : Local) → slice_get r'.world.locals t ≡ Some m → IsBusy m.activity → (p : ℕ) → Contains (r'.seats t).ids p → HasRead z o (es ++ e ∷ []) r'.history t (called r'.history (r'.seats t).call).first (length (es ++ e ∷ [])) p
   reads_keep = each_seat h (λ t m. IsBusy m.activity → (p : ℕ) → Contains (r'.seats t).ids p → HasRead z o (es ++ e ∷ []) r'.history t (called r'.history (r'.seats t).call).first (length (es ++ e ∷ [])) p) reads_own

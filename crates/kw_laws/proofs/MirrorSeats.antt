@@ -8,7 +8,7 @@ use Rattle.kw_words.specs.declared.layout.Name.TheVariants as name
 use Rattle.kw_model.specs.declared.call.Call.{Call}
 use Rattle.kw_world.specs.Answers.{reply_of}
 use Rattle.kw_world.specs.declared.activity.Activity.{Activity}
-use Rattle.kw_world.specs.declared.activity.Activity.TheVariants.{Idle, ScanClock, Start, Walk, Look, LookClock, LookCount, Cell, CellKey, CellValue, PutAdd, PutClock, Leave}
+use Rattle.kw_world.specs.declared.activity.Activity.TheVariants.{Idle, ScanClock, Start, Walk, Look, LookClock, ListFrom, ListKey, RestKey, RestVal, PutAdd, PutClock, Leave}
 use Rattle.kw_world.specs.declared.local.Local.{Local}
 use Rattle.kw_world.specs.declared.event.Choice.{Choice}
 use Rattle.kw_world.specs.declared.event.Choice.TheVariants.{Begin, Go, Guess, Stop}
@@ -25,15 +25,15 @@ use Rattle.kw_world.specs.Step.{word, step, kind_of}
 use Rattle.kw_core.specs.Events.{world, walked, event}
 use Rattle.kw_core.specs.History.{History, called}
 use Rattle.kw_core.specs.declared.history.CallLog.{CallLog}
-use Rattle.kw_core.specs.Run.{Run, Origins, seat_after, log_begun, log_gathered, is_at_cell}
+use Rattle.kw_core.specs.Run.{Run, Origins, seat_after, log_begun, log_gathered, place_gathered, is_at_cell}
 use Rattle.kw_core.specs.declared.seat_log.SeatLog.{SeatLog}
 use Rattle.kw_core.specs.Stages.{IsBusy, IsStamp, IsHelp, IsUnderway, IsStaying}
 use Rattle.kw_core.specs.Words.{Words}
 use Rattle.kw_laws.specs.Mirror.{Occurs, Acts, NoLoad, operation, is_begun, begins_by, begun_from, begun}
 use Rattle.kw_core.proofs.Happens.{Happens, each_seat, found_at, knows_next, knows_other}
 use Rattle.kw_core.proofs.Changes.{made}
-use Rattle.kw_core.proofs.Arrows.{Arrow, NextLook, looks, counts, NextCell, reads_cell, answers, ends_scan, scans_on}
-use Rattle.kw_core.proofs.Arrows.{begins, loads_to_help, loads_clock, meets_stamped, meets_neither, is_passed, helps, finds_stamped, finds_other, counts_cells, has_no_version, has_other_key, gathers, leaves}
+use Rattle.kw_core.proofs.Arrows.{Arrow, NextLook, looks, lists, NextRest, rests, answers, ends_scan, scans_on}
+use Rattle.kw_core.proofs.Arrows.{begins, loads_to_help, loads_clock, meets_stamped, meets_neither, is_passed, helps, finds_stamped, finds_other, list_ends, key_above, rest_passed, gathers_rest, leaves}
 use Rattle.kw_shape.proofs.NextCalls.{cell_call}
 use Rattle.kw_core.proofs.Steps.{none_some}
 use Rattle.kw_core.proofs.SeatLogs.{either, call_kept}
@@ -73,27 +73,27 @@ begun_offered _ rows choice = refl
 -- a seat counts the calls that it begins
 arrow_counts : (z : Sizes) (v : Words) (s : ℕ) (choice : Choice) (l : Local) (a : Activity) (k : Local) → Arrow z v s choice l a k → k.number ≡ l.number + (if is_begun a choice then 1 else 0)
 arrow_counts z v s choice l a k (begins call e b) = rw e refl
-arrow_counts z v s choice l a k (counts_cells next n) = let x = cell_call _ _ _ n in omega (arith, x.1)
-arrow_counts z v s choice l a k (has_no_version j next e n) = let x = cell_call _ _ _ n in omega (arith, x.1)
-arrow_counts z v s choice l a k (has_other_key next e n) = let x = cell_call _ _ _ n in omega (arith, x.1)
-arrow_counts z v s choice l a k (gathers next n) = let x = cell_call _ _ _ n in omega (arith, x.1)
+arrow_counts z v s choice l a k (list_ends next e n) = let x = cell_call _ _ n in omega (arith, x.1)
+arrow_counts z v s choice l a k (key_above next e n) = let x = cell_call _ _ n in omega (arith, x.1)
+arrow_counts z v s choice l a k (rest_passed next e n) = let x = cell_call _ _ n in omega (arith, x.1)
+arrow_counts z v s choice l a k (gathers_rest next n) = let x = cell_call _ _ n in omega (arith, x.1)
 arrow_counts z v s choice l a k _ = omega arith
 
 -- What an arrow leads to.
 
-next_look : {A : Type 0} (P : Activity → Type 0) (z : Sizes) (j : ℕ) (next : Activity) → NextLook z j next → (P (Look j) → A) → (P LookCount → A) → P next → A
+next_look : {A : Type 0} (P : Activity → Type 0) (z : Sizes) (j : ℕ) (next : Activity) → NextLook z j next → (P (Look j) → A) → (P ListFrom → A) → P next → A
 next_look P z j next (looks w) f g p = f p
-next_look P z j next (counts w) f g p = g p
+next_look P z j next (lists w) f g p = g p
 
-next_cell_busy : (l : Local) (j : ℕ) (k : Local) → NextCell l j k → IsBusy k.activity
-next_cell_busy l j k (reads_cell w) = tt
-next_cell_busy l j k (answers w e) = tt
-next_cell_busy l j k (ends_scan w e f) = tt
-next_cell_busy l j k (scans_on q w e f g) = tt
+next_rest_busy : (l k : Local) → NextRest l k → IsBusy k.activity
+next_rest_busy l k (rests m w) = tt
+next_rest_busy l k (answers w e) = tt
+next_rest_busy l k (ends_scan w e f) = tt
+next_rest_busy l k (scans_on q w e f g) = tt
 
 next_look_busy : (z : Sizes) (j : ℕ) (next : Activity) → NextLook z j next → IsBusy next
 next_look_busy z j next (looks w) = tt
-next_look_busy z j next (counts w) = tt
+next_look_busy z j next (lists w) = tt
 
 -- a seat that does not leave is in a call afterwards
 pub arrow_busy : (z : Sizes) (v : Words) (s : ℕ) (choice : Choice) (l : Local) (a : Activity) (k : Local) → Arrow z v s choice l a k → IsStaying a → IsBusy k.activity
@@ -104,27 +104,27 @@ arrow_busy z v s choice l a k (is_passed next e n) u = next_look_busy z _ next n
 arrow_busy z v s choice l a k (helps next e n) u = next_look_busy z _ next n
 arrow_busy z v s choice l a k (finds_stamped c version next e n) u = next_look_busy z _ next n
 arrow_busy z v s choice l a k (finds_other next e n) u = next_look_busy z _ next n
-arrow_busy z v s choice l a k (counts_cells next n) u = next_cell_busy _ _ _ n
-arrow_busy z v s choice l a k (has_no_version j next e n) u = next_cell_busy _ _ _ n
-arrow_busy z v s choice l a k (has_other_key next e n) u = next_cell_busy _ _ _ n
-arrow_busy z v s choice l a k (gathers next n) u = next_cell_busy _ _ _ n
+arrow_busy z v s choice l a k (list_ends next e n) u = next_rest_busy _ _ n
+arrow_busy z v s choice l a k (key_above next e n) u = next_rest_busy _ _ n
+arrow_busy z v s choice l a k (rest_passed next e n) u = next_rest_busy _ _ n
+arrow_busy z v s choice l a k (gathers_rest next n) u = next_rest_busy _ _ n
 arrow_busy z v s choice l a k _ u = tt
 
 look_stamp : {A : Type 0} (z : Sizes) (j : ℕ) (next : Activity) → NextLook z j next → IsStamp next ⊎ IsHelp next → A
 look_stamp z j next (looks w) (inl x) = absurd x
 look_stamp z j next (looks w) (inr x) = absurd x
-look_stamp z j next (counts w) (inl x) = absurd x
-look_stamp z j next (counts w) (inr x) = absurd x
+look_stamp z j next (lists w) (inl x) = absurd x
+look_stamp z j next (lists w) (inr x) = absurd x
 
-cell_stamp : {A : Type 0} (l : Local) (j : ℕ) (k : Local) → NextCell l j k → IsStamp k.activity ⊎ IsHelp k.activity → A
-cell_stamp l j k (reads_cell w) (inl x) = absurd x
-cell_stamp l j k (reads_cell w) (inr x) = absurd x
-cell_stamp l j k (answers w e) (inl x) = absurd x
-cell_stamp l j k (answers w e) (inr x) = absurd x
-cell_stamp l j k (ends_scan w e f) (inl x) = absurd x
-cell_stamp l j k (ends_scan w e f) (inr x) = absurd x
-cell_stamp l j k (scans_on q w e f g) (inl x) = absurd x
-cell_stamp l j k (scans_on q w e f g) (inr x) = absurd x
+rest_stamp : {A : Type 0} (l k : Local) → NextRest l k → IsStamp k.activity ⊎ IsHelp k.activity → A
+rest_stamp l k (rests m w) (inl x) = absurd x
+rest_stamp l k (rests m w) (inr x) = absurd x
+rest_stamp l k (answers w e) (inl x) = absurd x
+rest_stamp l k (answers w e) (inr x) = absurd x
+rest_stamp l k (ends_scan w e f) (inl x) = absurd x
+rest_stamp l k (ends_scan w e f) (inr x) = absurd x
+rest_stamp l k (scans_on q w e f g) (inl x) = absurd x
+rest_stamp l k (scans_on q w e f g) (inr x) = absurd x
 
 -- a seat that is to stamp has just loaded its version
 arrow_stamp : (z : Sizes) (v : Words) (s : ℕ) (choice : Choice) (l : Local) (a : Activity) (k : Local) → Arrow z v s choice l a k → IsStamp k.activity → (a ≡ PutClock) × (k.version ≡ v name.Clock)
@@ -135,10 +135,10 @@ arrow_stamp z v s choice l a k (is_passed next e n) u = look_stamp z _ next n (i
 arrow_stamp z v s choice l a k (helps next e n) u = look_stamp z _ next n (inl u)
 arrow_stamp z v s choice l a k (finds_stamped c version next e n) u = look_stamp z _ next n (inl u)
 arrow_stamp z v s choice l a k (finds_other next e n) u = look_stamp z _ next n (inl u)
-arrow_stamp z v s choice l a k (counts_cells next n) u = cell_stamp _ _ _ n (inl u)
-arrow_stamp z v s choice l a k (has_no_version j next e n) u = cell_stamp _ _ _ n (inl u)
-arrow_stamp z v s choice l a k (has_other_key next e n) u = cell_stamp _ _ _ n (inl u)
-arrow_stamp z v s choice l a k (gathers next n) u = cell_stamp _ _ _ n (inl u)
+arrow_stamp z v s choice l a k (list_ends next e n) u = rest_stamp _ _ n (inl u)
+arrow_stamp z v s choice l a k (key_above next e n) u = rest_stamp _ _ n (inl u)
+arrow_stamp z v s choice l a k (rest_passed next e n) u = rest_stamp _ _ n (inl u)
+arrow_stamp z v s choice l a k (gathers_rest next n) u = rest_stamp _ _ n (inl u)
 arrow_stamp z v s choice l a k _ u = absurd u
 
 -- so has a seat that is to help
@@ -150,10 +150,10 @@ arrow_help z v s choice l a k (is_passed next e n) u = look_stamp z _ next n (in
 arrow_help z v s choice l a k (helps next e n) u = look_stamp z _ next n (inr u)
 arrow_help z v s choice l a k (finds_stamped c version next e n) u = look_stamp z _ next n (inr u)
 arrow_help z v s choice l a k (finds_other next e n) u = look_stamp z _ next n (inr u)
-arrow_help z v s choice l a k (counts_cells next n) u = cell_stamp _ _ _ n (inr u)
-arrow_help z v s choice l a k (has_no_version j next e n) u = cell_stamp _ _ _ n (inr u)
-arrow_help z v s choice l a k (has_other_key next e n) u = cell_stamp _ _ _ n (inr u)
-arrow_help z v s choice l a k (gathers next n) u = cell_stamp _ _ _ n (inr u)
+arrow_help z v s choice l a k (list_ends next e n) u = rest_stamp _ _ n (inr u)
+arrow_help z v s choice l a k (key_above next e n) u = rest_stamp _ _ n (inr u)
+arrow_help z v s choice l a k (rest_passed next e n) u = rest_stamp _ _ n (inr u)
+arrow_help z v s choice l a k (gathers_rest next n) u = rest_stamp _ _ n (inr u)
 arrow_help z v s choice l a k _ u = absurd u
 
 -- Where a seat loaded the clock last.
@@ -186,10 +186,10 @@ loaded_over z s choice l found next g o h Walk = inl (refl, walks (is_stopped ch
     walks true e = cc
     walks false e = cc
 loaded_over z s choice l found next g o h (Look i) = inl (either (λ (q : SeatLog). q.loaded) (i == 0) (record g { looked = length h.log; ids = []; read = None }) g g.loaded refl refl, λ e. cc)
-loaded_over z s choice l found next g o h LookCount = inl (either (λ (q : SeatLog). q.loaded) (is_at_cell next) g (record g { read = Some l.row }) g.loaded refl refl, λ e. cc)
-loaded_over z s choice l found next g o h (Cell j) = inl (either (λ (q : SeatLog). q.loaded) (is_at_cell next) g (record g { read = Some l.row }) g.loaded refl refl, λ e. cc)
-loaded_over z s choice l found next g o h CellKey = inl (either (λ (q : SeatLog). q.loaded) (is_at_cell next) g (record g { read = Some l.row }) g.loaded refl refl, λ e. cc)
-loaded_over z s choice l found next g o h CellValue = let k = log_gathered (o l.row l.place) g in inl (either (λ (q : SeatLog). q.loaded) (is_at_cell next) k (record k { read = Some l.row }) g.loaded refl refl, λ e. cc)
+loaded_over z s choice l found next g o h ListFrom = inl (either (λ (q : SeatLog). q.loaded) (is_at_cell next) g (record g { read = Some l.row }) g.loaded refl refl, λ e. cc)
+loaded_over z s choice l found next g o h ListKey = inl (either (λ (q : SeatLog). q.loaded) (is_at_cell next) g (record g { read = Some l.row }) g.loaded refl refl, λ e. cc)
+loaded_over z s choice l found next g o h RestKey = inl (either (λ (q : SeatLog). q.loaded) (is_at_cell next) g (record g { read = Some l.row }) g.loaded refl refl, λ e. cc)
+loaded_over z s choice l found next g o h RestVal = let k = log_gathered (o l.row l.place) (place_gathered l found) g in inl (either (λ (q : SeatLog). q.loaded) (is_at_cell next) k (record k { read = Some l.row }) g.loaded refl refl, λ e. cc)
 loaded_over z s choice l found next g o h PutAdd = inl (either (λ (q : SeatLog). q.loaded) (has_room z (count_of found)) (record g { own = length h.attempts }) g g.loaded refl refl, λ e. cc)
 loaded_over z s choice l found next g o h a = inl (refl, λ e. cc)
 

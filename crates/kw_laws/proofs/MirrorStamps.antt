@@ -1,11 +1,12 @@
 -- No announcement and no stamp is left out of the record, over one more event.
-use Rattle.std.proofs.Common.{ℕ, ◌≡◌, ◌⊎◌, inl, inr, ◌<◌, Bool, true, false, Option, List, [], ◌∷◌, ◌++◌, arith, refl, sym, ◌∙◌, ap, subst, length}
+use Rattle.std.proofs.Common.{ℕ, ◌≡◌, ◌⊎◌, inl, inr, ◌<◌, Bool, true, false, Option, Some, List, [], ◌∷◌, ◌++◌, arith, refl, sym, ◌∙◌, ap, subst, length}
 use Rattle.kw_words.specs.declared.kind.Kind.{Kind}
 use Rattle.kw_words.specs.declared.layout.Name.TheVariants as name
 use Rattle.kw_words.specs.declared.pend.Pend.TheVariants as pend
 use Rattle.kw_words.specs.Pend.{pend_word}
 use Rattle.kw_world.specs.declared.activity.Activity.{Activity}
-use Rattle.kw_world.specs.declared.activity.Activity.TheVariants.{ScanSettle, Start, Walk, LookHelp, Announce, Stamp}
+use Rattle.kw_core.proofs.Frame.{no_link}
+use Rattle.kw_world.specs.declared.activity.Activity.TheVariants.{ScanSettle, Start, Walk, LookHelp, Announce, Stamp, Insert}
 use Rattle.kw_world.specs.declared.local.Local.{Local}
 use Rattle.kw_world.specs.declared.event.Choice.{Choice}
 use Rattle.kw_world.specs.declared.event.Choice.TheVariants.{Begin, Go, Guess, Stop}
@@ -66,6 +67,7 @@ stamp_line z v s choice l Walk q t c w n x f = absurd (walks (is_stopped choice 
     walks : (b : Bool) → (walk_transition b s l).operation.action ≡ Exchange (pend_word (pend.Pending c)) w → ⊥
     walks true y = cc
     walks false y = cc
+stamp_line z v s choice l Insert q t c w n x f = no_link l.row l.link (name.Pend q t) refl (ap Some n)
 stamp_line z v s choice l a q t c w n x f = absurd (cc)
 
 -- only a put that announces its cell exchanges an idle entry
@@ -87,6 +89,7 @@ announce_line z v s choice l Walk q t w n x f = absurd (walks (is_stopped choice
     walks : (b : Bool) → (walk_transition b s l).operation.action ≡ Exchange (pend_word pend.Idle) w → ⊥
     walks true y = cc
     walks false y = cc
+announce_line z v s choice l Insert q t w n x f = no_link l.row l.link (name.Pend q t) refl (ap Some n)
 announce_line z v s choice l a q t w n x f = absurd (cc)
 
 -- One more event.

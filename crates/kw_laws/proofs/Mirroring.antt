@@ -36,7 +36,7 @@ use Rattle.kw_laws.specs.Mirror.{Occurs, Acts, IsLogged, NoLoad, Mirrors, operat
 use Rattle.kw_core.proofs.NotedLaws.{called_set_same}
 use Rattle.kw_core.proofs.Happens.{Happens, found_at}
 use Rattle.kw_laws.proofs.Occurs.{occurs_now, logged_lasts, get_was}
-use Rattle.kw_core.proofs.Ends.{ends_leaving}
+use Rattle.kw_world.proofs.GoingOn.{ends_leaving}
 
 -- the record mirrors the events; a seat's number counts the calls that it began; a call that runs is its seat's present one; no seat
 -- has loaded the clock since it is said to; and a seat that is to stamp, or to help, loaded there the version that it has in hand

@@ -10,7 +10,7 @@ use Rattle.kw_words.specs.declared.pend.Pend.TheVariants as pend
 use Rattle.kw_words.specs.Pend.{pend_word}
 use Rattle.kw_words.specs.Count.{count_of}
 use Rattle.kw_world.specs.declared.activity.Activity.{Activity}
-use Rattle.kw_world.specs.declared.activity.Activity.TheVariants.{Idle, Look, LookHelp, CellValue, PutAdd, Announce, Stamp}
+use Rattle.kw_world.specs.declared.activity.Activity.TheVariants.{Idle, Look, LookHelp, ListVal, RestVal, PutAdd, Announce, Stamp}
 use Rattle.kw_world.specs.declared.local.Local.{Local}
 use Rattle.kw_world.specs.declared.event.Event.{Event}
 use Rattle.kw_world.specs.declared.event.Choice.{Choice}
@@ -60,7 +60,8 @@ remarked_after z _ choice l found next g o h = refl
 
 -- the log depends on the origin of the cell that is gathered alone
 seat_after_same : (z : Sizes) (a : Activity) (choice : Choice) (l : Local) (found : ℕ) (next : Activity) (g : SeatLog) (o p : Origins) (h : History) → o l.row l.place ≡ p l.row l.place → seat_after z a choice l found next g o h ≡ seat_after z a choice l found next g p h
-seat_after_same z CellValue choice l found next g o p h e = rw e refl
+seat_after_same z ListVal choice l found next g o p h e = rw e refl
+seat_after_same z RestVal choice l found next g o p h e = rw e refl
 seat_after_same z _ choice l found next g o p h e = refl
 
 -- The change.

@@ -1,16 +1,18 @@
 -- The laws over all valid lists of events.
-use Rattle.std.specs.Prelude.{ℕ, ◌≡◌, ◌+◌, ◌<◌, ◌≤◌, true, Option, Some, None, List, [], Contains, slice_get}
+use Rattle.std.specs.Prelude.{ℕ, ◌≡◌, ◌+◌, ◌<◌, ◌≤◌, true, Option, Some, None, List, [], Contains, length, slice_get}
 use Rattle.kw_words.specs.declared.layout.Name.TheVariants as name
 use Rattle.kw_words.specs.declared.pend.Pend.{Pend}
 use Rattle.kw_words.specs.declared.pend.Pend.TheVariants.{Idle, Pending, Stamped, Frozen}
 use Rattle.kw_words.specs.declared.scan.ScanWord.{ScanWord}
 use Rattle.kw_words.specs.declared.scan.ScanWord.TheVariants.{Quiet, Waiting, Drawn}
 use Rattle.kw_words.specs.Pend.{pend_of}
+use Rattle.kw_words.specs.Plain.{cell_of_link_word}
 use Rattle.kw_words.specs.Scan.{scan_of}
 use Rattle.kw_cells.specs.declared.cell.Cell as kw_cell
 use Rattle.kw_model.specs.Map.{IsRising}
-use Rattle.kw_world.specs.declared.activity.Activity.TheVariants.{WalkMin, Announce, Stamp, ScanSettle, ClearScan}
+use Rattle.kw_world.specs.declared.activity.Activity.TheVariants.{WalkMin, ListFrom, Announce, Stamp, InsFrom, ScanSettle, ClearScan}
 use Rattle.kw_world.specs.declared.local.Local.{Local}
+use Rattle.kw_world.specs.ListTransitions.{link_name}
 use Rattle.kw_world.specs.Sizes.{Sizes}
 use Rattle.kw_world.specs.Calls.{first_key, last_key, is_scan}
 use Rattle.kw_world.specs.Sane.{IsSane}
@@ -18,9 +20,15 @@ use Rattle.kw_world.specs.Step.{word}
 use Rattle.kw_core.specs.History.{History, LoadClock, attempt, called, Stands}
 use Rattle.kw_core.specs.HistoryLaws.{HistoryLaws, IsPut}
 use Rattle.kw_core.specs.Run.{Run}
-use Rattle.kw_core.specs.Stages.{IsAtRow, IsCovering, IsEarly, IsKeeping}
+use Rattle.kw_core.specs.Stages.{IsAtRow, IsCovering, IsEarly, IsKeeping, IsAtListed, IsInserting, IsMeeting}
+use Rattle.kw_lists.specs.Rows.{IsBehind}
+use Rattle.kw_puts.specs.Lists.{list_in}
 use Rattle.kw_core.specs.Words.{next_in, least_in}
-use Rattle.kw_shape.specs.Shape.{IsLinked, HoldsKey, Walks}
+use Rattle.kw_rows.specs.Ledger.{Free, IsFresh, IsHeld}
+use Rattle.kw_rows.specs.Structure.{Structure}
+use Rattle.kw_shape.specs.Passes.{Numbers, Passes}
+use Rattle.kw_shape.specs.RowsIn.{rows_in}
+use Rattle.kw_shape.specs.Shape.{HoldsKey, IsStill, Walks}
 use Rattle.kw_reads.specs.Readers.{IsDue, IsCopyOf}
 use Rattle.kw_reads.specs.Replies.{RisesBelow, Covers}
 use Rattle.kw_world.specs.declared.answer.Answer.TheVariants.{Pairs}
@@ -81,11 +89,22 @@ pub record IsDrawnCover (r : Run) (t : ℕ) (l : Local) (bound : ℕ) (pairs : L
 pub record KeepsLaws (z : Sizes) (r : Run) : Type 0 where
   -- every word is one that may stand under its name, and all that a seat knows is in range
   pub sane : IsSane z r.world
-  -- a row that is met along a link has a greater minimum than the row whose link it was
-  pub links : (q n : ℕ) → IsLinked r.world.rows (word z r.world) q → next_in (word z r.world) q ≡ Some n → least_in (word z r.world) q < least_in (word z r.world) n
-  -- each seat is where its call has it: on its walk at a row of the list whose minimum it knows, and at the row of its key with the
-  -- row after it
-  pub walks : (t : ℕ) (l : Local) → slice_get r.world.locals t ≡ Some l → Walks r.world.rows (word z r.world) l.activity l
+  -- the rows of the list, and those that seats may still name, go with the words: the list rises from 0, links of such rows lead to such
+  -- rows, and states and marks say what has become of a row. A row that the table does not have is free
+  pub rows : Structure (rows_in (word z r.world)) r.ledger.rows (length r.history.log)
+  pub beyond : (q : ℕ) → r.world.rows ≤ q → (r.ledger.rows.fates q).status ≡ Free
+  -- as long as no row is rebalanced, none is unlinked: a row is in the list and normal, or free
+  pub still : (q : ℕ) → IsStill (word z r.world) r.ledger.rows q
+  -- a seat is in a pass as long as its word says so, of an epoch that is not above the present one; numbers are drawn in order
+  pub passes : (t : ℕ) (l : Local) → slice_get r.world.locals t ≡ Some l → Passes (word z r.world) r.ledger.rows t l.activity l
+  pub numbers : Numbers (word z r.world) r.ledger.rows
+  -- a row that is met along the link of one that a seat may name has a greater minimum than that one
+  pub links : (q n : ℕ) → IsHeld r.ledger.rows q → next_in (word z r.world) q ≡ Some n → least_in (word z r.world) q < least_in (word z r.world) n
+  -- each seat is where its call has it: on its walk at a row that is in the list, or was so in its pass, whose minimum it knows, and at
+  -- the row of its key with the row after it, which begins where the row's range ends
+  pub walks : (t : ℕ) (l : Local) → slice_get r.world.locals t ≡ Some l → Walks (word z r.world) r.ledger.rows t l.activity l
+  -- as long as no row is rebalanced, that is the row to which the link of its row leads
+  pub after : (t : ℕ) (l : Local) → slice_get r.world.locals t ≡ Some l → IsAtRow l.activity → l.next ≡ next_in (word z r.world) l.row
   -- a walk goes up: the row after the one that it is at has a greater minimum than the seat knows of its own, and so has the row
   -- after that of its key
   pub climbs : (t : ℕ) (l : Local) → slice_get r.world.locals t ≡ Some l → l.activity ≡ WalkMin → l.lower < least_in (word z r.world) l.candidate
@@ -109,12 +128,22 @@ pub record KeepsLaws (z : Sizes) (r : Run) : Type 0 where
   pub stamps : (t : ℕ) (l : Local) → slice_get r.world.locals t ≡ Some l → l.activity ≡ Stamp → HasCellOrFrozen l.cell (pend_of (word z r.world (name.Pend l.row t)))
   -- a scan that is to settle finds that it waits, or a version
   pub settles : (t : ℕ) (l : Local) → slice_get r.world.locals t ≡ Some l → l.activity ≡ ScanSettle → IsWaitingOrDrawn l.waiting (scan_of (word z r.world (name.Scan t)))
+  -- a cell that a put meets on its walk along the row's list stands behind the cell whose link led to it, so that the put meets none twice:
+  -- it has met fewer cells than the row has, and so there is one for it to meet
+  pub meets : (t : ℕ) (l : Local) → slice_get r.world.locals t ≡ Some l → IsMeeting l.activity → IsBehind (list_in (word z r.world) r.listed l.row) l.link l.place
+  pub walked : (t : ℕ) (l : Local) → slice_get r.world.locals t ≡ Some l → l.activity ≡ InsFrom → l.walked < z.cells
+  -- a put loses fewer of its exchanges to insert a cell than the row has cells
+  pub lost : (t : ℕ) (l : Local) → slice_get r.world.locals t ≡ Some l → IsInserting l.activity → l.lost < z.cells
+  -- so it is with a get or a scan that walks along the row's list: a cell that it meets stands behind the cell whose link led to it, and
+  -- where the link at which it stands leads to a cell, it has met fewer cells than the row has
+  pub reader_meets : (t : ℕ) (l : Local) → slice_get r.world.locals t ≡ Some l → IsAtListed l.activity → IsBehind (list_in (word z r.world) r.listed l.row) l.link l.place
+  pub reads_on : (t : ℕ) (l : Local) → slice_get r.world.locals t ≡ Some l → l.activity ≡ ListFrom → (c : ℕ) → cell_of_link_word (word z r.world (link_name l.row l.link)) ≡ Some c → l.walked < z.cells
   -- each stamped put loaded its clock between its announcement and its stamp
   pub stamped : (p : ℕ) → IsPut r.history p → IsStampedInOrder r.history p
   -- of a row that a seat has read, each attempt that was announced before it looked, and whose key it reads, is stamped and gathered
   pub seen : (t : ℕ) (l : Local) → slice_get r.world.locals t ≡ Some l → IsKeeping l.activity → (q : ℕ) → (r.seats t).read ≡ Some q → (p : ℕ) → IsDue r.history q l.call (r.seats t).looked p → IsGathered r q l p
-  -- a seat that is at the row of its key is at a row of the list, which may hold the key
-  pub live : (t : ℕ) (l : Local) → slice_get r.world.locals t ≡ Some l → IsAtRow l.activity → IsLinked r.world.rows (word z r.world) l.row
-  pub holds : (t : ℕ) (l : Local) → slice_get r.world.locals t ≡ Some l → IsAtRow l.activity → HoldsKey (word z r.world) l.row l.want
+  -- a seat that is at the row of its key is at a row that is in the list, or was so in its pass, and which may hold the key
+  pub live : (t : ℕ) (l : Local) → slice_get r.world.locals t ≡ Some l → IsAtRow l.activity → IsFresh r.ledger.rows t l.row
+  pub holds : (t : ℕ) (l : Local) → slice_get r.world.locals t ≡ Some l → IsAtRow l.activity → HoldsKey (word z r.world) r.ledger.rows l.row l.want
   -- the record of what happened keeps its laws
   pub history : HistoryLaws r.history

@@ -6,7 +6,8 @@ use Rattle.kw_words.specs.declared.layout.Name.TheVariants as name
 use Rattle.kw_words.specs.declared.scan.ScanWord.TheVariants.{Waiting, Drawn}
 use Rattle.kw_words.specs.Plain.{value_of_word}
 use Rattle.kw_words.specs.Scan.{scan_word}
-use Rattle.kw_world.specs.declared.activity.Activity.TheVariants.{CellValue, ScanDraw, ScanSettle}
+use Rattle.kw_world.specs.declared.activity.Activity.{Activity}
+use Rattle.kw_world.specs.declared.activity.Activity.TheVariants.{ListVal, RestVal, ScanDraw, ScanSettle}
 use Rattle.kw_world.specs.declared.event.Event.{Event}
 use Rattle.kw_world.specs.declared.opening.Opening.{Opening}
 use Rattle.kw_world.specs.declared.operation.Action.TheVariants.{Load, Add, Exchange}
@@ -34,6 +35,12 @@ pub record HasSettled (z : Sizes) (o : Opening) (es : List Event) (s at version 
   pub settles : Acts z o es settle s ScanSettle (settling s clock drew) found
   pub entry : (drew ≡ version) × (found ≡ scan_word (Waiting clock)) ⊎ (found ≡ scan_word (Drawn version))
 
+-- a reader loads the value of the cell in hand
+abbrev pub IsLoadingValue : Activity → Type 0
+IsLoadingValue ListVal = Unit {0}
+IsLoadingValue RestVal = Unit {0}
+IsLoadingValue _ = ⊥
+
 -- the seat has read the value of this attempt's cell, after the first position and before the last
 pub record HasRead (z : Sizes) (o : Opening) (es : List Event) (h : History) (s first last p : ℕ) : Type 0 where
   pub within : p < length h.attempts
@@ -41,7 +48,9 @@ pub record HasRead (z : Sizes) (o : Opening) (es : List Event) (h : History) (s 
   pub after : first < at
   pub before : at < last
   pub found : ℕ
-  pub acts : Acts z o es at s CellValue (operation kind.LoadValue (name.Value (attempt h p).row (attempt h p).cell) Load) found
+  pub activity : Activity
+  pub loads : IsLoadingValue activity
+  pub acts : Acts z o es at s activity (operation kind.LoadValue (name.Value (attempt h p).row (attempt h p).cell) Load) found
   pub value : value_of_word found ≡ (attempt h p).value
 
 -- the put whose value a get answered is one whose cell it read within its call

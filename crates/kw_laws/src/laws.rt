@@ -24,24 +24,31 @@ ghost use Rattle.kw_laws.specs.SeatCalls.{calls_seen, seen_after, KeepsTurns, Ar
 /// The empty history keeps the laws, and each event keeps them that may happen as it does.
 pub fn history_laws()
     ensures start { Keeps nothing_yet }
-    ensures step { (h : History) (e : Logged) → Keeps h → MayLog h e → (c : Change) → MayNote h e c → Keeps (noted h e c) }
+    ensures step { (h : History) (e : Logged) → Keeps h → MayLog h e → (c : Change) →
+        MayNote h e c → Keeps (noted h e c) }
 {}
 
 /// After every valid list of events from an opening the laws hold, whatever the sizes of the table. A row at which a seat has
 /// arrived was in the list, as one who follows the links from the first row sees it, after the seat began its pass, or drew.
 pub fn list_laws()
-    ensures laws { (z : Sizes) (o : Opening) (events : List Event) → IsOpening z o → is_valid z o events ≡ true → KeepsLaws z (history z o events) }
-    ensures world { (z : Sizes) (o : Opening) (events : List Event) → (history z o events).world ≡ world z o events }
-    ensures live { (z : Sizes) (o : Opening) (events : List Event) → IsOpening z o → is_valid z o events ≡ true → AreLive z o events }
+    ensures laws { (z : Sizes) (o : Opening) (events : List Event) → IsOpening z o →
+        is_valid z o events ≡ true → KeepsLaws z (history z o events) }
+    ensures world { (z : Sizes) (o : Opening) (events : List Event) → (history z o events).world
+        ≡ world z o events }
+    ensures live { (z : Sizes) (o : Opening) (events : List Event) → IsOpening z o →
+        is_valid z o events ≡ true → AreLive z o events }
 {}
 
 /// The record of every valid list from an opening is what it claims to be: at each position that it names stands the event
 /// that it says, and it leaves no such event out. A scan drew by its own seat and settled for its version, and a get read the cell
 /// of the put whose value it answers.
 pub fn mirror_laws()
-    ensures events { (z : Sizes) (o : Opening) (events : List Event) → IsOpening z o → is_valid z o events ≡ true → Mirrors z o events (history z o events).history }
-    ensures reads { (z : Sizes) (o : Opening) (events : List Event) → IsOpening z o → is_valid z o events ≡ true → MirrorsReads z o events (history z o events).history }
-    ensures gets { (z : Sizes) (o : Opening) (events : List Event) → IsOpening z o → is_valid z o events ≡ true → GetsRead z o events (history z o events).history }
+    ensures events { (z : Sizes) (o : Opening) (events : List Event) → IsOpening z o →
+        is_valid z o events ≡ true → Mirrors z o events (history z o events).history }
+    ensures reads { (z : Sizes) (o : Opening) (events : List Event) → IsOpening z o →
+        is_valid z o events ≡ true → MirrorsReads z o events (history z o events).history }
+    ensures gets { (z : Sizes) (o : Opening) (events : List Event) → IsOpening z o →
+        is_valid z o events ≡ true → GetsRead z o events (history z o events).history }
 {}
 
 /// The calls of one seat in a valid list from an opening. No event makes no call, and events of other seats leave the
@@ -50,9 +57,21 @@ pub fn mirror_laws()
 /// list has the calls of a shorter one, of which the last may have ended since.
 pub fn seat_calls_laws()
     ensures none { (z : Sizes) (o : Opening) (s : ℕ) → calls_seen z o s [] ≡ [] }
-    ensures still { (z : Sizes) (o : Opening) (s : ℕ) (xs ys : List Event) → IsOpening z o → is_valid z o (xs ++ ys) ≡ true → of_seat s ys ≡ [] → calls_seen z o s (xs ++ ys) ≡ calls_seen z o s xs }
-    ensures own { (z : Sizes) (o : Opening) (s : ℕ) (xs : List Event) (choice : Choice) → IsOpening z o → is_valid z o (xs ++ event s choice ∷ []) ≡ true → calls_seen z o s (xs ++ event s choice ∷ []) ≡ seen_after (local_of (world z o xs) s).activity choice (local_of (world z o xs) s) (length xs) (calls_seen z o s xs) }
-    ensures turns { (z : Sizes) (o : Opening) (s : ℕ) (events : List Event) → IsOpening z o → is_valid z o events ≡ true → s < o.seats → KeepsTurns (length events) (local_of (world z o events) s) (calls_seen z o s events) }
-    ensures apart { (z : Sizes) (o : Opening) (s : ℕ) (events : List Event) → IsOpening z o → is_valid z o events ≡ true → s < o.seats → AreApart (length events) (calls_seen z o s events) }
-    ensures lasts { (z : Sizes) (o : Opening) (s : ℕ) (xs ys : List Event) → IsOpening z o → is_valid z o (xs ++ ys) ≡ true → AreStill (calls_seen z o s xs) (calls_seen z o s (xs ++ ys)) }
+    ensures still { (z : Sizes) (o : Opening) (s : ℕ) (xs ys : List Event) → IsOpening z o →
+        is_valid z o (xs ++ ys) ≡ true → of_seat s ys ≡ [] → calls_seen z o s (xs ++ ys)
+        ≡ calls_seen z o s xs }
+    ensures own { (z : Sizes) (o : Opening) (s : ℕ) (xs : List Event) (choice : Choice) →
+        IsOpening z o → is_valid z o (xs ++ event s choice ∷ []) ≡ true →
+        calls_seen z o s (xs ++ event s choice ∷ [])
+        ≡ seen_after (local_of (world z o xs) s).activity choice (local_of (world z o xs) s)
+        (length xs) (calls_seen z o s xs) }
+    ensures turns { (z : Sizes) (o : Opening) (s : ℕ) (events : List Event) → IsOpening z o →
+        is_valid z o events ≡ true → s < o.seats →
+        KeepsTurns (length events) (local_of (world z o events) s) (calls_seen z o s events) }
+    ensures apart { (z : Sizes) (o : Opening) (s : ℕ) (events : List Event) → IsOpening z o →
+        is_valid z o events ≡ true → s < o.seats →
+        AreApart (length events) (calls_seen z o s events) }
+    ensures lasts { (z : Sizes) (o : Opening) (s : ℕ) (xs ys : List Event) → IsOpening z o →
+        is_valid z o (xs ++ ys) ≡ true →
+        AreStill (calls_seen z o s xs) (calls_seen z o s (xs ++ ys)) }
 {}

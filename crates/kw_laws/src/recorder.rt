@@ -86,8 +86,10 @@ impl Recorder {
         requires ranges { IsLocal product local.now }
         requires begin { CanBegin happening.choice local.now }
         requires origins { local.now.row * CELLS + CELLS ≤ length self.old.origins }
-        ensures entry { IfOk result (λ entry. entry ≡ entry_of product self.old local.now happening) }
-        ensures ok { OnOk result (self.new ≡ record self.old { history = appended self.old.history (logged_of happening) (entry_of product self.old local.now happening).change }) }
+        ensures entry { IfOk result (λ entry. entry ≡ entry_of product self.old local.now happening)
+            }
+        ensures ok { OnOk result (self.new ≡ record self.old { history = appended self.old.history
+            (logged_of happening) (entry_of product self.old local.now happening).change }) }
         ensures err { OnErr result (self.new ≡ self.old) }
     {
         let log = &self.logs[happening.seat as usize];
@@ -116,7 +118,8 @@ impl Recorder {
 
     // Takes back the event that was prepared: it is not made.
     fn forget(&mut self, entry: Entry)
-        ensures { (k : Recording) (e : Logged) → self.old ≡ record k { history = appended k.history e entry.change } → self.new ≡ k }
+        ensures { (k : Recording) (e : Logged) → self.old ≡ record k { history = appended k.history
+            e entry.change } → self.new ≡ k }
     {
         self.history.forget(&entry.change);
     }
@@ -133,9 +136,11 @@ pub fn step_recorded(
 ) -> Result<StepDone, Memory>
     requires seat { event.seat < length world.old.locals }
     requires begin { CanStep world.old event }
-    requires kept { (r : Run) × (r.world ≡ world.old) × Records product recorder.old r × Inv product r }
+    requires kept { (r : Run) × (r.world ≡ world.old) × Records product recorder.old r
+        × Inv product r }
     ensures ok { IfOk result (λ done. stepped world.new done ≡ step product world.old event) }
-    ensures recorded { OnOk result ((r : Run) → r.world ≡ world.old → Records product recorder.old r → Records product recorder.new (goes_on product r event)) }
+    ensures recorded { OnOk result ((r : Run) → r.world ≡ world.old →
+        Records product recorder.old r → Records product recorder.new (goes_on product r event)) }
     ensures err_world { OnErr result (world.new ≡ world.old) }
     ensures err_recorder { OnErr result (recorder.new ≡ recorder.old) }
 {

@@ -10,7 +10,7 @@ use Rattle.kw_line.specs.declared.item.Form.TheVariants as form
 use Rattle.kw_line.specs.declared.item.Item.{Item}
 use Rattle.kw_line.specs.declared.item.Item.TheVariants as item
 use Rattle.kw_line.specs.Cut.{words}
-use Rattle.kw_line.specs.Line.{form_word, arguments, IsCallOf, FitsCall, IsItem, item_words, item_text, IsText, AreLinesOf, IsFirstBad}
+use Rattle.kw_line.specs.Line.{form_word, arguments, IsCallOf, FitsCall, IsItem, item_words, item_text, IsText, AreLinesOf, IsFirstBadLine}
 use Rattle.kw_line.proofs.Texts.{words-item_text, form_word_injective, form_word_not_wait}
 
 -- which call a line makes, by its form
@@ -103,7 +103,7 @@ bad_among (i ∷ is) [] line after h b e = let first : line ≡ item_text i = cc
 bad_among (i ∷ is) (j ∷ js) line after h b e = let others : map item_text is ≡ map item_text js ++ line ∷ after = cc in bad_among is js line after h.1 b others
 
 -- no bytes have both items and a bad line
-pub items_or_bad : (bytes : List ℕ) (is : List Item) (number : ℕ) → AreLinesOf bytes is → IsFirstBad bytes number → ⊥
+pub items_or_bad : (bytes : List ℕ) (is : List Item) (number : ℕ) → AreLinesOf bytes is → IsFirstBadLine bytes number → ⊥
 items_or_bad bytes is number h k = bad_among is k.before k.line k.after h.each k.bad (sym h.texts ∙ k.cut)
 
 -- and there is one first bad line at most
@@ -115,7 +115,7 @@ same_place (i ∷ is) (j ∷ js) x y xs ys h k b d e =
     let others : map item_text is ++ x ∷ xs ≡ map item_text js ++ y ∷ ys = cc in
     ap suc (same_place is js x y xs ys h.1 k.1 b d others)
 
-pub same_bad : (bytes : List ℕ) (m n : ℕ) → IsFirstBad bytes m → IsFirstBad bytes n → m ≡ n
+pub same_bad : (bytes : List ℕ) (m n : ℕ) → IsFirstBadLine bytes m → IsFirstBadLine bytes n → m ≡ n
 same_bad bytes m n h k =
     let place = same_place h.before k.before h.line k.line h.after k.after h.each k.each h.bad k.bad (sym h.cut ∙ k.cut) in
     omega (arith, place, h.number_is, k.number_is)

@@ -1,7 +1,8 @@
 -- What is printed for the replies of the map.
-use Rattle.std.specs.Prelude.{ℕ, Bool, true, false, not, IsTrue, min, max, List, [], ◌∷◌, ◌++◌, map, length, sum, fold, codes, decimal, Option, Some, None}
+use Rattle.std.specs.Prelude.{ℕ, Bool, true, false, not, IsTrue, List, [], ◌∷◌, ◌++◌, map, length, sum, codes, decimal, Option, Some, None}
 use Rattle.std.specs.List.{join_with_byte, flat_map}
 use Rattle.kw_model.specs.Map.{Pairs}
+use Rattle.kw_model.specs.Values.{values, least, greatest}
 use Rattle.kw_model.specs.declared.call.Reply.{Reply}
 use Rattle.kw_model.specs.declared.call.Reply.TheVariants as reply
 use Rattle.kw_line.specs.declared.item.Form.{Form}
@@ -38,20 +39,6 @@ IsReplyOf f (reply.Pairs ps) = IsTrue (is_range f)
 IsReplyOf f reply.NoRows = IsTrue (is_update f)
 IsReplyOf f reply.Spent = IsTrue (not (is_get f))
 IsReplyOf f reply.Stopped = ⊥
-
--- the values of pairs
-abbrev pub values : Pairs → List ℕ
-values ps = map (λ p. p.1) ps
-
--- the least of numbers, where there are any
-abbrev pub least : List ℕ → Option ℕ
-least [] = None
-least (n ∷ ns) = Some (fold min n ns)
-
--- the greatest of numbers, where there are any
-abbrev pub greatest : List ℕ → Option ℕ
-greatest [] = None
-greatest (n ∷ ns) = Some (fold max n ns)
 
 -- a number, or nothing
 abbrev pub number_or_nothing : Option ℕ → Answer

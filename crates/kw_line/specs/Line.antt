@@ -77,7 +77,7 @@ pub record AreLinesOf (bytes : List ℕ) (items : List Item) : Type 0 where
   pub texts : lines bytes ≡ map item_text items
 
 -- this line of the bytes, counted from 1, is the text of no item, and each line before it is the text of one
-pub record IsFirstBad (bytes : List ℕ) (number : ℕ) : Type 0 where
+pub record IsFirstBadLine (bytes : List ℕ) (number : ℕ) : Type 0 where
   pub before : List Item
   pub line : List ℕ
   pub after : List (List ℕ)
@@ -87,10 +87,10 @@ pub record IsFirstBad (bytes : List ℕ) (number : ℕ) : Type 0 where
   pub bad : IsText line → ⊥
 
 -- a line that is named is the first bad one
-abbrev pub IfBad : {X : Type 0} → List ℕ → Result X LineError → Type 0
-IfBad bytes (Ok items) = Unit {0}
-IfBad bytes (Err (error.Bad line)) = IsFirstBad bytes line
-IfBad bytes (Err error.Memory) = Unit {0}
+abbrev pub IfBadLine : {X : Type 0} → List ℕ → Result X LineError → Type 0
+IfBadLine bytes (Ok items) = Unit {0}
+IfBadLine bytes (Err (error.Bad line)) = IsFirstBadLine bytes line
+IfBadLine bytes (Err error.Memory) = Unit {0}
 
 -- the calls of an input, in line order
 abbrev pub calls : List Item → List Call

@@ -1,6 +1,7 @@
 //! What is printed for a reply, by the form of the line that asked for it.
 ghost use Rattle.std.specs.Prelude.{◌≡◌, ℕ, IsTrue, IfOk, sum, length};
-ghost use Rattle.kw_line.specs.Answered.{IsReplyOf, answer_for, answer_of_pairs, is_range, least, greatest, number_or_nothing, values};
+ghost use Rattle.kw_model.specs.Values.{least, greatest, values};
+ghost use Rattle.kw_line.specs.Answered.{IsReplyOf, answer_for, answer_of_pairs, is_range, number_or_nothing};
 
 use crate::item::Form;
 use kw_model::call::Reply;
@@ -74,7 +75,8 @@ fn greatest_value(pairs: &[(u32, u64)]) -> Option<u64>
     pairs.iter().map(|pair| pair.1).reduce(u64::max)
 }
 
-fn number_or_nothing(value: Option<u64>) -> Answer
+/// The answer that is a value, or that there is none.
+pub fn number_or_nothing(value: Option<u64>) -> Answer
     ensures { result ≡ number_or_nothing value }
 {
     value.map_or(Answer::Nothing, |value| Answer::Number(u128::from(value)))

@@ -6,7 +6,7 @@ ghost use Rattle.std.specs.Prelude.{◌≡◌, ◌≢◌, ◌≤◌, ◌++◌, �
 ghost use Rattle.kw_model.specs.declared.call.Call.{Call as AnyCall};
 ghost use Rattle.kw_line.specs.declared.item.Form.{Form as AnyForm};
 ghost use Rattle.kw_line.specs.declared.item.Item.{Item as AnyItem};
-ghost use Rattle.kw_line.specs.Line.{IsCallOf, FitsCall, IsItem, IsText, AreLinesOf, IfBad, arguments, form_word, item_text};
+ghost use Rattle.kw_line.specs.Line.{IsCallOf, FitsCall, IsItem, IsText, AreLinesOf, IfBadLine, arguments, form_word, item_text};
 
 use crate::item::{Form, Item, LineError};
 use crate::words::{Lines, Words};
@@ -21,7 +21,7 @@ pub fn parse(alloc: Global, bytes: &[u8]) -> Result<Vec<Item>, LineError>
     requires { length bytes.now ≤ MOST_BYTES }
     ensures items { IfOk result (λ items. AreLinesOf bytes.now items.items) }
     ensures few { IfOk result (λ items. vec_len items ≤ length bytes.now) }
-    ensures bad { IfBad bytes.now result }
+    ensures bad { IfBadLine bytes.now result }
 {
     let mut items = Vec::new(alloc);
     for line in Lines::new(bytes) {
@@ -95,6 +95,12 @@ fn call(form: Form, words: &mut Words) -> Option<Call>
 mod tests {
     use super::*;
     use std::test::Fail;
+
+    // 16 MiB
+    #[test]
+    fn the_most_bytes_of_an_input(rt: HostRuntime) {
+        assert_eq!(rt; MOST_BYTES, 16_777_216);
+    }
 
     #[test]
     fn reads_each_form(rt: HostRuntime) -> Result<(), Fail> {

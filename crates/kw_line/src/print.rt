@@ -111,7 +111,8 @@ fn push_word_and_numbers(out: &mut Vec<u8>, word: &[u8], call: &Call) -> Result<
 
 /// Adds two numbers at the end, a space before each. After an `Err` the text may be there in part.
 fn push_two(out: &mut Vec<u8>, first: u64, second: u64) -> Result<(), Memory>
-    ensures ok { OnOk result (out.new.items ≡ out.old.items ++ SPACE ∷ decimal first ++ SPACE ∷ decimal second) }
+    ensures ok { OnOk result (out.new.items ≡ out.old.items ++ SPACE ∷ decimal first
+        ++ SPACE ∷ decimal second) }
     ensures kept { take (vec_len out.old) out.new.items ≡ out.old.items }
 {
     push_next(out, first)?;

@@ -156,6 +156,13 @@ impl<'a> Iterator for Words<'a> {
 mod tests {
     use super::*;
 
+    // 2^63 - 1, a space, and a line feed
+    #[test]
+    fn the_greatest_value_and_the_marks_of_lines(rt: HostRuntime) {
+        assert_eq!(rt; MOST_VALUE, 9_223_372_036_854_775_807);
+        assert_eq!(rt; (SPACE, LINE_FEED), (32, 10));
+    }
+
     #[test]
     fn cuts_at_each_mark(rt: HostRuntime) {
         let mut lines = Lines::new(b"a b\r\n\nc");

@@ -4,7 +4,7 @@ use mathlib.Core.Logic.{⊎_elim}
 use Rattle.kw_words.specs.Count.{count_of}
 use Rattle.kw_world.specs.declared.activity.Activity.{Activity}
 use Rattle.kw_world.specs.declared.activity.Activity.TheVariants.{PutCount, PutAdd}
-use Rattle.kw_world.specs.Parts.{is_walking}
+use Rattle.kw_core.specs.Stages.{is_walking}
 use Rattle.kw_world.specs.PutTransitions.{given_of}
 use Rattle.kw_table.specs.declared.pass.Pass.{Pass}
 use Rattle.kw_table.specs.declared.shared.Shared.{Shared}

@@ -1,6 +1,6 @@
 pub mod Asking
-pub mod CellEvent
-pub mod CellStages
+pub mod ReadEvent
+pub mod ReadStages
 pub mod LookStages
 pub mod PutStages
 pub mod WalkStages

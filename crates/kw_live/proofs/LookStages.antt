@@ -6,7 +6,7 @@ use Rattle.kw_words.specs.declared.pend.Pend.TheVariants.{Idle, Pending, Stamped
 use Rattle.kw_words.specs.Pend.{pend_of}
 use Rattle.kw_words.specs.Plain.{key_of_word}
 use Rattle.kw_world.specs.declared.activity.Activity.{Activity}
-use Rattle.kw_world.specs.declared.activity.Activity.TheVariants.{Look, LookKey, LookClock, LookHelp, LookCount}
+use Rattle.kw_world.specs.declared.activity.Activity.TheVariants.{Look, LookKey, LookClock, LookHelp, ListFrom}
 use Rattle.kw_world.specs.declared.event.Choice.TheVariants.{Go}
 use Rattle.kw_world.specs.declared.event.StepDone.TheVariants.{Moved}
 use Rattle.kw_world.specs.declared.local.Local.{Local}
@@ -36,11 +36,11 @@ pub record Looked (z : Sizes) (l m : Local) (ahead : ℕ) : Type 0 where
   pub looks : LooksOn l m
   pub fewer : look_ahead z m.activity m.looked < ahead
 
--- the next entry is looked at, or the count is, where there is none
+-- the next entry is looked at, or the list is gone along, where there is none
 goes_on : (z : Sizes) (l x : Local) (i ahead : ℕ) → x.call ≡ l.call → x.want ≡ l.want → x.version ≡ l.version → 0 < ahead → (i < z.seats → 4 * (z.seats - i) + 4 < ahead) → Looked z l (to_look z i x).local ahead
 goes_on z l x i ahead a b c some fewer = met (nat_lt i z.seats) refl
   where
-    met : (e : Bool) → nat_lt i z.seats ≡ e → Looked z l (let o : Outcome = if e then to (Look i) x else to LookCount x in o).local ahead
+    met : (e : Bool) → nat_lt i z.seats ≡ e → Looked z l (let o : Outcome = if e then to (Look i) x else to ListFrom x in o).local ahead
     met true h = record { looks = record { call = a; want = b; version = c; stage = λ f. true_false refl f }; fewer = fewer (grind (arith, nat_tests)) }
     met false h = record { looks = record { call = a; want = b; version = c; stage = λ f. refl }; fewer = some }
 

@@ -1,5 +1,5 @@
 -- How a put or a delete goes through its row, event by event: what it has found by then, and that each event takes it on.
-use Rattle.std.proofs.Common.{◌≡◌, ℕ, ◌<◌, ◌≤◌, Bool, true, false, nat_lt, ◌==◌, if◌then◌else◌, Option, Some, None, arith, refl, sym, ◌∙◌, ap, subst, inl, inr, eq-eqb}
+use Rattle.std.proofs.Common.{◌≡◌, ℕ, ◌+◌, ◌*◌, ◌-◌, ◌<◌, ◌≤◌, Bool, true, false, nat_lt, ◌==◌, if◌then◌else◌, Option, Some, None, unwrap_or, arith, refl, sym, ◌∙◌, ap, subst, inl, inr, eq-eqb}
 use Rattle.kw_words.specs.declared.layout.Name.TheVariants as name
 use Rattle.kw_words.specs.declared.count.Count.{Count}
 use Rattle.kw_words.specs.declared.pend.Pend.{Pend}
@@ -10,12 +10,16 @@ use Rattle.kw_words.specs.Pend.{pend_of, pend_word}
 use Rattle.kw_words.proofs.PendWords.{pend_word_of}
 use Rattle.kw_world.specs.declared.answer.Answer.TheVariants.{Done, NoRows}
 use Rattle.kw_world.specs.declared.activity.Activity.{Activity}
-use Rattle.kw_world.specs.declared.activity.Activity.TheVariants.{PutCount, PutAdd, PutKey, PutValue, Announce, PutClock, Stamp, PutVersion, PutClear, Leave}
+use Rattle.kw_world.specs.declared.activity.Activity.TheVariants.{PutCount, PutAdd, PutKey, PutValue, Announce, PutClock, Stamp, PutVersion, InsFrom, InsKey, InsVer, InsSet, Insert, PutClear, Leave}
 use Rattle.kw_world.specs.declared.event.Choice.TheVariants.{Go}
 use Rattle.kw_world.specs.declared.event.StepDone.TheVariants.{Moved}
 use Rattle.kw_world.specs.declared.local.Local.{Local}
 use Rattle.kw_world.specs.declared.opening.Opening.{Opening}
 use Rattle.kw_world.specs.Transition.{Outcome, outcome, to}
+use Rattle.kw_words.specs.Plain.{key_of_word, version_of_word, cell_of_link_word, cell_link_word}
+use Rattle.kw_world.specs.Calls.{first_key}
+use Rattle.kw_world.specs.ListTransitions.{insert_from, insert_past, insert_tried, is_newer}
+use Rattle.kw_core.specs.Stages.{IsAtPut, IsInserting}
 use Rattle.kw_world.specs.PutTransitions.{full, has_room, given_of, stamp_met}
 use Rattle.kw_world.specs.Sizes.{product}
 use Rattle.kw_world.specs.Step.{word, next_of, transition_of}
@@ -32,9 +36,27 @@ use Rattle.kw_follow.specs.Calling.{Keeps}
 use Rattle.kw_follow.specs.Following.{Follows, GoesTo, held}
 use Rattle.kw_follow.specs.OwnEvents.{MetIn, Met, MetAs, MetOnly}
 use Rattle.kw_live.specs.Meeting.{AsksBelow, AsksNone, IsAsking, MetCount, MetFull, MetRoom}
-use Rattle.kw_live.specs.Putting.{is_putting}
+use Rattle.kw_core.specs.Stages.{is_putting}
 use Rattle.kw_live.proofs.Asking.{below_trans, none_at, none_below, once_below}
 use Rattle.kw_follow.proofs.Fronts.{met_laws, met_local, met_told, met_row_below, local_at}
+
+-- a put that code finds at its row is there
+pub puts_at : (a : Activity) → is_putting a ≡ true → IsAtPut a
+puts_at PutCount e = tt
+puts_at PutAdd e = tt
+puts_at PutKey e = tt
+puts_at PutValue e = tt
+puts_at Announce e = tt
+puts_at PutClock e = tt
+puts_at Stamp e = tt
+puts_at PutVersion e = tt
+puts_at InsFrom e = tt
+puts_at InsKey e = tt
+puts_at InsVer e = tt
+puts_at InsSet e = tt
+puts_at Insert e = tt
+puts_at PutClear e = tt
+puts_at _ e = true_false e refl
 
 -- What a put has found.
 
@@ -55,23 +77,39 @@ HasFound p q Announce = MetRoom CELLS p q
 HasFound p q PutClock = MetRoom CELLS p q
 HasFound p q Stamp = MetRoom CELLS p q
 HasFound p q PutVersion = MetRoom CELLS p q
+HasFound p q InsFrom = MetRoom CELLS p q
+HasFound p q InsKey = MetRoom CELLS p q
+HasFound p q InsVer = MetRoom CELLS p q
+HasFound p q InsSet = MetRoom CELLS p q
+HasFound p q Insert = MetRoom CELLS p q
 HasFound p q PutClear = MetRoom CELLS p q
 HasFound p q (Leave Done) = MetRoom CELLS p q
 HasFound p q (Leave NoRows) = MetFull CELLS p q
 HasFound p q _ = ⊥
 
--- how many events a put has yet to make at most
-abbrev pub put_ahead : Activity → ℕ
-put_ahead PutCount = 9
-put_ahead PutAdd = 8
-put_ahead PutKey = 7
-put_ahead PutValue = 6
-put_ahead Announce = 5
-put_ahead PutClock = 4
-put_ahead Stamp = 3
-put_ahead PutVersion = 2
-put_ahead PutClear = 1
-put_ahead _ = 0
+-- how many events a put makes at most from one exchange that it loses to the next: to load a link, and the key and the version of the
+-- cell that it meets there, for each cell; then to load the last link, to store its own, and to exchange
+abbrev pub each_walk : ℕ
+each_walk = 3 * CELLS + 4
+
+-- how many events a put has yet to make at most, with so many cells met on its walk and so many exchanges lost. It meets fewer cells, and
+-- loses fewer exchanges, than the row has cells
+abbrev pub put_ahead : Activity → ℕ → ℕ → ℕ
+put_ahead PutCount walked lost = CELLS * each_walk + each_walk + 8
+put_ahead PutAdd walked lost = CELLS * each_walk + each_walk + 7
+put_ahead PutKey walked lost = CELLS * each_walk + each_walk + 6
+put_ahead PutValue walked lost = CELLS * each_walk + each_walk + 5
+put_ahead Announce walked lost = CELLS * each_walk + each_walk + 4
+put_ahead PutClock walked lost = CELLS * each_walk + each_walk + 3
+put_ahead Stamp walked lost = CELLS * each_walk + each_walk + 2
+put_ahead PutVersion walked lost = CELLS * each_walk + each_walk + 1
+put_ahead InsFrom walked lost = (CELLS - lost) * each_walk + 3 * (CELLS - walked) + 4
+put_ahead InsKey walked lost = (CELLS - lost) * each_walk + 3 * (CELLS - walked) + 6
+put_ahead InsVer walked lost = (CELLS - lost) * each_walk + 3 * (CELLS - walked) + 5
+put_ahead InsSet walked lost = (CELLS - lost) * each_walk + 3
+put_ahead Insert walked lost = (CELLS - lost) * each_walk + 2
+put_ahead PutClear walked lost = 1
+put_ahead _ walked lost = 0
 
 -- What was met by a pass was met by it later too.
 
@@ -144,17 +182,20 @@ stamps_own l own None is has = absurd has
 -- One event.
 
 -- the put has found what it needs where it now stands, and has fewer events to make
-pub record GoesOn (p q : Pass) (a : Activity) (ahead : ℕ) : Type 0 where
-  pub found : HasFound p q a
-  pub fewer : put_ahead a < ahead
+pub record GoesOn (p q : Pass) (m : Local) (ahead : ℕ) : Type 0 where
+  pub found : HasFound p q m.activity
+  pub fewer : put_ahead m.activity m.walked m.lost < ahead
 
-goes_on : (p q : Pass) (a b : Activity) (ahead : ℕ) → a ≡ b → HasFound p q b → put_ahead b < ahead → GoesOn p q a ahead
-goes_on p q a b ahead is found fewer = subst (λ x. GoesOn p q x ahead) (sym is) (record { found = found; fewer = fewer })
+goes_on : (p q : Pass) (m : Local) (b : Activity) (ahead : ℕ) → m.activity ≡ b → HasFound p q b → put_ahead b m.walked m.lost < ahead → GoesOn p q m ahead
+goes_on p q m b ahead is found fewer = record { found = subst (HasFound p q) (sym is) found; fewer = subst (λ a. put_ahead a m.walked m.lost < ahead) (sym is) fewer }
 
 -- what follows from the event, by its activity
-next_is : (rows : ℕ) (a : Activity) (l m : Local) (told : ℕ) → l.activity ≡ a → outcome m Moved ≡ next_of product rows Go l told → m.activity ≡ ((transition product a 0 Go l).next rows told).local.activity
+local_is : (rows : ℕ) (a : Activity) (l m : Local) (told : ℕ) → l.activity ≡ a → outcome m Moved ≡ next_of product rows Go l told → m ≡ ((transition product a 0 Go l).next rows told).local
 unfolding transition_of
-next_is rows a l m told is line = ap (λ (x : Outcome). x.local.activity) (line ∙ ap (λ b. (transition product b 0 Go l).next rows told) is)
+local_is rows a l m told is line = ap (λ (x : Outcome). x.local) (line ∙ ap (λ b. (transition product b 0 Go l).next rows told) is)
+
+next_is : (rows : ℕ) (a : Activity) (l m : Local) (told : ℕ) → l.activity ≡ a → outcome m Moved ≡ next_of product rows Go l told → m.activity ≡ ((transition product a 0 Go l).next rows told).local.activity
+next_is rows a l m told is line = ap (λ (x : Local). x.activity) (local_is rows a l m told is line)
 
 module _ (s : Shared) (o p q : Pass) (l m : Local) (rows told : ℕ) (was : GoesTo s o p) (goes : GoesTo s p q) (met : MetAs p q l Go told) (only : MetOnly p q l.activity told) (line : outcome m Moved ≡ next_of product rows Go l told) where
   -- the event asks for no cell
@@ -165,14 +206,14 @@ module _ (s : Shared) (o p q : Pass) (l m : Local) (rows told : ℕ) (was : Goes
   here : (a : Activity) → l.activity ≡ a → Met p q a Go told
   here a is = record { front = met.met.front; later = met.met.later; here = met.met.here; activity = met.met.activity ∙ is; tells = met.met.tells }
 
-  asks : (b : Bool) → has_room product (count_of told) ≡ b → l.activity ≡ PutCount → AsksNone o p → m.activity ≡ (let x : Outcome = if b then to PutAdd l else full l in x).local.activity → GoesOn o q m.activity 9
-  asks true h is before next = goes_on o q m.activity PutAdd 9 next (record {
+  asks : (b : Bool) → has_room product (count_of told) ≡ b → l.activity ≡ PutCount → AsksNone o p → m.activity ≡ (let x : Outcome = if b then to PutAdd l else full l in x).local.activity → GoesOn o q m (put_ahead PutCount l.walked l.lost)
+  asks true h is before next = goes_on o q m PutAdd _ next (record {
     given = given_of (count_of told);
     asked = count_from s o p q PutCount told was (here PutCount is);
     less = room_less (count_of told) h;
     every = below_trans was goes (none_below was before) (once_below goes only (room_less (count_of told) h));
   }) (omega arith)
-  asks false h is before next = goes_on o q m.activity (Leave NoRows) 9 next (record {
+  asks false h is before next = goes_on o q m (Leave NoRows) _ next (record {
     activity = PutCount;
     at = inl refl;
     given = given_of (count_of told);
@@ -180,8 +221,8 @@ module _ (s : Shared) (o p q : Pass) (l m : Local) (rows told : ℕ) (was : Goes
     full = count_full s p q PutCount told goes (here PutCount is) (met_told p q PutCount Go told (here PutCount is) _ refl) h;
   }) (omega arith)
 
-  adds : (b : Bool) → has_room product (count_of told) ≡ b → l.activity ≡ PutAdd → HasAsked o p → m.activity ≡ (let x : Outcome = if b then to PutKey (record l { cell = given_of (count_of told) }) else full l in x).local.activity → GoesOn o q m.activity 8
-  adds true h is asked next = goes_on o q m.activity PutKey 8 next (record {
+  adds : (b : Bool) → has_room product (count_of told) ≡ b → l.activity ≡ PutAdd → HasAsked o p → m.activity ≡ (let x : Outcome = if b then to PutKey (record l { cell = given_of (count_of told) }) else full l in x).local.activity → GoesOn o q m (put_ahead PutAdd l.walked l.lost)
+  adds true h is asked next = goes_on o q m PutKey _ next (record {
     given = asked.given;
     asked = count_on s o p q PutCount asked.given goes asked.asked;
     less = asked.less;
@@ -190,7 +231,7 @@ module _ (s : Shared) (o p q : Pass) (l m : Local) (rows told : ℕ) (was : Goes
     fewer = room_less (count_of told) h;
     every = below_trans was goes asked.every (once_below goes only (room_less (count_of told) h));
   }) (omega arith)
-  adds false h is asked next = goes_on o q m.activity (Leave NoRows) 8 next (record {
+  adds false h is asked next = goes_on o q m (Leave NoRows) _ next (record {
     activity = PutAdd;
     at = inr refl;
     given = given_of (count_of told);
@@ -198,26 +239,67 @@ module _ (s : Shared) (o p q : Pass) (l m : Local) (rows told : ℕ) (was : Goes
     full = count_full s p q PutAdd told goes (here PutAdd is) (met_told p q PutAdd Go told (here PutAdd is) _ refl) h;
   }) (omega arith)
 
+  -- on its walk the put has met fewer cells than there are, and has lost fewer exchanges
+  has_walked : l.activity ≡ InsFrom → l.walked < CELLS
+  unfolding here
+  has_walked is =
+      let x = here InsFrom is in
+      let laws = met_laws s p q InsFrom Go told goes x in
+      subst (λ n. n < CELLS) (ap (λ (k : Local). k.walked) met.knew) (laws.walked (view p).number (local_at p x.front) (met_local p q InsFrom Go told x) x.activity)
+
+  has_lost : l.activity ≡ Insert → l.lost < CELLS
+  unfolding here
+  has_lost is =
+      let x = here Insert is in
+      let laws = met_laws s p q Insert Go told goes x in
+      subst (λ n. n < CELLS) (ap (λ (k : Local). k.lost) met.knew) (laws.lost (view p).number (local_at p x.front) (met_local p q Insert Go told x) (subst IsInserting (sym x.activity) tt))
+
+  -- the link leads to a cell, or to none
+  from_link : (x : Option ℕ) → l.activity ≡ InsFrom → MetRoom CELLS o q → m ≡ (insert_from product x l).local → GoesOn o q m (put_ahead InsFrom l.walked l.lost)
+  from_link (Some c) is found e = goes_on o q m InsKey _ (ap (λ (x : Local). x.activity) e) found (omega (arith, has_walked is, ap (λ (x : Local). x.walked) e, ap (λ (x : Local). x.lost) e))
+  from_link None is found e = goes_on o q m InsSet _ (ap (λ (x : Local). x.activity) e) found (omega (arith, ap (λ (x : Local). x.lost) e))
+
+  -- the cell is passed, or not
+  from_key : (b c : Bool) → MetRoom CELLS o q → m ≡ (let x : Outcome = if b then insert_past l else if c then to InsVer l else to InsSet l in x).local → GoesOn o q m (put_ahead InsKey l.walked l.lost)
+  from_key true c found e = goes_on o q m InsFrom _ (ap (λ (x : Local). x.activity) e) found (omega (arith, ap (λ (x : Local). x.walked) e, ap (λ (x : Local). x.lost) e))
+  from_key false true found e = goes_on o q m InsVer _ (ap (λ (x : Local). x.activity) e) found (omega (arith, ap (λ (x : Local). x.walked) e, ap (λ (x : Local). x.lost) e))
+  from_key false false found e = goes_on o q m InsSet _ (ap (λ (x : Local). x.activity) e) found (omega (arith, ap (λ (x : Local). x.lost) e))
+
+  from_version : (b : Bool) → MetRoom CELLS o q → m ≡ (let x : Outcome = if b then insert_past l else to InsSet l in x).local → GoesOn o q m (put_ahead InsVer l.walked l.lost)
+  from_version true found e = goes_on o q m InsFrom _ (ap (λ (x : Local). x.activity) e) found (omega (arith, ap (λ (x : Local). x.walked) e, ap (λ (x : Local). x.lost) e))
+  from_version false found e = goes_on o q m InsSet _ (ap (λ (x : Local). x.activity) e) found (omega (arith, ap (λ (x : Local). x.lost) e))
+
+  -- the exchange is made, or lost
+  from_exchange : (b : Bool) → l.activity ≡ Insert → MetRoom CELLS o q → m ≡ (insert_tried product b l).local → GoesOn o q m (put_ahead Insert l.walked l.lost)
+  from_exchange true is found e = goes_on o q m PutClear _ (ap (λ (x : Local). x.activity) e) found (omega arith)
+  from_exchange false is found e = goes_on o q m InsFrom _ (ap (λ (x : Local). x.activity) e) found (omega (arith, has_lost is, ap (λ (x : Local). x.walked) e, ap (λ (x : Local). x.lost) e))
+
   -- an event of a put takes it on
-  event : (a : Activity) → l.activity ≡ a → is_putting a ≡ true → HasFound o p a → GoesOn o q m.activity (put_ahead a)
+  event : (a : Activity) → l.activity ≡ a → is_putting a ≡ true → HasFound o p a → GoesOn o q m (put_ahead a l.walked l.lost)
   unfolding here
   event PutCount is put found = asks (has_room product (count_of told)) refl is found (next_is rows PutCount l m told is line)
   event PutAdd is put found = adds (has_room product (count_of told)) refl is found (next_is rows PutAdd l m told is line)
-  event PutKey is put found = goes_on o q m.activity PutValue 7 (next_is rows PutKey l m told is line) (room_on s o p q was goes (none PutKey is (λ h. h)) found) (omega arith)
-  event PutValue is put found = goes_on o q m.activity Announce 6 (next_is rows PutValue l m told is line) (room_on s o p q was goes (none PutValue is (λ h. h)) found) (omega arith)
+  event PutKey is put found = goes_on o q m PutValue _ (next_is rows PutKey l m told is line) (room_on s o p q was goes (none PutKey is (λ h. h)) found) (omega arith)
+  event PutValue is put found = goes_on o q m Announce _ (next_is rows PutValue l m told is line) (room_on s o p q was goes (none PutValue is (λ h. h)) found) (omega arith)
   event Announce is put found =
       let idle : (told == pend_word Idle) ≡ true = eq-eqb told (pend_word Idle) (finds_idle s p q told goes (here Announce is)) in
-      goes_on o q m.activity PutClock 5 (next_is rows Announce l m told is line ∙ ap (λ b. (let x : Outcome = if b then to PutClock l else full l in x).local.activity) idle) (room_on s o p q was goes (none Announce is (λ h. h)) found) (omega arith)
-  event PutClock is put found = goes_on o q m.activity Stamp 4 (next_is rows PutClock l m told is line) (room_on s o p q was goes (none PutClock is (λ h. h)) found) (omega arith)
+      goes_on o q m PutClock _ (next_is rows Announce l m told is line ∙ ap (λ b. (let x : Outcome = if b then to PutClock l else full l in x).local.activity) idle) (room_on s o p q was goes (none Announce is (λ h. h)) found) (omega arith)
+  event PutClock is put found = goes_on o q m Stamp _ (next_is rows PutClock l m told is line) (room_on s o p q was goes (none PutClock is (λ h. h)) found) (omega arith)
   event Stamp is put found =
       let own = stamps_own l (local_at p met.met.front).cell (pend_of told) (ap (λ (k : Local). k.cell) met.knew) (finds_own s p q told goes (here Stamp is)) in
-      goes_on o q m.activity PutVersion 3 (next_is rows Stamp l m told is line ∙ own) (room_on s o p q was goes (none Stamp is (λ h. h)) found) (omega arith)
-  event PutVersion is put found = goes_on o q m.activity PutClear 2 (next_is rows PutVersion l m told is line) (room_on s o p q was goes (none PutVersion is (λ h. h)) found) (omega arith)
-  event PutClear is put found = goes_on o q m.activity (Leave Done) 1 (next_is rows PutClear l m told is line) (room_on s o p q was goes (none PutClear is (λ h. h)) found) (omega arith)
+      goes_on o q m PutVersion _ (next_is rows Stamp l m told is line ∙ own) (room_on s o p q was goes (none Stamp is (λ h. h)) found) (omega arith)
+  event PutVersion is put found = goes_on o q m InsFrom _ (next_is rows PutVersion l m told is line) (room_on s o p q was goes (none PutVersion is (λ h. h)) found)
+      (omega (arith, ap (λ (x : Local). x.walked) (local_is rows PutVersion l m told is line), ap (λ (x : Local). x.lost) (local_is rows PutVersion l m told is line)))
+  event InsFrom is put found = from_link (cell_of_link_word told) is (room_on s o p q was goes (none InsFrom is (λ h. h)) found) (local_is rows InsFrom l m told is line)
+  event InsKey is put found = from_key (nat_lt (key_of_word told) (first_key l.call)) (key_of_word told == first_key l.call) (room_on s o p q was goes (none InsKey is (λ h. h)) found) (local_is rows InsKey l m told is line)
+  event InsVer is put found = from_version (is_newer (unwrap_or (version_of_word told) 0) l.place l) (room_on s o p q was goes (none InsVer is (λ h. h)) found) (local_is rows InsVer l m told is line)
+  event InsSet is put found = goes_on o q m Insert _ (next_is rows InsSet l m told is line) (room_on s o p q was goes (none InsSet is (λ h. h)) found) (omega (arith, ap (λ (x : Local). x.lost) (local_is rows InsSet l m told is line)))
+  event Insert is put found = from_exchange (told == cell_link_word l.held) is (room_on s o p q was goes (none Insert is (λ h. h)) found) (local_is rows Insert l m told is line)
+  event PutClear is put found = goes_on o q m (Leave Done) _ (next_is rows PutClear l m told is line) (room_on s o p q was goes (none PutClear is (λ h. h)) found) (omega arith)
   event _ is put found = true_false put refl
 
   -- the same, at the activity where it is
-  pub put_goes : is_putting l.activity ≡ true → HasFound o p l.activity → GoesOn o q m.activity (put_ahead l.activity)
+  pub put_goes : is_putting l.activity ≡ true → HasFound o p l.activity → GoesOn o q m (put_ahead l.activity l.walked l.lost)
   put_goes = event l.activity refl
 
 -- What stays through all events of a put.

@@ -14,7 +14,7 @@ use Rattle.kw_world.specs.declared.event.Choice.{Choice}
 use Rattle.kw_world.specs.declared.event.Choice.TheVariants.{Go, Guess}
 use Rattle.kw_world.specs.declared.event.StepDone.TheVariants.{Moved}
 use Rattle.kw_world.specs.declared.local.Local.{Local}
-use Rattle.kw_world.specs.Parts.{is_walking}
+use Rattle.kw_core.specs.Stages.{is_walking}
 use Rattle.kw_world.specs.Transition.{Outcome, outcome, to, row_linked, row_or_first}
 use Rattle.kw_world.specs.WalkTransitions.{arrive, guess_met, link_met, offered}
 use Rattle.kw_world.specs.Sizes.{product}

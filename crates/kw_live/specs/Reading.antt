@@ -6,13 +6,9 @@ use Rattle.kw_model.specs.declared.call.Call.TheVariants.{Get, Scan}
 use Rattle.kw_world.specs.declared.answer.Answer.TheVariants.{Pairs}
 use Rattle.kw_world.specs.Answers.{answer_found}
 use Rattle.kw_world.specs.declared.activity.Activity.{Activity}
-use Rattle.kw_world.specs.declared.activity.Activity.TheVariants.{Walk, Look, LookKey, LookClock, LookHelp, LookCount, Cell, CellKey, CellValue, ClearScan, Leave}
+use Rattle.kw_world.specs.declared.activity.Activity.TheVariants.{Walk, Look, LookKey, LookClock, LookHelp, ListFrom, ListKey, ListVer, ListVal, RestKey, RestVal, ClearScan, Leave}
 use Rattle.kw_world.specs.declared.limits.TheConstants.{NEWEST}
 use Rattle.kw_world.specs.declared.local.Local.{Local}
-use Rattle.kw_world.specs.declared.event.Choice.TheVariants.{Go}
-use Rattle.kw_world.specs.Sizes.{product}
-use Rattle.kw_world.specs.Step.{next_of}
-use Rattle.kw_follow.specs.Following.{carried}
 
 -- the reader looks at the entries of the row
 abbrev pub is_looking : Activity → Bool
@@ -22,20 +18,22 @@ is_looking LookClock = true
 is_looking LookHelp = true
 is_looking _ = false
 
--- the reader reads the cells of the row
-abbrev pub is_reading_cells : Activity → Bool
-is_reading_cells LookCount = true
-is_reading_cells (Cell j) = true
-is_reading_cells CellKey = true
-is_reading_cells CellValue = true
-is_reading_cells _ = false
+-- the reader goes along the row's list, or reads what it remembers and did not meet there
+abbrev pub is_reading_list : Activity → Bool
+is_reading_list ListFrom = true
+is_reading_list ListKey = true
+is_reading_list ListVer = true
+is_reading_list ListVal = true
+is_reading_list RestKey = true
+is_reading_list RestVal = true
+is_reading_list _ = false
 
 -- while a reader looks at entries, what the call wants is as it was
 pub record LooksOn (l m : Local) : Type 0 where
   pub call : m.call ≡ l.call
   pub want : m.want ≡ l.want
   pub version : m.version ≡ l.version
-  pub stage : is_looking m.activity ≡ false → m.activity ≡ LookCount
+  pub stage : is_looking m.activity ≡ false → m.activity ≡ ListFrom
 
 -- a scan that wanted this key goes on with the next row, whose least key it then wants: it is above the one that it wanted and not above
 -- the range, and the keys of all pairs of this row are below it
@@ -56,13 +54,3 @@ HasReadAs _ want version m before after = Unit {0}
 -- the same, of the call of the local with which the reader came to the row
 abbrev pub HasRead : Local → Local → List (ℕ × ℕ) → List (ℕ × ℕ) → Type 0
 HasRead l m before after = HasReadAs l.call l.want l.version m before after
-
--- what follows from one event of a reader that reads cells: it goes on in the row, or has read the row to its end
-pub record Reads (l m : Local) (before after : List (ℕ × ℕ)) : Type 0 where
-  pub call : m.call ≡ l.call
-  pub version : m.version ≡ l.version
-  pub rows : ℕ
-  pub told : ℕ
-  pub line : m ≡ carried (next_of product rows Go l told).local
-  pub on : is_reading_cells m.activity ≡ true → (m.want ≡ l.want) × (after ≡ before)
-  pub ends : is_reading_cells m.activity ≡ false → HasRead l m before after

@@ -3,7 +3,7 @@ use Rattle.std.specs.Prelude.{◌≡◌, ◌⊎◌, true, Option}
 use Rattle.kw_model.specs.declared.call.Call.{Call}
 use Rattle.kw_world.specs.declared.activity.Activity.{Activity}
 use Rattle.kw_world.specs.declared.local.Local.{Local}
-use Rattle.kw_world.specs.Parts.{is_walking}
+use Rattle.kw_core.specs.Stages.{is_walking}
 use Rattle.kw_live.specs.Stages.{arrived}
 
 -- the walk is on its way, or has arrived

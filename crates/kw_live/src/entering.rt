@@ -37,7 +37,8 @@ pub fn enter(shared: &Shared, pass: &mut Pass, local: &mut Local, call: Call)
     ensures opens { Opens pass.old pass.new call }
     ensures held { held pass.new ≡ [] }
     ensures none { AsksNone pass.old pass.new }
-    ensures spent { is_scan (Some call) ≡ true → (clock : _) × MetClock pass.old pass.new clock × ((local.new.activity ≡ Activity.Leave Answer.Spent) ↔ (SPENT ≤ clock)) }
+    ensures spent { is_scan (Some call) ≡ true → (clock : _) × MetClock pass.old pass.new clock
+        × ((local.new.activity ≡ Activity.Leave Answer.Spent) ↔ (SPENT ≤ clock)) }
 {
     begin(shared, pass, local, call);
     go(shared, pass, local, Choice::Go);
@@ -59,7 +60,8 @@ fn draw(shared: &Shared, pass: &mut Pass, local: &mut Local)
     ensures calls { Keeps pass.old pass.new }
     ensures held { held pass.new ≡ held pass.old }
     ensures none { AsksNone pass.old pass.new }
-    ensures spent { (clock : _) × MetClock pass.old pass.new clock × ((local.new.activity ≡ Activity.Leave Answer.Spent) ↔ (SPENT ≤ clock)) }
+    ensures spent { (clock : _) × MetClock pass.old pass.new clock
+        × ((local.new.activity ≡ Activity.Leave Answer.Spent) ↔ (SPENT ≤ clock)) }
 {
     go(shared, pass, local, Choice::Go);
     if let Activity::ScanWait = local.activity {
@@ -75,8 +77,10 @@ pub fn end_scan(shared: &Shared, pass: &mut Pass, local: &mut Local)
     requires over { (answer : Answer) × (local.old.activity ≡ Activity.ClearScan answer) }
     ensures goes { GoesTo shared.now pass.old pass.new }
     ensures follows { Follows shared.now pass.new local.new }
-    ensures leaves { (answer : Answer) → activity_in pass.old ≡ Activity.ClearScan answer → activity_in pass.new ≡ Activity.Leave answer }
-    ensures activity { (answer : Answer) → local.old.activity ≡ Activity.ClearScan answer → local.new.activity ≡ Activity.Leave answer }
+    ensures leaves { (answer : Answer) → activity_in pass.old ≡ Activity.ClearScan answer →
+        activity_in pass.new ≡ Activity.Leave answer }
+    ensures activity { (answer : Answer) → local.old.activity ≡ Activity.ClearScan answer →
+        local.new.activity ≡ Activity.Leave answer }
     ensures calls { Keeps pass.old pass.new }
     ensures held { held pass.new ≡ held pass.old }
 {
@@ -87,7 +91,8 @@ pub fn end_scan(shared: &Shared, pass: &mut Pass, local: &mut Local)
 pub fn stop_scan(shared: &Shared, pass: &mut Pass, local: &mut Local)
     requires follows { Follows shared.now pass.old local.old }
     requires scan { is_scan local.old.call ≡ true }
-    requires stage { ((local.old.activity ≡ Activity.Walk) × (local.old.has_read ≡ true)) ⊎ ((answer : Answer) × (local.old.activity ≡ Activity.ClearScan answer)) }
+    requires stage { ((local.old.activity ≡ Activity.Walk) × (local.old.has_read ≡ true))
+        ⊎ ((answer : Answer) × (local.old.activity ≡ Activity.ClearScan answer)) }
     ensures goes { GoesTo shared.now pass.old pass.new }
     ensures follows { Follows shared.now pass.new local.new }
     ensures leaves { activity_in pass.new ≡ Activity.Leave Answer.Stopped }
@@ -110,7 +115,8 @@ pub fn leave(shared: &Shared, pass: &mut Pass, local: &mut Local) -> Reply
     ensures goes { GoesTo shared.now pass.old pass.new }
     ensures idle { activity_in pass.new ≡ Activity.Idle }
     ensures rests { local.new ≡ resting 0 }
-    ensures closes { (answer : Answer) → activity_in pass.old ≡ Activity.Leave answer → Closes pass.old pass.new (reply_of answer (held pass.old)) × (result ≡ reply_of answer []) }
+    ensures closes { (answer : Answer) → activity_in pass.old ≡ Activity.Leave answer →
+        Closes pass.old pass.new (reply_of answer (held pass.old)) × (result ≡ reply_of answer []) }
     ensures none { AsksNone pass.old pass.new }
 {
     end(shared, pass, local)

@@ -4,12 +4,11 @@
 //! seen go on, which of them it found what it answers by, and which pairs a scan has. Single events are `kw_follow`'s, whose `Local`
 //! follows the pass's seat; no call takes memory.
 //!
-//! `cells` has the events at the cells of a row; `entering` begins calls, gives a scan its version, and ends both; `walking` finds the row of a key;
-//! `putting` puts a cell into it, and `reading` reads it. Whoever stands above puts whole calls together from these, by their
+//! `entering` begins calls, gives a scan its version, and ends both; `walking` finds the row of a key; `putting` puts a cell into it, and
+//! `reading` reads it. Whoever stands above puts whole calls together from these, by their
 //! contracts, and knows no event.
 #![tactic(auto)]
 
-mod cells;
 mod entering;
 mod putting;
 mod reading;

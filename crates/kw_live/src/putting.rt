@@ -1,17 +1,16 @@
 //! The events of a put or a delete at its row.
 ghost use Rattle.std.specs.Prelude.{◌≡◌};
 ghost use Rattle.kw_words.specs.declared.sizes.TheConstants.{CELLS};
-ghost use Rattle.kw_table.specs.Passes.{view};
 ghost use Rattle.kw_follow.specs.Calling.{Keeps};
 ghost use Rattle.kw_follow.specs.Following.{Follows, GoesTo, held};
 ghost use Rattle.kw_live.specs.Meeting.{MetFull, MetRoom};
-ghost use Rattle.kw_live.specs.Putting.{Tried, is_putting, answer_of};
+ghost use Rattle.kw_live.specs.Putting.{Tried, answer_of};
 
-use kw_follow::go;
+use kw_core::stage::Stage;
+use kw_follow::go_put;
 use kw_table::{Pass, Shared};
 use kw_world::activity::Activity;
 use kw_world::answer::Answer;
-use kw_world::event::Choice;
 use kw_world::local::Local;
 
 /// How a put or a delete ended at its row.
@@ -39,29 +38,11 @@ pub fn try_put(shared: &Shared, pass: &mut Pass, local: &mut Local) -> TryPut
     ensures held { held pass.new ≡ held pass.old }
 {
     let row = local.row;
-    while is_putting(&local.activity) {
-        go(shared, pass, local, Choice::Go);
+    while Stage::of(&local.activity).is_putting() {
+        go_put(shared, pass, local);
     }
     match &local.activity {
         Activity::Leave(Answer::Done) => TryPut::Done,
         _ => TryPut::RowFull(row),
-    }
-}
-
-// Whether the put is at its row.
-pub(crate) fn is_putting(activity: &Activity) -> bool
-    ensures { result ≡ is_putting activity.now }
-{
-    match activity {
-        Activity::PutCount
-        | Activity::PutAdd
-        | Activity::PutKey
-        | Activity::PutValue
-        | Activity::Announce
-        | Activity::PutClock
-        | Activity::Stamp
-        | Activity::PutVersion
-        | Activity::PutClear => true,
-        _ => false,
     }
 }

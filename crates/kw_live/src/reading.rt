@@ -3,16 +3,16 @@ ghost use Rattle.std.specs.Prelude.{◌≡◌, All};
 ghost use Rattle.kw_words.specs.Plain.{IsValue};
 ghost use Rattle.kw_follow.specs.Calling.{Keeps};
 ghost use Rattle.kw_follow.specs.Following.{Follows, GoesTo, held};
-ghost use Rattle.kw_live.specs.Reading.{HasRead, LooksOn, is_looking, is_reading_cells};
+ghost use Rattle.kw_live.specs.Reading.{HasRead, LooksOn, is_looking, is_reading_list};
 
-use crate::cells::read;
-use kw_follow::go;
+use kw_follow::{go, go_read};
 use kw_table::{Pass, Shared};
 use kw_world::activity::Activity;
 use kw_world::event::Choice;
 use kw_world::local::Local;
 
-/// Reads the row that the call stands at: its entries first, helping the puts that it meets there, and then its cells.
+/// Reads the row that the call stands at: its entries first, helping the puts that it meets there, and then its list, and what it
+/// remembers of the entries and did not meet in the list.
 ///
 /// The call is a get or a scan that has arrived at its row. A get is then about to leave with what the newest cell of its key shows. A
 /// scan has the pairs of the row beside those that it had: those that the local's `gathered` cells show, from the key that it wanted on;
@@ -31,17 +31,17 @@ pub fn read_row(shared: &Shared, pass: &mut Pass, local: &mut Local)
     ensures calls { Keeps pass.old pass.new }
 {
     look_at_entries(shared, pass, local);
-    read_cells(shared, pass, local);
+    read_list(shared, pass, local);
 }
 
-// The looks at the entries. The reader then reads the count of the row's cells.
+// The looks at the entries. The reader then stands at the first link of the row's list.
 fn look_at_entries(shared: &Shared, pass: &mut Pass, local: &mut Local)
     requires follows { Follows shared.now pass.old local.old }
     requires activity { local.old.activity ≡ Activity.Look 0 }
     ensures goes { GoesTo shared.now pass.old pass.new }
     ensures follows { Follows shared.now pass.new local.new }
     ensures looks { LooksOn local.old local.new }
-    ensures activity { local.new.activity ≡ Activity.LookCount }
+    ensures activity { local.new.activity ≡ Activity.ListFrom }
     ensures calls { Keeps pass.old pass.new }
     ensures held { held pass.new ≡ held pass.old }
 {
@@ -50,10 +50,10 @@ fn look_at_entries(shared: &Shared, pass: &mut Pass, local: &mut Local)
     }
 }
 
-// The count and the cells of the row, to their end.
-fn read_cells(shared: &Shared, pass: &mut Pass, local: &mut Local)
+// The walk along the row's list, and what is left after it, to the end of the row.
+fn read_list(shared: &Shared, pass: &mut Pass, local: &mut Local)
     requires follows { Follows shared.now pass.old local.old }
-    requires activity { local.old.activity ≡ Activity.LookCount }
+    requires activity { local.old.activity ≡ Activity.ListFrom }
     ensures goes { GoesTo shared.now pass.old pass.new }
     ensures follows { Follows shared.now pass.new local.new }
     ensures call { local.new.call ≡ local.old.call }
@@ -61,13 +61,14 @@ fn read_cells(shared: &Shared, pass: &mut Pass, local: &mut Local)
     ensures read { HasRead local.old local.new (held pass.old) (held pass.new) }
     ensures calls { Keeps pass.old pass.new }
 {
-    while is_reading_cells(&local.activity) {
-        read(shared, pass, local);
+    while is_reading_list(&local.activity) {
+        go_read(shared, pass, local);
     }
 }
 
 // Whether the reader looks at the entries of the row.
-fn is_looking(activity: &Activity) -> bool
+#[inline(always)]
+pub(crate) fn is_looking(activity: &Activity) -> bool
     ensures { result ≡ is_looking activity.now }
 {
     match activity {
@@ -77,11 +78,17 @@ fn is_looking(activity: &Activity) -> bool
 }
 
 // Whether the reader reads the cells of the row.
-fn is_reading_cells(activity: &Activity) -> bool
-    ensures { result ≡ is_reading_cells activity.now }
+#[inline(always)]
+pub(crate) fn is_reading_list(activity: &Activity) -> bool
+    ensures { result ≡ is_reading_list activity.now }
 {
     match activity {
-        Activity::LookCount | Activity::Cell(_) | Activity::CellKey | Activity::CellValue => true,
+        Activity::ListFrom
+        | Activity::ListKey
+        | Activity::ListVer
+        | Activity::ListVal
+        | Activity::RestKey
+        | Activity::RestVal => true,
         _ => false,
     }
 }

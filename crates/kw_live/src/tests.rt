@@ -5,9 +5,9 @@ ghost use Rattle.kw_table.specs.Passes.{IsPassOf};
 ghost use Rattle.kw_follow.specs.Following.{Follows, activity_in};
 
 use super::*;
-use crate::putting::is_putting;
 use kw_cells::cell::next_pair;
-use kw_follow::go;
+use kw_core::stage::Stage;
+use kw_follow::{go, go_put};
 use kw_model::call::{Call, Reply};
 use kw_model::memory::Memory;
 use kw_model::pair_list::PairList;
@@ -36,7 +36,7 @@ fn begin_put(
     enter(shared, pass, &mut local, Call::Put(key, value));
     locate(shared, pass, &mut local, None);
     for _ in 0..events {
-        if !is_putting(&local.activity) {
+        if !Stage::of(&local.activity).is_putting() {
             return local;
         }
         go(shared, pass, &mut local, Choice::Go);
@@ -133,16 +133,50 @@ pub(crate) fn finish(shared: &Shared, pass: &mut Pass, local: Local) -> Option<R
     Some(leave(shared, pass, &mut local))
 }
 
-// Of the nine events of a put at its row the fifth announces its cell, and the seventh stamps it.
+// Of the twelve events of a put that is alone in its row the fifth announces its cell, the seventh stamps it, and the eleventh inserts it
+// in the row's list.
 #[test]
 fn a_get_helps_a_put_that_has_announced_its_cell(rt: HostRuntime) -> Result<(), Fail> {
-    for events in 0..9 {
+    for events in 0..12 {
         let value = if events < 5 {
             Reply::Absent
         } else {
             Reply::Value(50)
         };
         assert_eq!(rt; get_within_a_put(rt.alloc(), events)?, Some(value));
+    }
+    Ok(())
+}
+
+// A put of key 5 has made this many events at its row when another pass puts key 3, and then goes on. How many exchanges it lost, its reply,
+// and what a get of its key then finds.
+fn put_around_a_put(alloc: Global, events: u32) -> Result<Option<(u32, Reply, Reply)>, Memory> {
+    let (shared, mut passes) = Shared::open(alloc, 64, 2, 1, 1)?;
+    let (Some(mut first), Some(mut second)) = (passes.pop(), passes.pop()) else {
+        return Ok(None);
+    };
+    let mut local = begin_put(alloc, &shared, &mut first, 5, 50, events);
+    put(alloc, &shared, &mut second, 3, 30, None);
+    for _ in 0..20 {
+        if Stage::of(&local.activity).is_putting() {
+            go_put(&shared, &mut first, &mut local);
+        }
+    }
+    let Activity::Leave(_) = local.activity else {
+        return Ok(None);
+    };
+    let lost = local.lost;
+    let reply = leave(&shared, &mut first, &mut local);
+    Ok(Some((lost, reply, get(alloc, &shared, &mut second, 5, None))))
+}
+
+// A put has loaded its link with the ninth event, and exchanges it with the eleventh: where another one was there in between it loses.
+#[test]
+fn a_put_that_loses_its_insert_goes_again(rt: HostRuntime) -> Result<(), Fail> {
+    for events in 0..13 {
+        let lost = if events == 9 || events == 10 { 1 } else { 0 };
+        let wanted = (lost, Reply::Done, Reply::Value(50));
+        assert_eq!(rt; put_around_a_put(rt.alloc(), events)?, Some(wanted));
     }
     Ok(())
 }

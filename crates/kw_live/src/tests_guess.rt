@@ -11,6 +11,7 @@ use crate::entering::enter;
 use crate::tests::{finish, get, put, scan_row};
 use crate::walking::set_out;
 use kw_cells::cell::next_pair;
+use kw_core::stage::Stage;
 use kw_core::step::operation;
 use kw_follow::go;
 use kw_model::call::{Call, Reply};
@@ -46,7 +47,7 @@ fn kinds_after_guess(
     let mut kinds = Vec::new(alloc);
     set_out(shared, pass, local, guess);
     for _ in 0..ALL {
-        if !local.activity.is_walking() {
+        if !Stage::of(&local.activity).is_walking() {
             return Ok(kinds);
         }
         kinds.push(operation(pass.number(), local, Choice::Go).kind)?;

@@ -8,6 +8,7 @@ ghost use Rattle.kw_live.specs.Meeting.{AsksNone, BeginsWith};
 ghost use Rattle.kw_live.specs.Stages.{arrived, guessing};
 ghost use Rattle.kw_live.specs.Walking.{IsUnderWay, WalksOn};
 
+use kw_core::stage::Stage;
 use kw_follow::go;
 use kw_table::{Pass, Shared};
 use kw_world::activity::Activity;
@@ -30,7 +31,8 @@ pub fn locate(shared: &Shared, pass: &mut Pass, local: &mut Local, guess: Option
     ensures want { local.new.want ≡ local.old.want }
     ensures version { local.new.version ≡ local.old.version }
     ensures has_read { local.new.has_read ≡ local.old.has_read }
-    ensures guess { local.old.activity ≡ Activity.Start → BeginsWith pass.old pass.new (guessing guess) }
+    ensures guess { local.old.activity ≡ Activity.Start →
+        BeginsWith pass.old pass.new (guessing guess) }
     ensures calls { Keeps pass.old pass.new }
     ensures held { held pass.new ≡ held pass.old }
     ensures none { AsksNone pass.old pass.new }
@@ -78,7 +80,7 @@ fn walk(shared: &Shared, pass: &mut Pass, local: &mut Local)
     ensures held { held pass.new ≡ held pass.old }
     ensures none { AsksNone pass.old pass.new }
 {
-    while local.activity.is_walking() {
+    while Stage::of(&local.activity).is_walking() {
         go(shared, pass, local, Choice::Go);
     }
 }

@@ -1,11 +1,12 @@
 -- A call is made while its pass has lent its local: what is said of the pass without its local is said of the pass with it.
-use Rattle.std.proofs.Common.{ℕ, ◌≡◌, ◌<◌, ◌≤◌, ◌++◌, [], ◌∷◌, Some, List, Option, Result, Ok, Err, ap, subst, sym, ◌∙◌, length}
+use Rattle.std.proofs.Common.{ℕ, ◌≡◌, ◌<◌, ◌≤◌, ◌++◌, [], ◌∷◌, Some, Option, Result, Ok, Err, ap, subst, sym, take, ◌∙◌, length}
 use Rattle.std.specs.Prelude.{MatchResult}
 use mathlib.Core.List.{IsPrefix}
 use Rattle.kw_words.specs.declared.sizes.TheConstants.{CELLS}
 use Rattle.kw_model.specs.declared.call.Call.{Call}
 use Rattle.kw_model.specs.declared.call.Call.TheVariants.{Scan}
 use Rattle.kw_model.specs.declared.call.Reply.{Reply}
+use Rattle.kw_model.specs.Map.{Pairs}
 use Rattle.kw_world.specs.declared.activity.Activity.{Activity}
 use Rattle.kw_world.specs.declared.activity.Activity.TheVariants.{Idle}
 use Rattle.kw_world.specs.declared.event.Choice.{Choice}
@@ -27,8 +28,7 @@ use Rattle.kw_live.specs.Meeting.{MetCount, MetFull, MetRoom}
 use Rattle.kw_map.specs.declared.kiwi.PutEnd.{PutEnd}
 use Rattle.kw_map.specs.declared.kiwi.ScanEnd.{ScanEnd}
 use Rattle.kw_map.specs.declared.kiwi.ScanEnd.TheVariants.{Stopped, Spent}
-use Rattle.kw_map.specs.Gather.{TakesPrefix}
-use Rattle.kw_map.specs.Kiwi.{Answers, Took}
+use Rattle.kw_map.specs.Kiwi.{AnswersScan, ScanGave}
 use Rattle.kw_map.specs.Scanning.{StoppedAt, knew}
 
 -- it is one of the table
@@ -77,8 +77,8 @@ module _ (p q r t : Pass) (lent : view q ≡ view p) (given : view t ≡ view r)
   cause_lent (Err end) m = record { activity = m.activity; at = m.at; given = m.given; met = count_lent m.met; full = m.full }
 
   -- the gatherer of its scan stopped
-  stopped_lent : {S : Type 0} (last : S → Option ℕ) (stands : S → List (ℕ × ℕ) → Type 0) (call : Option Call) (old new : S) → StoppedAt last stands q r call old new → StoppedAt last stands p t call old new
-  stopped_lent last stands call old new m =
+  stopped_lent : (Took : Pairs → Type 0) (call : Option Call) → StoppedAt Took q r call → StoppedAt Took p t call
+  stopped_lent Took call m =
       let e : knew q m.front ≡ knew p m.front = ap (λ (v : View). local_of (world product v.opening m.front) v.number) lent in
       record {
         front = m.front;
@@ -87,21 +87,21 @@ module _ (p q r t : Pass) (lent : view q ≡ view p) (given : view t ≡ view r)
         asks = subst (λ (k : Local). k.call ≡ call) e m.asks;
         bound = m.bound;
         covers = subst (λ (v : View). IsDrawnCover (history product v.opening m.front) v.number (local_of (world product v.opening m.front) v.number) m.bound (local_of (world product v.opening m.front) v.number).pairs) lent m.covers;
-        took = subst (λ (k : Local). TakesPrefix last stands old k.pairs new) e m.took;
+        took = subst (λ (k : Local). (n : ℕ) × Took (take n k.pairs)) e m.took;
       }
 
   -- its scan was answered
-  pub answers_lent : {S : Type 0} (last : S → Option ℕ) (stands : S → List (ℕ × ℕ) → Type 0) (stops : S → ℕ) (from upto : ℕ) (old new : S) (result : Result Unit ScanEnd) → Answers last stands stops q r from upto old new result → Answers last stands stops p t from upto old new result
-  answers_lent {S} last stands stops from upto old new result a = record {
+  pub answers_lent : (Took : Pairs → Type 0) (Counted Same : Type 0) (from upto : ℕ) (result : Result Unit ScanEnd) → AnswersScan Took Counted Same q r from upto result → AnswersScan Took Counted Same p t from upto result
+  answers_lent Took Counted Same from upto result a = record {
     reply = a.reply;
     calls = calls_lent a.calls;
-    took = took result a.took;
+    gave = gave result a.gave;
     clock = a.clock;
     met = record { met = met_lent a.met.met };
     spent = a.spent;
   }
     where
-      took : (x : Result Unit ScanEnd) → Took last stands stops q r (Scan from upto) old new a.reply x → Took last stands stops p t (Scan from upto) old new a.reply x
-      took (Ok done) k = k
-      took (Err Stopped) k = (k.0, k.1, stopped_lent last stands (Some (Scan from upto)) old new k.2)
-      took (Err Spent) k = k
+      gave : (x : Result Unit ScanEnd) → ScanGave Took Counted Same q r (Scan from upto) a.reply x → ScanGave Took Counted Same p t (Scan from upto) a.reply x
+      gave (Ok done) k = k
+      gave (Err Stopped) k = (k.0, k.1, stopped_lent Took (Some (Scan from upto)) k.2)
+      gave (Err Spent) k = k

@@ -3,7 +3,7 @@ use Rattle.std.proofs.Common.{ℕ, ◌≡◌, ◌<◌, ◌≤◌, ◌+◌, ◌-�
 use Rattle.std.specs.Prelude.{All}
 use Rattle.std.proofs.lemmas.List.Elements.{All-tail}
 use Rattle.std.proofs.Math.Seq.{take-append-add}
-use Rattle.kw_io.specs.Counts.{CountRose}
+use Rattle.kw_model.specs.Counts.{CountRose}
 use Rattle.kw_cells.specs.Cells.{pairs_of}
 use Rattle.kw_model.specs.Map.{Pairs}
 use Rattle.kw_model.specs.declared.call.Call.{Call}
@@ -12,7 +12,7 @@ use Rattle.kw_world.specs.declared.answer.Answer.TheVariants as answer
 use Rattle.kw_world.specs.declared.activity.Activity.TheVariants.{ClearScan}
 use Rattle.kw_world.specs.declared.local.Local.{Local}
 use Rattle.kw_world.specs.declared.opening.Opening.{Opening}
-use Rattle.kw_world.specs.Parts.{is_walking}
+use Rattle.kw_core.specs.Stages.{is_walking}
 use Rattle.kw_world.specs.Sizes.{product}
 use Rattle.kw_core.specs.Events.{local_of, world}
 use Rattle.kw_core.specs.Run.{history}
@@ -108,9 +108,9 @@ covers_so_far s r l want upto version scan follows stage = at stage
     at (inr e) = (asked.last_key (local_in (view r)).call + 1, laws.covered (view r).number (local_in (view r)) (stands r) is_a_scan (same_activity s r l follows ∙ e))
 
 -- a scan that stops where the gatherer did
-pub stopped_here : {S : Type 0} (last : S → Option ℕ) (stands_for : S → Pairs → Type 0) (s : Shared) (o r q : Pass) (l : Local) (call : Option Call) (old new : S) (want upto version : ℕ) → GoesTo s o r → GoesTo s r q
-    → Follows s r l → l.call ≡ call → (from : ℕ) × (l.call ≡ Some (Scan from upto)) → GoesOn want upto version l ⊎ (l.activity ≡ ClearScan answer.Pairs) → TakesPrefix last stands_for old (held r) new → StoppedAt last stands_for o q call old new
-stopped_here last stands_for s o r q l call old new want upto version before after follows is scan stage took =
+pub stopped_here : (Took : Pairs → Type 0) (s : Shared) (o r q : Pass) (l : Local) (call : Option Call) (want upto version : ℕ) → GoesTo s o r → GoesTo s r q
+    → Follows s r l → l.call ≡ call → (from : ℕ) × (l.call ≡ Some (Scan from upto)) → GoesOn want upto version l ⊎ (l.activity ≡ ClearScan answer.Pairs) → (n : ℕ) × Took (take n (held r)) → StoppedAt Took o q call
+stopped_here Took s o r q l call want upto version before after follows is scan stage took =
     let e = knew_then s o r before in
     let cover = covers_so_far s r l want upto version scan follows stage in
     record {
@@ -122,12 +122,12 @@ stopped_here last stands_for s o r q l call old new want upto version before aft
       later = before.seen;
       here = after.seen;
       asks = ap (λ (k : Local). k.call) e ∙ (sym (ap (λ (k : Local). k.call) follows.carries) ∙ is);
-      took = subst (λ (ps : Pairs). TakesPrefix last stands_for old ps new) (sym (ap (λ (k : Local). k.pairs) e)) took;
+      took = subst (λ (ps : Pairs). (n : ℕ) × Took (take n ps)) (sym (ap (λ (k : Local). k.pairs) e)) took;
     }
 
 -- what happened in the middle happened in the whole
-pub stopped_within : {S : Type 0} (last : S → Option ℕ) (stands : S → Pairs → Type 0) (s : Shared) (p q r t : Pass) (call : Option Call) (old new : S) → GoesTo s p q → GoesTo s r t → StoppedAt last stands q r call old new → StoppedAt last stands p t call old new
-stopped_within last stands s p q r t call old new before after stopped =
+pub stopped_within : (Took : Pairs → Type 0) (s : Shared) (p q r t : Pass) (call : Option Call) → GoesTo s p q → GoesTo s r t → StoppedAt Took q r call → StoppedAt Took p t call
+stopped_within Took s p q r t call before after stopped =
     let e : knew q stopped.front ≡ knew p stopped.front =
     ap (λ n. local_of (world product (view q).opening stopped.front) n) before.number
     ∙ ap (λ (x : Opening). local_of (world product x stopped.front) (view p).number) before.opening in
@@ -140,5 +140,5 @@ stopped_within last stands s p q r t call old new before after stopped =
       covers = subst (λ (k : Local). IsDrawnCover (history product (view p).opening stopped.front) (view p).number k stopped.bound k.pairs) e
           (subst (λ n. IsDrawnCover (history product (view p).opening stopped.front) n (knew q stopped.front) stopped.bound (knew q stopped.front).pairs) before.number
           (subst (λ (x : Opening). IsDrawnCover (history product x stopped.front) (view q).number (knew q stopped.front) stopped.bound (knew q stopped.front).pairs) before.opening stopped.covers));
-      took = subst (λ (ps : Pairs). TakesPrefix last stands old ps new) (ap (λ (k : Local). k.pairs) e) stopped.took;
+      took = subst (λ (ps : Pairs). (n : ℕ) × Took (take n ps)) (ap (λ (k : Local). k.pairs) e) stopped.took;
     }

@@ -3,7 +3,7 @@ use Rattle.std.proofs.Common.{ℕ, ◌≡◌, ◌≤◌, ◌+◌, ◌++◌, [], 
 use Rattle.std.proofs.lemmas.List.{take-append-le}
 use Rattle.std.proofs.Math.Seq.{take-length}
 use Rattle.kw_model.specs.Map.{Pairs}
-use Rattle.kw_map.specs.Gather.{last_key, IsBelow, Takes, TakesPrefix, Keeps}
+use Rattle.kw_map.specs.Gather.{last_key, IsBelow, Takes, TakesPrefix, StandsAsBefore}
 
 -- the last key of pairs behind others
 pub last_key-append : (before : Option ℕ) (ps qs : Pairs) → last_key before (ps ++ qs) ≡ last_key (last_key before ps) qs
@@ -36,7 +36,7 @@ taken_below last stands a b key value t = λ x e.
     omega arith
 
 -- pairs stay taken where the gatherer stays as it is
-pub Takes-kept : {S : Type 0} (last : S → Option ℕ) (stands : S → Pairs → Type 0) (a b c : S) (ps : Pairs) → Takes last stands a ps b → Keeps last stands b c → Takes last stands a ps c
+pub Takes-kept : {S : Type 0} (last : S → Option ℕ) (stands : S → Pairs → Type 0) (a b c : S) (ps : Pairs) → Takes last stands a ps b → StandsAsBefore last stands b c → Takes last stands a ps c
 Takes-kept last stands a b c ps t k = record {
   last_is = k.same_last ∙ t.last_is;
   follows = λ list h. (k.same_lists (list ++ ps)).1 (t.follows list h);
@@ -67,7 +67,7 @@ handing_end last stands a b all left h e =
     subst (λ (ps : Pairs). Takes last stands a ps b) whole h.takes
 
 -- where the gatherer stops, the first of the pairs were taken
-pub handing_stop : {S : Type 0} (last : S → Option ℕ) (stands : S → Pairs → Type 0) (a b c : S) (all left : Pairs) → IsHanding last stands a b all left → Keeps last stands b c → TakesPrefix last stands a all c
+pub handing_stop : {S : Type 0} (last : S → Option ℕ) (stands : S → Pairs → Type 0) (a b c : S) (all left : Pairs) → IsHanding last stands a b all left → StandsAsBefore last stands b c → TakesPrefix last stands a all c
 handing_stop last stands a b c all left h k =
     let within : length h.done ≤ length h.done = omega arith in
     let first : take (length h.done) (h.done ++ left) ≡ h.done = rw take-append-le (take-length h.done) in

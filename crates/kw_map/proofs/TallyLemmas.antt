@@ -6,7 +6,7 @@ use Rattle.std.proofs.lemmas.List.Elements.{All-append}
 use Rattle.std.proofs.lemmas.List.Sums.{fold-append, sum-map, sum_by_push}
 use Rattle.kw_words.specs.declared.sizes.TheConstants.{VALUE_END}
 use Rattle.kw_model.specs.Map.{Pairs, RisesFrom}
-use Rattle.kw_line.specs.Answered.{values, least, greatest}
+use Rattle.kw_model.specs.Values.{values, least, greatest}
 use Rattle.kw_map.specs.Gather.{last_key, IsBelow, Takes}
 use Rattle.kw_map.specs.GatherNumbers.{Tally, IsTallyOf, Sums, Counts, HaveLeast, HaveGreatest}
 use Rattle.kw_map.proofs.TakeLemmas.{last_key-append}

@@ -24,6 +24,6 @@ abbrev pub TakesPrefix : {S : Type 0} → (S → Option ℕ) → (S → Pairs �
 TakesPrefix last stands old pairs new = (n : ℕ) × Takes last stands old (take n pairs) new
 
 -- it has the last key that it had, and stands for the lists for which it stood
-pub record Keeps {S : Type 0} (last : S → Option ℕ) (stands : S → Pairs → Type 0) (old new : S) : Type 0 where
+pub record StandsAsBefore {S : Type 0} (last : S → Option ℕ) (stands : S → Pairs → Type 0) (old new : S) : Type 0 where
   pub same_last : last new ≡ last old
   pub same_lists : (list : Pairs) → stands new list ↔ stands old list

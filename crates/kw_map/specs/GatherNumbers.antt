@@ -2,7 +2,7 @@
 use Rattle.std.specs.Prelude.{ℕ, ◌≡◌, ◌+◌, ◌<◌, All, length, sum, Option, Some, None}
 use Rattle.kw_words.specs.declared.sizes.TheConstants.{VALUE_END}
 use Rattle.kw_model.specs.Map.{Pairs, IsRising}
-use Rattle.kw_line.specs.Answered.{values, least, greatest}
+use Rattle.kw_model.specs.Values.{values, least, greatest}
 use Rattle.kw_map.specs.Gather.{last_key}
 
 -- what such a gatherer knows: the last key taken, or none, and its number

@@ -1,11 +1,11 @@
 -- What the calls of the map say of a pass: that it is idle, how its calls go on, and that what it has seen has a legal order.
-use Rattle.std.specs.Prelude.{◌≡◌, ◌↔◌, ℕ, ◌≤◌, true, Option, Some, List, ◌++◌, Result, Ok, Err}
-use Rattle.kw_io.specs.Counts.{CountRose}
+use Rattle.std.specs.Prelude.{◌≡◌, ◌↔◌, ℕ, ◌≤◌, true, Some, List, ◌++◌, Result, Ok, Err}
 use Rattle.kw_words.specs.declared.sizes.TheConstants.{SPENT}
 use Rattle.kw_model.specs.declared.call.Call.{Call}
 use Rattle.kw_model.specs.declared.call.Call.TheVariants.{Scan}
 use Rattle.kw_model.specs.declared.call.Reply.{Reply}
 use Rattle.kw_model.specs.declared.call.Reply.TheVariants as reply
+use Rattle.kw_model.specs.Map.{Pairs}
 use Rattle.kw_world.specs.declared.activity.Activity.TheVariants.{Idle}
 use Rattle.kw_world.specs.declared.event.Event.{Event}
 use Rattle.kw_world.specs.declared.opening.Opening.{Opening}
@@ -28,7 +28,6 @@ use Rattle.kw_map.specs.declared.kiwi.PutEnd.{PutEnd}
 use Rattle.kw_map.specs.declared.kiwi.PutEnd.TheVariants.{NoRows}
 use Rattle.kw_map.specs.declared.kiwi.ScanEnd.{ScanEnd}
 use Rattle.kw_map.specs.declared.kiwi.ScanEnd.TheVariants.{Stopped, Spent}
-use Rattle.kw_map.specs.Gather.{Takes}
 use Rattle.kw_map.specs.Scanning.{StoppedAt}
 
 -- the pass is one of the map, makes no call, and has its local with it
@@ -55,17 +54,18 @@ pub record IsOrdered (v : View) : Type 0 where
   pub legal : (xs : List ℕ) → IsOrder (happened v.opening v.seen) xs → IsLegalOrder (happened v.opening v.seen) xs
   pub later : (events : List Event) → is_valid product v.opening (v.seen ++ events) ≡ true → GivesTops (happened v.opening v.seen) (happened v.opening (v.seen ++ events))
 
--- how a scan ended, what it replied, and what the gatherer took
-abbrev pub Took : {S : Type 0} → (S → Option ℕ) → (S → List (ℕ × ℕ) → Type 0) → (S → ℕ) → Pass → Pass → Call → S → S → Reply → Result Unit ScanEnd → Type 0
-Took last stands stops p q call old new answer (Ok done) = (pairs : List (ℕ × ℕ)) × (answer ≡ reply.Pairs pairs) × Takes last stands old pairs new
-Took last stands stops p q call old new answer (Err Stopped) = (answer ≡ reply.Stopped) × CountRose (stops old) (stops new) × StoppedAt last stands p q (Some call) old new
-Took last stands stops p q call old new answer (Err Spent) = (answer ≡ reply.Spent) × (new ≡ old)
+-- how a scan ended and what it replied, where the gatherer may have taken pairs, counted a stop, or be as it was
+abbrev pub ScanGave : (Pairs → Type 0) → Type 0 → Type 0 → Pass → Pass → Call → Reply → Result Unit ScanEnd → Type 0
+ScanGave Took Counted Same p q call answer (Ok done) = (pairs : Pairs) × (answer ≡ reply.Pairs pairs) × Took pairs
+ScanGave Took Counted Same p q call answer (Err Stopped) = (answer ≡ reply.Stopped) × Counted × StoppedAt Took p q (Some call)
+ScanGave Took Counted Same p q call answer (Err Spent) = (answer ≡ reply.Spent) × Same
 
--- the scan is the pass's next call, and has ended with what it answered
-pub record Answers {S : Type 0} (last : S → Option ℕ) (stands : S → List (ℕ × ℕ) → Type 0) (stops : S → ℕ) (p q : Pass) (from upto : ℕ) (old new : S) (result : Result Unit ScanEnd) : Type 0 where
+-- the scan is the pass's next call, and has ended with what it answered; Took, Counted and Same say what its gatherer did in it: that it took
+-- these pairs, that it counted a stop, and that it is as it was
+pub record AnswersScan (Took : Pairs → Type 0) (Counted Same : Type 0) (p q : Pass) (from upto : ℕ) (result : Result Unit ScanEnd) : Type 0 where
   pub reply : Reply
   pub calls : Calls p q (Scan from upto) reply
-  pub took : Took last stands stops p q (Scan from upto) old new reply result
+  pub gave : ScanGave Took Counted Same p q (Scan from upto) reply result
   pub clock : ℕ
   pub met : MetClock p q clock
   pub spent : (result ≡ Err Spent) ↔ (SPENT ≤ clock)

@@ -1,5 +1,5 @@
 -- Where a scan stands between its rows, and what it took when it stopped.
-use Rattle.std.specs.Prelude.{◌≡◌, ◌⊎◌, ℕ, Option, List}
+use Rattle.std.specs.Prelude.{◌≡◌, ◌⊎◌, ℕ, Option, List, take}
 use mathlib.Core.List.{IsPrefix}
 use Rattle.kw_model.specs.declared.call.Call.{Call}
 use Rattle.kw_world.specs.declared.answer.Answer.TheVariants.{Pairs}
@@ -13,7 +13,7 @@ use Rattle.kw_laws.specs.Laws.{IsDrawnCover}
 use Rattle.kw_core.specs.Stages.{IsGoing}
 use Rattle.kw_table.specs.declared.pass.Pass.{Pass}
 use Rattle.kw_table.specs.Passes.{view}
-use Rattle.kw_map.specs.Gather.{IsBelow, TakesPrefix}
+use Rattle.kw_map.specs.Gather.{IsBelow}
 
 -- the scan is on its way to the row of the key that it wants, and the gatherer took no key from there on; or it has all its pairs
 abbrev pub IsBetween : {S : Type 0} → (S → Option ℕ) → S → Local → Type 0
@@ -28,12 +28,12 @@ abbrev pub had : Pass → List Event → List (ℕ × ℕ)
 had p es = (knew p es).pairs
 
 -- the gatherer of this call stopped: after some events the seat was in the middle of the call and had the pairs of its range at the version
--- that it drew, up to some key; of these the gatherer took the first ones
-pub record StoppedAt {S : Type 0} (last : S → Option ℕ) (stands : S → List (ℕ × ℕ) → Type 0) (p q : Pass) (call : Option Call) (old new : S) : Type 0 where
+-- that it drew, up to some key; of these the gatherer took the first ones, where Took says that it took these pairs
+pub record StoppedAt (Took : List (ℕ × ℕ) → Type 0) (p q : Pass) (call : Option Call) : Type 0 where
   pub front : List Event
   pub later : IsPrefix (view p).seen front
   pub here : IsPrefix front (view q).seen
   pub asks : (knew p front).call ≡ call
   pub bound : ℕ
   pub covers : IsDrawnCover (history product (view p).opening front) (view p).number (knew p front) bound (had p front)
-  pub took : TakesPrefix last stands old (had p front) new
+  pub took : (n : ℕ) × Took (take n (had p front))

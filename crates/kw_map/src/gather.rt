@@ -5,13 +5,14 @@
 //! implement it for whatever a range is asked for. `take_pairs` hands over the pairs of one row; it must go by rising key, for that is
 //! the condition of `take`.
 ghost use Rattle.std.specs.Prelude.{ℕ, ◌≡◌, ◌^◌, ◌<◌, ◌≤◌, List, [], ◌∷◌, Option, All, OnOk, OnErr, Some, codes};
-ghost use Rattle.kw_io.specs.Counts.{CountRose};
+ghost use Rattle.kw_model.specs.Counts.{CountRose};
 ghost use Rattle.kw_words.specs.declared.sizes.TheConstants.{VALUE_END};
 ghost use Rattle.kw_words.specs.Plain.{IsValue};
 ghost use Rattle.kw_cells.specs.Cells.{pairs_of};
-ghost use Rattle.kw_map.specs.Gather.{IsBelow, Takes, TakesPrefix, Keeps};
+ghost use Rattle.kw_map.specs.Gather.{IsBelow, StandsAsBefore, Takes, TakesPrefix};
 
-use kw_cells::cell::{Cell, next_pair};
+use kw_cells::in_order::next_in_order;
+use kw_world::gathered::Gathered;
 use std::error::Error;
 use std::fmt;
 
@@ -51,19 +52,20 @@ pub trait Gather {
         requires value { value < VALUE_END }
         ensures taken { OnOk result (Takes last stands self.old ((key, value) ∷ []) self.new) }
         ensures stopped { OnErr result (CountRose (stops self.old) (stops self.new)) }
-        ensures kept { OnErr result (Keeps last stands self.old self.new) }
+        ensures kept { OnErr result (StandsAsBefore last stands self.old self.new) }
         ensures never_falls { stops self.old ≤ stops self.new }
         ensures count_fits { stops self.new < 2 ^ 64 };
 }
 
 /// Hands over the pairs that the cells show at this version in the range from `from` to `upto`, both included, by rising key.
 ///
+/// The cells stand in the order of a row's list, so that each is looked at once.
 /// The gatherer has taken no key from `from` on, and the values of the cells are below `VALUE_END`. `Stop` comes only where the
 /// gatherer stopped in this call; it has then taken the first of the pairs, up to some one. Either way it can go on with a later range.
 /// Takes no memory.
 pub fn take_pairs<G: Gather>(
     into: &mut G,
-    cells: &[Cell],
+    cells: &Gathered,
     from: u32,
     upto: u32,
     version: u64,
@@ -80,8 +82,10 @@ pub fn take_pairs<G: Gather>(
     // what a later range needs: each key that was taken lies in this one
     ensures later { (next : ℕ) → from ≤ next → upto < next → IsBelow (G.last into.new) next }
 {
+    let list = cells.as_slice();
     let mut low = from;
-    while let Some((key, value)) = next_pair(cells, low, upto, version) {
+    let mut at = 0;
+    while let Some((key, value)) = next_in_order(list, &mut at, low, upto, version) {
         into.take(key, value)?;
         if key == upto {
             return Ok(());

@@ -5,7 +5,7 @@
 //! of them takes memory, and none ever stops: its count of stops is always 0. That no number passes the end of its type rests on the
 //! last key: there are no more pairs than keys up to it.
 ghost use Rattle.std.specs.Prelude.{◌≡◌, ℕ, List, [], None, sum, length};
-ghost use Rattle.kw_line.specs.Answered.{values, least, greatest};
+ghost use Rattle.kw_model.specs.Values.{values, least, greatest};
 ghost use Rattle.kw_map.specs.GatherNumbers.{Sums, Counts, HaveLeast, HaveGreatest};
 
 use crate::gather::{Gather, Stop};
@@ -155,7 +155,8 @@ impl LeastGather {
     /// The least value of the pairs, or None where there are none.
     pub fn least(&self) -> Option<u64>
         ensures kept { result ≡ self.now.number }
-        ensures least { (list : List (ℕ × ℕ)) → HaveLeast self.now list → result ≡ least (values list) }
+        ensures least { (list : List (ℕ × ℕ)) → HaveLeast self.now list →
+            result ≡ least (values list) }
     {
         self.least
     }
@@ -208,7 +209,8 @@ impl GreatestGather {
     /// The greatest value of the pairs, or None where there are none.
     pub fn greatest(&self) -> Option<u64>
         ensures kept { result ≡ self.now.number }
-        ensures greatest { (list : List (ℕ × ℕ)) → HaveGreatest self.now list → result ≡ greatest (values list) }
+        ensures greatest { (list : List (ℕ × ℕ)) → HaveGreatest self.now list →
+            result ≡ greatest (values list) }
     {
         self.greatest
     }

@@ -11,15 +11,16 @@ ghost use Rattle.kw_core.specs.Stages.{is_put};
 ghost use Rattle.kw_world.specs.Local.{resting};
 ghost use Rattle.kw_world.specs.Opening.{IsOpening};
 ghost use Rattle.kw_world.specs.Sizes.{product};
+ghost use Rattle.kw_model.specs.Counts.{CountRose};
 ghost use Rattle.kw_model.specs.Map.{found};
-ghost use Rattle.kw_table.specs.Meetings.{AtEach, Gathers, front_seen};
+ghost use Rattle.kw_table.specs.Meetings.{AtEach, MeetsAt, front_seen};
 ghost use Rattle.kw_table.specs.Passes.{IsFresh, IsPassOf, view};
 ghost use Rattle.kw_table.specs.Views.{Meets};
 ghost use Rattle.kw_follow.specs.Calling.{Calls};
 ghost use Rattle.kw_follow.specs.Following.{GoesTo, activity_in};
 ghost use Rattle.kw_live.specs.Meeting.{MetFull, MetRoom};
-ghost use Rattle.kw_map.specs.Gather.{IsBelow};
-ghost use Rattle.kw_map.specs.Kiwi.{IsIdle, IsOrdered, Answers, put_reply};
+ghost use Rattle.kw_map.specs.Gather.{IsBelow, Takes};
+ghost use Rattle.kw_map.specs.Kiwi.{AnswersScan, IsIdle, IsOrdered, put_reply};
 
 use crate::gather::{Gather, Stop};
 use crate::scanning::gather_rows;
@@ -36,7 +37,7 @@ use thiserror::Error;
 /// Why a put or a delete changed nothing.
 #[derive(Clone, Copy, Debug, Error, PartialEq, Eq)]
 pub enum PutEnd {
-    /// The row of the key has given all its cells.
+    /// The row of the key has given all its cells. For now no row is rebalanced, so this lasts.
     #[error("no rows are left")]
     NoRows,
 }
@@ -63,10 +64,13 @@ impl Kiwi {
     ///
     /// There are 1 to `MOST_ROWS` rows and 1 to `SEATS` passes. All memory of the map is taken here, and the only error is the want of it.
     pub fn open(alloc: Global, rows: u32, passes: u32) -> Result<(Kiwi, Vec<Pass>), Memory>
-        requires { IsOpening product (record { rows = rows; seats = passes; clock = 1; epoch = 1 }) }
-        ensures opening { IfOk result (λ made. made.0.shared.opening ≡ record { rows = rows; seats = passes; clock = 1; epoch = 1 }) }
+        requires { IsOpening product
+            (record { rows = rows; seats = passes; clock = 1; epoch = 1 }) }
+        ensures opening { IfOk result (λ made. made.0.shared.opening
+            ≡ record { rows = rows; seats = passes; clock = 1; epoch = 1 }) }
         ensures len { IfOk result (λ made. vec_len made.1 ≡ passes) }
-        ensures each { IfOk result (λ made. (i : ℕ) (d : _) → i < vec_len made.1 → IsFresh made.0.shared i (slice_index_or made.1.items i d)) }
+        ensures each { IfOk result (λ made. (i : ℕ) (d : _) → i < vec_len made.1 →
+            IsFresh made.0.shared i (slice_index_or made.1.items i d)) }
         ensures idle { IfOk result (λ made. All (IsIdle made.0) made.1.items) }
     {
         Kiwi::open_at(alloc, rows, passes, 1, 1)
@@ -80,10 +84,13 @@ impl Kiwi {
         clock: u64,
         epoch: u64,
     ) -> Result<(Kiwi, Vec<Pass>), Memory>
-        requires { IsOpening product (record { rows = rows; seats = passes; clock = clock; epoch = epoch }) }
-        ensures opening { IfOk result (λ made. made.0.shared.opening ≡ record { rows = rows; seats = passes; clock = clock; epoch = epoch }) }
+        requires { IsOpening product
+            (record { rows = rows; seats = passes; clock = clock; epoch = epoch }) }
+        ensures opening { IfOk result (λ made. made.0.shared.opening
+            ≡ record { rows = rows; seats = passes; clock = clock; epoch = epoch }) }
         ensures len { IfOk result (λ made. vec_len made.1 ≡ passes) }
-        ensures each { IfOk result (λ made. (i : ℕ) (d : _) → i < vec_len made.1 → IsFresh made.0.shared i (slice_index_or made.1.items i d)) }
+        ensures each { IfOk result (λ made. (i : ℕ) (d : _) → i < vec_len made.1 →
+            IsFresh made.0.shared i (slice_index_or made.1.items i d)) }
         ensures idle { IfOk result (λ made. All (IsIdle made.0) made.1.items) }
     {
         let (shared, passes) = Shared::open(alloc, rows, passes, clock, epoch)?;
@@ -117,7 +124,8 @@ impl Kiwi {
         ensures idle { IsIdle self.now pass.new }
         ensures goes { GoesTo self.now.shared pass.old pass.new }
         ensures calls { Calls pass.old pass.new (Call.Put key value) (put_reply result) }
-        ensures cause { MatchResult result (λ done. MetRoom CELLS pass.old pass.new) (λ end. MetFull CELLS pass.old pass.new) }
+        ensures cause { MatchResult result
+            (λ done. MetRoom CELLS pass.old pass.new) (λ end. MetFull CELLS pass.old pass.new) }
         ensures ordered { IsOrdered (view pass.new) }
     {
         self.update(rt, pass, Call::Put(key, value))
@@ -129,18 +137,19 @@ impl Kiwi {
         ensures idle { IsIdle self.now pass.new }
         ensures goes { GoesTo self.now.shared pass.old pass.new }
         ensures calls { Calls pass.old pass.new (Call.Del key) (put_reply result) }
-        ensures cause { MatchResult result (λ done. MetRoom CELLS pass.old pass.new) (λ end. MetFull CELLS pass.old pass.new) }
+        ensures cause { MatchResult result
+            (λ done. MetRoom CELLS pass.old pass.new) (λ end. MetFull CELLS pass.old pass.new) }
         ensures ordered { IsOrdered (view pass.new) }
     {
         self.update(rt, pass, Call::Del(key))
     }
 
-    /// Gathers the pairs of a range, both ends included, as they stood at one moment, by rising key.
+    /// MeetsAt the pairs of a range, both ends included, as they stood at one moment, by rising key.
     ///
     /// The pass is one of this map and idle, as it is afterwards, and the last key that the gatherer took, if there is one, is below
     /// `from`. After `Ok` it took just the pairs of the range. `Stopped` comes only where the gatherer stopped in this call; it took the first
-    /// of the pairs of the range at the version that it drew. `Spent` comes exactly where the clock that this call loaded first was at `SPENT` or above; nothing was taken. A range
-    /// with `from` above `to` has no keys. The scan takes no memory of its own and never waits.
+    /// of the pairs of the range at the version that it drew. `Spent` comes exactly where the clock that this call loaded first was at
+    /// `SPENT` or above; nothing was taken. A range with `from` above `to` has no keys. The scan takes no memory of its own and never waits.
     pub fn scan<G: Gather>(
         &self,
         pass: &mut Pass,
@@ -152,7 +161,9 @@ impl Kiwi {
         requires above { IsBelow (G.last into.old) from }
         ensures idle { IsIdle self.now pass.new }
         ensures goes { GoesTo self.now.shared pass.old pass.new }
-        ensures answers { Answers G.last G.stands G.stops pass.old pass.new from to into.old into.new result }
+        ensures answers { AnswersScan (λ pairs. Takes G.last G.stands into.old pairs into.new)
+            (CountRose (G.stops into.old) (G.stops into.new)) (into.new ≡ into.old)
+            pass.old pass.new from to result }
         ensures ordered { IsOrdered (view pass.new) }
     {
         let mut local = pass.lend();
@@ -169,17 +180,18 @@ impl Kiwi {
         ensures one { IsPassOf self.now.shared a.new × Meets (view a.old) (view a.new) }
         ensures other { IsPassOf self.now.shared b.new × Meets (view b.old) (view b.new) }
         ensures same { (view a.new).seen ≡ (view b.new).seen }
-        ensures idle { (IsIdle self.now a.old → IsIdle self.now a.new) × (IsIdle self.now b.old → IsIdle self.now b.new) }
+        ensures idle { (IsIdle self.now a.old → IsIdle self.now a.new)
+            × (IsIdle self.now b.old → IsIdle self.now b.new) }
     {
         kw_table::meet(&self.shared, a, b);
     }
 
     /// The same, of all passes in a slice.
-    pub fn gather_all(&self, passes: &mut [Pass])
+    pub fn meet_all(&self, passes: &mut [Pass])
         requires { All (IsPassOf self.now.shared) passes.old }
-        ensures { AtEach (Gathers self.now.shared (front_seen passes.new)) passes.old passes.new }
+        ensures { AtEach (MeetsAt self.now.shared (front_seen passes.new)) passes.old passes.new }
     {
-        kw_table::gather_all(&self.shared, passes);
+        kw_table::meet_all(&self.shared, passes);
     }
 }
 
@@ -193,7 +205,8 @@ impl Kiwi {
         ensures idle { IsIdle self.now pass.new }
         ensures goes { GoesTo self.now.shared pass.old pass.new }
         ensures calls { Calls pass.old pass.new call (put_reply result) }
-        ensures cause { MatchResult result (λ done. MetRoom CELLS pass.old pass.new) (λ end. MetFull CELLS pass.old pass.new) }
+        ensures cause { MatchResult result
+            (λ done. MetRoom CELLS pass.old pass.new) (λ end. MetFull CELLS pass.old pass.new) }
     {
         let mut local = pass.lend();
         let done = self.update_by(rt, pass, &mut local, call);
@@ -201,7 +214,8 @@ impl Kiwi {
         done
     }
 
-    // It tries at its row until it is done or refused. A row that is full refuses it.
+    // It tries at its row until it is done or refused. For now a row that is full refuses it, so the loop ends at its first turn; once full rows
+    // are rebalanced it tries again at the row that then has the key.
     #[tactic(auto, using(crate::proofs::WholeCalls::put_starts))]
     fn update_by<R: Wait>(
         &self,
@@ -219,7 +233,8 @@ impl Kiwi {
         ensures rests { local.new ≡ resting 0 }
         ensures goes { GoesTo self.now.shared pass.old pass.new }
         ensures calls { Calls pass.old pass.new call (put_reply result) }
-        ensures cause { MatchResult result (λ done. MetRoom CELLS pass.old pass.new) (λ end. MetFull CELLS pass.old pass.new) }
+        ensures cause { MatchResult result
+            (λ done. MetRoom CELLS pass.old pass.new) (λ end. MetFull CELLS pass.old pass.new) }
     {
         enter(&self.shared, pass, local, call);
         for _ in rt.forever() {
@@ -271,7 +286,9 @@ impl Kiwi {
         ensures idle { activity_in pass.new ≡ Activity.Idle }
         ensures rests { local.new ≡ resting 0 }
         ensures goes { GoesTo self.now.shared pass.old pass.new }
-        ensures answers { Answers G.last G.stands G.stops pass.old pass.new from to into.old into.new result }
+        ensures answers { AnswersScan (λ pairs. Takes G.last G.stands into.old pairs into.new)
+            (CountRose (G.stops into.old) (G.stops into.new)) (into.new ≡ into.old)
+            pass.old pass.new from to result }
     {
         enter(&self.shared, pass, local, Call::Scan(from, to));
         if let Activity::Leave(_) = local.activity {

@@ -5,7 +5,7 @@
 ghost use Rattle.std.specs.Prelude.{◌≡◌, ◌⊎◌, ◌≤◌, ◌++◌, ℕ, Some, [], OnOk, OnErr, MatchResult};
 ghost use Rattle.kw_cells.specs.Cells.{pairs_of};
 ghost use Rattle.kw_core.specs.Stages.{IsGoing};
-ghost use Rattle.kw_io.specs.Counts.{CountRose};
+ghost use Rattle.kw_model.specs.Counts.{CountRose};
 ghost use Rattle.kw_follow.specs.Calling.{Keeps};
 ghost use Rattle.kw_follow.specs.Following.{Follows, GoesTo, held};
 ghost use Rattle.kw_live.specs.Reading.{GoesOn};
@@ -13,6 +13,7 @@ ghost use Rattle.kw_map.specs.Gather.{IsBelow, Takes, TakesPrefix};
 ghost use Rattle.kw_map.specs.Scanning.{IsBetween, StoppedAt};
 
 use crate::gather::{Gather, Stop, take_pairs};
+use kw_core::stage::Stage;
 use kw_live::{end_scan, locate, read_row, stop_scan};
 use kw_model::call::Call;
 use kw_table::{Pass, Shared};
@@ -38,12 +39,15 @@ pub(crate) fn gather_rows<G: Gather>(
     ensures goes { GoesTo shared.now pass.old pass.new }
     ensures follows { Follows shared.now pass.new local.new }
     ensures calls { Keeps pass.old pass.new }
-    ensures leaves { MatchResult result (λ done. local.new.activity ≡ Activity.Leave Answer.Pairs) (λ stop. local.new.activity ≡ Activity.Leave Answer.Stopped) }
+    ensures leaves { MatchResult result
+        (λ done. local.new.activity ≡ Activity.Leave Answer.Pairs)
+        (λ stop. local.new.activity ≡ Activity.Leave Answer.Stopped) }
     ensures all { OnOk result (Takes G.last G.stands into.old (held pass.new) into.new) }
-    ensures prefix { OnErr result (StoppedAt G.last G.stands pass.old pass.new local.old.call into.old into.new) }
+    ensures prefix { OnErr result
+        (StoppedAt (λ pairs. Takes G.last G.stands into.old pairs into.new) pass.old pass.new local.old.call) }
     ensures stopped { OnErr result (CountRose (G.stops into.old) (G.stops into.new)) }
 {
-    while local.activity.is_walking() {
+    while Stage::of(&local.activity).is_walking() {
         if let Err(Stop) = gather_row(shared, pass, local, upto, into) {
             stop_scan(shared, pass, local);
             return Err(Stop);
@@ -72,15 +76,19 @@ fn gather_row<G: Gather>(
     ensures follows { Follows shared.now pass.new local.new }
     ensures call { local.new.call ≡ local.old.call }
     ensures calls { Keeps pass.old pass.new }
-    ensures held { held pass.new ≡ held pass.old ++ pairs_of local.new.gathered local.old.want upto local.old.version }
-    ensures stage { GoesOn local.old.want upto local.old.version local.new ⊎ (local.new.activity ≡ Activity.ClearScan Answer.Pairs) }
-    ensures all { OnOk result (Takes G.last G.stands into.old (pairs_of local.new.gathered local.old.want upto local.old.version) into.new) }
-    ensures prefix { OnErr result (TakesPrefix G.last G.stands into.old (pairs_of local.new.gathered local.old.want upto local.old.version) into.new) }
+    ensures held { held pass.new ≡ held pass.old
+        ++ pairs_of local.new.gathered local.old.want upto local.old.version }
+    ensures stage { GoesOn local.old.want upto local.old.version local.new
+        ⊎ (local.new.activity ≡ Activity.ClearScan Answer.Pairs) }
+    ensures all { OnOk result (Takes G.last G.stands into.old
+        (pairs_of local.new.gathered local.old.want upto local.old.version) into.new) }
+    ensures prefix { OnErr result (TakesPrefix G.last G.stands into.old
+        (pairs_of local.new.gathered local.old.want upto local.old.version) into.new) }
     ensures stopped { OnErr result (CountRose (G.stops into.old) (G.stops into.new)) }
     ensures never_falls { G.stops into.old ≤ G.stops into.new }
 {
     locate(shared, pass, local, None);
     let low = local.want;
     read_row(shared, pass, local);
-    take_pairs(into, local.gathered.as_slice(), low, upto, local.version)
+    take_pairs(into, &local.gathered, low, upto, local.version)
 }

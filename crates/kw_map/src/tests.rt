@@ -7,6 +7,7 @@ use crate::gather::{Gather, Stop, take_pairs};
 use crate::gather_list::ListGather;
 use crate::gather_numbers::{CountGather, GreatestGather, LeastGather, SumGather};
 use kw_cells::cell::Cell;
+use kw_world::gathered::Gathered;
 use std::test::Fail;
 
 /// The greatest value that a key may have.
@@ -73,29 +74,32 @@ fn a_list_has_all_pairs_in_order(rt: HostRuntime) {
     assert_eq!(rt; none.pairs(), [].as_slice());
 }
 
-/// A row in which key 5 has two versions, 7 a tombstone over a value, and 9 a late version.
-fn row() -> [Cell; 6]
-    ensures { All (λ cell. IsValue cell.value) result }
+/// Gathers one more cell, whose value is below `VALUE_END`.
+fn add(row: &mut Gathered, key: u32, version: u64, place: u32, value: Option<u64>)
+    requires value { IsValue value }
+    requires values { All (λ cell. IsValue cell.value) row.old }
+    ensures { All (λ cell. IsValue cell.value) row.new }
 {
-    let put = |key, version, place, value| Cell {
+    row.gather(Cell {
         key,
         version,
         place,
-        value: Some(value),
-    };
-    [
-        put(5, 2, 6, 52),
-        put(7, 1, 1, 71),
-        put(5, 1, 0, 51),
-        put(9, 8, 3, 98),
-        Cell {
-            key: 7,
-            version: 3,
-            place: 5,
-            value: None,
-        },
-        put(4294967295, 1, 2, GREATEST_VALUE),
-    ]
+        value,
+    });
+}
+
+/// A row in which key 5 has two versions, 7 a tombstone over a value, and 9 a late version.
+fn row() -> Gathered
+    ensures { All (λ cell. IsValue cell.value) result }
+{
+    let mut row = Gathered::new();
+    add(&mut row, 5, 2, 6, Some(52));
+    add(&mut row, 7, 1, 1, Some(71));
+    add(&mut row, 5, 1, 0, Some(51));
+    add(&mut row, 9, 8, 3, Some(98));
+    add(&mut row, 7, 3, 5, None);
+    add(&mut row, 4294967295, 1, 2, Some(GREATEST_VALUE));
+    row
 }
 
 #[test]

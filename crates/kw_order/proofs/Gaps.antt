@@ -104,7 +104,7 @@ first_gap h l key f o m = which (does_meet h l key f None)
 
         found : ((i : ℕ) → i < length h.attempts → Meets h key f (Some i) → ⊥) ⊎ ((p : ℕ) × IsLeast (length h.attempts) (λ i. Meets h key f (Some i)) (StandsAtMost h) p) → (g : Option ℕ) × IsFirstGap h key f g
         found (inl no_one) = let (p, y) = some o m in absurd (no_one p (in_range h p y.gap.is_put) y)
-        found (inr (p, y)) = (Some p, record { meets = y.passes; first = before })
+        found (inr (p, y)) = (Some p, record { meets = y.holds; first = before })
           where
             before : (other : Option ℕ) → Meets h key f other → GapBefore h other (Some p) → ⊥
             before None z b = none z

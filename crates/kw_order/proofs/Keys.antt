@@ -133,9 +133,9 @@ next_of h l key o g = which (least (length h.attempts) (IsAfter h key o) (Stands
     which (inr (m, b)) = inr (
       m,
       record {
-        is_put = b.passes.put;
-        after = b.passes.after;
-        first = λ u p n. order u p.is_put (upto_from h l u m p.is_put b.passes.put.is_put (b.least u (in_range h u p.is_put) (record { put = p; after = n })));
+        is_put = b.holds.put;
+        after = b.holds.after;
+        first = λ u p n. order u p.is_put (upto_from h l u m p.is_put b.holds.put.is_put (b.least u (in_range h u p.is_put) (record { put = p; after = n })));
       },
     )
       where
@@ -162,4 +162,4 @@ point_of h p s = which (least (length h.attempts) (IsMate h p) (λ i j. (attempt
 
     which : ((i : ℕ) → i < length h.attempts → IsMate h p i → ⊥) ⊎ ((m : ℕ) × IsLeast (length h.attempts) (IsMate h p) (λ i j. (attempt h i).load ≤ (attempt h j).load) m) → (a : ℕ) × IsPoint h p a
     which (inl none) = absurd (none p (in_range h p s) (own_mate h p s))
-    which (inr (m, b)) = ((attempt h m).load, record { mate = m; is_mate = b.passes; load = refl; first = λ u x. b.least u (in_range h u x.is_put) x })
+    which (inr (m, b)) = ((attempt h m).load, record { mate = m; is_mate = b.holds; load = refl; first = λ u x. b.least u (in_range h u x.is_put) x })

@@ -10,8 +10,8 @@ use Rattle.kw_model.specs.declared.call.Reply.TheVariants as reply
 use Rattle.kw_model.proofs.Pairs.{same_from_values, rises-between, value-between}
 use Rattle.kw_model.proofs.Lookups.{value-went, rises-went, none_outside}
 use Rattle.kw_order.specs.Served as served
-use Rattle.kw_order.specs.LastPassing.{IsLast}
-use Rattle.kw_order.proofs.LastPassed.{IsPassed, last_unique, last_from_passed, passes, stays}
+use Rattle.kw_order.specs.LastOf.{IsLast}
+use Rattle.kw_order.proofs.LastAmong.{IsLastAmong, last_unique, last_from_among, moves_on, stays}
 use Rattle.kw_order.proofs.Among.{Among, among_from_contains, contains_from_among, InOrder, order_from_pairs}
 
 module _ {X : Type 0} (call : X → Call) (reply_of : X → Reply) (Before : X → X → Type 0)
@@ -29,14 +29,14 @@ module _ {X : Type 0} (call : X → Call) (reply_of : X → Reply) (Before : X �
     rising : IsRising m
     inside : (y : X) → Among y ys → Contains xs y
     ordered : InOrder Before ys
-    each : (k : ℕ) → (o : Option X) × IsPassed Before asym trans xs (test k) ys o × (value_of k m ≡ shows o)
+    each : (k : ℕ) → (o : Option X) × IsLastAmong Before asym trans xs (test k) ys o × (value_of k m ≡ shows o)
 
   -- the next reply is right
   right : (m : Pairs) (x : X) (ys : List X) → Stands m (x ∷ ys) → served.IsServedAt call reply_of Before xs x (call x) → IsRight m (call x) (reply_of x)
   right m x ys s h = at (call x) refl h
     where
       same : (k : ℕ) (o : Option X) → IsLast Before xs (test k) x o → value_of k m ≡ shows o
-      same k o l = let e = s.each k in e.2 ∙ ap shows (last_unique Before asym trans xs (test k) x e.0 o (last_from_passed Before asym trans xs (test k) x ys e.0 s.ordered e.1) l)
+      same k o l = let e = s.each k in e.2 ∙ ap shows (last_unique Before asym trans xs (test k) x e.0 o (last_from_among Before asym trans xs (test k) x ys e.0 s.ordered e.1) l)
 
       scanned : (a b : ℕ) → (t : served.IsScanned call reply_of Before xs x a b) → (k : ℕ) (c : Bool) → (leb a k && leb k b) ≡ c → value_of k t.pairs ≡ cond c (value_of k m) None
       scanned a b t k true e = let w = t.each k (grind (arith, nat_tests)) (grind (arith, nat_tests)) in w.2 ∙ sym (same k w.0 w.1)
@@ -60,8 +60,8 @@ module _ {X : Type 0} (call : X → Call) (reply_of : X → Reply) (Before : X �
     each = λ k. go k (is_update k (call x) (reply_of x)) refl;
   }
     where
-      go : (k : ℕ) (b : Bool) → is_update k (call x) (reply_of x) ≡ b → (o : Option X) × IsPassed Before asym trans xs (test k) ys o × (value_of k (went m (call x) (reply_of x)) ≡ shows o)
-      go k true u = let e = s.each k in (Some x, passes Before asym trans xs (test k) x ys e.0 (s.inside x (inl refl)) s.ordered u e.1, value-went k m (call x) (reply_of x) ∙ rw u)
+      go : (k : ℕ) (b : Bool) → is_update k (call x) (reply_of x) ≡ b → (o : Option X) × IsLastAmong Before asym trans xs (test k) ys o × (value_of k (went m (call x) (reply_of x)) ≡ shows o)
+      go k true u = let e = s.each k in (Some x, moves_on Before asym trans xs (test k) x ys e.0 (s.inside x (inl refl)) s.ordered u e.1, value-went k m (call x) (reply_of x) ∙ rw u)
       go k false u = let e = s.each k in (e.0, stays Before asym trans xs (test k) x ys e.0 u e.1, value-went k m (call x) (reply_of x) ∙ rw u e.2)
 
   -- what is left is legal

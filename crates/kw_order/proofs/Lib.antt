@@ -13,7 +13,7 @@ pub mod Sorts
 pub mod OneOrder
 pub mod NextPoints
 pub mod Among
-pub mod LastPassed
+pub mod LastAmong
 pub mod Legality
 pub mod LegalOrder
 pub mod PutLists

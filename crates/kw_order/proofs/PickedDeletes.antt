@@ -63,7 +63,7 @@ picked_more h puts deletes n a w c s = record { are = record { each = each; rise
         which (inl x) = listed (c.every j x t)
         which (inr x) = let e : n ≡ j = omega arith in (length deletes, omega (arith, long), ap (λ (q : StampedPut). q.place) (new (length deletes) refl) ∙ ap (λ q. (put_at puts q).place) e)
 
--- and a put that is none is passed over
+-- and a put that is none is left out
 pub picked_same : (h : History) (puts deletes : List StampedPut) (n : ℕ) → ArePicked h puts deletes n → ((attempt h (put_at puts n).place).value ≡ None → ⊥) → ArePicked h puts deletes (n + 1)
 picked_same h puts deletes n c s = record { are = c.are; delete = c.delete; before = λ i w. let b = c.before i w in (b.0, omega (arith, b.1), b.2); every = every }
   where

@@ -72,7 +72,7 @@ ranked_more h ranked n one c s e = record { ranks = ranks; below = below; rises 
         which (inl y) = listed (c.every x y t)
         which (inr y) = (length ranked, omega (arith, long), ap (λ (q : RankedCall). q.call) (new (length ranked) refl) ∙ omega (arith, e))
 
--- and one that has no place is passed over
+-- and one that has no place is left out
 pub ranked_same : (h : History) (ranked : List RankedCall) (n : ℕ) → AreRankedBelow h ranked n → (IsPlaced h n → ⊥) → AreRankedBelow h ranked (n + 1)
 ranked_same h ranked n c s = record { ranks = c.ranks; below = λ i w. omega (arith, c.below i w); rises = c.rises; every = every }
   where

@@ -24,7 +24,7 @@ use Rattle.kw_laws.proofs.LawProofs.{laws_hold}
 use Rattle.kw_order.specs.Order.{IsOrder, IsPlaced}
 use Rattle.kw_order.specs.SeatOrder.{calls_before, IsTurn, AllEnded}
 use Rattle.kw_order.proofs.OrderProofs.{order_has_laws}
-use Rattle.kw_order.proofs.Turns.{filtered_at, place_of, passed_once}
+use Rattle.kw_order.proofs.Turns.{filtered_at, place_of, counted_once}
 
 -- a call of the record, at its place
 called_here : (h : History) (x : ℕ) → x < length h.calls → slice_get h.calls x ≡ Some (called h x)
@@ -53,7 +53,7 @@ seen_at z o es s k = slice_get-map seen (filter (λ (c : CallLog). c.seat == s) 
 -- each number has one call
 pub one_turn : (h : History) (s k x y : ℕ) → IsTurn h s k x → IsTurn h s k y → x ≡ y
 one_turn h s k x y i j =
-    passed_once (λ (c : CallLog). c.seat == s) h.calls x y (called h x) (called h y) (called_here h x i.within) (eq-eqb (called h x).seat s i.seat) (called_here h y j.within) (eq-eqb (called h y).seat s j.seat) (i.turn ∙ sym j.turn)
+    counted_once (λ (c : CallLog). c.seat == s) h.calls x y (called h x) (called h y) (called_here h x i.within) (eq-eqb (called h x).seat s i.seat) (called_here h y j.within) (eq-eqb (called h y).seat s j.seat) (i.turn ∙ sym j.turn)
 
 -- a call is seen among those of its seat, at its turn
 pub seen_turn : (z : Sizes) (o : Opening) (es : List Event) (s k x : ℕ) → IsTurn (history z o es).history s k x → slice_get (calls_seen z o s es) k ≡ Some (seen (called (history z o es).history x))
@@ -85,7 +85,7 @@ name_of z o es s k c e = go (slice_get_cases (filter (λ (c : CallLog). c.seat =
         let shown : Some (seen w.0) ≡ Some c = sym (seen_at z o es s k ∙ ap (option_map seen) w.2) ∙ e in
         record {
           place = p.place;
-          turn = record { within = slice_get_within h.calls p.place w.0 p.here; seat = ap (λ (c : CallLog). c.seat) d ∙ (Decides-eqb w.0.seat s).0 p.passes; turn = p.before };
+          turn = record { within = slice_get_within h.calls p.place w.0 p.here; seat = ap (λ (c : CallLog). c.seat) d ∙ (Decides-eqb w.0.seat s).0 p.is_true; turn = p.before };
           is = ap seen d ∙ same_Some (seen w.0) c shown;
         }
     go (inr w) = let n = sym (seen_at z o es s k ∙ ap (option_map seen) w.1) ∙ e in absurd (cc)

@@ -78,7 +78,7 @@ collected_more h puts n put c s e = record { each = each; below = below; rises =
         which (inl x) = listed (c.every p x t)
         which (inr x) = (length puts, omega (arith, long), ap (λ (q : StampedPut). q.place) (new (length puts) refl) ∙ omega (arith, e))
 
--- and one that is not stamped is passed over
+-- and one that is not stamped is left out
 pub collected_same : (h : History) (puts : List StampedPut) (n : ℕ) → AreCollected h puts n → (IsPut h n → ⊥) → AreCollected h puts (n + 1)
 collected_same h puts n c s = record { each = c.each; below = λ i w. omega (arith, c.below i w); rises = c.rises; every = every }
   where

@@ -1,6 +1,6 @@
 -- Calls with replies that stand in an order: what each reply must be served from.
 use Rattle.std.specs.Prelude.{ℕ, ◌≡◌, ◌≤◌, ◌⊎◌, Bool, true, List, Option, Some, None, All}
-use Rattle.kw_order.specs.LastPassing.{IsLast}
+use Rattle.kw_order.specs.LastOf.{IsLast}
 use Rattle.kw_model.specs.Map.{Pairs, IsRising, value_of, found}
 use Rattle.kw_model.specs.Legal.{may_refuse, is_update, shown}
 use Rattle.kw_model.specs.declared.call.Call.{Call}

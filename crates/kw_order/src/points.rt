@@ -112,7 +112,8 @@ fn rank_of_ended(history: &History, table: &PutTable, place: usize, reply: &Repl
     requires laws { HistoryLaws history.now }
     requires table { IsTable history.now table.now }
     requires within { place < length history.now.calls }
-    requires ended { (at : ℕ) × EndsWith history.now place (called history.now place).call at reply.now }
+    requires ended { (at : ℕ) × EndsWith history.now place
+        (called history.now place).call at reply.now }
     requires no_put { (called history.now place).put ≡ None }
     ensures { HasRank history.now place result }
 {

@@ -58,8 +58,16 @@ impl Trace {
         clock: u64,
         epoch: u64,
     ) -> Result<Trace, Memory>
-        requires { IsOpening product (record { rows = rows; seats = seats; clock = clock; epoch = epoch }) }
-        ensures { IfOk result (λ trace. trace ≡ record { opening = record { rows = rows; seats = seats; clock = clock; epoch = epoch }; events = [] }) }
+        requires { IsOpening product (record {
+          rows = rows;
+          seats = seats;
+          clock = clock;
+          epoch = epoch;
+        }) }
+        ensures { IfOk result (λ trace. trace ≡ record {
+          opening = record { rows = rows; seats = seats; clock = clock; epoch = epoch };
+          events = [];
+        }) }
     {
         Ok(Trace {
             opening: Opening {
@@ -84,7 +92,9 @@ impl Trace {
         requires begin { CanStep (world_of self.old) event }
         ensures ok { IfOk result (λ done. self.new ≡ pushed self.old event done) }
         ensures step { IfOk result (λ done. done ≡ (step product (world_of self.old) event).done) }
-        ensures skipped { IfOk result (λ done. (local : Local) → slice_get (world_of self.old).locals event.seat ≡ Some local → (done ≡ StepDone.Skipped) ↔ (is_skipped local.activity event.choice ≡ true)) }
+        ensures skipped { IfOk result (λ done. (local : Local) →
+            slice_get (world_of self.old).locals event.seat ≡ Some local → (done ≡ StepDone.Skipped)
+            ↔ (is_skipped local.activity event.choice ≡ true)) }
         ensures err { OnErr result (self.new ≡ self.old) }
         ensures laws { KeepsLaws product (run_of self.new) }
     {
@@ -141,7 +151,8 @@ impl Trace {
 /// has the names alone.
 pub fn points(alloc: Global, trace: &Trace) -> Result<Vec<Point>, Memory>
     ensures points { IfOk result (λ points. ArePoints (history_of trace.now) points.items) }
-    ensures laws { (xs : List ℕ) → IsOrder (history_of trace.now) xs → OrderLaws (history_of trace.now) xs }
+    ensures laws { (xs : List ℕ) → IsOrder (history_of trace.now) xs →
+        OrderLaws (history_of trace.now) xs }
 {
     points::points(alloc, trace.recorder.history())
 }
@@ -153,10 +164,15 @@ pub fn points(alloc: Global, trace: &Trace) -> Result<Vec<Point>, Memory>
 /// range what the last put with a version at most its own wrote. No event that comes later changes that.
 pub fn order(alloc: Global, trace: &Trace) -> Result<Vec<CallName>, Memory>
     ensures names { IfOk result (λ names. AreNames (history_of trace.now) names.items) }
-    ensures one { (xs ys : List ℕ) → IsOrder (history_of trace.now) xs → IsOrder (history_of trace.now) ys → xs ≡ ys }
-    ensures laws { (xs : List ℕ) → IsOrder (history_of trace.now) xs → OrderLaws (history_of trace.now) xs }
-    ensures legal { (xs : List ℕ) → IsOrder (history_of trace.now) xs → IsLegalOrder (history_of trace.now) xs }
-    ensures later { (events : List Event) → is_valid product trace.now.opening (trace.now.events ++ events) ≡ true → GivesTops (history_of trace.now) (history_of (longer trace.now events)) }
+    ensures one { (xs ys : List ℕ) → IsOrder (history_of trace.now) xs →
+        IsOrder (history_of trace.now) ys → xs ≡ ys }
+    ensures laws { (xs : List ℕ) → IsOrder (history_of trace.now) xs →
+        OrderLaws (history_of trace.now) xs }
+    ensures legal { (xs : List ℕ) → IsOrder (history_of trace.now) xs →
+        IsLegalOrder (history_of trace.now) xs }
+    ensures later { (events : List Event) → is_valid product trace.now.opening (trace.now.events
+        ++ events) ≡ true → GivesTops (history_of trace.now)
+        (history_of (longer trace.now events)) }
 {
     points::order(alloc, trace.recorder.history())
 }

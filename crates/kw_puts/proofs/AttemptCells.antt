@@ -18,61 +18,68 @@ use Rattle.kw_core.specs.declared.history.Attempt.{Attempt}
 use Rattle.kw_core.specs.Run.{Run, Origins}
 use Rattle.kw_core.specs.Stages.{IsAtRow, IsPutting, IsFresh, HasKey, IsAnnounce, IsStamped, IsPutVersion}
 use Rattle.kw_core.specs.Words.{Words, given_in}
-use Rattle.kw_shape.specs.Shape.{IsLinked, HoldsKey, Shape}
+use Rattle.kw_rows.specs.Ledger.{Fate, Ledger}
+use Rattle.kw_rows.specs.Rows.{WasLinked}
+use Rattle.kw_shape.specs.Shape.{HoldsKey, Shape}
 use Rattle.kw_puts.specs.Puts.{IsGivenCell, HasCell, Places, Rises, HasBody, OwnsAttempt, key_in, value_in}
 use Rattle.kw_puts.specs.Below.{Below}
 use Rattle.kw_core.specs.Step.{Step}
 use Rattle.kw_core.proofs.Happens.{log_entry}
 use Rattle.kw_core.proofs.Happens.{Happens}
 use Rattle.kw_core.proofs.Arrows.{Arrow}
-use Rattle.kw_core.proofs.Frame.{SameRows, same_rows, key_kept, value_kept, version_kept, given_grows}
+use Rattle.kw_core.proofs.Frame.{key_kept, value_kept, version_kept, given_grows}
 use Rattle.kw_core.proofs.RoomBelow.{room_below}
 use Rattle.kw_puts.proofs.Owners.{true_false, is_own}
 use Rattle.kw_puts.proofs.Rely.{SameAttempt, GoesOn}
 use Rattle.kw_puts.proofs.RelyProof.{key_puts, value_puts, version_puts, goes_on_by, rely_version}
-use Rattle.kw_shape.proofs.RowsStay.{linked_stays, holds_stays, holds_first}
+use Rattle.kw_shape.proofs.RowsKeep.{fates_kept, least_kept}
+use Rattle.kw_shape.proofs.RowsStay.{fresh_linked, holds_first, holds_stays, linked_stays, was_below}
 use Rattle.kw_puts.proofs.OwnAttempts.{acting_own}
 use Rattle.kw_puts.proofs.NewAttempts.{IsGiving, IsNew, attempt_was, announced_was, one_more_is, one_more_within, count_was, given_more, origin_new, origin_was, room_next}
 
 -- the cell of an attempt, by what the attempt is of
-cell_from : (z : Sizes) (rows : ℕ) (v : Words) (h : History) (o : Origins) (p t q c k : ℕ) → (attempt h p).seat ≡ t → (attempt h p).row ≡ q → (attempt h p).cell ≡ c → (attempt h p).key ≡ k →
-    t < z.seats → IsLinked rows v q → c < z.cells → c < given_in v q → o q c ≡ Some p → HoldsKey v q k → IsGivenCell z rows v h o p
-cell_from z rows v h o p t q c k es eq ec ek s i w g e y = record { seat = rw es s; linked = rw eq i; cell = rw ec w; given = rw (eq, ec) g; origin = rw (eq, ec) e; holds = rw (eq, ek) y }
+cell_from : (z : Sizes) (rows : ℕ) (v : Words) (g : Ledger) (h : History) (o : Origins) (p t q c k : ℕ) → (attempt h p).seat ≡ t → (attempt h p).row ≡ q → (attempt h p).cell ≡ c → (attempt h p).key ≡ k →
+    t < z.seats → q < rows → WasLinked g q → c < z.cells → c < given_in v q → o q c ≡ Some p → HoldsKey v g q k → IsGivenCell z rows v g h o p
+cell_from z rows v g h o p t q c k es eq ec ek s b i w u e y = record { seat = rw es s; below = rw eq b; linked = rw eq i; cell = rw ec w; given = rw (eq, ec) u; origin = rw (eq, ec) e; holds = rw (eq, ek) y }
 
 -- the cells of attempts: only a put that takes a cell adds to them
-pub given_keeps : (z : Sizes) (r r' : Run) (s : ℕ) (choice : Choice) (l : Local) (a : Activity) (l' : Local) → Arrow z (word z r.world) s choice l a l' → Happens z r r' s choice l l' a → Below z r → Step r.history r'.history (log_entry z r a s choice l) → Shape z r'.world → (p : ℕ) → p < length r'.history.attempts → IsGivenCell z r'.world.rows (word z r'.world) r'.history r'.origin p
-given_keeps z r r' s choice l a l' b h i st after p o = subst (λ n. IsGivenCell z n (word z r'.world) r'.history r'.origin p) (sym h.rows) (which (attempt_was a h p o))
+pub given_keeps : (z : Sizes) (r r' : Run) (s : ℕ) (choice : Choice) (l : Local) (a : Activity) (l' : Local) → Arrow z (word z r.world) s choice l a l' → Happens z r r' s choice l l' a → Below z r → Step r.history r'.history (log_entry z r a s choice l) → Shape z r' → (p : ℕ) → p < length r'.history.attempts → IsGivenCell z r'.world.rows (word z r'.world) r'.ledger.rows r'.history r'.origin p
+given_keeps z r r' s choice l a l' b h i st after p o = subst (λ n. IsGivenCell z n (word z r'.world) r'.ledger.rows r'.history r'.origin p) (sym h.rows) (which (attempt_was a h p o))
   where
-    rows : SameRows r.world.rows (word z r.world) (word z r'.world)
-    rows = same_rows a h
+    -- a row may still hold a key
+    holds : (q key : ℕ) → HoldsKey (word z r.world) r.ledger.rows q key → HoldsKey (word z r'.world) r'.ledger.rows q key
+    holds q key = holds_stays (word z r.world) (word z r'.world) r.ledger.rows r'.ledger.rows q key (ap (λ (x : Fate). x.upper) (fates_kept a h q)) (least_kept a h i.shape.sane q)
 
-    fresh : IsNew z r r' s l a p → IsGivenCell z r.world.rows (word z r'.world) r'.history r'.origin p
+    fresh : IsNew z r r' s l a p → IsGivenCell z r.world.rows (word z r'.world) r'.ledger.rows r'.history r'.origin p
     fresh n =
         let taking = subst (λ x. Happens z r r' s choice l l' x) n.gives.takes h in
-        let linked = ((i.shape.walks s l h.knows).at (subst IsAtRow (sym taking.activity) tt)).linked in
-        let more = given_more _ _ taking.changed.same (i.shape.sane.each (name.Count l.row) linked.below) in
-        cell_from z r.world.rows (word z r'.world) r'.history r'.origin p s l.row (given_in (word z r.world) l.row) (first_key l.call)
+        let linked = fresh_linked r.ledger.rows s l.row ((i.shape.walks s l h.knows).at (subst IsAtRow (sym taking.activity) tt)).fresh in
+        let below = was_below z r i.shape l.row linked in
+        let more = given_more _ _ taking.changed.same (i.shape.sane.each (name.Count l.row) below) in
+        cell_from z r.world.rows (word z r'.world) r'.ledger.rows r'.history r'.origin p s l.row (given_in (word z r.world) l.row) (first_key l.call)
         (ap (λ x. x.seat) n.is) (ap (λ x. x.row) n.is) (ap (λ x. x.cell) n.is) (ap (λ x. x.key) n.is)
         h.seat
-        (linked_stays r.world.rows (word z r.world) (word z r'.world) l.row rows linked)
+        below
+        (linked_stays a h l.row linked)
         (room_below z (count_of (word z r.world (name.Count l.row))) n.gives.room)
         (omega (arith, more))
         (origin_new taking n.gives.room ∙ ap Some (sym n.place))
-        (holds_stays r.world.rows (word z r.world) (word z r'.world) l.row (first_key l.call) rows i.shape.chain linked (holds_first z r.world s l i.shape h.knows taking.activity))
+        (holds l.row (first_key l.call) (holds_first z r s l i.shape h.knows taking.activity))
 
-    which : (p < length r.history.attempts) ⊎ IsNew z r r' s l a p → IsGivenCell z r.world.rows (word z r'.world) r'.history r'.origin p
+    which : (p < length r.history.attempts) ⊎ IsNew z r r' s l a p → IsGivenCell z r.world.rows (word z r'.world) r'.ledger.rows r'.history r'.origin p
     which (inl w) =
         let c = i.puts.given p w in
         let y = goes_on_by z r r' s choice l a l' h i st in
         let same = y.attempts p w in
-        cell_from z r.world.rows (word z r'.world) r'.history r'.origin p (attempt r.history p).seat (attempt r.history p).row (attempt r.history p).cell (attempt r.history p).key
+        cell_from z r.world.rows (word z r'.world) r'.ledger.rows r'.history r'.origin p (attempt r.history p).seat (attempt r.history p).row (attempt r.history p).cell (attempt r.history p).key
         same.seat same.row same.cell same.key
         c.seat
-        (linked_stays r.world.rows (word z r.world) (word z r'.world) (attempt r.history p).row rows c.linked)
+        c.below
+        (linked_stays a h (attempt r.history p).row c.linked)
         c.cell
-        (omega (arith, c.given, given_grows a h (λ q u. i.shape.sane.each (name.Count q) u) (attempt r.history p).row c.linked.below))
+        (omega (arith, c.given, given_grows a h (λ q u. i.shape.sane.each (name.Count q) u) (attempt r.history p).row c.below))
         (y.origin (attempt r.history p).row (attempt r.history p).cell p c.origin)
-        (holds_stays r.world.rows (word z r.world) (word z r'.world) (attempt r.history p).row (attempt r.history p).key rows i.shape.chain c.linked c.holds)
+        (holds (attempt r.history p).row (attempt r.history p).key c.holds)
     which (inr n) = fresh n
 
 -- The places of a row.
@@ -157,7 +164,7 @@ module _ (z : Sizes) (r r' : Run) (s : ℕ) (choice : Choice) (l : Local) (a : A
           rw (x.1, x.2) (room_next z (word z r.world (name.Count l.row)) _ refl (i.shape.sane.each (name.Count l.row) below) room (omega (arith, f, more)))
 
 -- each cell that a row has given is that of an attempt, and no other cell is anybody's
-pub places_keep : (z : Sizes) (r r' : Run) (s : ℕ) (choice : Choice) (l : Local) (a : Activity) (l' : Local) → Arrow z (word z r.world) s choice l a l' → Happens z r r' s choice l l' a → Below z r → Step r.history r'.history (log_entry z r a s choice l) → Shape z r'.world → Places z r'.world.rows (word z r'.world) r'.history r'.origin
+pub places_keep : (z : Sizes) (r r' : Run) (s : ℕ) (choice : Choice) (l : Local) (a : Activity) (l' : Local) → Arrow z (word z r.world) s choice l a l' → Happens z r r' s choice l l' a → Below z r → Step r.history r'.history (log_entry z r a s choice l) → Shape z r' → Places z r'.world.rows (word z r'.world) r'.history r'.origin
 places_keep z r r' s choice l a l' b h i st after = subst (λ n. Places z n (word z r'.world) r'.history r'.origin) (sym h.rows) (record {
   owner = owner_keeps z r r' s choice l a l' h i st;
   given = place_keeps z r r' s choice l a l' h i st;
@@ -198,12 +205,12 @@ module _ (z : Sizes) (r r' : Run) (s : ℕ) (choice : Choice) (l : Local) (a : A
   body_key : (attempt r.history p).is_announced ≡ true → key_in (word z r'.world) (attempt r.history p).row (attempt r.history p).cell ≡ (attempt r.history p).key
   body_key y =
       let c = i.puts.given p w in
-      ap key_of_word (key_kept a h (attempt r.history p).row (attempt r.history p).cell c.linked.below c.cell (λ x e f. fresh_apart (key_puts a x) y e f)) ∙ (i.puts.body p w).key y
+      ap key_of_word (key_kept a h (attempt r.history p).row (attempt r.history p).cell c.below c.cell (λ x e f. fresh_apart (key_puts a x) y e f)) ∙ (i.puts.body p w).key y
 
   body_value : (attempt r.history p).is_announced ≡ true → value_in (word z r'.world) (attempt r.history p).row (attempt r.history p).cell ≡ (attempt r.history p).value
   body_value y =
       let c = i.puts.given p w in
-      ap value_of_word (value_kept a h (attempt r.history p).row (attempt r.history p).cell c.linked.below c.cell (λ x e f. fresh_apart (value_puts a x) y e f)) ∙ (i.puts.body p w).value y
+      ap value_of_word (value_kept a h (attempt r.history p).row (attempt r.history p).cell c.below c.cell (λ x e f. fresh_apart (value_puts a x) y e f)) ∙ (i.puts.body p w).value y
 
 -- and in the cell of the attempt that is announced now
 module _ (z : Sizes) (r r' : Run) (s : ℕ) (choice : Choice) (l : Local) (l' : Local) (h : Happens z r r' s choice l l' Announce) (i : Below z r) where
@@ -232,11 +239,11 @@ stored_now z r r' s choice l PutVersion l' h i p w e n = which (cases_eq (attemp
     which (inl f) (inl g) =
         let same : p ≡ (r.seats s).own = is_own i.puts s l h.knows (subst IsPutting (sym h.activity) tt) p w f g in (
           subst (λ q. (attempt r.history q).is_stamped ≡ true) (sym same) (own.stamped (subst IsStamped (sym h.activity) tt)),
-          rw (f, g) (h.changed.same ∙ sym (own.version (subst IsPutVersion (sym h.activity) tt)) ∙ ap (λ q. (attempt r.history q).version) (sym same)),
+          rw (f, g) (h.changed.same ∙ sym (own.version (subst IsStamped (sym h.activity) tt)) ∙ ap (λ q. (attempt r.history q).version) (sym same)),
         )
-    which (inr d) g = let c = i.puts.given p w in absurd (n (version_kept PutVersion h (attempt r.history p).row (attempt r.history p).cell c.linked.below c.cell (λ x f j. d f) ∙ e))
-    which (inl f) (inr d) = let c = i.puts.given p w in absurd (n (version_kept PutVersion h (attempt r.history p).row (attempt r.history p).cell c.linked.below c.cell (λ x j g. d g) ∙ e))
-stored_now z r r' s choice l a l' h i p w e n = let c = i.puts.given p w in absurd (n (version_kept a h (attempt r.history p).row (attempt r.history p).cell c.linked.below c.cell (λ x f g. x) ∙ e))
+    which (inr d) g = let c = i.puts.given p w in absurd (n (version_kept PutVersion h (attempt r.history p).row (attempt r.history p).cell c.below c.cell (λ x f j. d f) ∙ e))
+    which (inl f) (inr d) = let c = i.puts.given p w in absurd (n (version_kept PutVersion h (attempt r.history p).row (attempt r.history p).cell c.below c.cell (λ x j g. d g) ∙ e))
+stored_now z r r' s choice l a l' h i p w e n = let c = i.puts.given p w in absurd (n (version_kept a h (attempt r.history p).row (attempt r.history p).cell c.below c.cell (λ x f g. x) ∙ e))
 
 -- a version that stands in a cell is that of its attempt, which is stamped
 stored_keeps : (z : Sizes) (r r' : Run) (s : ℕ) (choice : Choice) (l : Local) (a : Activity) (l' : Local) → Happens z r r' s choice l l' a → Below z r → (p : ℕ) → p < length r.history.attempts → word z r'.world (name.Version (attempt r.history p).row (attempt r.history p).cell) ≢ 0 →
@@ -248,7 +255,7 @@ stored_keeps z r r' s choice l a l' h i p w n = which (cases_eq (word z r.world 
     which (inr d) =
         let c = i.puts.given p w in
         let b = i.puts.body p w in
-        (b.stamped d, rely_version z r r' s choice l a l' h i (attempt r.history p).row (attempt r.history p).cell c.linked.below c.cell d ∙ b.version d)
+        (b.stamped d, rely_version z r r' s choice l a l' h i (attempt r.history p).row (attempt r.history p).cell c.below c.cell d ∙ b.version d)
 
 -- the words of the cell of an attempt that was there
 body_stays : (z : Sizes) (r r' : Run) (s : ℕ) (choice : Choice) (l : Local) (a : Activity) (l' : Local) → Happens z r r' s choice l l' a → Below z r → Step r.history r'.history (log_entry z r a s choice l) → (p : ℕ) → p < length r.history.attempts → HasBody (word z r'.world) r'.history p

@@ -24,8 +24,8 @@ use Rattle.kw_core.specs.Step.{Step}
 use Rattle.kw_core.proofs.Happens.{log_entry}
 use Rattle.kw_core.proofs.Steps.{new_stands}
 use Rattle.kw_core.proofs.Happens.{Happens, knows_next, knows_other, not_exchanged}
-use Rattle.kw_core.proofs.Arrows.{Arrow, NextLook, looks, counts, NextCell, reads_cell, answers, ends_scan, scans_on}
-use Rattle.kw_core.proofs.Arrows.{meets_pending, meets_stamped, meets_neither, is_wanted, is_passed, loads_to_help, helps, finds_stamped, finds_other, counts_cells, has_no_version, has_other_key, gathers, announces, is_refused, loads_clock, stamps, is_stamped, is_not_own, stores_version, clears}
+use Rattle.kw_core.proofs.Arrows.{Arrow, NextLook, looks, lists, NextRest, rests, answers, ends_scan, scans_on}
+use Rattle.kw_core.proofs.Arrows.{meets_pending, meets_stamped, meets_neither, is_wanted, is_passed, loads_to_help, helps, finds_stamped, finds_other, list_ends, key_above, rest_passed, gathers_rest, announces, is_refused, loads_clock, stamps, is_stamped, is_not_own, stores_version, meets_cell, meets_none, key_before, key_same, key_after, version_before, version_after, stores_after, inserts, loses, clears}
 use Rattle.kw_core.proofs.Frame.{pend_kept}
 use Rattle.kw_puts.proofs.Owners.{IsPendingOf, entry_owner, published_puts}
 use Rattle.kw_puts.proofs.Rely.{SameAttempt, GoesOn}
@@ -76,6 +76,16 @@ published_goes z r r' s choice l a l' (stamps e) h i p = inr (tt, refl)
 published_goes z r r' s choice l a l' (is_stamped version e) h i p = inr (tt, refl)
 published_goes z r r' s choice l a l' (is_not_own n) h i p = absurd (own_entry z r s l i (acting_own z r r' s choice l Stamp l' h i tt) h.knows h.activity n)
 published_goes z r r' s choice l a l' stores_version h i p = inr (tt, refl)
+published_goes z r r' s choice l a l' (meets_cell c y) h i p = inr (tt, refl)
+published_goes z r r' s choice l a l' (meets_none y) h i p = inr (tt, refl)
+published_goes z r r' s choice l a l' (key_before y) h i p = inr (tt, refl)
+published_goes z r r' s choice l a l' (key_same y) h i p = inr (tt, refl)
+published_goes z r r' s choice l a l' (key_after y) h i p = inr (tt, refl)
+published_goes z r r' s choice l a l' (version_before y) h i p = inr (tt, refl)
+published_goes z r r' s choice l a l' (version_after y) h i p = inr (tt, refl)
+published_goes z r r' s choice l a l' stores_after h i p = inr (tt, refl)
+published_goes z r r' s choice l a l' (inserts y) h i p = inr (tt, refl)
+published_goes z r r' s choice l a l' (loses y) h i p = inr (tt, refl)
 published_goes z r r' s choice l a l' clears h i p = inl h.changed.same
 published_goes z r r' s choice l a l' _ h i p = absurd p
 
@@ -122,13 +132,13 @@ entry_keeps z r r' s choice l a l' b h i q j o e = which (cases_eq j s) (i.puts.
 
 look_meets : {A : Type 0} (z : Sizes) (j : ℕ) (a : Activity) → NextLook z j a → HasMet a → A
 look_meets z j a (looks o) p = absurd p
-look_meets z j a (counts o) p = absurd p
+look_meets z j a (lists o) p = absurd p
 
-cell_meets : {A : Type 0} (l : Local) (j : ℕ) (n : Local) → NextCell l j n → HasMet n.activity → A
-cell_meets l j n (reads_cell o) p = absurd p
-cell_meets l j n (answers o e) p = absurd p
-cell_meets l j n (ends_scan o e f) p = absurd p
-cell_meets l j n (scans_on q o e f g) p = absurd p
+cell_meets : {A : Type 0} (l : Local) (n : Local) → NextRest l n → HasMet n.activity → A
+cell_meets l n (rests m o) p = absurd p
+cell_meets l n (answers o e) p = absurd p
+cell_meets l n (ends_scan o e f) p = absurd p
+cell_meets l n (scans_on q o e f g) p = absurd p
 
 -- a reader meets a pending entry: it is that of the seat's own attempt
 pending_met : (z : Sizes) (r r' : Run) (s : ℕ) (choice : Choice) (l : Local) (j c : ℕ) → word z r.world (name.Pend l.row j) ≡ pend_word (pend.Pending c) → Happens z r r' s choice l (record l { looked = j; met = c; activity = LookKey }) (Look j) → Below z r → Step r.history r'.history (log_entry z r (Look j) s choice l) → Helps r'.history r'.origin LookKey (record l { looked = j; met = c; activity = LookKey }) (r'.seats s)
@@ -220,8 +230,8 @@ helps_own z r r' s choice l a l' (is_passed next e n) h i st p = look_meets z _ 
 helps_own z r r' s choice l a l' (helps next e n) h i st p = look_meets z _ next n p
 helps_own z r r' s choice l a l' (finds_stamped c version next e n) h i st p = look_meets z _ next n p
 helps_own z r r' s choice l a l' (finds_other next e n) h i st p = look_meets z _ next n p
-helps_own z r r' s choice l a l' (counts_cells next n) h i st p = cell_meets _ _ next n p
-helps_own z r r' s choice l a l' (has_no_version j next e n) h i st p = cell_meets _ _ next n p
-helps_own z r r' s choice l a l' (has_other_key next e n) h i st p = cell_meets _ _ next n p
-helps_own z r r' s choice l a l' (gathers next n) h i st p = cell_meets _ _ next n p
+helps_own z r r' s choice l a l' (list_ends next e n) h i st p = cell_meets _ next n p
+helps_own z r r' s choice l a l' (key_above next e n) h i st p = cell_meets _ next n p
+helps_own z r r' s choice l a l' (rest_passed next e n) h i st p = cell_meets _ next n p
+helps_own z r r' s choice l a l' (gathers_rest next n) h i st p = cell_meets _ next n p
 helps_own z r r' s choice l a l' _ h i st p = absurd p

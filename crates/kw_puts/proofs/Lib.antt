@@ -1,5 +1,7 @@
 pub mod Owners
 pub mod Rely
+pub mod ListWords
+pub mod ListSteps
 pub mod RelyEntry
 pub mod RelyProof
 pub mod StablePuts
@@ -12,5 +14,8 @@ pub mod PutsKeep
 pub mod Callings
 pub mod OwnScans
 pub mod PositionsKeep
+pub mod OwnInserts
+pub mod OwnListed
+pub mod ListsKeep
 pub mod PutsOpen
 pub mod PutsHold

@@ -12,12 +12,13 @@ use Rattle.kw_words.proofs.PlainWords.{key_of_word-key_word, value_of_word-value
 use Rattle.kw_model.specs.declared.call.Call.{Call}
 use Rattle.kw_model.specs.declared.call.Call.TheVariants.{Put, Del, Get, Scan}
 use Rattle.kw_world.specs.declared.activity.Activity.{Activity}
-use Rattle.kw_world.specs.declared.activity.Activity.TheVariants.{PutAdd, PutKey, PutValue, Announce, PutClock, Stamp, PutVersion, PutClear}
+use Rattle.kw_world.specs.declared.activity.Activity.TheVariants.{PutAdd, PutKey, PutValue, Announce, PutClock, Stamp, PutVersion, InsFrom, InsKey, InsVer, InsSet, Insert, PutClear}
 use Rattle.kw_world.specs.declared.local.Local.{Local}
 use Rattle.kw_world.specs.declared.event.Choice.{Choice}
 use Rattle.kw_world.specs.Sizes.{Sizes}
 use Rattle.kw_world.specs.Calls.{first_key, put_value}
 use Rattle.kw_world.specs.PutTransitions.{has_room}
+use Rattle.kw_world.specs.ListTransitions.{to_insert}
 use Rattle.kw_world.specs.Sane.{IsCall, IsKnown}
 use Rattle.kw_world.specs.Step.{word}
 use Rattle.kw_core.specs.declared.history.Attempt.{Attempt}
@@ -25,7 +26,7 @@ use Rattle.kw_core.specs.History.{LoadClock, attempt}
 use Rattle.kw_core.specs.declared.history.Change.TheVariants.{Nothing, Announces, Stamps}
 use Rattle.kw_core.specs.Noted.{noted}
 use Rattle.kw_core.specs.Run.{Run}
-use Rattle.kw_core.specs.Stages.{IsPutting, IsFresh, HasKey, IsPublished, IsStamped, IsPutVersion}
+use Rattle.kw_core.specs.Stages.{IsPutting, IsFresh, HasKey, IsAnnounce, IsPublished, IsStamp, IsStamped, IsPutVersion, IsStored, IsInserting, IsHelp}
 use Rattle.kw_core.specs.Words.{given_in}
 use Rattle.kw_shape.specs.Shape.{Shape}
 use Rattle.kw_puts.specs.Puts.{OwnsAttempt, IsPublishedAt, entry_of}
@@ -35,14 +36,47 @@ use Rattle.kw_core.specs.Step.{Step}
 use Rattle.kw_core.proofs.NotedLaws.{attempt_set_same}
 use Rattle.kw_core.proofs.Steps.{new_stands}
 use Rattle.kw_core.proofs.Happens.{Happens, chosen, not_chosen, exchanged, not_exchanged}
-use Rattle.kw_core.proofs.Arrows.{Arrow, NextLook, looks, counts, NextCell, reads_cell, answers, ends_scan, scans_on, IsNotOwn}
-use Rattle.kw_core.proofs.Arrows.{meets_stamped, meets_neither, is_passed, helps, finds_stamped, finds_other, counts_cells, has_no_version, has_other_key, gathers, takes_cell, stores_key, stores_value, announces, loads_clock, stamps, is_stamped, stores_version}
-use Rattle.kw_core.proofs.Frame.{key_kept, pend_kept}
+use Rattle.kw_core.proofs.Arrows.{Arrow, NextLook, looks, lists, NextRest, rests, answers, ends_scan, scans_on, IsNotOwn}
+use Rattle.kw_core.proofs.Arrows.{meets_stamped, meets_neither, is_passed, helps, finds_stamped, finds_other, list_ends, key_above, rest_passed, gathers_rest, takes_cell, stores_key, stores_value, announces, loads_clock, stamps, is_stamped, stores_version, meets_cell, meets_none, key_before, key_same, key_after, version_before, version_after, stores_after, inserts, loses}
+use Rattle.kw_core.proofs.Frame.{WritesOwnEntry, key_kept, pend_kept, version_kept}
 use Rattle.kw_core.proofs.Happens.{log_entry}
 use Rattle.kw_puts.proofs.Rely.{GoesOn}
 use Rattle.kw_puts.proofs.RelyEntry.{attempt_left}
 use Rattle.kw_puts.proofs.RelyProof.{goes_on_by}
 use Rattle.kw_puts.proofs.NewAttempts.{added, one_more_is, one_more_within}
+
+-- a seat that inserts its cell puts it, and has announced, stamped and stored it
+pub inserting_puts : (a : Activity) → IsInserting a → IsPutting a
+inserting_puts InsFrom m = tt
+inserting_puts InsKey m = tt
+inserting_puts InsVer m = tt
+inserting_puts InsSet m = tt
+inserting_puts Insert m = tt
+inserting_puts _ m = absurd m
+
+pub inserting_published : (a : Activity) → IsInserting a → IsPublished a
+inserting_published InsFrom m = tt
+inserting_published InsKey m = tt
+inserting_published InsVer m = tt
+inserting_published InsSet m = tt
+inserting_published Insert m = tt
+inserting_published _ m = absurd m
+
+pub inserting_stamped : (a : Activity) → IsInserting a → IsStamped a
+inserting_stamped InsFrom m = tt
+inserting_stamped InsKey m = tt
+inserting_stamped InsVer m = tt
+inserting_stamped InsSet m = tt
+inserting_stamped Insert m = tt
+inserting_stamped _ m = absurd m
+
+pub inserting_stored : (a : Activity) → IsInserting a → IsStored a
+inserting_stored InsFrom m = tt
+inserting_stored InsKey m = tt
+inserting_stored InsVer m = tt
+inserting_stored InsSet m = tt
+inserting_stored Insert m = tt
+inserting_stored _ m = absurd m
 
 -- What a seat with a cell knows, and what it meets.
 
@@ -331,8 +365,8 @@ found_stamped z r r' s choice l version e h i st = subst (OwnsAttempt (word z r'
     is = stamped_entry (attempt r.history (r.seats s).own) l.cell version own.cell entry
 
 -- the version is stored
-version_stored : (z : Sizes) (r r' : Run) (s : ℕ) (choice : Choice) (l : Local) → Happens z r r' s choice l (record l { activity = PutClear }) PutVersion → Below z r → Step r.history r'.history (log_entry z r PutVersion s choice l) → OwnsAttempt (word z r'.world) r'.history s PutClear (record l { activity = PutClear }) (r'.seats s)
-version_stored z r r' s choice l h i st = subst (OwnsAttempt (word z r'.world) r'.history s PutClear (record l { activity = PutClear })) (sym h.log) (record {
+version_stored : (z : Sizes) (r r' : Run) (s : ℕ) (choice : Choice) (l : Local) → Happens z r r' s choice l (to_insert l).local PutVersion → Below z r → Step r.history r'.history (log_entry z r PutVersion s choice l) → OwnsAttempt (word z r'.world) r'.history s InsFrom (to_insert l).local (r'.seats s)
+version_stored z r r' s choice l h i st = subst (OwnsAttempt (word z r'.world) r'.history s InsFrom (to_insert l).local) (sym h.log) (record {
   within = omega (arith, own.within, goes.more_attempts);
   seat = rw same own.seat;
   call = rw same own.call;
@@ -350,21 +384,63 @@ version_stored z r r' s choice l h i st = subst (OwnsAttempt (word z r'.world) r
   after = λ x. absurd x;
   loaded = λ x. absurd x;
   stamped = λ x. rw same (own.stamped (subst IsStamped (sym h.activity) tt));
-  version = λ x. absurd x;
-  stored = λ x. rw same (h.changed.same ∙ sym (own.version (subst IsPutVersion (sym h.activity) tt)));
+  version = λ x. rw same (own.version (subst IsStamped (sym h.activity) tt));
+  stored = λ x. rw same (h.changed.same ∙ sym (own.version (subst IsStamped (sym h.activity) tt)));
 })
   where
     own : OwnsAttempt (word z r.world) r.history s l.activity l (r.seats s)
-    own = acting_own z r r' s choice l PutVersion (record l { activity = PutClear }) h i tt
+    own = acting_own z r r' s choice l PutVersion (to_insert l).local h i tt
 
     goes : GoesOn r.history r'.history r.origin r'.origin
-    goes = goes_on_by z r r' s choice l PutVersion (record l { activity = PutClear }) h i st
+    goes = goes_on_by z r r' s choice l PutVersion (to_insert l).local h i st
 
     same : attempt r'.history (r.seats s).own ≡ attempt r.history (r.seats s).own
     same = attempt_left r.history r'.history _ (r.seats s).own Nothing tt h.history own.within
 
     known : IsKnown z r.world.rows l
     known = i.shape.sane.locals s l h.knows
+
+-- the cell is being inserted: nothing that the attempt says has changed
+module _ (z : Sizes) (r r' : Run) (s : ℕ) (choice : Choice) (l : Local) (a : Activity) (l' : Local) (h : Happens z r r' s choice l l' a) (i : Below z r) (st : Step r.history r'.history (log_entry z r a s choice l)) (m : IsInserting a) where
+  -- what the seat knows of its attempt is as it was
+  insert_stays : (b : Activity) → (IsFresh b → ⊥) → (HasKey b → ⊥) → (IsAnnounce b → ⊥) → (IsStamp b → ⊥) → r'.seats s ≡ r.seats s → r'.history ≡ noted r.history (log_entry z r a s choice l) Nothing → (WritesOwnEntry a → ⊥) → (IsHelp a → ⊥) → (IsPutVersion a → ⊥) →
+      l'.row ≡ l.row → l'.cell ≡ l.cell → l'.call ≡ l.call → l'.version ≡ l.version → OwnsAttempt (word z r'.world) r'.history s b l' (r'.seats s)
+  insert_stays b unfresh unkeyed unvalued unclocked log adds entry help stores row cell call versions = subst (OwnsAttempt (word z r'.world) r'.history s b l') (sym log) (record {
+    within = omega (arith, own.within, goes.more_attempts);
+    seat = rw same own.seat;
+    call = rw same own.call;
+    row = rw same (own.row ∙ sym row);
+    cell = rw same (own.cell ∙ sym cell);
+    key = rw same (own.key ∙ ap first_key (sym call));
+    value = rw same (own.value ∙ ap put_value (sym call));
+    kept = rw same own.kept;
+    unannounced = λ x. absurd (unfresh x);
+    unstamped = λ x. absurd (unfresh x);
+    has_key = λ x. absurd (unkeyed x);
+    has_value = λ x. absurd (unvalued x);
+    announced = λ x. rw same (own.announced published);
+    entry = λ x. rw row (pend_kept a h l.row s known.below.row h.seat (λ y e f. entry y) (λ y e f. help y) ∙ own.entry published ∙ ap entry_of (sym same));
+    after = λ x. absurd (unclocked x);
+    loaded = λ x. absurd (unclocked x);
+    stamped = λ x. rw same (own.stamped (subst IsStamped (sym h.activity) (inserting_stamped a m)));
+    version = λ x. rw same (own.version (subst IsStamped (sym h.activity) (inserting_stamped a m)) ∙ sym versions);
+    stored = λ x. rw (row, cell, same) (version_kept a h l.row l.cell known.below.row known.ranges.cell (λ y e f. stores y) ∙ own.stored (subst IsStored (sym h.activity) (inserting_stored a m)));
+  })
+    where
+      own : OwnsAttempt (word z r.world) r.history s l.activity l (r.seats s)
+      own = acting_own z r r' s choice l a l' h i (inserting_puts a m)
+
+      goes : GoesOn r.history r'.history r.origin r'.origin
+      goes = goes_on_by z r r' s choice l a l' h i st
+
+      same : attempt r'.history (r.seats s).own ≡ attempt r.history (r.seats s).own
+      same = attempt_left r.history r'.history _ (r.seats s).own Nothing tt adds own.within
+
+      known : IsKnown z r.world.rows l
+      known = i.shape.sane.locals s l h.knows
+
+      published : IsPublished l.activity
+      published = subst IsPublished (sym h.activity) (inserting_published a m)
 
 -- a cell is given
 cell_given : (z : Sizes) (r r' : Run) (s : ℕ) (choice : Choice) (l : Local) → has_room z (count_of (word z r.world (name.Count l.row))) ≡ true → Happens z r r' s choice l (record l { cell = given_in (word z r.world) l.row; activity = PutKey }) PutAdd → OwnsAttempt (word z r'.world) r'.history s PutKey (record l { cell = given_in (word z r.world) l.row; activity = PutKey }) (r'.seats s)
@@ -397,16 +473,16 @@ cell_given z r r' s choice l m h = subst (OwnsAttempt (word z r'.world) r'.histo
 
 pub look_puts : {A : Type 0} (z : Sizes) (j : ℕ) (a : Activity) → NextLook z j a → IsPutting a → A
 look_puts z j a (looks o) p = absurd p
-look_puts z j a (counts o) p = absurd p
+look_puts z j a (lists o) p = absurd p
 
-pub cell_puts : {A : Type 0} (l : Local) (j : ℕ) (n : Local) → NextCell l j n → IsPutting n.activity → A
-cell_puts l j n (reads_cell o) p = absurd p
-cell_puts l j n (answers o e) p = absurd p
-cell_puts l j n (ends_scan o e f) p = absurd p
-cell_puts l j n (scans_on q o e f g) p = absurd p
+pub cell_puts : {A : Type 0} (l : Local) (n : Local) → NextRest l n → IsPutting n.activity → A
+cell_puts l n (rests m o) p = absurd p
+cell_puts l n (answers o e) p = absurd p
+cell_puts l n (ends_scan o e f) p = absurd p
+cell_puts l n (scans_on q o e f g) p = absurd p
 
 -- the acting seat's own attempt
-pub owns_own : (z : Sizes) (r r' : Run) (s : ℕ) (choice : Choice) (l : Local) (a : Activity) (l' : Local) → Arrow z (word z r.world) s choice l a l' → Happens z r r' s choice l l' a → Below z r → Step r.history r'.history (log_entry z r a s choice l) → Shape z r'.world → Keeps r'.history → IsPutting l'.activity → OwnsAttempt (word z r'.world) r'.history s l'.activity l' (r'.seats s)
+pub owns_own : (z : Sizes) (r r' : Run) (s : ℕ) (choice : Choice) (l : Local) (a : Activity) (l' : Local) → Arrow z (word z r.world) s choice l a l' → Happens z r r' s choice l l' a → Below z r → Step r.history r'.history (log_entry z r a s choice l) → Shape z r' → Keeps r'.history → IsPutting l'.activity → OwnsAttempt (word z r'.world) r'.history s l'.activity l' (r'.seats s)
 owns_own z r r' s choice l a l' (takes_cell m) h i st after k p = cell_given z r r' s choice l m h
 owns_own z r r' s choice l a l' stores_key h i st after k p = key_stored z r r' s choice l h i st
 owns_own z r r' s choice l a l' stores_value h i st after k p = value_stored z r r' s choice l h i st
@@ -415,14 +491,24 @@ owns_own z r r' s choice l a l' loads_clock h i st after k p = clock_loaded z r 
 owns_own z r r' s choice l a l' (stamps e) h i st after k p = cell_stamped z r r' s choice l (sym (pend_word_of _ _ e)) h i st
 owns_own z r r' s choice l a l' (is_stamped version e) h i st after k p = found_stamped z r r' s choice l version (sym (pend_word_of _ _ e)) h i st
 owns_own z r r' s choice l a l' stores_version h i st after k p = version_stored z r r' s choice l h i st
+owns_own z r r' s choice l a l' (meets_cell c y) h i st after k p = insert_stays z r r' s choice l InsFrom l' h i st tt InsKey (λ x. x) (λ x. x) (λ x. x) (λ x. x) h.log h.history (λ x. x) (λ x. x) (λ x. x) refl refl refl refl
+owns_own z r r' s choice l a l' (meets_none y) h i st after k p = insert_stays z r r' s choice l InsFrom l' h i st tt InsSet (λ x. x) (λ x. x) (λ x. x) (λ x. x) h.log h.history (λ x. x) (λ x. x) (λ x. x) refl refl refl refl
+owns_own z r r' s choice l a l' (key_before y) h i st after k p = insert_stays z r r' s choice l InsKey l' h i st tt InsFrom (λ x. x) (λ x. x) (λ x. x) (λ x. x) h.log h.history (λ x. x) (λ x. x) (λ x. x) refl refl refl refl
+owns_own z r r' s choice l a l' (key_same y) h i st after k p = insert_stays z r r' s choice l InsKey l' h i st tt InsVer (λ x. x) (λ x. x) (λ x. x) (λ x. x) h.log h.history (λ x. x) (λ x. x) (λ x. x) refl refl refl refl
+owns_own z r r' s choice l a l' (key_after y) h i st after k p = insert_stays z r r' s choice l InsKey l' h i st tt InsSet (λ x. x) (λ x. x) (λ x. x) (λ x. x) h.log h.history (λ x. x) (λ x. x) (λ x. x) refl refl refl refl
+owns_own z r r' s choice l a l' (version_before y) h i st after k p = insert_stays z r r' s choice l InsVer l' h i st tt InsFrom (λ x. x) (λ x. x) (λ x. x) (λ x. x) h.log h.history (λ x. x) (λ x. x) (λ x. x) refl refl refl refl
+owns_own z r r' s choice l a l' (version_after y) h i st after k p = insert_stays z r r' s choice l InsVer l' h i st tt InsSet (λ x. x) (λ x. x) (λ x. x) (λ x. x) h.log h.history (λ x. x) (λ x. x) (λ x. x) refl refl refl refl
+owns_own z r r' s choice l a l' stores_after h i st after k p = insert_stays z r r' s choice l InsSet l' h i st tt Insert (λ x. x) (λ x. x) (λ x. x) (λ x. x) h.log h.history (λ x. x) (λ x. x) (λ x. x) refl refl refl refl
+owns_own z r r' s choice l a l' (inserts y) h i st after k p = insert_stays z r r' s choice l Insert l' h i st tt PutClear (λ x. x) (λ x. x) (λ x. x) (λ x. x) h.log h.history (λ x. x) (λ x. x) (λ x. x) refl refl refl refl
+owns_own z r r' s choice l a l' (loses y) h i st after k p = insert_stays z r r' s choice l Insert l' h i st tt InsFrom (λ x. x) (λ x. x) (λ x. x) (λ x. x) h.log h.history (λ x. x) (λ x. x) (λ x. x) refl refl refl refl
 owns_own z r r' s choice l a l' (meets_stamped j c version next e n) h i st after k p = look_puts z _ next n p
 owns_own z r r' s choice l a l' (meets_neither j next e n) h i st after k p = look_puts z _ next n p
 owns_own z r r' s choice l a l' (is_passed next e n) h i st after k p = look_puts z _ next n p
 owns_own z r r' s choice l a l' (helps next e n) h i st after k p = look_puts z _ next n p
 owns_own z r r' s choice l a l' (finds_stamped c version next e n) h i st after k p = look_puts z _ next n p
 owns_own z r r' s choice l a l' (finds_other next e n) h i st after k p = look_puts z _ next n p
-owns_own z r r' s choice l a l' (counts_cells next n) h i st after k p = cell_puts _ _ next n p
-owns_own z r r' s choice l a l' (has_no_version j next e n) h i st after k p = cell_puts _ _ next n p
-owns_own z r r' s choice l a l' (has_other_key next e n) h i st after k p = cell_puts _ _ next n p
-owns_own z r r' s choice l a l' (gathers next n) h i st after k p = cell_puts _ _ next n p
+owns_own z r r' s choice l a l' (list_ends next e n) h i st after k p = cell_puts _ next n p
+owns_own z r r' s choice l a l' (key_above next e n) h i st after k p = cell_puts _ next n p
+owns_own z r r' s choice l a l' (rest_passed next e n) h i st after k p = cell_puts _ next n p
+owns_own z r r' s choice l a l' (gathers_rest next n) h i st after k p = cell_puts _ next n p
 owns_own z r r' s choice l a l' _ h i st after k p = absurd p

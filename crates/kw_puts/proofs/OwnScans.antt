@@ -8,7 +8,7 @@ use Rattle.kw_words.proofs.ScanWords.{scan_of-Waiting}
 use Rattle.kw_model.specs.declared.call.Call.{Call}
 use Rattle.kw_model.specs.declared.call.Call.TheVariants.{Put, Del, Get, Scan}
 use Rattle.kw_world.specs.declared.activity.Activity.{Activity}
-use Rattle.kw_world.specs.declared.activity.Activity.TheVariants.{Idle, ScanWait, ScanDraw, ScanSettle, Start, Head, GuessMin, Walk, WalkMin, Look, LookKey, LookClock, LookHelp, LookCount, Cell, CellKey, CellValue, ClearScan, PutClock, Stamp, Leave}
+use Rattle.kw_world.specs.declared.activity.Activity.TheVariants.{Idle, ScanWait, ScanDraw, ScanSettle, Start, Head, GuessMin, Walk, WalkMin, Look, LookKey, LookClock, LookHelp, ListFrom, ListKey, ListVer, ListVal, RestKey, RestVal, ClearScan, PutClock, Stamp, Insert, Leave}
 use Rattle.kw_world.specs.declared.local.Local.{Local}
 use Rattle.kw_world.specs.declared.event.Choice.{Choice}
 use Rattle.kw_world.specs.Sizes.{Sizes}
@@ -27,11 +27,11 @@ use Rattle.kw_puts.specs.Below.{Below}
 use Rattle.kw_core.specs.Step.{Step}
 use Rattle.kw_core.proofs.Happens.{log_entry}
 use Rattle.kw_puts.proofs.Owners.{true_false}
-use Rattle.kw_core.proofs.Frame.{unwritten}
+use Rattle.kw_core.proofs.Frame.{unwritten, no_link}
 use Rattle.kw_core.proofs.Steps.{new_stands, stands_before}
 use Rattle.kw_puts.proofs.RelyProof.{goes_on_by}
 use Rattle.kw_core.proofs.Happens.{Changed, Happens, exchanged}
-use Rattle.kw_core.proofs.Arrows.{NextLook, looks, counts, NextCell, reads_cell, answers, ends_scan, scans_on, Arrow, begins, enters, stores_waiting, draws, settles_empty, settles, stops, starts_at_head, guesses, guess_fails, takes_head, guess_serves, guess_is_above, reads_last, reads_before, puts_in_last, puts_before, meets_next, walks_on, meets_pending, is_wanted, loads_to_help, has_version, has_key, meets_stamped, meets_neither, is_passed, helps, finds_stamped, finds_other, counts_cells, has_no_version, has_other_key, gathers, clears_scan, leaves}
+use Rattle.kw_core.proofs.Arrows.{NextLook, looks, lists, NextRest, rests, answers, ends_scan, scans_on, Arrow, begins, enters, stores_waiting, draws, settles_empty, settles, stops, starts_at_head, guesses, guess_fails, takes_head, guess_serves, guess_is_above, reads_last, reads_before, puts_in_last, puts_before, meets_next, walks_on, meets_pending, is_wanted, loads_to_help, list_leads, key_below, key_within, loads_version, gathers_listed, rest_wanted, meets_stamped, meets_neither, is_passed, helps, finds_stamped, finds_other, list_ends, key_above, rest_passed, gathers_rest, clears_scan, leaves}
 use Rattle.kw_core.proofs.SeatLogs.{IsNoDraw, call_kept, draw_kept, look_kept}
 use Rattle.kw_shape.proofs.NextCalls.{arrow_call}
 
@@ -43,10 +43,12 @@ IsAfterRead (Look j) = Unit {0}
 IsAfterRead LookKey = Unit {0}
 IsAfterRead LookClock = Unit {0}
 IsAfterRead LookHelp = Unit {0}
-IsAfterRead LookCount = Unit {0}
-IsAfterRead (Cell j) = Unit {0}
-IsAfterRead CellKey = Unit {0}
-IsAfterRead CellValue = Unit {0}
+IsAfterRead ListFrom = Unit {0}
+IsAfterRead ListKey = Unit {0}
+IsAfterRead ListVer = Unit {0}
+IsAfterRead ListVal = Unit {0}
+IsAfterRead RestKey = Unit {0}
+IsAfterRead RestVal = Unit {0}
 IsAfterRead Walk = Unit {0}
 IsAfterRead (ClearScan answer) = Unit {0}
 IsAfterRead (Leave answer) = Unit {0}
@@ -55,14 +57,14 @@ IsAfterRead _ = ⊥
 -- the next look
 look_after : (z : Sizes) (j : ℕ) (next : Activity) → NextLook z j next → IsAfterRead next
 look_after z j next (looks w) = tt
-look_after z j next (counts w) = tt
+look_after z j next (lists w) = tt
 
 -- what follows a cell
-cell_after : (l : Local) (j : ℕ) (k : Local) → NextCell l j k → IsAfterRead k.activity
-cell_after l j k (reads_cell w) = tt
-cell_after l j k (answers w e) = tt
-cell_after l j k (ends_scan w e f) = tt
-cell_after l j k (scans_on r w e f o) = tt
+cell_after : (l : Local) (k : Local) → NextRest l k → IsAfterRead k.activity
+cell_after l k (rests m w) = tt
+cell_after l k (answers w e) = tt
+cell_after l k (ends_scan w e f) = tt
+cell_after l k (scans_on r w e f o) = tt
 
 -- where a seat that reads a row goes on to
 pub after_read : (z : Sizes) (v : Words) (s : ℕ) (choice : Choice) (l : Local) (a : Activity) (k : Local) → Arrow z v s choice l a k → IsAtRead a → IsAfterRead k.activity
@@ -72,15 +74,18 @@ after_read z v s choice l a k (is_passed next e n) x = look_after z _ next n
 after_read z v s choice l a k (helps next e n) x = look_after z _ next n
 after_read z v s choice l a k (finds_stamped c version next e n) x = look_after z _ next n
 after_read z v s choice l a k (finds_other next e n) x = look_after z _ next n
-after_read z v s choice l a k (counts_cells next n) x = cell_after _ _ next n
-after_read z v s choice l a k (has_no_version j next e n) x = cell_after _ _ next n
-after_read z v s choice l a k (has_other_key next e n) x = cell_after _ _ next n
-after_read z v s choice l a k (gathers next n) x = cell_after _ _ next n
+after_read z v s choice l a k (list_ends next e n) x = cell_after _ next n
+after_read z v s choice l a k (key_above next e n) x = cell_after _ next n
+after_read z v s choice l a k (rest_passed next e n) x = cell_after _ next n
+after_read z v s choice l a k (gathers_rest next n) x = cell_after _ next n
 after_read z v s choice l (Look j) k b x = tt
 after_read z v s choice l LookKey k b x = tt
 after_read z v s choice l LookClock k b x = tt
-after_read z v s choice l (Cell j) k b x = tt
-after_read z v s choice l CellKey k b x = tt
+after_read z v s choice l ListFrom k b x = tt
+after_read z v s choice l ListKey k b x = tt
+after_read z v s choice l ListVer k b x = tt
+after_read z v s choice l ListVal k b x = tt
+after_read z v s choice l RestKey k b x = tt
 after_read z v s choice l a k b x = absurd x
 
 -- a read row does not lead to a scan's beginning
@@ -102,10 +107,12 @@ waits_from z v s choice l (Look j) k b x = absurd (waiting_not_read k.activity x
 waits_from z v s choice l LookKey k b x = absurd (waiting_not_read k.activity x (after_read z v s choice l LookKey k b tt))
 waits_from z v s choice l LookClock k b x = absurd (waiting_not_read k.activity x (after_read z v s choice l LookClock k b tt))
 waits_from z v s choice l LookHelp k b x = absurd (waiting_not_read k.activity x (after_read z v s choice l LookHelp k b tt))
-waits_from z v s choice l LookCount k b x = absurd (waiting_not_read k.activity x (after_read z v s choice l LookCount k b tt))
-waits_from z v s choice l (Cell j) k b x = absurd (waiting_not_read k.activity x (after_read z v s choice l (Cell j) k b tt))
-waits_from z v s choice l CellKey k b x = absurd (waiting_not_read k.activity x (after_read z v s choice l CellKey k b tt))
-waits_from z v s choice l CellValue k b x = absurd (waiting_not_read k.activity x (after_read z v s choice l CellValue k b tt))
+waits_from z v s choice l ListFrom k b x = absurd (waiting_not_read k.activity x (after_read z v s choice l ListFrom k b tt))
+waits_from z v s choice l ListKey k b x = absurd (waiting_not_read k.activity x (after_read z v s choice l ListKey k b tt))
+waits_from z v s choice l ListVer k b x = absurd (waiting_not_read k.activity x (after_read z v s choice l ListVer k b tt))
+waits_from z v s choice l ListVal k b x = absurd (waiting_not_read k.activity x (after_read z v s choice l ListVal k b tt))
+waits_from z v s choice l RestKey k b x = absurd (waiting_not_read k.activity x (after_read z v s choice l RestKey k b tt))
+waits_from z v s choice l RestVal k b x = absurd (waiting_not_read k.activity x (after_read z v s choice l RestVal k b tt))
 waits_from z v s choice l a k b x = absurd x
 
 -- a scan that has its version had it, or has just settled it; and a seat on its way that is no scan began so
@@ -119,10 +126,12 @@ drawn_from z v s choice l (Look j) k b e x = inl tt
 drawn_from z v s choice l LookKey k b e x = inl tt
 drawn_from z v s choice l LookClock k b e x = inl tt
 drawn_from z v s choice l LookHelp k b e x = inl tt
-drawn_from z v s choice l LookCount k b e x = inl tt
-drawn_from z v s choice l (Cell j) k b e x = inl tt
-drawn_from z v s choice l CellKey k b e x = inl tt
-drawn_from z v s choice l CellValue k b e x = inl tt
+drawn_from z v s choice l ListFrom k b e x = inl tt
+drawn_from z v s choice l ListKey k b e x = inl tt
+drawn_from z v s choice l ListVer k b e x = inl tt
+drawn_from z v s choice l ListVal k b e x = inl tt
+drawn_from z v s choice l RestKey k b e x = inl tt
+drawn_from z v s choice l RestVal k b e x = inl tt
 drawn_from z v s choice l (ClearScan answer) k b e x = inl tt
 drawn_from z v s choice l ScanSettle k b e x = inr tt
 drawn_from z v s choice l a k (enters n) e x = true_false e n
@@ -139,10 +148,12 @@ settled_from z v s choice l (Look j) k b e x = inl tt
 settled_from z v s choice l LookKey k b e x = inl tt
 settled_from z v s choice l LookClock k b e x = inl tt
 settled_from z v s choice l LookHelp k b e x = inl tt
-settled_from z v s choice l LookCount k b e x = inl tt
-settled_from z v s choice l (Cell j) k b e x = inl tt
-settled_from z v s choice l CellKey k b e x = inl tt
-settled_from z v s choice l CellValue k b e x = inl tt
+settled_from z v s choice l ListFrom k b e x = inl tt
+settled_from z v s choice l ListKey k b e x = inl tt
+settled_from z v s choice l ListVer k b e x = inl tt
+settled_from z v s choice l ListVal k b e x = inl tt
+settled_from z v s choice l RestKey k b e x = inl tt
+settled_from z v s choice l RestVal k b e x = inl tt
 settled_from z v s choice l ScanSettle k b e x = inr tt
 settled_from z v s choice l a k (enters n) e x = true_false e n
 settled_from z v s choice l a k b e x = absurd x
@@ -154,27 +165,29 @@ reading_from z v s choice l (Look (suc j)) k b x = inl (omega arith)
 reading_from z v s choice l LookKey k b x = inl tt
 reading_from z v s choice l LookClock k b x = inl tt
 reading_from z v s choice l LookHelp k b x = inl tt
-reading_from z v s choice l LookCount k b x = inl tt
-reading_from z v s choice l (Cell j) k b x = inl tt
-reading_from z v s choice l CellKey k b x = inl tt
-reading_from z v s choice l CellValue k b x = inl tt
+reading_from z v s choice l ListFrom k b x = inl tt
+reading_from z v s choice l ListKey k b x = inl tt
+reading_from z v s choice l ListVer k b x = inl tt
+reading_from z v s choice l ListVal k b x = inl tt
+reading_from z v s choice l RestKey k b x = inl tt
+reading_from z v s choice l RestVal k b x = inl tt
 reading_from z v s choice l a k (reads_last e n) x = absurd (omega (arith, x))
 reading_from z v s choice l a k (reads_before e n) x = absurd (omega (arith, x))
 reading_from z v s choice l a k b x = absurd x
 
 -- a scan keeps its version
-cell_version : (l : Local) (j : ℕ) (k : Local) → NextCell l j k → k.version ≡ l.version
-cell_version l j k (reads_cell w) = refl
-cell_version l j k (answers w e) = refl
-cell_version l j k (ends_scan w e f) = refl
-cell_version l j k (scans_on r w e f o) = refl
+cell_version : (l : Local) (k : Local) → NextRest l k → k.version ≡ l.version
+cell_version l k (rests m w) = refl
+cell_version l k (answers w e) = refl
+cell_version l k (ends_scan w e f) = refl
+cell_version l k (scans_on r w e f o) = refl
 
 -- a scan that has its version keeps it
 pub not_idle_drawn : (z : Sizes) (v : Words) (s : ℕ) (choice : Choice) (l : Local) (a : Activity) (k : Local) → Arrow z v s choice l a k → HasDrawn a → HasDrawn k.activity → k.version ≡ l.version
-not_idle_drawn z v s choice l a k (counts_cells next n) x y = cell_version _ _ next n
-not_idle_drawn z v s choice l a k (has_no_version j next e n) x y = cell_version _ _ next n
-not_idle_drawn z v s choice l a k (has_other_key next e n) x y = cell_version _ _ next n
-not_idle_drawn z v s choice l a k (gathers next n) x y = cell_version _ _ next n
+not_idle_drawn z v s choice l a k (list_ends next e n) x y = cell_version _ next n
+not_idle_drawn z v s choice l a k (key_above next e n) x y = cell_version _ next n
+not_idle_drawn z v s choice l a k (rest_passed next e n) x y = cell_version _ next n
+not_idle_drawn z v s choice l a k (gathers_rest next n) x y = cell_version _ next n
 not_idle_drawn z v s choice l a k (leaves answer) x y = absurd y
 not_idle_drawn z v s choice l ScanSettle k b x y = absurd x
 not_idle_drawn z v s choice l PutClock k b x y = absurd x
@@ -192,10 +205,12 @@ covering_draws (Look j) x = tt
 covering_draws LookKey x = tt
 covering_draws LookClock x = tt
 covering_draws LookHelp x = tt
-covering_draws LookCount x = tt
-covering_draws (Cell j) x = tt
-covering_draws CellKey x = tt
-covering_draws CellValue x = tt
+covering_draws ListFrom x = tt
+covering_draws ListKey x = tt
+covering_draws ListVer x = tt
+covering_draws ListVal x = tt
+covering_draws RestKey x = tt
+covering_draws RestVal x = tt
 covering_draws _ x = absurd x
 
 -- and its word says so
@@ -215,10 +230,12 @@ reading_draws (Look j) x = tt
 reading_draws LookKey x = tt
 reading_draws LookClock x = tt
 reading_draws LookHelp x = tt
-reading_draws LookCount x = tt
-reading_draws (Cell j) x = tt
-reading_draws CellKey x = tt
-reading_draws CellValue x = tt
+reading_draws ListFrom x = tt
+reading_draws ListKey x = tt
+reading_draws ListVer x = tt
+reading_draws ListVal x = tt
+reading_draws RestKey x = tt
+reading_draws RestVal x = tt
 reading_draws _ x = absurd x
 
 -- where a scan that has its version has no more event of its own that draws
@@ -257,6 +274,7 @@ module _ {z : Sizes} {r r' : Run} {s : ℕ} {choice : Choice} {l l' : Local} whe
   word_settled ScanWait h c x = absurd c
   word_settled ScanSettle h c x = absurd c
   word_settled (ClearScan answer) h c x = absurd c
+  word_settled Insert h c x = absurd c
   word_settled a h c x = unwritten a h (name.Scan s) h.seat (λ e. cc)
 
   -- the word is set where a scan begins to wait and where it settles; every other event keeps it or clears it
@@ -269,6 +287,7 @@ module _ {z : Sizes} {r r' : Run} {s : ℕ} {choice : Choice} {l l' : Local} whe
   word_next ScanWait h n w f = absurd (w (f refl))
   word_next ScanSettle h n w f = absurd (n tt)
   word_next (ClearScan answer) h n w f = inr h.changed.same
+  word_next Insert h n w f = inl (unwritten Insert h (name.Scan s) h.seat (λ e. no_link l.row l.link (name.Scan s) refl e))
   word_next a h n w f = inl (unwritten a h (name.Scan s) h.seat (λ e. cc))
 
 -- Whether the word is set.
@@ -320,14 +339,14 @@ settling_next z v s choice l a k _ x f = absurd x
 -- a look at the next entry keeps a scan on its way
 look_settled : (z : Sizes) (j : ℕ) (next : Activity) → NextLook z j next → IsSettled next
 look_settled z j next (looks w) = tt
-look_settled z j next (counts w) = tt
+look_settled z j next (lists w) = tt
 
 -- so does a cell, or it ends the scan
-cell_settled : (l : Local) (j : ℕ) (k : Local) → is_scan l.call ≡ true → NextCell l j k → IsSettled k.activity
-cell_settled l j k f (reads_cell w) = tt
-cell_settled l j k f (answers w e) = true_false f e
-cell_settled l j k f (ends_scan w e g) = tt
-cell_settled l j k f (scans_on r w e g o) = tt
+cell_settled : (l : Local) (k : Local) → is_scan l.call ≡ true → NextRest l k → IsSettled k.activity
+cell_settled l k f (rests m w) = tt
+cell_settled l k f (answers w e) = true_false f e
+cell_settled l k f (ends_scan w e g) = tt
+cell_settled l k f (scans_on r w e g o) = tt
 
 -- the scan clears its word
 abbrev IsClear : Activity → Type 0
@@ -354,10 +373,10 @@ settled_next z v s choice l a k (is_passed next e n) f x = inl (look_settled z _
 settled_next z v s choice l a k (helps next e n) f x = inl (look_settled z _ next n)
 settled_next z v s choice l a k (finds_stamped c version next e n) f x = inl (look_settled z _ next n)
 settled_next z v s choice l a k (finds_other next e n) f x = inl (look_settled z _ next n)
-settled_next z v s choice l a k (counts_cells next n) f x = inl (cell_settled _ _ next f n)
-settled_next z v s choice l a k (has_no_version j next e n) f x = inl (cell_settled _ _ next f n)
-settled_next z v s choice l a k (has_other_key next e n) f x = inl (cell_settled _ _ next f n)
-settled_next z v s choice l a k (gathers next n) f x = inl (cell_settled _ _ next f n)
+settled_next z v s choice l a k (list_ends next e n) f x = inl (cell_settled _ next f n)
+settled_next z v s choice l a k (key_above next e n) f x = inl (cell_settled _ next f n)
+settled_next z v s choice l a k (rest_passed next e n) f x = inl (cell_settled _ next f n)
+settled_next z v s choice l a k (gathers_rest next n) f x = inl (cell_settled _ next f n)
 settled_next z v s choice l a k (clears_scan answer) f x = inr (inl tt)
 settled_next z v s choice l a k (stops e) f x = inr (inr (refl, e))
 settled_next z v s choice l a k (puts_in_last e n) f x = put_not_scan l.call e f
@@ -373,8 +392,12 @@ settled_next z v s choice l WalkMin k (reads_before e n) f x = inl tt
 settled_next z v s choice l a k (meets_pending j c e) f x = inl tt
 settled_next z v s choice l LookKey k (is_wanted e) f x = inl tt
 settled_next z v s choice l LookClock k loads_to_help f x = inl tt
-settled_next z v s choice l a k (has_version j version e) f x = inl tt
-settled_next z v s choice l CellKey k (has_key e) f x = inl tt
+settled_next z v s choice l a k (list_leads c e) f x = inl tt
+settled_next z v s choice l ListKey k (key_below e) f x = inl tt
+settled_next z v s choice l ListKey k (key_within e w) f x = inl tt
+settled_next z v s choice l ListVer k loads_version f x = inl tt
+settled_next z v s choice l ListVal k gathers_listed f x = inl tt
+settled_next z v s choice l RestKey k (rest_wanted e) f x = inl tt
 settled_next z v s choice l a k _ f x = absurd x
 
 module _ (z : Sizes) (r r' : Run) (s : ℕ) (choice : Choice) (l : Local) (a : Activity) (l' : Local) (b : Arrow z (word z r.world) s choice l a l') (h : Happens z r r' s choice l l' a) (i : Below z r) where

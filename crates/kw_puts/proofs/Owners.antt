@@ -5,7 +5,7 @@ use Rattle.kw_words.specs.declared.layout.Name.TheVariants as name
 use Rattle.kw_words.specs.declared.pend.Pend.TheVariants as pend
 use Rattle.kw_words.specs.Pend.{pend_word}
 use Rattle.kw_world.specs.declared.activity.Activity.{Activity}
-use Rattle.kw_world.specs.declared.activity.Activity.TheVariants.{PutKey, PutValue, Announce, PutClock, Stamp, PutVersion, PutClear}
+use Rattle.kw_world.specs.declared.activity.Activity.TheVariants.{PutKey, PutValue, Announce, PutClock, Stamp, PutVersion, InsFrom, InsKey, InsVer, InsSet, Insert, PutClear}
 use Rattle.kw_world.specs.declared.local.Local.{Local}
 use Rattle.kw_world.specs.Sizes.{Sizes}
 use Rattle.kw_world.specs.Step.{word}
@@ -32,6 +32,11 @@ pub published_puts : (a : Activity) → IsPublished a → IsPutting a
 published_puts PutClock p = tt
 published_puts Stamp p = tt
 published_puts PutVersion p = tt
+published_puts InsFrom p = tt
+published_puts InsKey p = tt
+published_puts InsVer p = tt
+published_puts InsSet p = tt
+published_puts Insert p = tt
 published_puts PutClear p = tt
 published_puts _ p = absurd p
 
@@ -42,6 +47,11 @@ puts_busy Announce p = tt
 puts_busy PutClock p = tt
 puts_busy Stamp p = tt
 puts_busy PutVersion p = tt
+puts_busy InsFrom p = tt
+puts_busy InsKey p = tt
+puts_busy InsVer p = tt
+puts_busy InsSet p = tt
+puts_busy Insert p = tt
 puts_busy PutClear p = tt
 puts_busy _ p = absurd p
 

@@ -2,7 +2,7 @@
 use Rattle.std.proofs.Common.{ℕ, ◌≡◌, ◌⊎◌, inl, inr, ◌+◌, ◌<◌, ◌≤◌, Bool, true, false, Some, None, [], ◌∷◌, arith, refl, sym, ◌∙◌, ap, subst, length}
 use Rattle.kw_words.specs.declared.layout.Name.TheVariants as name
 use Rattle.kw_world.specs.declared.activity.Activity.{Activity}
-use Rattle.kw_world.specs.declared.activity.Activity.TheVariants.{Idle, ScanDraw, ScanSettle, Start, Walk, Look, LookCount, Cell, CellKey, CellValue, PutAdd, PutClock, Stamp}
+use Rattle.kw_world.specs.declared.activity.Activity.TheVariants.{Idle, ScanDraw, ScanSettle, Start, Walk, Look, ListFrom, ListKey, RestKey, RestVal, PutAdd, PutClock, Stamp}
 use Rattle.kw_world.specs.declared.local.Local.{Local}
 use Rattle.kw_world.specs.declared.event.Choice.{Choice}
 use Rattle.kw_world.specs.Sizes.{Sizes}
@@ -18,7 +18,7 @@ use Rattle.std.proofs.lemmas.Bool.{cases_lt, cases_eq}
 use Rattle.kw_words.specs.Count.{count_of}
 use Rattle.kw_world.specs.declared.event.Choice.TheVariants.{Begin, Go, Guess, Stop}
 use Rattle.kw_world.specs.PutTransitions.{has_room}
-use Rattle.kw_core.specs.Run.{seat_after, log_begun, log_gathered, is_at_cell}
+use Rattle.kw_core.specs.Run.{seat_after, log_begun, log_gathered, place_gathered, is_at_cell}
 use Rattle.kw_core.proofs.Happens.{found_at}
 use Rattle.std.proofs.lemmas.Option.{same_Some}
 use Rattle.kw_core.specs.History.{Draw}
@@ -232,7 +232,7 @@ pub scans_own : (z : Sizes) (r r' : Run) (s : ℕ) (choice : Choice) (l : Local)
 scans_own z r r' s choice l a l' b h i = scan_is_set z r r' s choice l a l' b h i
 
 -- where the seat drew and looked
-pub draws_own : (z : Sizes) (r r' : Run) (s : ℕ) (choice : Choice) (l : Local) (a : Activity) (l' : Local) → Arrow z (word z r.world) s choice l a l' → Happens z r r' s choice l l' a → Below z r → Step r.history r'.history (log_entry z r a s choice l) → Shape z r'.world → Draws (word z r'.world) r'.history s l'.activity l' (r'.seats s)
+pub draws_own : (z : Sizes) (r r' : Run) (s : ℕ) (choice : Choice) (l : Local) (a : Activity) (l' : Local) → Arrow z (word z r.world) s choice l a l' → Happens z r r' s choice l l' a → Below z r → Step r.history r'.history (log_entry z r a s choice l) → Shape z r' → Draws (word z r'.world) r'.history s l'.activity l' (r'.seats s)
 draws_own z r r' s choice l a l' b h i st after = draws_after z r r' s choice l a l' b h i st
 
 -- where each seat looked and drew last
@@ -250,24 +250,27 @@ log_within z (Look j) choice l found next g o h x y = met (j == 0)
     met : (b : Bool) → let g' : SeatLog = if b then record g { looked = length h.log; ids = []; read = None } else g in (g'.looked ≤ length h.log) × (g'.drawn ≤ length h.log)
     met true = (omega arith, y)
     met false = (x, y)
-log_within z LookCount choice l found next g o h x y = read (is_at_cell next)
+log_within z ListFrom choice l found next g o h x y = read (is_at_cell next)
   where
     read : (b : Bool) → let g' : SeatLog = if b then g else record g { read = Some l.row } in (g'.looked ≤ length h.log) × (g'.drawn ≤ length h.log)
     read true = (x, y)
     read false = (x, y)
-log_within z (Cell j) choice l found next g o h x y = read (is_at_cell next)
+log_within z ListKey choice l found next g o h x y = read (is_at_cell next)
   where
     read : (b : Bool) → let g' : SeatLog = if b then g else record g { read = Some l.row } in (g'.looked ≤ length h.log) × (g'.drawn ≤ length h.log)
     read true = (x, y)
     read false = (x, y)
-log_within z CellKey choice l found next g o h x y = read (is_at_cell next)
+log_within z RestKey choice l found next g o h x y = read (is_at_cell next)
   where
     read : (b : Bool) → let g' : SeatLog = if b then g else record g { read = Some l.row } in (g'.looked ≤ length h.log) × (g'.drawn ≤ length h.log)
     read true = (x, y)
     read false = (x, y)
-log_within z CellValue choice l found next g o h x y = read (is_at_cell next)
+log_within z RestVal choice l found next g o h x y = read (is_at_cell next)
   where
-    read : (b : Bool) → let g' : SeatLog = if b then log_gathered (o l.row l.place) g else record (log_gathered (o l.row l.place) g) { read = Some l.row } in (g'.looked ≤ length h.log) × (g'.drawn ≤ length h.log)
+    gathered : SeatLog
+    gathered = log_gathered (o l.row l.place) (place_gathered l found) g
+
+    read : (b : Bool) → let g' : SeatLog = if b then gathered else record gathered { read = Some l.row } in (g'.looked ≤ length h.log) × (g'.drawn ≤ length h.log)
     read true = (x, y)
     read false = (x, y)
 log_within z PutAdd choice l found next g o h x y = met (has_room z (count_of found))
@@ -292,7 +295,7 @@ both_keep z r r' s choice l a l' h i st t = which (cases_eq t s)
 
 -- The group.
 
-pub positions_keep : (z : Sizes) (r r' : Run) (s : ℕ) (choice : Choice) (l : Local) (a : Activity) (l' : Local) → Happens z r r' s choice l l' a → Below z r → Step r.history r'.history (log_entry z r a s choice l) → Shape z r'.world → Keeps r'.history → Puts z r' → Positions z r'
+pub positions_keep : (z : Sizes) (r r' : Run) (s : ℕ) (choice : Choice) (l : Local) (a : Activity) (l' : Local) → Happens z r r' s choice l l' a → Below z r → Step r.history r'.history (log_entry z r a s choice l) → Shape z r' → Keeps r'.history → Puts z r' → Positions z r'
 positions_keep z r r' s choice l a l' h i st after k puts = record {
   clocked = clocked_keeps z r r' s choice l a l' h.arrow h i st;
   calling = each_seat h (λ t k. IsBusy k.activity → Calling r'.history t k.activity k (r'.seats t))

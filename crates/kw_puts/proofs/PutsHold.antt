@@ -24,6 +24,7 @@ use Rattle.kw_shape.proofs.ShapeOpens.{shape_starts}
 use Rattle.kw_puts.specs.Below.{Below, MayTake}
 use Rattle.kw_puts.proofs.PositionsKeep.{positions_keep}
 use Rattle.kw_puts.proofs.PutsKeep.{puts_keep}
+use Rattle.kw_puts.proofs.ListsKeep.{lists_keep, lists_start}
 use Rattle.kw_puts.proofs.PutsOpen.{puts_start, positions_start}
 
 -- the log may take every event: no clock in it is later, and every version drawn is earlier
@@ -53,7 +54,7 @@ below_keeps z r r' s choice l a l' h i m =
     let shape = shape_keeps z r r' s choice l a l' h i.shape in
     let kept = noted_is_kept z r r' s choice l a l' h i m in
     let puts = puts_keep z r r' s choice l a l' h i st shape kept in
-    record { shape = shape; history = kept; puts = puts; positions = positions_keep z r r' s choice l a l' h i st shape kept puts }
+    record { shape = shape; history = kept; puts = puts; lists = lists_keep z r r' s choice l a l' h i st puts; positions = positions_keep z r r' s choice l a l' h i st shape kept puts }
 
 -- one event that may come
 pub below_goes_on : (z : Sizes) (o : Opening) (r : Run) (e : Event) → Below z r → may_step o r.world e ≡ true → MayTake z r e → Below z (goes_on z r e)
@@ -65,4 +66,4 @@ below_goes_on z o r e i may m =
 
 -- where nothing happened
 pub below_starts : (z : Sizes) (o : Opening) → IsOpening z o → Below z (start z o)
-below_starts z o i = record { shape = shape_starts z o i; history = nothing_keeps; puts = puts_start z o i; positions = positions_start z o i }
+below_starts z o i = record { shape = shape_starts z o i; history = nothing_keeps; puts = puts_start z o i; lists = lists_start z o i; positions = positions_start z o i }

@@ -22,7 +22,7 @@ use Rattle.kw_puts.proofs.DoneAttempts.{old_keeps}
 use Rattle.kw_puts.proofs.Entries.{entry_keeps, helps_own}
 
 -- the attempts, their cells and their entries, after every event
-pub puts_keep : (z : Sizes) (r r' : Run) (s : ℕ) (choice : Choice) (l : Local) (a : Activity) (l' : Local) → Happens z r r' s choice l l' a → Below z r → Step r.history r'.history (log_entry z r a s choice l) → Shape z r'.world → Keeps r'.history → Puts z r'
+pub puts_keep : (z : Sizes) (r r' : Run) (s : ℕ) (choice : Choice) (l : Local) (a : Activity) (l' : Local) → Happens z r r' s choice l l' a → Below z r → Step r.history r'.history (log_entry z r a s choice l) → Shape z r' → Keeps r'.history → Puts z r'
 puts_keep z r r' s choice l a l' h i st after k = record {
   given = given_keeps z r r' s choice l a l' h.arrow h i st after;
   places = places_keep z r r' s choice l a l' h.arrow h i st after;

@@ -16,14 +16,19 @@ use Rattle.kw_core.specs.History.{History, attempt, called, Stands}
 use Rattle.kw_core.specs.Grows.{Grows}
 use Rattle.kw_core.specs.Run.{Run, Origins}
 use Rattle.kw_core.specs.declared.seat_log.SeatLog.{SeatLog}
-use Rattle.kw_core.specs.Stages.{IsBusy, IsPutting, IsUnstamped}
+use Rattle.kw_core.specs.Stages.{IsBusy, IsPassing, IsPutting, IsUnlisted, IsUnstamped}
+use Rattle.kw_core.specs.Listed.{Listed}
+use Rattle.kw_lists.specs.Changes.{Leaves}
+use Rattle.kw_lists.specs.Puts.{LeavesOwn}
+use Rattle.kw_rows.specs.Ledger.{Ledger}
+use Rattle.kw_rows.specs.Rows.{WasLinked}
+use Rattle.kw_puts.specs.Lists.{list_in}
 use Rattle.kw_core.specs.Words.{Words, given_in}
 use Rattle.kw_puts.specs.Puts.{key_in, value_in}
-use Rattle.kw_core.proofs.Frame.{SameRows}
+use Rattle.kw_shape.proofs.RelyRows.{RelyRows}
 
--- the words: the rows and the seat's scan are as they were, and the clock, the counts and the versions that stand do not go back
+-- the words: the seat's scan is as it was, and the clock, the counts and the versions that stand do not go back
 pub record RelyWords (z : Sizes) (rows : ℕ) (v v' : Words) (t : ℕ) : Type 0 where
-  pub same : SameRows rows v v'
   pub scan : v' (name.Scan t) ≡ v (name.Scan t)
   pub clock : v name.Clock ≤ v' name.Clock
   pub given : (q : ℕ) → q < rows → given_in v q ≤ given_in v' q
@@ -79,13 +84,21 @@ pub data RelyEntry (v v' : Words) (h h' : History) (t : ℕ) (a : Activity) (l :
       (attempt h g.own).is_stamped ≡ false → attempt h' g.own ≡ record (attempt h g.own) { is_stamped = true; version = version; load = load; at = length h.log } →
       (called h g.call).put ≡ None → (called h' g.call).put ≡ Some g.own → RelyEntry v v' h h' t a l g
 
+-- the lists: of each row that is or was linked, what its list leaves to those who walk along it; and the own cell of a put that is not listed, with its
+-- link, is as it was
+pub record RelyLists (z : Sizes) (v v' : Words) (g : Ledger) (f f' : Listed) (a : Activity) (l : Local) : Type 0 where
+  pub leaves : (q : ℕ) → WasLinked g q → Leaves z.cells (list_in v f q) (list_in v' f' q)
+  pub own : IsUnlisted a → LeavesOwn (list_in v f l.row) (list_in v' f' l.row) l.cell
+
 -- all of it, for a seat that knows l
 pub record Rely (z : Sizes) (r r' : Run) (t : ℕ) (l : Local) : Type 0 where
   pub seat : t < z.seats
   pub rows : r'.world.rows ≡ r.world.rows
   pub log : r'.seats t ≡ r.seats t
+  pub fresh : IsPassing l.activity → RelyRows (word z r.world) (word z r'.world) r.ledger.rows r'.ledger.rows t
   pub words : RelyWords z r.world.rows (word z r.world) (word z r'.world) t
   pub cells : RelyCells (word z r.world) (word z r'.world) r.history l.activity l
+  pub lists : RelyLists z (word z r.world) (word z r'.world) r.ledger.rows r.listed r'.listed l.activity l
   pub goes_on : GoesOn r.history r'.history r.origin r'.origin
   pub history : RelyHistory r.history r'.history t
   pub entry : RelyEntry (word z r.world) (word z r'.world) r.history r'.history t l.activity l (r.seats t)

@@ -8,7 +8,7 @@ use Rattle.kw_words.specs.declared.pend.Pend.TheVariants as pend
 use Rattle.kw_words.specs.Pend.{pend_word}
 use Rattle.kw_world.specs.declared.answer.Answer.{Answer}
 use Rattle.kw_world.specs.declared.activity.Activity.{Activity}
-use Rattle.kw_world.specs.declared.activity.Activity.TheVariants.{LookHelp, PutClock, Stamp, PutVersion, PutClear, Leave}
+use Rattle.kw_world.specs.declared.activity.Activity.TheVariants.{LookHelp, PutClock, Stamp, PutVersion, InsFrom, InsKey, InsVer, InsSet, Insert, PutClear, Leave}
 use Rattle.kw_world.specs.declared.local.Local.{Local}
 use Rattle.kw_world.specs.declared.event.Choice.{Choice}
 use Rattle.kw_world.specs.Sizes.{Sizes}
@@ -172,6 +172,11 @@ unstamped : (a : Activity) → IsPublished a → (IsStamped a → ⊥) → IsUns
 unstamped PutClock p n = tt
 unstamped Stamp p n = tt
 unstamped PutVersion p n = absurd (n tt)
+unstamped InsFrom p n = absurd (n tt)
+unstamped InsKey p n = absurd (n tt)
+unstamped InsVer p n = absurd (n tt)
+unstamped InsSet p n = absurd (n tt)
+unstamped Insert p n = absurd (n tt)
 unstamped PutClear p n = absurd (n tt)
 unstamped _ p n = absurd p
 

@@ -2,28 +2,33 @@
 use Rattle.std.proofs.Common.{ℕ, ◌≡◌, ◌≢◌, ◌⊎◌, inl, inr, ◌<◌, Bool, true, false, Some, None, arith, refl, sym, ◌∙◌, ap, subst, length, slice_get}
 use Rattle.kw_words.specs.declared.layout.Name.TheVariants as name
 use Rattle.kw_world.specs.declared.activity.Activity.{Activity}
-use Rattle.kw_world.specs.declared.activity.Activity.TheVariants.{LookHelp, PutAdd, PutKey, PutValue, PutVersion, Leave}
+use Rattle.kw_world.specs.declared.activity.Activity.TheVariants.{LookHelp, PutAdd, PutKey, PutValue, PutVersion, InsSet, Insert, PutClear, Leave}
 use Rattle.kw_world.specs.declared.local.Local.{Local}
 use Rattle.kw_world.specs.declared.event.Choice.{Choice}
 use Rattle.kw_world.specs.Sizes.{Sizes}
-use Rattle.std.proofs.lemmas.Option.{slice_get_within}
+use Rattle.std.proofs.lemmas.Option.{slice_get_within, same_Some}
 use Rattle.std.proofs.Common.{◌==◌, ◌&&◌, if◌then◌else◌}
 use Rattle.std.proofs.lemmas.Bool.{cases_eq, and_parts}
 use Rattle.kw_words.specs.Count.{count_of}
-use Rattle.kw_words.specs.Plain.{key_of_word, value_of_word}
+use Rattle.kw_words.specs.Plain.{key_of_word, value_of_word, cell_of_link_word}
 use Rattle.kw_world.specs.declared.answer.Answer.{Answer}
 use Rattle.kw_world.specs.PutTransitions.{has_room, given_of}
-use Rattle.kw_world.specs.Sane.{IsLocal, IsLocalBelow}
+use Rattle.kw_world.specs.Sane.{IsLocal, IsLocalBelow, IsKnown}
 use Rattle.kw_core.specs.Step.{AttemptStep, as_it_was, is_added, is_announced, is_lost, is_stamped}
 use Rattle.kw_core.specs.Run.{origins_after, with_origin}
-use Rattle.kw_core.specs.Stages.{IsBusy, IsFresh, IsPutVersion}
+use Rattle.kw_core.specs.Stages.{IsBusy, IsFresh, IsStamped, IsPutVersion, IsUnlisted, IsInsSet, IsInsert}
+use Rattle.kw_lists.specs.Rows.{IsOn}
+use Rattle.kw_lists.specs.Puts.{LeavesOwn}
+use Rattle.kw_puts.specs.Lists.{list_in}
+use Rattle.kw_puts.proofs.ListSteps.{leaves, list_step, listed_was, is_set}
 use Rattle.kw_puts.specs.Puts.{OwnsAttempt}
 use Rattle.kw_puts.specs.Positions.{Calling}
 use Rattle.kw_core.proofs.Steps.{stands_lasts, now_grows, old_call, step_grows}
 use Rattle.kw_core.proofs.Arrows.{eq_from}
 use Rattle.kw_core.proofs.Happens.{found_at}
-use Rattle.kw_core.proofs.Frame.{WritesKey, WritesValue, key_kept, value_kept, version_kept, scan_kept, clock_grows, given_grows}
+use Rattle.kw_core.proofs.Frame.{WritesKey, WritesValue, key_kept, value_kept, version_kept, link_kept, scan_kept, clock_grows, given_grows}
 use Rattle.kw_core.proofs.RoomBelow.{room_below}
+use Rattle.kw_shape.proofs.RowsKeep.{others_kept, rely_rows}
 use Rattle.kw_puts.proofs.Owners.{true_false, is_own, cells_apart}
 use Rattle.kw_core.proofs.Changes.{made}
 use Rattle.kw_puts.proofs.RelyEntry.{change_apart, entry_apart, entry_helped}
@@ -36,8 +41,7 @@ use Rattle.kw_core.specs.Stages.{IsPutting}
 use Rattle.kw_puts.specs.Below.{Below}
 use Rattle.kw_core.specs.Step.{Step}
 use Rattle.kw_core.proofs.Happens.{Happens}
-use Rattle.kw_core.proofs.Frame.{same_rows}
-use Rattle.kw_puts.proofs.Rely.{RelyWords, RelyCells, GoesOn, RelyHistory, RelyEntry, Rely}
+use Rattle.kw_puts.proofs.Rely.{RelyWords, RelyCells, RelyLists, GoesOn, RelyHistory, RelyEntry, Rely}
 
 -- The words.
 
@@ -49,6 +53,14 @@ key_puts _ x = absurd x
 pub value_puts : (a : Activity) → WritesValue a → IsPutting a × IsFresh a
 value_puts PutValue x = (tt, tt)
 value_puts _ x = absurd x
+
+set_puts : (a : Activity) → IsInsSet a → IsPutting a
+set_puts InsSet x = tt
+set_puts _ x = absurd x
+
+insert_is : (a : Activity) → IsInsert a → a ≡ Insert
+insert_is Insert x = refl
+insert_is _ x = absurd x
 
 pub version_puts : (a : Activity) → IsPutVersion a → IsPutting a
 version_puts PutVersion x = tt
@@ -66,7 +78,7 @@ rely_version z r r' s choice l PutVersion l' h i q c o w n = which (cases_eq q l
         let b = i.puts.body (r.seats s).own own.within in
         let x : word z r.world (name.Version (attempt r.history (r.seats s).own).row (attempt r.history (r.seats s).own).cell) ≢ 0 = rw (own.row, own.cell) (rw (e, f) at n) in
         let y : word z r.world (name.Version l.row l.cell) ≡ (attempt r.history (r.seats s).own).version = rw (own.row, own.cell) at (b.version x) in
-        rw (e, f) (y ∙ own.version (subst IsPutVersion (sym h.activity) tt))
+        rw (e, f) (y ∙ own.version (subst IsStamped (sym h.activity) tt))
 
     which : (q ≡ l.row) ⊎ (q ≡ l.row → ⊥) → (c ≡ l.cell) ⊎ (c ≡ l.cell → ⊥) → word z r'.world (name.Version q c) ≡ word z r.world (name.Version q c)
     which (inl e) (inl f) = subst (λ x. word z r'.world (name.Version x c) ≡ word z r.world (name.Version q c)) (sym e) (subst (λ x. word z r'.world (name.Version l.row x) ≡ word z r.world (name.Version q c)) (sym f) (h.changed.same ∙ sym (stands e f)))
@@ -77,7 +89,6 @@ rely_version z r r' s choice l a l' h i q c o w n = version_kept a h q c o w (λ
 -- the words that concern another seat
 pub rely_words : (z : Sizes) (r r' : Run) (s : ℕ) (choice : Choice) (l : Local) (a : Activity) (l' : Local) → Happens z r r' s choice l l' a → Below z r → (t : ℕ) → t < z.seats → t ≢ s → RelyWords z r.world.rows (word z r.world) (word z r'.world) t
 rely_words z r r' s choice l a l' h i t o d = record {
-  same = same_rows a h;
   scan = scan_kept a h t o d;
   clock = clock_grows a h;
   given = given_grows a h (λ q w. i.shape.sane.each (name.Count q) w);
@@ -89,8 +100,8 @@ rely_words z r r' s choice l a l' h i t o d = record {
 -- the cells that concern another seat
 pub rely_cells : (z : Sizes) (r r' : Run) (s : ℕ) (choice : Choice) (l : Local) (a : Activity) (l' : Local) → Happens z r r' s choice l l' a → Below z r → (t : ℕ) (k : Local) → t ≢ s → slice_get r.world.locals t ≡ Some k → RelyCells (word z r.world) (word z r'.world) r.history k.activity k
 rely_cells z r r' s choice l a l' h i t k d g = record {
-  key = λ p o y. let c = i.puts.given p o in ap key_of_word (key_kept a h (attempt r.history p).row (attempt r.history p).cell c.linked.below c.cell (λ x e f. fresh (key_puts a x) p o y e f));
-  value = λ p o y. let c = i.puts.given p o in ap value_of_word (value_kept a h (attempt r.history p).row (attempt r.history p).cell c.linked.below c.cell (λ x e f. fresh (value_puts a x) p o y e f));
+  key = λ p o y. let c = i.puts.given p o in ap key_of_word (key_kept a h (attempt r.history p).row (attempt r.history p).cell c.below c.cell (λ x e f. fresh (key_puts a x) p o y e f));
+  value = λ p o y. let c = i.puts.given p o in ap value_of_word (value_kept a h (attempt r.history p).row (attempt r.history p).cell c.below c.cell (λ x e f. fresh (value_puts a x) p o y e f));
   own_key = λ y. key_kept a h k.row k.cell below.row ranges.cell (λ x e f. apart (key_puts a x).0 y e f);
   own_value = λ y. value_kept a h k.row k.cell below.row ranges.cell (λ x e f. apart (value_puts a x).0 y e f);
   own_version = λ y. version_kept a h k.row k.cell below.row ranges.cell (λ x e f. apart (version_puts a x) y e f);
@@ -111,6 +122,57 @@ rely_cells z r r' s choice l a l' h i t k d g = record {
 
     apart : IsPutting a → IsPutting k.activity → k.row ≡ l.row → k.cell ≡ l.cell → ⊥
     apart x y e f = cells_apart i.puts t s k l d g h.knows y (subst IsPutting (sym h.activity) x) e f
+
+-- The lists.
+
+-- a put whose cell is not listed puts
+pub unlisted_puts : (a : Activity) → IsUnlisted a → IsPutting a
+unlisted_puts PutClear u = absurd u
+unlisted_puts a u = u
+
+module _ (z : Sizes) (r r' : Run) (s : ℕ) (choice : Choice) (l : Local) (a : Activity) (l' : Local) (h : Happens z r r' s choice l l' a) (i : Below z r) (t : ℕ) (k : Local) (d : t ≢ s) (g : slice_get r.world.locals t ≡ Some k) (u : IsUnlisted k.activity) where
+  -- the own cell of another seat is not that of the acting one
+  others_cell : IsPutting a → k.row ≡ l.row → k.cell ≡ l.cell → ⊥
+  others_cell y e f = cells_apart i.puts t s k l d g h.knows (unlisted_puts k.activity u) (subst IsPutting (sym h.activity) y) e f
+
+  -- it is not listed by the event
+  others_unlisted : r'.listed k.row k.cell ≡ false
+  others_unlisted = which (r'.listed k.row k.cell) refl
+    where
+      not_now : (r.listed k.row k.cell ≡ true) ⊎ (a ≡ Insert) × (k.row ≡ l.row) × (k.cell ≡ l.cell) → ⊥
+      not_now (inl x) = true_false x ((i.lists.own t k g).unlisted u)
+      not_now (inr x) = others_cell (subst IsPutting (sym x.0) tt) x.1 x.2
+
+      which : (b : Bool) → r'.listed k.row k.cell ≡ b → r'.listed k.row k.cell ≡ false
+      which true e = absurd (not_now (listed_was z r r' s choice l a l' h k.row k.cell e))
+      which false e = e
+
+  -- nor is its link exchanged, which is none of the list
+  others_link : IsInsert a → Some k.cell ≡ l.link → k.row ≡ l.row → ⊥
+  others_link x e f =
+      let inserting = subst (λ q. Happens z r r' s choice l l' q) (insert_is a x) h in
+      let on : IsOn (list_in (word z r.world) r.listed l.row) (Some k.cell) = subst (IsOn (list_in (word z r.world) r.listed l.row)) (sym e) (is_set z r r' s choice l l' inserting i).met.from.on in
+      true_false (subst (λ q. r.listed q k.cell ≡ true) (sym f) on) ((i.lists.own t k g).unlisted u)
+
+  -- so it is as it was
+  rely_own : LeavesOwn (list_in (word z r.world) r.listed k.row) (list_in (word z r'.world) r'.listed k.row) k.cell
+  rely_own = record {
+    cell = record { unlisted = others_unlisted; cell = record { key = ap key_of_word (cells.own_key (unlisted_puts k.activity u)); version = cells.own_version (unlisted_puts k.activity u) } };
+    after = ap cell_of_link_word (link_kept a h k.row (Some k.cell) known.below.row known.ranges.cell (λ x e f. others_cell (set_puts a x) e (same_Some k.cell l.cell f)) (λ x e f. others_link x f e));
+  }
+    where
+      known : IsKnown z r.world.rows k
+      known = i.shape.sane.locals t k g
+
+      cells : RelyCells (word z r.world) (word z r'.world) r.history k.activity k
+      cells = rely_cells z r r' s choice l a l' h i t k d g
+
+-- the lists, for another seat
+pub rely_lists : (z : Sizes) (r r' : Run) (s : ℕ) (choice : Choice) (l : Local) (a : Activity) (l' : Local) → Happens z r r' s choice l l' a → Below z r → (t : ℕ) (k : Local) → t ≢ s → slice_get r.world.locals t ≡ Some k → RelyLists z (word z r.world) (word z r'.world) r.ledger.rows r.listed r'.listed k.activity k
+rely_lists z r r' s choice l a l' h i t k d g = record {
+  leaves = λ q n. leaves z.cells _ _ (list_step z r r' s choice l a l' h i q n);
+  own = λ u. rely_own z r r' s choice l a l' h i t k d g u;
+}
 
 -- The record.
 
@@ -179,8 +241,10 @@ rely z r r' s choice l a l' h i st t k d g =
       seat = o;
       rows = h.rows;
       log = h.logs t d;
+      fresh = λ x. let p = (i.shape.passes t k g).in_pass x in rely_rows a h i.shape.sane i.shape.rows t p.since p.passes (others_kept a h t d ∙ p.passes);
       words = rely_words z r r' s choice l a l' h i t o d;
       cells = rely_cells z r r' s choice l a l' h i t k d g;
+      lists = rely_lists z r r' s choice l a l' h i t k d g;
       goes_on = goes_on_by z r r' s choice l a l' h i st;
       history = rely_history z r r' s choice l a l' h i t d;
       entry = rely_entry z r r' s choice l a l' h i t k d g;

@@ -1,7 +1,7 @@
 -- What is known of a seat that puts or helps survives every event of another seat.
 use Rattle.std.proofs.Common.{ℕ, ◌≡◌, ◌<◌, Option, arith, refl, sym, ◌∙◌, ap, subst, length}
 use Rattle.kw_world.specs.declared.activity.Activity.{Activity}
-use Rattle.kw_world.specs.declared.activity.Activity.TheVariants.{PutClock, Stamp, PutVersion, PutClear}
+use Rattle.kw_world.specs.declared.activity.Activity.TheVariants.{PutClock, Stamp, InsFrom, InsKey, InsVer, InsSet, Insert, PutClear}
 use Rattle.kw_world.specs.declared.local.Local.{Local}
 use Rattle.kw_world.specs.Sizes.{Sizes}
 use Rattle.kw_world.specs.Step.{word}
@@ -11,7 +11,7 @@ use Rattle.kw_words.specs.declared.pend.Pend.TheVariants as pend
 use Rattle.kw_words.specs.Pend.{pend_word}
 use Rattle.kw_words.specs.Plain.{key_of_word, value_of_word}
 use Rattle.kw_core.specs.History.{LoadClock}
-use Rattle.kw_core.specs.Stages.{IsPutting, IsFresh, IsUnstamped, IsStamped, IsPutVersion, IsPutClear}
+use Rattle.kw_core.specs.Stages.{IsPutting, IsFresh, IsUnstamped, IsStamped, IsStored}
 use Rattle.kw_core.proofs.Steps.{announced_within}
 use Rattle.kw_puts.specs.Puts.{OwnsAttempt, Helps, key_in, value_in, entry_of}
 use Rattle.kw_puts.proofs.Rely.{SameAttempt, RelyEntry, as_it_was, is_helped, Rely}
@@ -27,13 +27,14 @@ not_stamped PutClock u f = f
 not_stamped Stamp u f = f
 not_stamped _ u f = u
 
-version_stamped : (a : Activity) → IsPutVersion a → IsStamped a
-version_stamped PutVersion u = tt
-version_stamped _ u = absurd u
-
-clear_stamped : (a : Activity) → IsPutClear a → IsStamped a
-clear_stamped PutClear u = tt
-clear_stamped _ u = absurd u
+stored_stamped : (a : Activity) → IsStored a → IsStamped a
+stored_stamped InsFrom u = tt
+stored_stamped InsKey u = tt
+stored_stamped InsVer u = tt
+stored_stamped InsSet u = tt
+stored_stamped Insert u = tt
+stored_stamped PutClear u = tt
+stored_stamped _ u = absurd u
 
 -- a seat's own attempt
 pub owns_stable : (z : Sizes) (r r' : Run) (t : ℕ) (k : Local) → Rely z r r' t k → IsPutting k.activity → OwnsAttempt (word z r.world) r.history t k.activity k (r.seats t) → OwnsAttempt (word z r'.world) r'.history t k.activity k (r'.seats t)
@@ -93,8 +94,8 @@ owns_stable z r r' t k y p o = subst (λ g. OwnsAttempt (word z r'.world) r'.his
       after = λ a. rw f (o.after a);
       loaded = λ a. y.goes_on.stands _ LoadClock _ (o.loaded a);
       stamped = λ a. rw f refl;
-      version = λ a. absurd (not_stamped k.activity u (version_stamped k.activity a));
-      stored = λ a. absurd (not_stamped k.activity u (clear_stamped k.activity a));
+      version = λ a. absurd (not_stamped k.activity u a);
+      stored = λ a. absurd (not_stamped k.activity u (stored_stamped k.activity a));
     }
 
 -- the attempt that a reader helps

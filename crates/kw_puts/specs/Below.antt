@@ -11,12 +11,14 @@ use Rattle.kw_core.specs.Run.{Run, change_of, found_by}
 use Rattle.kw_core.specs.Step.{Keeps}
 use Rattle.kw_shape.specs.Shape.{Shape}
 use Rattle.kw_puts.specs.Puts.{Puts}
+use Rattle.kw_puts.specs.Lists.{Lists}
 use Rattle.kw_puts.specs.Positions.{Positions}
 
 pub record Below (z : Sizes) (r : Run) : Type 0 where
-  pub shape : Shape z r.world
+  pub shape : Shape z r
   pub history : Keeps r.history
   pub puts : Puts z r
+  pub lists : Lists z r
   pub positions : Positions z r
 
 -- the record may note the event: what its laws ask of the change that the event makes holds where it comes

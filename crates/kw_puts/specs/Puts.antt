@@ -19,19 +19,22 @@ use Rattle.kw_core.specs.declared.history.Attempt.{Attempt}
 use Rattle.kw_core.specs.declared.seat_log.SeatLog.{SeatLog}
 use Rattle.kw_core.specs.Run.{Origins, Run}
 use Rattle.kw_core.specs.Words.{Words, given_in}
-use Rattle.kw_shape.specs.Shape.{IsLinked, HoldsKey}
-use Rattle.kw_core.specs.Stages.{IsPutting, IsFresh, HasKey, IsAnnounce, IsPublished, IsStamp, IsStamped, IsPutVersion, IsPutClear, HasMet, IsToHelp, IsHelp}
+use Rattle.kw_rows.specs.Ledger.{Ledger}
+use Rattle.kw_rows.specs.Rows.{WasLinked}
+use Rattle.kw_shape.specs.Shape.{HoldsKey}
+use Rattle.kw_core.specs.Stages.{IsPutting, IsFresh, HasKey, IsAnnounce, IsPublished, IsStamp, IsStamped, IsStored, HasMet, IsToHelp, IsHelp}
 
 -- The cells of attempts.
 
--- the cell of an attempt is one that its row has given, to this attempt; the row is linked and may hold the key
-pub record IsGivenCell (z : Sizes) (rows : ℕ) (v : Words) (h : History) (o : Origins) (p : ℕ) : Type 0 where
+-- the cell of an attempt is one that its row has given, to this attempt; the row is in the list, or was, and may hold the key
+pub record IsGivenCell (z : Sizes) (rows : ℕ) (v : Words) (g : Ledger) (h : History) (o : Origins) (p : ℕ) : Type 0 where
   pub seat : (attempt h p).seat < z.seats
-  pub linked : IsLinked rows v (attempt h p).row
+  pub below : (attempt h p).row < rows
+  pub linked : WasLinked g (attempt h p).row
   pub cell : (attempt h p).cell < z.cells
   pub given : (attempt h p).cell < given_in v (attempt h p).row
   pub origin : o (attempt h p).row (attempt h p).cell ≡ Some p
-  pub holds : HoldsKey v (attempt h p).row (attempt h p).key
+  pub holds : HoldsKey v g (attempt h p).row (attempt h p).key
 
 -- the attempt has this cell
 pub record HasCell (h : History) (r c p : ℕ) : Type 0 where
@@ -74,7 +77,7 @@ entry_of p = if p.is_stamped then pend_word (Stamped p.cell p.version) else pend
 
 -- the seat's own attempt is one of this seat, this call, and the local's row, cell, key and value; it is not lost. Until it is
 -- announced what the seat has stored of it stands in the cell; then the seat's entry says how it is; a seat that is to stamp has
--- loaded the clock after the announcement; then it is stamped with the seat's version, and at last this is stored
+-- loaded the clock after the announcement; then it is stamped with the seat's version, and this is stored
 pub record OwnsAttempt (v : Words) (h : History) (t : ℕ) (a : Activity) (l : Local) (g : SeatLog) : Type 0 where
   pub within : g.own < length h.attempts
   pub seat : (attempt h g.own).seat ≡ t
@@ -93,8 +96,8 @@ pub record OwnsAttempt (v : Words) (h : History) (t : ℕ) (a : Activity) (l : L
   pub after : IsStamp a → (attempt h g.own).announced < g.loaded
   pub loaded : IsStamp a → Stands h g.loaded LoadClock l.version
   pub stamped : IsStamped a → (attempt h g.own).is_stamped ≡ true
-  pub version : IsPutVersion a → (attempt h g.own).version ≡ l.version
-  pub stored : IsPutClear a → v (name.Version l.row l.cell) ≡ (attempt h g.own).version
+  pub version : IsStamped a → (attempt h g.own).version ≡ l.version
+  pub stored : IsStored a → v (name.Version l.row l.cell) ≡ (attempt h g.own).version
 
 -- the attempt is the one that its seat is at work on
 pub record IsCurrent (locals : ℕ → Option Local) (seats : ℕ → SeatLog) (h : History) (p : ℕ) : Type 0 where
@@ -132,7 +135,7 @@ pub record Helps (h : History) (o : Origins) (a : Activity) (l : Local) (g : Sea
 
 -- what holds of the attempts, the cells, the entries, and the seats that put or help
 pub record Puts (z : Sizes) (r : Run) : Type 0 where
-  pub given : (p : ℕ) → p < length r.history.attempts → IsGivenCell z r.world.rows (word z r.world) r.history r.origin p
+  pub given : (p : ℕ) → p < length r.history.attempts → IsGivenCell z r.world.rows (word z r.world) r.ledger.rows r.history r.origin p
   pub places : Places z r.world.rows (word z r.world) r.history r.origin
   pub rises : Rises r.history
   pub body : (p : ℕ) → p < length r.history.attempts → HasBody (word z r.world) r.history p

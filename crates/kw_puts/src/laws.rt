@@ -15,5 +15,6 @@ ghost use Rattle.kw_puts.specs.Below.{Below, MayTake};
 /// cell is and what stands in it, what each entry says, the clock over the log, the call of each busy seat, and each scan's word.
 pub fn puts_laws()
     ensures opens { (z : Sizes) (o : Opening) → IsOpening z o → Below z (start z o) }
-    ensures keeps { (z : Sizes) (o : Opening) (r : Run) (e : Event) → Below z r → may_step o r.world e ≡ true → MayTake z r e → Below z (goes_on z r e) }
+    ensures keeps { (z : Sizes) (o : Opening) (r : Run) (e : Event) → Below z r →
+        may_step o r.world e ≡ true → MayTake z r e → Below z (goes_on z r e) }
 {}

@@ -14,21 +14,10 @@ use Rattle.kw_core.specs.History.{History, attempt}
 use Rattle.kw_core.specs.HistoryLaws.{IsGapOf, HasVersionUpTo, StandsUpTo, shows}
 use Rattle.kw_core.specs.Step.{Keeps}
 use Rattle.kw_core.specs.Run.{Run, id_at, id_of, best_id}
-use Rattle.kw_core.specs.Words.{Words}
-use Rattle.kw_shape.specs.Shape.{IsLinked, IsBefore, HoldsKey, Chain}
 use Rattle.kw_puts.specs.Puts.{Puts}
 use Rattle.kw_reads.specs.Readers.{IsCopyOf, AreCopies}
 use Rattle.kw_core.proofs.Arrows.{eq_from, eq_not}
 use Rattle.kw_puts.proofs.Owners.{same_place}
-
--- two linked rows that may hold one key are one
-pub one_row : (rows : ℕ) (v : Words) (r q key : ℕ) → Chain rows v → IsLinked rows v r → IsLinked rows v q → HoldsKey v r key → HoldsKey v q key → r ≡ q
-one_row rows v r q key c a b x y = which (c.apart r q a b)
-  where
-    which : (r ≡ q) ⊎ IsBefore v r q ⊎ IsBefore v q r → r ≡ q
-    which (inl e) = e
-    which (inr (inl e)) = absurd (omega (arith, x.below e.next e.follows, e.above, y.from))
-    which (inr (inr e)) = absurd (omega (arith, y.below e.next e.follows, e.above, x.from))
 
 -- what the attempt of a key is, of those gathered: it has at most this version, shows this, and none of the others is after it
 pub record Gives (h : History) (key version : ℕ) (o : Option ℕ) (value : Option ℕ) (ids : List ℕ) : Type 0 where

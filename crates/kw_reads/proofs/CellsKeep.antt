@@ -1,121 +1,122 @@
--- A reader reads the cells of its row: each attempt that is due to it is gathered when its cell is read.
+-- A reader reads the cells of its row: each attempt that is due to it is gathered when its cell is met, or else as one of the cells
+-- that are remembered.
 --
--- `ReadTo` says it of the cells below a place, without an activity: so it holds where the reader goes on to the next cell, and where
--- the cells end.
-use Rattle.std.proofs.Common.{ℕ, ◌≡◌, ◌≢◌, ◌⊎◌, inl, inr, ◌+◌, ◌<◌, ◌≤◌, true, false, Option, Some, None, List, [], ◌∷◌, ◌++◌, arith, refl, sym, ◌∙◌, ap, subst, length, min, unwrap_or}
-use Rattle.std.specs.Prelude.{Contains}
+-- `ReadLeft` says it where the walk along the list is over, without an activity: so it holds where the reader goes on to a remembered
+-- cell, and where the row is read.
+use Rattle.std.proofs.Common.{ℕ, ◌≡◌, ◌⊎◌, inl, inr, ◌+◌, ◌<◌, ◌≤◌, nat_le, ◌&&◌, true, false, Option, Some, None, List, arith, refl, sym, ◌∙◌, ap, subst, unwrap_or}
+use Rattle.std.specs.Prelude.{All, Contains, insert}
+use Rattle.std.proofs.lemmas.Bool.{cases_eq}
+use Rattle.std.proofs.lemmas.Bool.Decides.{nat_tests}
 use Rattle.std.proofs.lemmas.Option.{same_Some}
-use Rattle.std.proofs.lemmas.List.Elements.{Contains-append_left}
-use Rattle.std.proofs.Math.Nat.{min-le_left, le-min}
 use Rattle.kw_words.specs.declared.layout.Name.TheVariants as name
-use Rattle.kw_words.specs.Count.{count_of}
-use Rattle.kw_words.specs.Plain.{key_of_word, value_of_word, version_of_word, number_of_word, number_word, IsCounted}
-use Rattle.kw_words.proofs.PlainWords.{number_word-number_of_word, IsCounted-number_of_word}
+use Rattle.kw_words.specs.Plain.{key_of_word, value_of_word, version_of_word, cell_of_link_word}
+use Rattle.kw_words.proofs.PlainWords.{number_of_word-number_word}
+use Rattle.kw_lists.specs.Rows.{Row, Stands, IsBehind}
+use Rattle.kw_lists.proofs.Inserting.{reached}
+use Rattle.kw_lists.proofs.Reading as reading
+use Rattle.kw_lists.proofs.Reading.{above_range}
 use Rattle.kw_world.specs.declared.activity.Activity.{Activity}
-use Rattle.kw_world.specs.declared.activity.Activity.TheVariants.{LookCount, Cell, CellKey, CellValue}
+use Rattle.kw_world.specs.declared.activity.Activity.TheVariants.{ListFrom, ListKey, ListVer, ListVal, RestKey, RestVal}
+use Rattle.kw_model.specs.declared.call.Call.{Call}
 use Rattle.kw_world.specs.declared.local.Local.{Local}
 use Rattle.kw_world.specs.declared.event.Choice.{Choice}
+use Rattle.kw_world.specs.ListTransitions.{link_name}
 use Rattle.kw_world.specs.Sizes.{Sizes}
-use Rattle.kw_world.specs.Calls.{is_in_range}
-use Rattle.kw_world.specs.Marks.{version_marked}
-use Rattle.kw_world.specs.PutTransitions.{given_of}
-use Rattle.kw_world.specs.ReadTransitions.{count_read, version_in_hand, gathering}
+use Rattle.kw_world.specs.Calls.{first_key, last_key, is_in_range}
+use Rattle.kw_world.specs.Marks.{is_marked, unmarked, least_mark}
+use Rattle.kw_world.specs.ReadTransitions.{remembering, gathering}
 use Rattle.kw_world.specs.Step.{word}
 use Rattle.kw_core.specs.History.{History, attempt}
-use Rattle.kw_core.specs.Run.{Run, Origins, log_read}
+use Rattle.kw_core.specs.Run.{Run, Origins, log_read, log_gathered}
 use Rattle.kw_core.specs.declared.seat_log.SeatLog.{SeatLog}
-use Rattle.kw_core.specs.Stages.{IsTaking, IsReading}
-use Rattle.kw_core.specs.Words.{Words, given_in}
-use Rattle.kw_shape.specs.Shape.{IsKind}
-use Rattle.kw_puts.specs.Puts.{HasCell, HasBody}
-use Rattle.kw_reads.specs.Readers.{IsDue, IsNoted, IsReady, IsMarkOf, IsInHand, Reads, AreCopies, Gathers, HasSeen}
+use Rattle.kw_core.specs.Stages.{IsTaking, IsAtRead, IsReading, HasPlace, HasVersion, HasCellKey}
+use Rattle.kw_puts.specs.Lists.{list_in, IsListedCell}
+use Rattle.kw_reads.specs.Readers.{IsDue, IsNoted, IsReady, IsMarkOf, IsInHand, IsToCome, Looks, Reads, AreCopies, Gathers, HasSeen}
 use Rattle.kw_reads.specs.Inv.{Inv}
 use Rattle.kw_core.proofs.Steps.{announced_within}
 use Rattle.kw_puts.proofs.Owners.{true_false}
-use Rattle.kw_core.proofs.Arrows.{NextLook, looks, counts, meets_stamped, meets_neither, is_passed, helps, finds_stamped, finds_other, NextCell, reads_cell, answers, ends_scan, scans_on, Arrow, has_version, has_no_version, has_key, has_other_key, gathers, counts_cells}
+use Rattle.kw_core.proofs.Arrows.{NextLook, looks, lists, meets_stamped, meets_neither, is_passed, helps, finds_stamped, finds_other, NextRest, rests, answers, ends_scan, scans_on, Arrow, list_leads, list_ends, key_below, key_within, key_above, loads_version, gathers_listed, rest_wanted, rest_passed, gathers_rest}
 use Rattle.kw_core.proofs.Happens.{Happens}
-use Rattle.kw_core.proofs.Marks.{marked_holds, contains_last}
-use Rattle.kw_reads.proofs.Ready.{KeepsVersions, reads_last}
+use Rattle.kw_core.proofs.InRange.{least_holds}
+use Rattle.kw_core.proofs.Marks.{marked_other, least_none, contains_new, contains_old}
+use Rattle.kw_reads.proofs.Ready.{reads_last}
 use Rattle.kw_puts.specs.Below.{Below}
-use Rattle.kw_reads.proofs.LooksKeep.{below_next, keeps_versions, goes, looks_kept, marks_after, row_below, ranges}
+use Rattle.kw_reads.proofs.EndOfRow.{in_range_of}
+use Rattle.kw_reads.proofs.EntrySays.{version_ranges}
+use Rattle.kw_reads.proofs.LooksKeep.{goes, looks_by, marks_after}
+use Rattle.kw_reads.proofs.WalksKeep.{row_left, row_sound, walks_before, walks_after, link_loaded, cell_next}
 
--- the reader is done with the cells below j of so many: no cell is read that was not given. Each attempt that is due is stamped and
--- has one of the cells that are read: it is gathered if its cell is below j, and else it will be
-pub record ReadTo (v : Words) (h : History) (l : Local) (looked : ℕ) (ids : List ℕ) (count j : ℕ) : Type 0 where
-  pub given : count ≤ given_in v l.row
+-- the walk along the list is over: each attempt that is due is stamped, and is gathered, or its cell is remembered still
+pub record ReadLeft (h : History) (l : Local) (looked : ℕ) (ids : List ℕ) : Type 0 where
   pub stamped : (p : ℕ) → IsDue h l.row l.call looked p → (attempt h p).is_stamped ≡ true
-  pub cell : (p : ℕ) → IsDue h l.row l.call looked p → (attempt h p).cell < count
-  pub taken : (p : ℕ) → IsDue h l.row l.call looked p → (attempt h p).cell < j → Contains ids p
-  pub noted : (p : ℕ) → IsDue h l.row l.call looked p → j ≤ (attempt h p).cell → IsNoted v l (attempt h p).cell
+  pub found : (p : ℕ) → IsDue h l.row l.call looked p → Contains ids p ⊎ (is_marked (attempt h p).cell l.remembered ≡ true)
 
--- a word that stands for no version is 0
-no_version : (w : ℕ) → number_of_word w ≡ None → w ≡ 0
-no_version w e = sym (number_word-number_of_word w) ∙ ap number_word e
+-- a key of the range lies between its ends
+in_range_between : (call : Option Call) (key : ℕ) → is_in_range call key ≡ true → (first_key call ≤ key) × (key ≤ last_key call)
+in_range_between call key e = (from (first_key call) (last_key call) key e, upto (first_key call) (last_key call) key e)
+  where
+    from : (a b k : ℕ) → (nat_le a k && nat_le k b) ≡ true → a ≤ k
+    from a b k e = grind (arith, nat_tests)
 
--- a word that stands for a version is this version, and not 0
-some_version : (w version : ℕ) → number_of_word w ≡ Some version → (w ≢ 0) × (w ≡ version)
-some_version w version e =
-    let f : w ≡ version = sym (number_word-number_of_word w) ∙ ap number_word e in
-    let c : 1 ≤ version = subst IsCounted e (IsCounted-number_of_word w) in
-    (λ n. absurd (omega (arith, n, f, c)), f)
+    upto : (a b k : ℕ) → (nat_le a k && nat_le k b) ≡ true → k ≤ b
+    upto a b k e = grind (arith, nat_tests)
 
--- a cell that is passed over is not noted
-not_noted : (v : Words) (l : Local) (j : ℕ) (x : Option ℕ) → version_of_word (v (name.Version l.row j)) ≡ x → version_in_hand j x l ≡ None → IsNoted v l j → ⊥
-not_noted v l j (Some version) f e n = let x : Some version ≡ None = e in cc
-not_noted v l j None f e (inl m) = let x : Some m.0 ≡ None = sym m.1 ∙ e in cc
-not_noted v l j None f e (inr n) = n (no_version _ f)
+-- The next of the remembered cells, or the end of the row.
 
--- what is below two numbers is below the lesser
-min_above : (x a b : ℕ) → x < a → x < b → x < min a b
-min_above x a b u w = le-min u w
-
--- The next cell, or the end of the cells.
-
--- each attempt that is due is stamped and gathered, once the cells are read
-seen_end : (v : Words) (h : History) (l : Local) (j : ℕ) (a : Activity) (next : Local) (g : SeatLog) → l.count ≤ j → ReadTo v h l g.looked g.ids l.count j → next.call ≡ l.call → (IsReading a → ⊥) → HasSeen h a next (record g { read = Some l.row })
-seen_end v h l j a next g c n f d = record {
+-- each attempt that is due is stamped and gathered, once no cell is remembered
+seen_end : (h : History) (l : Local) (a : Activity) (next : Local) (g : SeatLog) → least_mark l.remembered ≡ None → ReadLeft h l g.looked g.ids → next.call ≡ l.call → (IsReading a → ⊥) → HasSeen h a next (record g { read = Some l.row })
+seen_end h l a next g c n f d = record {
   unread = λ x. absurd (d x);
   stamped = λ x q e p u. n.stamped p (due q p e u);
-  taken = λ x q e p u. n.taken p (due q p e u) (omega (arith, n.cell p (due q p e u), c));
+  taken = λ x q e p u. which p (n.found p (due q p e u));
 }
   where
     due : (q p : ℕ) → Some l.row ≡ Some q → IsDue h q next.call g.looked p → IsDue h l.row l.call g.looked p
     due q p e u = subst (λ x. IsDue h x l.call g.looked p) (sym (same_Some l.row q e)) (subst (λ x. IsDue h q x g.looked p) f u)
 
--- a seat that goes on to a cell reads it
-reads_next : (v : Words) (h : History) (o : Origins) (l : Local) (j row : ℕ) (next : Local) (g : SeatLog) → NextCell l j next → ReadTo v h l g.looked g.ids l.count j → IsTaking next.activity → Reads v h o next.activity next (log_read next.activity row g)
-reads_next v h o l j row _ g (reads_cell w) n x = record { count = n.given; stamped = n.stamped; cell = n.cell; taken = n.taken; noted = n.noted; hand = λ y. absurd y }
-reads_next v h o l j row _ g (answers c e) n x = absurd x
-reads_next v h o l j row _ g (ends_scan c e f) n x = absurd x
-reads_next v h o l j row _ g (scans_on q c e f u) n x = absurd x
+    which : (p : ℕ) → Contains g.ids p ⊎ (is_marked (attempt h p).cell l.remembered ≡ true) → Contains g.ids p
+    which p (inl x) = x
+    which p (inr x) = true_false x (least_none (attempt h p).cell l.remembered c)
 
--- where the cells end, each attempt that is due is stamped and gathered
-pub seen_next : (v : Words) (h : History) (l : Local) (j : ℕ) (next : Local) (g : SeatLog) → NextCell l j next → ReadTo v h l g.looked g.ids l.count j → g.read ≡ None → HasSeen h next.activity next (log_read next.activity l.row g)
-seen_next v h l j _ g (reads_cell w) n f = record { unread = λ x. f; stamped = λ x q e. let y : None ≡ Some q = sym f ∙ e in absurd (cc); taken = λ x q e. let y : None ≡ Some q = sym f ∙ e in absurd (cc) }
-seen_next v h l j _ g (answers c e) n f = seen_end v h l j _ _ g c n refl (λ x. x)
-seen_next v h l j _ g (ends_scan c e u) n f = seen_end v h l j _ _ g c n refl (λ x. x)
-seen_next v h l j _ g (scans_on q c e u w) n f = seen_end v h l j _ _ g c n refl (λ x. x)
+-- a seat that goes on to a remembered cell reads it
+reads_next : (row : Row) (h : History) (o : Origins) (l next : Local) (g : SeatLog) → NextRest l next → ReadLeft h l g.looked g.ids → All (IsMarkOf h o l.row) l.remembered → IsTaking next.activity → Reads row h o next.activity next (log_read next.activity l.row g)
+reads_next row h o l _ g (rests m e) n k x = record {
+  stamped = n.stamped;
+  found = λ p d. which p (n.found p d) (cases_eq (attempt h p).cell m.cell);
+  hand = λ y. let q = least_holds (IsMarkOf h o l.row) l.remembered m e k in record { put = q.put; origin = q.origin; stamped = q.stamped; version = λ u. q.version; key = λ u. absurd u; in_range = λ u. absurd u };
+}
+  where
+    which : (p : ℕ) → Contains g.ids p ⊎ (is_marked (attempt h p).cell l.remembered ≡ true) → ((attempt h p).cell ≡ m.cell) ⊎ ((attempt h p).cell ≡ m.cell → ⊥) → Contains g.ids p ⊎ (is_marked (attempt h p).cell (unmarked m.cell l.remembered) ≡ true) ⊎ ((attempt h p).cell ≡ m.cell)
+    which p (inl y) c = inl y
+    which p (inr y) (inl c) = inr (inr c)
+    which p (inr y) (inr c) = inr (inl (marked_other (attempt h p).cell m.cell l.remembered c ∙ y))
+reads_next row h o l _ g (answers c e) n k x = absurd x
+reads_next row h o l _ g (ends_scan c e f) n k x = absurd x
+reads_next row h o l _ g (scans_on q c e f u) n k x = absurd x
+
+-- where the row is read, each attempt that is due is stamped and gathered
+pub seen_next : (h : History) (l next : Local) (g : SeatLog) → NextRest l next → ReadLeft h l g.looked g.ids → g.read ≡ None → HasSeen h next.activity next (log_read next.activity l.row g)
+seen_next h l _ g (rests m e) n f = record { unread = λ x. f; stamped = λ x q e. let y : None ≡ Some q = sym f ∙ e in absurd (cc); taken = λ x q e. let y : None ≡ Some q = sym f ∙ e in absurd (cc) }
+seen_next h l _ g (answers c e) n f = seen_end h l _ _ g c n refl (λ x. x)
+seen_next h l _ g (ends_scan c e u) n f = seen_end h l _ _ g c n refl (λ x. x)
+seen_next h l _ g (scans_on q c e u w) n f = seen_end h l _ _ g c n refl (λ x. x)
 
 -- what was gathered is still there
-pub copies_next : (h : History) (l : Local) (j : ℕ) (next : Local) (g : SeatLog) → NextCell l j next → AreCopies h l.row l.call l.gathered g.ids → g.read ≡ None → Gathers h next.activity next (log_read next.activity l.row g)
-copies_next h l j _ g (reads_cell w) m f = record { empty = λ x. absurd x; no_ids = λ x. absurd x; taking = λ x. m; kept = λ x q e. let y : None ≡ Some q = sym f ∙ e in absurd (cc) }
-copies_next h l j _ g (answers c e) m f = record { empty = λ x. absurd x; no_ids = λ x. absurd x; taking = λ x. absurd x; kept = λ x q e. subst (λ q. AreCopies h q l.call l.gathered g.ids) (same_Some l.row q e) m }
-copies_next h l j _ g (ends_scan c e u) m f = record { empty = λ x. absurd x; no_ids = λ x. absurd x; taking = λ x. absurd x; kept = λ x q e. subst (λ q. AreCopies h q l.call l.gathered g.ids) (same_Some l.row q e) m }
-copies_next h l j _ g (scans_on q' c e u w) m f = record { empty = λ x. absurd x; no_ids = λ x. absurd x; taking = λ x. absurd x; kept = λ x q e. subst (λ q. AreCopies h q l.call l.gathered g.ids) (same_Some l.row q e) m }
+pub copies_next : (h : History) (l next : Local) (g : SeatLog) → NextRest l next → AreCopies h l.row l.call l.gathered g.ids → g.read ≡ None → Gathers h next.activity next (log_read next.activity l.row g)
+copies_next h l _ g (rests m e) k f = record { empty = λ x. absurd x; no_ids = λ x. absurd x; taking = λ x. k; kept = λ x q e. let y : None ≡ Some q = sym f ∙ e in absurd (cc) }
+copies_next h l _ g (answers c e) k f = record { empty = λ x. absurd x; no_ids = λ x. absurd x; taking = λ x. absurd x; kept = λ x q e. subst (λ q. AreCopies h q l.call l.gathered g.ids) (same_Some l.row q e) k }
+copies_next h l _ g (ends_scan c e u) k f = record { empty = λ x. absurd x; no_ids = λ x. absurd x; taking = λ x. absurd x; kept = λ x q e. subst (λ q. AreCopies h q l.call l.gathered g.ids) (same_Some l.row q e) k }
+copies_next h l _ g (scans_on q' c e u w) k f = record { empty = λ x. absurd x; no_ids = λ x. absurd x; taking = λ x. absurd x; kept = λ x q e. subst (λ q. AreCopies h q l.call l.gathered g.ids) (same_Some l.row q e) k }
 
 -- a reader's event at a cell, with what it leaves
 module _ {z : Sizes} {r r' : Run} {s : ℕ} {choice : Choice} {l l' : Local} {a : Activity} (h : Happens z r r' s choice l l' a) (i : Inv z r) where
   -- what the reader knew of the cells
-  pub cells_before : IsTaking a → Reads (word z r.world) r.history r.origin a l (r.seats s)
-  cells_before x = subst (λ c. Reads (word z r.world) r.history r.origin c l (r.seats s)) h.activity (i.readers.reads s l h.knows (subst IsTaking (sym h.activity) x))
+  pub cells_before : IsTaking a → Reads (list_in (word z r.world) r.listed l.row) r.history r.origin a l (r.seats s)
+  cells_before x = subst (λ c. Reads (list_in (word z r.world) r.listed l.row) r.history r.origin c l (r.seats s)) h.activity (i.readers.reads s l h.knows (subst IsTaking (sym h.activity) x))
 
   -- and knows after its event, over what it did before
-  pub reads_kept : IsTaking a → KeepsVersions z r.world.rows (word z r.world) (word z r'.world) → word z r'.world (name.Count l.row) ≡ word z r.world (name.Count l.row) → Reads (word z r'.world) r'.history r'.origin a l (r.seats s)
-  reads_kept x keeps c = reads_last (goes h i) z r.world.rows (word z r.world) (word z r'.world) a l (r.seats s) (r.seats s) keeps (row_below h i) (λ p w. (i.puts.given p w).cell) (omega (arith, ap (λ w. given_of (count_of w)) c)) refl refl (i.positions.looks s) (cells_before x)
-
-  -- the activity is one of the call
-  pub kind_of : IsKind a l
-  kind_of = subst (λ c. IsKind c l) h.activity (i.shape.kinds s l h.knows).kind
+  pub cells_after : IsAtRead a → IsTaking a → Reads (list_in (word z r'.world) r'.listed l.row) r'.history r'.origin a l (r.seats s)
+  cells_after y x = reads_last (goes h i) z.cells _ _ (row_left h i y) a l (r.seats s) (r.seats s) (walks_before h i) refl refl (i.positions.looks s) (cells_before x)
 
   -- no row counts as read
   pub unread_before : IsReading a → (r.seats s).read ≡ None
@@ -141,151 +142,207 @@ module _ {z : Sizes} {r : Run} (k : Below z r) where
       let w = k.puts.places.owner q c put o in
       rw (w.row, w.cell) at ((k.puts.body put w.within).value ((k.history.laws.attempted put w.within).is_announced s))
 
--- the count is loaded: no cell is read yet
-pub read_to_counted : {z : Sizes} {r r' : Run} {s : ℕ} {choice : Choice} {l l' : Local} (h : Happens z r r' s choice l l' LookCount) (i : Inv z r) (k : Below z r') → ReadTo (word z r'.world) r'.history (record l { count = count_read z (count_of (word z r.world (name.Count l.row))) }) (r.seats s).looked (r.seats s).ids (count_read z (count_of (word z r.world (name.Count l.row)))) 0
-read_to_counted {z} {r} {r'} {s} {choice} {l} {l'} h i k = record {
-  given = omega (arith, same, min-le_left (given_in (word z r.world) l.row) z.cells);
+  -- the key of an attempt that is due stands in its cell
+  pub due_key_stands : (call : Option Call) (q looked p : ℕ) → IsDue r.history q call looked p → key_of_word (word z r.world (name.Key q (attempt r.history p).cell)) ≡ (attempt r.history p).key
+  due_key_stands call q looked p d = rw d.row at ((k.puts.body p (announced_within r.history p d.announced)).key d.announced)
+
+  -- a listed cell, as the one in hand, with the version that stands there and its key
+  pub listed_in_hand : (a : Activity) (m : Local) (w : ℕ) → r.listed m.row m.place ≡ true → word z r.world (name.Version m.row m.place) ≡ w → (HasVersion a → unwrap_or (version_of_word w) 1 ≡ m.place_version) → (HasCellKey a → key_of_word (word z r.world (name.Key m.row m.place)) ≡ m.place_key) → (HasCellKey a → is_in_range m.call m.place_key ≡ true) → IsInHand r.history r.origin a m
+  listed_in_hand a m w e f u v n =
+      let cell = k.lists.cells m.row m.place e in
+      record { put = cell.put; origin = cell.origin; stamped = cell.stamped; version = λ y. sym (stored cell) ∙ u y; key = λ y. sym cell.key ∙ v y; in_range = n }
+    where
+      stored : (cell : IsListedCell (word z r.world) r.history r.origin m.row m.place) → unwrap_or (version_of_word w) 1 ≡ (attempt r.history cell.put).version
+      stored cell =
+          let same : w ≡ (attempt r.history cell.put).version = sym f ∙ cell.version in
+          let from : 1 ≤ w = omega (arith, same, (version_ranges k cell.put cell.stamped).0) in
+          ap (λ x. unwrap_or x 1) (number_of_word-number_word (Some w) from) ∙ same
+
+-- where the reader begins with the list, each attempt that is due is remembered or listed
+reads_begin : {z : Sizes} {r : Run} (k : Below z r) (j : ℕ) (next : Activity) (l : Local) (g : SeatLog) → NextLook z j next → IsTaking next → Looks z r.listed r.history next (record l { activity = next }) g → l.link ≡ None → Reads (list_in (word z r.world) r.listed l.row) r.history r.origin next (record l { activity = next }) g
+reads_begin k j _ l g (looks w) x n e = absurd x
+reads_begin {z} {r} k j _ l g (lists w) x n e = record {
   stamped = λ p d. (ready p d).stamped;
-  cell = λ p d. let c = k.puts.given p (within p d) in min_above _ _ _ (omega (arith, same, rw d.row at c.given)) c.cell;
-  taken = λ p d w. absurd (omega (arith, w));
-  noted = λ p d w. (ready p d).noted;
+  found = λ p d. inr (which p (ready p d).noted);
+  hand = λ y. absurd y;
 }
   where
-    same : given_in (word z r'.world) l.row ≡ given_in (word z r.world) l.row
-    same = ap (λ w. given_of (count_of w)) (h.changed.loaded refl (name.Count l.row))
+    ready : (p : ℕ) → IsDue r.history l.row l.call g.looked p → IsReady r.listed r.history (record l { activity = ListFrom }) p
+    ready p d = n.past p d (k.puts.given p (announced_within r.history p d.announced)).seat
 
-    within : (p : ℕ) → IsDue r'.history l.row l.call (r.seats s).looked p → p < length r'.history.attempts
-    within p d = announced_within r'.history p d.announced
+    which : (p : ℕ) → IsNoted r.listed (record l { activity = ListFrom }) (attempt r.history p).cell → (is_marked (attempt r.history p).cell l.remembered ≡ true) ⊎ (r.listed l.row (attempt r.history p).cell ≡ true) × IsBehind (list_in (word z r.world) r.listed l.row) l.link (attempt r.history p).cell
+    which p (inl y) = inl y
+    which p (inr y) = inr (y, rw e tt)
 
-    ready : (p : ℕ) → IsDue r'.history l.row l.call (r.seats s).looked p → IsReady (word z r'.world) r'.history l p
-    ready p d = (looks_kept h i tt (keeps_versions h (λ x. x))).past p d (k.puts.given p (within p d)).seat
+-- the reader loads its link
+module _ {z : Sizes} {r r' : Run} {s : ℕ} {choice : Choice} {l l' : Local} (h : Happens z r r' s choice l l' ListFrom) (i : Inv z r) (k : Below z r') where
+  -- what it knew of the cells
+  before_link : Reads (list_in (word z r'.world) r'.listed l.row) r'.history r'.origin ListFrom l (r.seats s)
+  before_link = cells_after h i tt tt
 
--- a cell without a version is passed over: no attempt that is due has it
-pub read_to_passed : {z : Sizes} {r r' : Run} {s : ℕ} {choice : Choice} {l l' : Local} (j : ℕ) (h : Happens z r r' s choice l l' (Cell j)) (i : Inv z r) → version_in_hand j (version_of_word (word z r.world (name.Version l.row j))) l ≡ None → ReadTo (word z r'.world) r'.history l (r.seats s).looked (r.seats s).ids l.count (j + 1)
-read_to_passed {z} {r} {r'} {s} {choice} {l} {l'} j h i e = record {
-  given = n.count;
-  stamped = n.stamped;
-  cell = n.cell;
-  taken = λ p d w. which p d (below_next _ j w);
-  noted = λ p d w. n.noted p d (omega (arith, w));
-}
-  where
-    n : Reads (word z r'.world) r'.history r'.origin (Cell j) l (r.seats s)
-    n = reads_kept h i tt (keeps_versions h (λ x. x)) (h.changed.loaded refl (name.Count l.row))
-
-    which : (p : ℕ) → IsDue r'.history l.row l.call (r.seats s).looked p → ((attempt r'.history p).cell < j) ⊎ ((attempt r'.history p).cell ≡ j) → Contains (r.seats s).ids p
-    which p d (inl w) = n.taken p d w
-    which p d (inr f) = absurd (not_noted (word z r'.world) l j _ refl (rw (h.changed.loaded refl (name.Version l.row j)) e) (rw f at (n.noted p d (omega (arith, f)))))
-
--- a cell with another key is passed over
-pub read_to_other : {z : Sizes} {r r' : Run} {s : ℕ} {choice : Choice} {l l' : Local} (h : Happens z r r' s choice l l' CellKey) (i : Inv z r) (k : Below z r') → is_in_range l.call (key_of_word (word z r.world (name.Key l.row l.place))) ≡ false → ReadTo (word z r'.world) r'.history l (r.seats s).looked (r.seats s).ids l.count (l.place + 1)
-read_to_other {z} {r} {r'} {s} {choice} {l} {l'} h i k e = record {
-  given = n.count;
-  stamped = n.stamped;
-  cell = n.cell;
-  taken = λ p d w. which p d (below_next _ l.place w);
-  noted = λ p d w. n.noted p d (omega (arith, w));
-}
-  where
-    n : Reads (word z r'.world) r'.history r'.origin CellKey l (r.seats s)
-    n = reads_kept h i tt (keeps_versions h (λ x. x)) (h.changed.loaded refl (name.Count l.row))
-
-    key : key_of_word (word z r.world (name.Key l.row l.place)) ≡ (attempt r'.history (n.hand tt).put).key
-    key = ap key_of_word (sym (h.changed.loaded refl (name.Key l.row l.place))) ∙ key_stands k l.row l.place (n.hand tt).put (n.hand tt).origin (n.hand tt).stamped
-
-    which : (p : ℕ) → IsDue r'.history l.row l.call (r.seats s).looked p → ((attempt r'.history p).cell < l.place) ⊎ ((attempt r'.history p).cell ≡ l.place) → Contains (r.seats s).ids p
-    which p d (inl w) = n.taken p d w
-    which p d (inr f) =
-        let same = is_given k l.row l.place p (n.hand tt).put d.announced d.row f (n.hand tt).origin in
-        true_false (subst (λ x. is_in_range l.call (attempt r'.history x).key ≡ true) same d.key) (rw key at e)
-
--- a cell is gathered
-pub read_to_gathered : {z : Sizes} {r r' : Run} {s : ℕ} {choice : Choice} {l l' : Local} (h : Happens z r r' s choice l l' CellValue) (i : Inv z r) (k : Below z r') (value : Option ℕ) → ReadTo (word z r'.world) r'.history (gathering value l) (r.seats s).looked ((r.seats s).ids ++ unwrap_or (r.origin l.row l.place) 0 ∷ []) l.count (l.place + 1)
-read_to_gathered {z} {r} {r'} {s} {choice} {l} {l'} h i k value = record {
-  given = n.count;
-  stamped = n.stamped;
-  cell = n.cell;
-  taken = λ p d w. which p d (below_next _ l.place w);
-  noted = λ p d w. n.noted p d (omega (arith, w));
-}
-  where
-    n : Reads (word z r'.world) r'.history r'.origin CellValue l (r.seats s)
-    n = reads_kept h i tt (keeps_versions h (λ x. x)) (h.changed.loaded refl (name.Count l.row))
-
-    hand : IsInHand r.history r.origin CellValue l
-    hand = (cells_before h i tt).hand tt
-
-    which : (p : ℕ) → IsDue r'.history l.row l.call (r.seats s).looked p → ((attempt r'.history p).cell < l.place) ⊎ ((attempt r'.history p).cell ≡ l.place) → Contains ((r.seats s).ids ++ unwrap_or (r.origin l.row l.place) 0 ∷ []) p
-    which p d (inl w) = Contains-append_left (r.seats s).ids _ p (n.taken p d w)
-    which p d (inr f) =
-        let same = is_given k l.row l.place p hand.put d.announced d.row f ((goes h i).origin l.row l.place hand.put hand.origin) in
-        rw (hand.origin, same) (contains_last (r.seats s).ids hand.put)
-
--- the cell in hand is that of an attempt that is stamped with the version in hand
-module _ {z : Sizes} {r r' : Run} {s : ℕ} {choice : Choice} {l l' : Local} (j version : ℕ) (h : Happens z r r' s choice l l' (Cell j)) (i : Inv z r) (k : Below z r') where
-  -- the cell is one that was given
-  cell_given : (p : ℕ) × (r'.origin l.row j ≡ Some p)
-  cell_given =
-      let below : j < l.count = (kind_of h i).1 in
-      let n = reads_kept h i tt (keeps_versions h (λ x. x)) (h.changed.loaded refl (name.Count l.row)) in
-      k.puts.places.given l.row j (rw h.rows (row_below h i)) (omega (arith, below, (ranges h i).count)) (omega (arith, below, n.count))
-
-  -- a version stands there: it is that of the cell's attempt
-  hand_stored : (w : ℕ) → version_of_word (word z r'.world (name.Version l.row j)) ≡ Some w → w ≡ version → IsInHand r'.history r'.origin CellKey (record l { place = j; place_version = version; activity = CellKey })
-  hand_stored w e f = record {
-    put = cell_given.0;
-    origin = cell_given.1;
-    stamped = body.stamped stands;
-    version = sym (body.version stands) ∙ same ∙ (some_version _ w e).1 ∙ f;
-    key = λ y. absurd y;
-    in_range = λ y. absurd y;
+  -- it leads to a cell, which is met
+  reads_met : (c : ℕ) → cell_of_link_word (word z r.world (link_name l.row l.link)) ≡ Some c → (m : Local) → m.row ≡ l.row → m.call ≡ l.call → m.place ≡ c → m.remembered ≡ unmarked c l.remembered → Reads (list_in (word z r'.world) r'.listed l.row) r'.history r'.origin ListKey m (r.seats s)
+  reads_met c e m row call place marks = record {
+    stamped = λ p d. before_link.stamped p (due p d);
+    found = λ p d. rw (place, marks) (which p (before_link.found p (due p d)) (cases_eq (attempt r'.history p).cell c));
+    hand = λ y. listed_in_hand k ListKey m _ (rw (row, place) (cell_next h i c e).listed) refl (λ u. absurd u) (λ u. absurd u) (λ u. absurd u);
   }
     where
-      owner : HasCell r'.history l.row j cell_given.0
-      owner = k.puts.places.owner l.row j cell_given.0 cell_given.1
+      due : (p : ℕ) → IsDue r'.history m.row m.call (r.seats s).looked p → IsDue r'.history l.row l.call (r.seats s).looked p
+      due p d = subst (λ x. IsDue r'.history x l.call (r.seats s).looked p) row (subst (λ x. IsDue r'.history m.row x (r.seats s).looked p) call d)
 
-      body : HasBody (word z r'.world) r'.history cell_given.0
-      body = k.puts.body cell_given.0 owner.within
+      ahead : (p : ℕ) → IsToCome (list_in (word z r'.world) r'.listed l.row) ListFrom l (attempt r'.history p).cell → ((attempt r'.history p).cell ≡ c) ⊎ Stands (list_in (word z r'.world) r'.listed l.row) c (attempt r'.history p).cell
+      ahead p x = at (reached (list_in (word z r'.world) r'.listed l.row) l.link _ ((row_sound h i tt).list l.link (walks_after h i tt).on) (attempt r'.history p).cell x.0 x.1)
+        where
+          at : (d : ℕ) × ((list_in (word z r'.world) r'.listed l.row).link l.link ≡ Some d) × (((attempt r'.history p).cell ≡ d) ⊎ Stands (list_in (word z r'.world) r'.listed l.row) d (attempt r'.history p).cell) → ((attempt r'.history p).cell ≡ c) ⊎ Stands (list_in (word z r'.world) r'.listed l.row) c (attempt r'.history p).cell
+          at (d, f, y) = subst (λ u. ((attempt r'.history p).cell ≡ u) ⊎ Stands (list_in (word z r'.world) r'.listed l.row) u (attempt r'.history p).cell) (same_Some d c (sym f ∙ link_loaded h i (Some c) e)) y
 
-      same : word z r'.world (name.Version (attempt r'.history cell_given.0).row (attempt r'.history cell_given.0).cell) ≡ word z r'.world (name.Version l.row j)
-      same = rw (owner.row, owner.cell) refl
+      which : (p : ℕ) → Contains (r.seats s).ids p ⊎ (is_marked (attempt r'.history p).cell l.remembered ≡ true) ⊎ IsToCome (list_in (word z r'.world) r'.listed l.row) ListFrom l (attempt r'.history p).cell → ((attempt r'.history p).cell ≡ c) ⊎ ((attempt r'.history p).cell ≡ c → ⊥) →
+          Contains (r.seats s).ids p ⊎ (is_marked (attempt r'.history p).cell (unmarked c l.remembered) ≡ true) ⊎ (r'.listed l.row (attempt r'.history p).cell ≡ true) × (((attempt r'.history p).cell ≡ c) ⊎ Stands (list_in (word z r'.world) r'.listed l.row) c (attempt r'.history p).cell)
+      which p (inl x) d = inl x
+      which p (inr (inl x)) (inl d) = inr (inr (rw d (cell_next h i c e).listed, inl d))
+      which p (inr (inl x)) (inr d) = inr (inl (marked_other (attempt r'.history p).cell c l.remembered d ∙ x))
+      which p (inr (inr x)) d = inr (inr (x.0, ahead p x))
 
-      stands : word z r'.world (name.Version (attempt r'.history cell_given.0).row (attempt r'.history cell_given.0).cell) ≢ 0
-      stands y = (some_version _ w e).0 (sym same ∙ y)
+  -- it leads nowhere: no cell is to come
+  pub left_at_end : cell_of_link_word (word z r.world (link_name l.row l.link)) ≡ None → ReadLeft r'.history l (r.seats s).looked (r.seats s).ids
+  left_at_end e = record { stamped = before_link.stamped; found = λ p d. which p (before_link.found p d) }
+    where
+      which : (p : ℕ) → Contains (r.seats s).ids p ⊎ (is_marked (attempt r'.history p).cell l.remembered ≡ true) ⊎ IsToCome (list_in (word z r'.world) r'.listed l.row) ListFrom l (attempt r'.history p).cell → Contains (r.seats s).ids p ⊎ (is_marked (attempt r'.history p).cell l.remembered ≡ true)
+      which p (inl x) = inl x
+      which p (inr (inl x)) = inr x
+      which p (inr (inr x)) = absurd (reading.list_ends (list_in (word z r'.world) r'.listed l.row) l.link _ (attempt r'.history p).cell ((row_sound h i tt).list l.link (walks_after h i tt).on) (link_loaded h i None e) x.0 x.1)
 
-  -- none stands there: the cell is remembered
-  hand_marked : version_marked j l.remembered ≡ Some version → IsInHand r'.history r'.origin CellKey (record l { place = j; place_version = version; activity = CellKey })
-  hand_marked f =
-      let m = marked_holds (IsMarkOf r'.history r'.origin l.row) j version l.remembered (marks_after h i (inr tt)) f in
-      record { put = m.holds.put; origin = rw m.cell at m.holds.origin; stamped = m.holds.stamped; version = m.holds.version ∙ m.version; key = λ y. absurd y; in_range = λ y. absurd y }
+-- the reader loads the key of a cell that it has met
+module _ {z : Sizes} {r r' : Run} {s : ℕ} {choice : Choice} {l l' : Local} (h : Happens z r r' s choice l l' ListKey) (i : Inv z r) (k : Below z r') where
+  -- what it knew of the cells
+  before_key : Reads (list_in (word z r'.world) r'.listed l.row) r'.history r'.origin ListKey l (r.seats s)
+  before_key = cells_after h i tt tt
 
-  -- either way
-  hand_found : (x : Option ℕ) → version_of_word (word z r'.world (name.Version l.row j)) ≡ x → version_in_hand j x l ≡ Some version → IsInHand r'.history r'.origin CellKey (record l { place = j; place_version = version; activity = CellKey })
-  hand_found (Some w) e f = hand_stored w e (same_Some w version f)
-  hand_found None e f = hand_marked f
+  -- the key as it was found
+  key_loaded : (list_in (word z r'.world) r'.listed l.row).key l.place ≡ key_of_word (word z r.world (name.Key l.row l.place))
+  key_loaded = ap key_of_word (h.changed.loaded refl (name.Key l.row l.place))
 
--- a reader that looks on reads no cell
-not_taking : (z : Sizes) (j : ℕ) (next : Activity) → NextLook z j next → IsTaking next → ⊥
-not_taking z j _ (looks w) x = x
-not_taking z j _ (counts w) x = x
+  -- a cell of an attempt that is due has a key of the range
+  due_between : (p : ℕ) → IsDue r'.history l.row l.call (r.seats s).looked p → (first_key l.call ≤ (list_in (word z r'.world) r'.listed l.row).key (attempt r'.history p).cell) × ((list_in (word z r'.world) r'.listed l.row).key (attempt r'.history p).cell ≤ last_key l.call)
+  due_between p d = rw (due_key_stands k l.call l.row (r.seats s).looked p d) (in_range_between l.call (attempt r'.history p).key d.key)
+
+  -- it is below the range: the cell is passed
+  reads_below : key_of_word (word z r.world (name.Key l.row l.place)) < first_key l.call → (m : Local) → m.row ≡ l.row → m.call ≡ l.call → m.link ≡ Some l.place → m.remembered ≡ l.remembered → Reads (list_in (word z r'.world) r'.listed l.row) r'.history r'.origin ListFrom m (r.seats s)
+  reads_below e m row call link marks = record {
+    stamped = λ p d. before_key.stamped p (due p d);
+    found = λ p d. rw (link, marks) (which p (due p d) (before_key.found p (due p d)));
+    hand = λ y. absurd y;
+  }
+    where
+      due : (p : ℕ) → IsDue r'.history m.row m.call (r.seats s).looked p → IsDue r'.history l.row l.call (r.seats s).looked p
+      due p d = subst (λ x. IsDue r'.history x l.call (r.seats s).looked p) row (subst (λ x. IsDue r'.history m.row x (r.seats s).looked p) call d)
+
+      which : (p : ℕ) → IsDue r'.history l.row l.call (r.seats s).looked p → Contains (r.seats s).ids p ⊎ (is_marked (attempt r'.history p).cell l.remembered ≡ true) ⊎ IsToCome (list_in (word z r'.world) r'.listed l.row) ListKey l (attempt r'.history p).cell →
+          Contains (r.seats s).ids p ⊎ (is_marked (attempt r'.history p).cell l.remembered ≡ true) ⊎ (r'.listed l.row (attempt r'.history p).cell ≡ true) × Stands (list_in (word z r'.world) r'.listed l.row) l.place (attempt r'.history p).cell
+      which p d (inl x) = inl x
+      which p d (inr (inl x)) = inr (inl x)
+      which p d (inr (inr (x, inl y))) = absurd (omega (arith, e, key_loaded, ap (list_in (word z r'.world) r'.listed l.row).key y, (due_between p d).0))
+      which p d (inr (inr (x, inr y))) = inr (inr (x, y))
+
+  -- it is above the range: no cell is to come
+  pub left_above : last_key l.call < key_of_word (word z r.world (name.Key l.row l.place)) → ReadLeft r'.history l (r.seats s).looked (r.seats s).ids
+  left_above e = record { stamped = before_key.stamped; found = λ p d. which p d (before_key.found p d) }
+    where
+      which : (p : ℕ) → IsDue r'.history l.row l.call (r.seats s).looked p → Contains (r.seats s).ids p ⊎ (is_marked (attempt r'.history p).cell l.remembered ≡ true) ⊎ IsToCome (list_in (word z r'.world) r'.listed l.row) ListKey l (attempt r'.history p).cell → Contains (r.seats s).ids p ⊎ (is_marked (attempt r'.history p).cell l.remembered ≡ true)
+      which p d (inl x) = inl x
+      which p d (inr (inl x)) = inr x
+      which p d (inr (inr x)) = absurd (omega (arith, above_range (list_in (word z r'.world) r'.listed l.row) l.place (attempt r'.history p).cell (last_key l.call) (omega (arith, e, key_loaded)) x.1, (due_between p d).1))
+
+-- the key in hand is that of the cell in hand
+hand_key : {z : Sizes} {r r' : Run} {s : ℕ} {choice : Choice} {l l' : Local} (h : Happens z r r' s choice l l' ListVer) (i : Inv z r) (k : Below z r') → Reads (list_in (word z r'.world) r'.listed l.row) r'.history r'.origin ListVer l (r.seats s) → key_of_word (word z r'.world (name.Key l.row l.place)) ≡ l.place_key
+hand_key {l = l} h i k n = let m = n.hand tt in key_stands k l.row l.place m.put m.origin m.stamped ∙ m.key tt
+
+-- a cell is gathered, which is that of the attempt in hand
+module _ {z : Sizes} {r r' : Run} {s : ℕ} {choice : Choice} {l l' : Local} {a : Activity} (h : Happens z r r' s choice l l' a) (i : Inv z r) (k : Below z r') (x : IsTaking a) (y : HasPlace a) where
+  -- the attempt in hand
+  hand_put : IsInHand r.history r.origin a l
+  hand_put = (cells_before h i x).hand y
+
+  -- an attempt that is due and has this cell is the one in hand
+  is_hand : (p : ℕ) → IsDue r'.history l.row l.call (r.seats s).looked p → (attempt r'.history p).cell ≡ l.place → p ≡ hand_put.put
+  is_hand p d f = is_given k l.row l.place p hand_put.put d.announced d.row f ((goes h i).origin l.row l.place hand_put.put hand_put.origin)
+
+  -- it is among the attempts that are gathered then
+  hand_taken : (n p : ℕ) → IsDue r'.history l.row l.call (r.seats s).looked p → (attempt r'.history p).cell ≡ l.place → Contains (insert (r.seats s).ids n (unwrap_or (r.origin l.row l.place) 0)) p
+  hand_taken n p d f = rw (hand_put.origin, is_hand p d f) (contains_new (r.seats s).ids n hand_put.put)
+
+-- the key of a remembered cell is not one of the range: no attempt that is due has it
+pub left_passed : {z : Sizes} {r r' : Run} {s : ℕ} {choice : Choice} {l l' : Local} (h : Happens z r r' s choice l l' RestKey) (i : Inv z r) (k : Below z r') → is_in_range l.call (key_of_word (word z r.world (name.Key l.row l.place))) ≡ false → ReadLeft r'.history l (r.seats s).looked (r.seats s).ids
+left_passed {z} {r} {r'} {s} {choice} {l} {l'} h i k e = record { stamped = n.stamped; found = λ p d. which p d (n.found p d) }
+  where
+    n : Reads (list_in (word z r'.world) r'.listed l.row) r'.history r'.origin RestKey l (r.seats s)
+    n = cells_after h i tt tt
+
+    key : (p : ℕ) → IsDue r'.history l.row l.call (r.seats s).looked p → (attempt r'.history p).cell ≡ l.place → (attempt r'.history p).key ≡ key_of_word (word z r.world (name.Key l.row l.place))
+    key p d f = sym (due_key_stands k l.call l.row (r.seats s).looked p d) ∙ ap (λ c. key_of_word (word z r'.world (name.Key l.row c))) f ∙ ap key_of_word (h.changed.loaded refl (name.Key l.row l.place))
+
+    which : (p : ℕ) → IsDue r'.history l.row l.call (r.seats s).looked p → Contains (r.seats s).ids p ⊎ (is_marked (attempt r'.history p).cell l.remembered ≡ true) ⊎ ((attempt r'.history p).cell ≡ l.place) → Contains (r.seats s).ids p ⊎ (is_marked (attempt r'.history p).cell l.remembered ≡ true)
+    which p d (inl x) = inl x
+    which p d (inr (inl x)) = inr x
+    which p d (inr (inr x)) = true_false (subst (λ q. is_in_range l.call q ≡ true) (key p d x) d.key) e
+
+-- a remembered cell is gathered
+pub left_gathered : {z : Sizes} {r r' : Run} {s : ℕ} {choice : Choice} {l l' : Local} (h : Happens z r r' s choice l l' RestVal) (i : Inv z r) (k : Below z r') (value : Option ℕ) (at : ℕ) → ReadLeft r'.history (gathering z value l) (r.seats s).looked (insert (r.seats s).ids at (unwrap_or (r.origin l.row l.place) 0))
+left_gathered {z} {r} {r'} {s} {choice} {l} {l'} h i k value at = record { stamped = n.stamped; found = λ p d. which p d (n.found p d) }
+  where
+    n : Reads (list_in (word z r'.world) r'.listed l.row) r'.history r'.origin RestVal l (r.seats s)
+    n = cells_after h i tt tt
+
+    which : (p : ℕ) → IsDue r'.history l.row l.call (r.seats s).looked p → Contains (r.seats s).ids p ⊎ (is_marked (attempt r'.history p).cell l.remembered ≡ true) ⊎ ((attempt r'.history p).cell ≡ l.place) → Contains (insert (r.seats s).ids at (unwrap_or (r.origin l.row l.place) 0)) p ⊎ (is_marked (attempt r'.history p).cell l.remembered ≡ true)
+    which p d (inl x) = inl (contains_old (r.seats s).ids at _ p x)
+    which p d (inr (inl x)) = inr x
+    which p d (inr (inr x)) = inl (hand_taken h i k tt tt at p d x)
+
+-- a listed cell is gathered, and passed
+reads_gathered : {z : Sizes} {r r' : Run} {s : ℕ} {choice : Choice} {l l' : Local} (h : Happens z r r' s choice l l' ListVal) (i : Inv z r) (k : Below z r') (m : Local) (at : ℕ) → m.row ≡ l.row → m.call ≡ l.call → m.link ≡ Some l.place → m.remembered ≡ l.remembered → Reads (list_in (word z r'.world) r'.listed l.row) r'.history r'.origin ListFrom m (log_gathered (r.origin l.row l.place) at (r.seats s))
+reads_gathered {z} {r} {r'} {s} {choice} {l} {l'} h i k m at row call link marks = record {
+  stamped = λ p d. n.stamped p (due p d);
+  found = λ p d. rw (link, marks) (which p (due p d) (n.found p (due p d)));
+  hand = λ y. absurd y;
+}
+  where
+    n : Reads (list_in (word z r'.world) r'.listed l.row) r'.history r'.origin ListVal l (r.seats s)
+    n = cells_after h i tt tt
+
+    due : (p : ℕ) → IsDue r'.history m.row m.call (r.seats s).looked p → IsDue r'.history l.row l.call (r.seats s).looked p
+    due p d = subst (λ x. IsDue r'.history x l.call (r.seats s).looked p) row (subst (λ x. IsDue r'.history m.row x (r.seats s).looked p) call d)
+
+    which : (p : ℕ) → IsDue r'.history l.row l.call (r.seats s).looked p → Contains (r.seats s).ids p ⊎ (is_marked (attempt r'.history p).cell l.remembered ≡ true) ⊎ IsToCome (list_in (word z r'.world) r'.listed l.row) ListVal l (attempt r'.history p).cell →
+        Contains (insert (r.seats s).ids at (unwrap_or (r.origin l.row l.place) 0)) p ⊎ (is_marked (attempt r'.history p).cell l.remembered ≡ true) ⊎ (r'.listed l.row (attempt r'.history p).cell ≡ true) × Stands (list_in (word z r'.world) r'.listed l.row) l.place (attempt r'.history p).cell
+    which p d (inl x) = inl (contains_old (r.seats s).ids at _ p x)
+    which p d (inr (inl x)) = inr (inl x)
+    which p d (inr (inr (x, inl y))) = inl (hand_taken h i k tt tt at p d y)
+    which p d (inr (inr (x, inr y))) = inr (inr (x, y))
 
 -- the cells that the acting reader reads
-pub reads_by : (z : Sizes) (r r' : Run) (s : ℕ) (choice : Choice) (l : Local) (a : Activity) (l' : Local) → Arrow z (word z r.world) s choice l a l' → Happens z r r' s choice l l' a → Inv z r → Below z r' → IsTaking l'.activity → Reads (word z r'.world) r'.history r'.origin l'.activity l' (r'.seats s)
-reads_by z r r' s choice l _ _ (counts_cells next n) h i k p = subst (Reads (word z r'.world) r'.history r'.origin next.activity next) (sym h.log) (reads_next (word z r'.world) r'.history r'.origin _ 0 l.row next (r.seats s) n (read_to_counted h i k) p)
-reads_by z r r' s choice l _ _ (has_version j version e) h i k p = subst (Reads (word z r'.world) r'.history r'.origin CellKey _) (sym h.log)
-    (let n = reads_kept h i tt (keeps_versions h (λ x. x)) (h.changed.loaded refl (name.Count l.row)) in
-    record { count = n.count; stamped = n.stamped; cell = n.cell; taken = n.taken; noted = n.noted; hand = λ x. hand_found j version h i k _ refl (rw (h.changed.loaded refl (name.Version l.row j)) e) })
-reads_by z r r' s choice l _ _ (has_no_version j next e n) h i k p = subst (Reads (word z r'.world) r'.history r'.origin next.activity next) (sym h.log) (reads_next (word z r'.world) r'.history r'.origin l (j + 1) l.row next (r.seats s) n (read_to_passed j h i e) p)
-reads_by z r r' s choice l _ _ (has_key e) h i k p = subst (Reads (word z r'.world) r'.history r'.origin CellValue _) (sym h.log)
-    (let n = reads_kept h i tt (keeps_versions h (λ x. x)) (h.changed.loaded refl (name.Count l.row)) in
+pub reads_by : (z : Sizes) (r r' : Run) (s : ℕ) (choice : Choice) (l : Local) (a : Activity) (l' : Local) → Arrow z (word z r.world) s choice l a l' → Happens z r r' s choice l l' a → Inv z r → Below z r' → IsTaking l'.activity → Reads (list_in (word z r'.world) r'.listed l'.row) r'.history r'.origin l'.activity l' (r'.seats s)
+reads_by z r r' s choice l _ _ (list_leads c e) h i k p = subst (Reads (list_in (word z r'.world) r'.listed l.row) r'.history r'.origin ListKey _) (sym h.log) (reads_met h i k c e _ refl refl refl refl)
+reads_by z r r' s choice l _ _ (list_ends next e n) h i k p = subst (Reads _ r'.history r'.origin next.activity next) (sym h.log) (reads_next _ r'.history r'.origin l next (r.seats s) n (left_at_end h i k e) (marks_after h i (inr tt)) p)
+reads_by z r r' s choice l _ _ (key_below e) h i k p = subst (Reads (list_in (word z r'.world) r'.listed l.row) r'.history r'.origin ListFrom _) (sym h.log) (reads_below h i k e _ refl refl refl refl)
+reads_by z r r' s choice l _ _ (key_within e w) h i k p = subst (Reads (list_in (word z r'.world) r'.listed l.row) r'.history r'.origin ListVer _) (sym h.log)
+    (let n = before_key h i k in
+    record { stamped = n.stamped; found = n.found; hand = λ x. listed_in_hand k ListVer _ _ (walks_after h i tt).walks.on refl (λ y. absurd y) (λ y. key_loaded h i k) (λ y. in_range_of l.call _ e w) })
+reads_by z r r' s choice l _ _ (key_above next e n) h i k p = subst (Reads _ r'.history r'.origin next.activity next) (sym h.log) (reads_next _ r'.history r'.origin l next (r.seats s) n (left_above h i k e) (marks_after h i (inr tt)) p)
+reads_by z r r' s choice l _ _ loads_version h i k p = subst (Reads (list_in (word z r'.world) r'.listed l.row) r'.history r'.origin ListVal _) (sym h.log)
+    (let n = cells_after h i tt tt in
+    record { stamped = n.stamped; found = n.found; hand = λ x. listed_in_hand k ListVal _ _ (walks_after h i tt).walks.on (h.changed.loaded refl (name.Version l.row l.place)) (λ y. refl) (λ y. hand_key h i k n) (λ y. (n.hand tt).in_range tt) })
+reads_by z r r' s choice l _ _ gathers_listed h i k p = subst (Reads (list_in (word z r'.world) r'.listed l.row) r'.history r'.origin ListFrom _) (sym h.log) (reads_gathered h i k _ _ refl refl refl refl)
+reads_by z r r' s choice l _ _ (rest_wanted e) h i k p = subst (Reads (list_in (word z r'.world) r'.listed l.row) r'.history r'.origin RestVal _) (sym h.log)
+    (let n = cells_after h i tt tt in
     let m = n.hand tt in
-    record { count = n.count; stamped = n.stamped; cell = n.cell; taken = n.taken; noted = n.noted; hand = λ x. record { put = m.put; origin = m.origin; stamped = m.stamped; version = m.version; key = λ y. sym (key_stands k l.row l.place m.put m.origin m.stamped) ∙ ap key_of_word (h.changed.loaded refl (name.Key l.row l.place)); in_range = λ y. e } })
-reads_by z r r' s choice l _ _ (has_other_key next e n) h i k p = subst (Reads (word z r'.world) r'.history r'.origin next.activity next) (sym h.log) (reads_next (word z r'.world) r'.history r'.origin l (l.place + 1) l.row next (r.seats s) n (read_to_other h i k e) p)
-reads_by z r r' s choice l _ _ (gathers next n) h i k p = subst (Reads (word z r'.world) r'.history r'.origin next.activity next) (sym h.log) (reads_next (word z r'.world) r'.history r'.origin _ (l.place + 1) l.row next _ n (read_to_gathered h i k _) p)
-reads_by z r r' s choice l _ _ (meets_stamped j c version next e n) h i k p = absurd (not_taking z (j + 1) next n p)
-reads_by z r r' s choice l _ _ (meets_neither j next e n) h i k p = absurd (not_taking z (j + 1) next n p)
-reads_by z r r' s choice l _ _ (is_passed next e n) h i k p = absurd (not_taking z (l.looked + 1) next n p)
-reads_by z r r' s choice l _ _ (helps next e n) h i k p = absurd (not_taking z (l.looked + 1) next n p)
-reads_by z r r' s choice l _ _ (finds_stamped c version next e n) h i k p = absurd (not_taking z (l.looked + 1) next n p)
-reads_by z r r' s choice l _ _ (finds_other next e n) h i k p = absurd (not_taking z (l.looked + 1) next n p)
+    record { stamped = n.stamped; found = n.found; hand = λ x. record { put = m.put; origin = m.origin; stamped = m.stamped; version = λ y. m.version tt; key = λ y. sym (key_stands k l.row l.place m.put m.origin m.stamped) ∙ ap key_of_word (h.changed.loaded refl (name.Key l.row l.place)); in_range = λ y. e } })
+reads_by z r r' s choice l _ _ (rest_passed next e n) h i k p = subst (Reads _ r'.history r'.origin next.activity next) (sym h.log) (reads_next _ r'.history r'.origin l next (r.seats s) n (left_passed h i k e) (marks_after h i (inr tt)) p)
+reads_by z r r' s choice l _ _ (gathers_rest next n) h i k p = subst (Reads _ r'.history r'.origin next.activity next) (sym h.log) (reads_next _ r'.history r'.origin _ next _ n (left_gathered h i k _ _) (marks_after h i (inr tt)) p)
+reads_by z r r' s choice l _ _ (meets_stamped j c version next e n) h i k p = reads_begin k (j + 1) next (remembering c version l) (r'.seats s) n p (looks_by z r r' s choice l _ _ (meets_stamped j c version next e n) h i k (inr tt)) (walks_after h i tt).0
+reads_by z r r' s choice l _ _ (meets_neither j next e n) h i k p = reads_begin k (j + 1) next l (r'.seats s) n p (looks_by z r r' s choice l _ _ (meets_neither j next e n) h i k (inr tt)) (walks_after h i tt).0
+reads_by z r r' s choice l _ _ (is_passed next e n) h i k p = reads_begin k (l.looked + 1) next l (r'.seats s) n p (looks_by z r r' s choice l _ _ (is_passed next e n) h i k (inr tt)) (walks_after h i tt).0
+reads_by z r r' s choice l _ _ (helps next e n) h i k p = reads_begin k (l.looked + 1) next (remembering l.met l.helping l) (r'.seats s) n p (looks_by z r r' s choice l _ _ (helps next e n) h i k (inr tt)) (walks_after h i tt).0
+reads_by z r r' s choice l _ _ (finds_stamped c version next e n) h i k p = reads_begin k (l.looked + 1) next (remembering c version l) (r'.seats s) n p (looks_by z r r' s choice l _ _ (finds_stamped c version next e n) h i k (inr tt)) (walks_after h i tt).0
+reads_by z r r' s choice l _ _ (finds_other next e n) h i k p = reads_begin k (l.looked + 1) next l (r'.seats s) n p (looks_by z r r' s choice l _ _ (finds_other next e n) h i k (inr tt)) (walks_after h i tt).0
 reads_by z r r' s choice l a l' b h i k p = absurd p

@@ -4,6 +4,7 @@
 -- gathered; and the attempt beside the best gathered cell is the latest of those.
 use Rattle.std.proofs.Common.{ℕ, zero, suc, ◌≡◌, ◌⊎◌, inl, inr, ◌+◌, ◌<◌, ◌≤◌, true, Option, Some, None, List, [], ◌∷◌, ◌++◌, arith, refl, sym, ◌∙◌, ap, subst, All, Contains, nat_le, ◌&&◌}
 use Rattle.std.proofs.lemmas.Bool.{cases_lt}
+use Rattle.std.proofs.lemmas.Option.{same_Some}
 use Rattle.std.proofs.lemmas.Bool.Decides.{nat_tests}
 use Rattle.kw_words.specs.declared.layout.Name.TheVariants as name
 use Rattle.kw_words.specs.declared.sizes.TheConstants.{VERSION_END}
@@ -22,19 +23,23 @@ use Rattle.kw_core.specs.HistoryLaws.{IsEarly, GetKey, ScanKey, answer_of}
 use Rattle.kw_core.specs.Step.{Keeps}
 use Rattle.kw_core.specs.Run.{Run, best_id}
 use Rattle.kw_core.specs.declared.seat_log.SeatLog.{SeatLog}
-use Rattle.kw_core.specs.Words.{next_in}
+use Rattle.kw_rows.specs.Ledger.{IsLive}
+use Rattle.kw_rows.specs.Rows.{WasLinked}
+use Rattle.kw_rows.proofs.Named.{one_row}
+use Rattle.kw_shape.specs.RowsIn.{rows_in}
 use Rattle.kw_shape.specs.Shape.{HoldsKey, IsAtItsRow, Shape}
+use Rattle.kw_shape.proofs.RowsStay.{fresh_linked, still_live}
 use Rattle.kw_puts.specs.Puts.{Puts}
 use Rattle.kw_puts.specs.Positions.{Positions}
 use Rattle.kw_reads.specs.Readers.{IsDue, IsCopyOf, AreCopies}
 use Rattle.kw_reads.specs.Replies.{RisesBelow, Covers}
 use Rattle.kw_core.proofs.Steps.{announced_within}
-use Rattle.kw_reads.proofs.BestIds.{one_row, Gives, best_gives}
+use Rattle.kw_reads.proofs.BestIds.{Gives, best_gives}
 use Rattle.kw_reads.proofs.RangePairs.{rises_joined, none_from, none_under, value_first, value_second, range_rises, range_value}
 
 -- a reader, at its row, has gathered each attempt that was due there
-pub record HasReadRow (z : Sizes) (r : Run) (m : Local) (g : SeatLog) : Type 0 where
-  pub at : IsAtItsRow r.world.rows (word z r.world) m
+pub record HasReadRow (z : Sizes) (r : Run) (t : ℕ) (m : Local) (g : SeatLog) : Type 0 where
+  pub at : IsAtItsRow (word z r.world) r.ledger.rows t m
   pub copies : AreCopies r.history m.row m.call m.gathered g.ids
   pub stamped : (p : ℕ) → IsDue r.history m.row m.call g.looked p → (attempt r.history p).is_stamped ≡ true
   pub taken : (p : ℕ) → IsDue r.history m.row m.call g.looked p → Contains g.ids p
@@ -51,20 +56,29 @@ in_range_of call key a b = range_test (first_key call) (last_key call) key a b
     range_test : (from upto key : ℕ) → from ≤ key → key ≤ upto → (nat_le from key && nat_le key upto) ≡ true
     range_test from upto key a b = grind (arith, nat_tests)
 
-module _ (z : Sizes) (r : Run) (shape : Shape z r.world) (kept : Keeps r.history) (puts : Puts z r) (positions : Positions z r) (m : Local) (g : SeatLog) (read : HasReadRow z r m g) where
+module _ (z : Sizes) (r : Run) (shape : Shape z r) (kept : Keeps r.history) (puts : Puts z r) (positions : Positions z r) (t : ℕ) (m : Local) (g : SeatLog) (read : HasReadRow z r t m g) where
   -- the row holds each key from the wanted one on that is below the next row
-  holds : (key : ℕ) → m.want ≤ key → ((n : ℕ) → m.next ≡ Some n → key < m.upper) → HoldsKey (word z r.world) m.row key
+  holds : (key : ℕ) → m.want ≤ key → ((n : ℕ) → m.next ≡ Some n → key < m.upper) → HoldsKey (word z r.world) r.ledger.rows m.row key
   holds key w f = record {
     from = omega (arith, read.at.from, w);
-    below = λ n e. let x : m.next ≡ Some n = read.at.next ∙ e in omega (arith, f n x, read.at.upper n x);
+    below = λ u e. ends m.next refl u e;
   }
+    where
+      ends : (o : Option ℕ) → m.next ≡ o → (u : ℕ) → (r.ledger.rows.fates m.row).upper ≡ Some u → key < u
+      ends None x u e = let y : None ≡ Some u = sym (read.at.last x) ∙ e in absurd (cc)
+      ends (Some n) x u e = omega (arith, f n x, same_Some m.upper u (sym (read.at.next n x).ends ∙ e))
+
+  -- as long as no row is rebalanced, a row that was linked is live
+  live : (q : ℕ) → WasLinked r.ledger.rows q → IsLive r.ledger.rows q
+  live q = still_live (word z r.world) r.ledger.rows q (shape.still q)
 
   -- an attempt of such a key that was announced before the reader looked was due
-  early_due : (key f q : ℕ) → HoldsKey (word z r.world) m.row key → is_in_range m.call key ≡ true → f ≤ g.looked → IsEarly r.history key f q → IsDue r.history m.row m.call g.looked q
+  early_due : (key f q : ℕ) → HoldsKey (word z r.world) r.ledger.rows m.row key → is_in_range m.call key ≡ true → f ≤ g.looked → IsEarly r.history key f q → IsDue r.history m.row m.call g.looked q
   early_due key f q h range w e =
       let given = puts.given q (announced_within r.history q e.is_announced) in
       record {
-        row = one_row r.world.rows (word z r.world) (attempt r.history q).row m.row key shape.chain given.linked read.at.linked (subst (HoldsKey (word z r.world) (attempt r.history q).row) e.key given.holds) h;
+        row = one_row (rows_in (word z r.world)) r.ledger.rows shape.rows.closed (attempt r.history q).row m.row key shape.rows.chain (live (attempt r.history q).row given.linked) (live m.row (fresh_linked r.ledger.rows t m.row read.at.fresh))
+            (subst (HoldsKey (word z r.world) r.ledger.rows (attempt r.history q).row) e.key given.holds) h;
         announced = e.is_announced;
         before = omega (arith, e.before, w);
         key = subst (λ x. is_in_range m.call x ≡ true) (sym e.key) range;
@@ -86,7 +100,7 @@ module _ (z : Sizes) (r : Run) (shape : Shape z r.world) (kept : Keeps r.history
         gap = b.gap;
         reply = found_answers (shown_at m.gathered NEWEST key) ∙ ap answer_of (sym b.shown);
         early = λ q x.
-            let d = early_due key first q (holds key (omega (arith, e)) (λ n f. omega (arith, e, read.at.below n f))) range w x in
+            let d = early_due key first q (holds key (omega (arith, e)) (λ n f. omega (arith, e, (read.at.next n f).below))) range w x in
             let s = read.stamped q d in
             inr (s, b.upto q (read.taken q d) x.key (omega (arith, version_below q s)));
       }
@@ -112,8 +126,7 @@ module _ (z : Sizes) (r : Run) (shape : Shape z r.world) (kept : Keeps r.history
       held : (c : kw_cell.Cell) (p : ℕ) → IsCopyOf r.history m.row m.call c p → c.key ≡ key → ⊥
       held c p x same =
           let h = (puts.given p x.within).holds in
-          let next : next_in (word z r.world) (attempt r.history p).row ≡ Some n = ap (next_in (word z r.world)) x.row ∙ sym read.at.next ∙ e in
-          omega (arith, h.below n next, read.at.upper n e, x.key, same, w)
+          omega (arith, h.below m.upper (ap (λ q. (r.ledger.rows.fates q).upper) x.row ∙ (read.at.next n e).ends), x.key, same, w)
 
       below : (cells : List kw_cell.Cell) (ids : List ℕ) → AreCopies r.history m.row m.call cells ids → All (λ c. c.key ≡ key → ⊥) cells
       below [] ids x k d l = absurd (omega arith)

@@ -1,12 +1,13 @@
--- What the entry of an attempt's seat says of the attempt: an announced attempt is old, or the entry is its own.
+-- What the entry of an attempt's seat says of the attempt: the cell of an announced attempt is listed, or the entry is its own.
 use Rattle.std.proofs.Common.{ℕ, ◌≡◌, ◌⊎◌, inl, inr, ◌<◌, ◌≤◌, Bool, true, false, Some, arith, refl, sym, ◌∙◌, ap, subst, length, slice_get, if◌then◌else◌}
+use Rattle.std.proofs.lemmas.Option.{same_Some}
 use Rattle.kw_words.specs.declared.layout.Name.TheVariants as name
 use Rattle.kw_words.specs.declared.pend.Pend.TheVariants as pend
 use Rattle.kw_words.specs.declared.sizes.TheConstants.{VERSION_END}
 use Rattle.kw_words.specs.Pend.{pend_of, pend_word}
 use Rattle.kw_words.proofs.PendWords.{pend_of-Idle, pend_of-Pending, pend_of-Stamped}
 use Rattle.kw_world.specs.declared.activity.Activity.{Activity}
-use Rattle.kw_world.specs.declared.activity.Activity.TheVariants.{PutKey, PutValue, Announce, PutClock, Stamp, PutVersion, PutClear}
+use Rattle.kw_world.specs.declared.activity.Activity.TheVariants.{PutKey, PutValue, Announce, PutClock, Stamp, PutVersion, InsFrom, InsKey, InsVer, InsSet, Insert, PutClear}
 use Rattle.kw_world.specs.declared.local.Local.{Local}
 use Rattle.kw_world.specs.Sizes.{Sizes}
 use Rattle.kw_world.specs.Marks.{mark_of}
@@ -15,18 +16,20 @@ use Rattle.kw_core.specs.History.{History, LoadClock, attempt}
 use Rattle.kw_core.specs.HistoryLaws.{IsPut}
 use Rattle.kw_core.specs.Run.{Run}
 use Rattle.kw_core.specs.Stages.{IsPutting, IsFresh, IsPublished}
+use Rattle.kw_core.specs.Listed.{Listed}
 use Rattle.kw_core.specs.Words.{Words}
-use Rattle.kw_puts.specs.Puts.{IsOld, IsCurrent, IsPublishedAt, entry_of}
+use Rattle.kw_puts.specs.Puts.{IsCurrent, IsPublishedAt, entry_of}
 use Rattle.kw_puts.specs.Below.{Below}
 use Rattle.kw_reads.specs.Readers.{IsReady, IsMarkOf}
 use Rattle.kw_core.proofs.Steps.{announced_within}
 use Rattle.kw_puts.proofs.Owners.{true_false, published_puts}
 
--- what the entry of the seat j in the row q says of an attempt of it: the attempt is old, or the entry is its own
-pub data EntrySays (v : Words) (h : History) (q j p : ℕ) : Type 0 where
-  is_old : IsOld v h p → EntrySays v h q j p
-  is_pending : pend_of (v (name.Pend q j)) ≡ Some (pend.Pending (attempt h p).cell) → EntrySays v h q j p
-  is_stamped : IsPut h p → pend_of (v (name.Pend q j)) ≡ Some (pend.Stamped (attempt h p).cell (attempt h p).version) → EntrySays v h q j p
+-- what the entry of the seat j in the row q says of an attempt of it: the attempt is stamped and its cell is listed, or the entry is its
+-- own
+pub data EntrySays (v : Words) (f : Listed) (h : History) (q j p : ℕ) : Type 0 where
+  is_listed : IsPut h p → f q (attempt h p).cell ≡ true → EntrySays v f h q j p
+  is_pending : pend_of (v (name.Pend q j)) ≡ Some (pend.Pending (attempt h p).cell) → EntrySays v f h q j p
+  is_stamped : IsPut h p → pend_of (v (name.Pend q j)) ≡ Some (pend.Stamped (attempt h p).cell (attempt h p).version) → EntrySays v f h q j p
 
 -- a seat that puts has not announced its cell, or has
 fresh_or_published : (a : Activity) → IsPutting a → IsFresh a ⊎ IsPublished a
@@ -36,6 +39,11 @@ fresh_or_published Announce p = inl tt
 fresh_or_published PutClock p = inr tt
 fresh_or_published Stamp p = inr tt
 fresh_or_published PutVersion p = inr tt
+fresh_or_published InsFrom p = inr tt
+fresh_or_published InsKey p = inr tt
+fresh_or_published InsVer p = inr tt
+fresh_or_published InsSet p = inr tt
+fresh_or_published Insert p = inr tt
 fresh_or_published PutClear p = inr tt
 fresh_or_published _ p = absurd p
 
@@ -47,12 +55,16 @@ module _ {z : Sizes} {r : Run} (k : Below z r) where
       let w = (k.shape.sane.each name.Clock tt).1 in
       (k.positions.clocked.positive _ LoadClock _ t, omega (arith, k.positions.clocked.past _ LoadClock _ t, w))
 
-  -- an old attempt is ready for every reader of its row
-  pub old_ready : (l : Local) (p : ℕ) → (attempt r.history p).row ≡ l.row → IsOld (word z r.world) r.history p → IsReady (word z r.world) r.history l p
-  old_ready l p e o = record {
-    stamped = o.stamped;
-    noted = inr (λ n. let x : word z r.world (name.Version (attempt r.history p).row (attempt r.history p).cell) ≡ 0 = rw e n in let y = (version_ranges p o.stamped).0 in absurd (omega (arith, x, y, o.version)));
-  }
+  -- an attempt of which the cell is listed is stamped
+  listed_stamped : (q p : ℕ) → (attempt r.history p).row ≡ q → p < length r.history.attempts → r.listed q (attempt r.history p).cell ≡ true → IsPut r.history p
+  listed_stamped q p e w x =
+      let cell = k.lists.cells q (attempt r.history p).cell x in
+      let same : p ≡ cell.put = same_Some p cell.put (sym (rw e at (k.puts.given p w).origin) ∙ cell.origin) in
+      rw same cell.stamped
+
+  -- and it is ready for every reader of its row
+  pub listed_ready : (l : Local) (p : ℕ) → IsPut r.history p → r.listed l.row (attempt r.history p).cell ≡ true → IsReady r.listed r.history l p
+  listed_ready l p s x = record { stamped = s; noted = inr x }
 
   -- an entry that is an attempt's own, as it is read
   own_entry : (q j p : ℕ) → p < length r.history.attempts → word z r.world (name.Pend q j) ≡ entry_of (attempt r.history p) → (pend_of (word z r.world (name.Pend q j)) ≡ Some (pend.Pending (attempt r.history p).cell)) ⊎ IsPut r.history p × (pend_of (word z r.world (name.Pend q j)) ≡ Some (pend.Stamped (attempt r.history p).cell (attempt r.history p).version))
@@ -68,24 +80,24 @@ module _ {z : Sizes} {r : Run} (k : Below z r) where
       met false s x = inl (ap pend_of x ∙ pend_of-Pending (attempt r.history p).cell (omega (arith, cell, k.shape.sane.sized.few_cells)))
 
   -- what the entry of its seat says of an announced attempt
-  pub entry_says : (q j p : ℕ) → (attempt r.history p).row ≡ q → (attempt r.history p).seat ≡ j → (attempt r.history p).is_announced ≡ true → EntrySays (word z r.world) r.history q j p
-  entry_says q j p e f a = which (k.puts.old p within)
+  pub entry_says : (q j p : ℕ) → (attempt r.history p).row ≡ q → (attempt r.history p).seat ≡ j → (attempt r.history p).is_announced ≡ true → EntrySays (word z r.world) r.listed r.history q j p
+  entry_says q j p e f a = which (k.lists.old p within)
     where
       within : p < length r.history.attempts
       within = announced_within r.history p a
 
-      which : IsCurrent (slice_get r.world.locals) r.seats r.history p ⊎ IsOld (word z r.world) r.history p → EntrySays (word z r.world) r.history q j p
-      which (inr o) = is_old o
+      which : IsCurrent (slice_get r.world.locals) r.seats r.history p ⊎ (r.listed (attempt r.history p).row (attempt r.history p).cell ≡ true) → EntrySays (word z r.world) r.listed r.history q j p
+      which (inr o) = let x : r.listed q (attempt r.history p).cell ≡ true = rw e at o in is_listed (listed_stamped q p e within x) x
       which (inl c) = stage (fresh_or_published c.local.activity c.putting)
         where
           own : (attempt r.history (r.seats (attempt r.history p).seat).own) ≡ attempt r.history p
           own = ap (attempt r.history) c.own
 
-          read : (pend_of (word z r.world (name.Pend q j)) ≡ Some (pend.Pending (attempt r.history p).cell)) ⊎ IsPut r.history p × (pend_of (word z r.world (name.Pend q j)) ≡ Some (pend.Stamped (attempt r.history p).cell (attempt r.history p).version)) → EntrySays (word z r.world) r.history q j p
+          read : (pend_of (word z r.world (name.Pend q j)) ≡ Some (pend.Pending (attempt r.history p).cell)) ⊎ IsPut r.history p × (pend_of (word z r.world (name.Pend q j)) ≡ Some (pend.Stamped (attempt r.history p).cell (attempt r.history p).version)) → EntrySays (word z r.world) r.listed r.history q j p
           read (inl x) = is_pending x
           read (inr x) = is_stamped x.0 x.1
 
-          stage : IsFresh c.local.activity ⊎ IsPublished c.local.activity → EntrySays (word z r.world) r.history q j p
+          stage : IsFresh c.local.activity ⊎ IsPublished c.local.activity → EntrySays (word z r.world) r.listed r.history q j p
           stage (inl x) = true_false a (rw own at ((k.puts.owns (attempt r.history p).seat c.local c.knows c.putting).unannounced x))
           stage (inr x) =
               let o = k.puts.owns (attempt r.history p).seat c.local c.knows c.putting in

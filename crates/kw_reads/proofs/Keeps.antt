@@ -26,7 +26,7 @@ inv_keeps z r r' s choice l a l' h i =
     let after = below_keeps z r r' s choice l a l' h (lower i) (may_note z r r' s choice l a l' h i) in
     let before : Before z r r' = record { inv = i; after = after } in
     let readers = readers_keep z r r' s choice l a l' h before in
-    record { shape = after.shape; history = after.history; puts = after.puts; positions = after.positions; readers = readers; replies = replies_keep z r r' s choice l a l' h before readers }
+    record { shape = after.shape; history = after.history; puts = after.puts; lists = after.lists; positions = after.positions; readers = readers; replies = replies_keep z r r' s choice l a l' h before readers }
 
 -- one event that may come
 pub inv_goes_on : (z : Sizes) (o : Opening) (r : Run) (e : Event) → may_step o r.world e ≡ true → Inv z r → Inv z (goes_on z r e)

@@ -4,6 +4,9 @@ pub mod Ready
 pub mod EntrySays
 pub mod StableReaders
 pub mod LooksKeep
+pub mod WalksKeep
+pub mod Gathered
+pub mod ApartKeeps
 pub mod CellsKeep
 pub mod SeenKeep
 pub mod ReadersKeep

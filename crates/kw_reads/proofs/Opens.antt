@@ -9,20 +9,25 @@ use Rattle.kw_core.specs.Stages.{IsLooking, IsTaking}
 use Rattle.kw_core.specs.Run.{no_log}
 use Rattle.kw_world.specs.Step.{word}
 use Rattle.kw_core.specs.Run.{start}
-use Rattle.kw_reads.specs.Readers.{IsMarkOf, Looks, Reads, Gathers, HasSeen, Readers}
+use Rattle.kw_core.specs.Listed.{none_listed}
+use Rattle.kw_puts.specs.Lists.{list_in}
+use Rattle.kw_reads.specs.Readers.{IsMarkOf, Looks, ReadsList, Reads, Gathers, Apart, HasSeen, Readers}
 use Rattle.kw_reads.specs.Replies.{HasPairs, IsAnswered, Replies}
 use Rattle.kw_reads.specs.Inv.{Inv}
 use Rattle.kw_core.proofs.NotedLaws.{nothing_keeps}
 use Rattle.kw_shape.proofs.ShapeOpens.{each_rests, shape_starts}
+use Rattle.kw_puts.proofs.ListsKeep.{lists_start}
 use Rattle.kw_puts.proofs.PutsOpen.{puts_start, positions_start}
 
 module _ (z : Sizes) (o : Opening) (i : IsOpening z o) where
   pub readers_start : Readers z (start z o)
   readers_start = record {
     remembers = each_rests z o (λ t l. IsLooking l.activity ⊎ IsTaking l.activity → All (IsMarkOf nothing_yet (λ q c. None) l.row) l.remembered) (λ t x j c w. absurd (omega arith));
-    looks = each_rests z o (λ t l. IsLooking l.activity → Looks z (word z (opened z o)) nothing_yet l.activity l no_log) (λ t x. absurd x);
-    reads = each_rests z o (λ t l. IsTaking l.activity → Reads (word z (opened z o)) nothing_yet (λ q c. None) l.activity l no_log) (λ t x. absurd x);
+    looks = each_rests z o (λ t l. IsLooking l.activity → Looks z none_listed nothing_yet l.activity l no_log) (λ t x. absurd x);
+    walks = each_rests z o (λ t l. ReadsList z.cells (list_in (word z (opened z o)) none_listed l.row) l.activity l) (λ t. tt);
+    reads = each_rests z o (λ t l. IsTaking l.activity → Reads (list_in (word z (opened z o)) none_listed l.row) nothing_yet (λ q c. None) l.activity l no_log) (λ t x. absurd x);
     gathers = each_rests z o (λ t l. Gathers nothing_yet l.activity l no_log) (λ t. record { empty = λ x. absurd x; no_ids = λ x. absurd x; taking = λ x. absurd x; kept = λ x. absurd x });
+    apart = each_rests z o (λ t l. IsTaking l.activity → Apart z (list_in (word z (opened z o)) none_listed l.row) l.activity l) (λ t x. absurd x);
     seen = each_rests z o (λ t l. HasSeen nothing_yet l.activity l no_log) (λ t. record { unread = λ x. absurd x; stamped = λ x. absurd x; taken = λ x. absurd x });
   }
 
@@ -33,4 +38,4 @@ module _ (z : Sizes) (o : Opening) (i : IsOpening z o) where
   }
 
 pub inv_start : (z : Sizes) (o : Opening) → IsOpening z o → Inv z (start z o)
-inv_start z o i = record { shape = shape_starts z o i; history = nothing_keeps; puts = puts_start z o i; positions = positions_start z o i; readers = readers_start z o i; replies = replies_start z o i }
+inv_start z o i = record { shape = shape_starts z o i; history = nothing_keeps; puts = puts_start z o i; lists = lists_start z o i; positions = positions_start z o i; readers = readers_start z o i; replies = replies_start z o i }

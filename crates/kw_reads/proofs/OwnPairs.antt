@@ -8,7 +8,7 @@ use Rattle.kw_world.specs.declared.answer.Answer.TheVariants.{Done, Value, Absen
 use Rattle.kw_world.specs.declared.answer.Answer.{Answer}
 use Rattle.kw_world.specs.Answers.{answer_found}
 use Rattle.kw_world.specs.declared.activity.Activity.{Activity}
-use Rattle.kw_world.specs.declared.activity.Activity.TheVariants.{ScanSettle, Start, LookCount, Cell, CellKey, CellValue, ClearScan, Leave}
+use Rattle.kw_world.specs.declared.activity.Activity.TheVariants.{ScanSettle, Start, ListFrom, ListKey, RestKey, RestVal, ClearScan, Leave}
 use Rattle.kw_world.specs.declared.local.Local.{Local}
 use Rattle.kw_world.specs.declared.limits.TheConstants.{NEWEST}
 use Rattle.kw_world.specs.declared.event.Choice.{Choice}
@@ -20,19 +20,21 @@ use Rattle.kw_world.specs.Step.{word}
 use Rattle.kw_core.specs.History.{History, called}
 use Rattle.kw_core.specs.Run.{Run, Origins, is_at_cell, best_id}
 use Rattle.kw_core.specs.declared.seat_log.SeatLog.{SeatLog}
-use Rattle.kw_core.specs.Stages.{IsAtRow, IsPastStart, IsCovering, IsEarly, IsReading, IsKeeping, IsSettling, IsUnderway}
+use Rattle.kw_core.specs.Stages.{IsAtRow, IsPassing, IsPastStart, IsCovering, IsEarly, IsReading, IsKeeping, IsSettling, IsUnderway}
 use Rattle.kw_core.specs.Words.{Words, least_in}
-use Rattle.kw_shape.specs.Shape.{IsAtItsRow, IsPutCall, IsScanCall, Walks}
+use Rattle.kw_shape.specs.Shape.{IsAtItsRow, IsPutCall, IsScanCall}
 use Rattle.kw_core.specs.HistoryLaws.{GetKey}
 use Rattle.kw_reads.specs.Readers.{IsDue, AreCopies, Readers}
 use Rattle.kw_reads.specs.Replies.{Covers, HasPairs, IsCovered, IsAnswered}
 use Rattle.kw_core.proofs.Lasts.{scan_lasts}
 use Rattle.kw_puts.proofs.Rely.{GoesOn}
 use Rattle.kw_reads.proofs.Relying.{goes_on_by}
-use Rattle.kw_core.proofs.Frame.{same_rows}
-use Rattle.kw_shape.proofs.ShapeKeeps.{walks_stable}
+use Rattle.kw_core.proofs.Frame.{WritesPass}
+use Rattle.kw_rows.specs.Ledger.{Ledger}
+use Rattle.kw_shape.proofs.RelyRows.{row_stable}
+use Rattle.kw_shape.proofs.ShapeKeeps.{own_rely}
 use Rattle.kw_core.proofs.Happens.{Happens, knows_next}
-use Rattle.kw_core.proofs.Arrows.{NextCell, reads_cell, answers, ends_scan, scans_on, Arrow, not_below, below}
+use Rattle.kw_core.proofs.Arrows.{NextRest, rests, answers, ends_scan, scans_on, Arrow, not_below, below}
 use Rattle.kw_core.proofs.SeatLogs.{IsEnding, read_to_end}
 use Rattle.kw_shape.proofs.NextCalls.{arrow_call}
 use Rattle.kw_puts.proofs.OwnScans.{call_first, drawn_kept, looked_kept, was_scan, drawn_underway, not_idle_drawn, covering_draws, settled_from, covering_settled, draws_no_more, reading_draws}
@@ -55,10 +57,10 @@ covers_last h h' o o' from version drawn bound pairs g b c = record {
 
 -- the stages of a seat that may be at the end of a row
 ending_reads : (a : Activity) → IsEnding a → IsReading a × IsCovering a × IsAtRow a × IsPastStart a × IsUnderway a
-ending_reads LookCount x = (tt, tt, tt, tt, tt)
-ending_reads (Cell j) x = (tt, tt, tt, tt, tt)
-ending_reads CellKey x = (tt, tt, tt, tt, tt)
-ending_reads CellValue x = (tt, tt, tt, tt, tt)
+ending_reads ListFrom x = (tt, tt, tt, tt, tt)
+ending_reads ListKey x = (tt, tt, tt, tt, tt)
+ending_reads RestKey x = (tt, tt, tt, tt, tt)
+ending_reads RestVal x = (tt, tt, tt, tt, tt)
 ending_reads _ x = absurd x
 
 -- a seat that has read one more word of its row: what it knows of its call, its row and its pairs is as it was
@@ -79,14 +81,23 @@ record EndedAs (m k : Local) : Type 0 where
   no_cell : is_at_cell k.activity ≡ false
 
 -- it is at its row as before
-same_at : (rows : ℕ) (v : Words) (l m : Local) → SameRead l m → IsAtItsRow rows v l → IsAtItsRow rows v m
-same_at rows v l m q x = record {
-  linked = rw q.row x.linked;
+same_at : (v : Words) (g : Ledger) (t : ℕ) (l m : Local) → SameRead l m → IsAtItsRow v g t l → IsAtItsRow v g t m
+same_at v g t l m q x = record {
+  fresh = rw q.row x.fresh;
   from = rw (q.row, q.want) x.from;
-  next = rw (q.next, q.row) x.next;
-  upper = λ n e. q.upper ∙ x.upper n (sym q.next ∙ e);
-  below = λ n e. rw (q.want, q.upper) (x.below n (sym q.next ∙ e));
+  last = λ e. rw q.row (x.last (sym q.next ∙ e));
+  next = λ n e.
+      let k = x.next n (sym q.next ∙ e) in
+      record { fresh = k.fresh; least = q.upper ∙ k.least; ends = rw (q.row, q.upper) k.ends; below = rw (q.want, q.upper) k.below };
 }
+
+-- a reader at the end of its row is in its pass
+ending_passes : (a : Activity) → IsEnding a → IsPassing a × (WritesPass a → ⊥)
+ending_passes ListFrom x = (tt, λ y. y)
+ending_passes ListKey x = (tt, λ y. y)
+ending_passes RestKey x = (tt, λ y. y)
+ending_passes RestVal x = (tt, λ y. y)
+ending_passes _ x = absurd x
 
 module _ (z : Sizes) (r r' : Run) (s : ℕ) (choice : Choice) (l : Local) (a : Activity) (l' : Local) (b : Arrow z (word z r.world) s choice l a l') (h : Happens z r r' s choice l l' a) (i : Before z r r') where
   -- the event of the record
@@ -97,22 +108,20 @@ module _ (z : Sizes) (r r' : Run) (s : ℕ) (choice : Choice) (l : Local) (a : A
   before : HasPairs r.history l.activity l (r.seats s)
   before = i.inv.replies.pairs s l h.knows
 
-  -- where the seat was in the list of rows, with the words after the event
-  walks : Walks r.world.rows (word z r'.world) l.activity l
-  walks = walks_stable r.world.rows (word z r.world) (word z r'.world) l.activity l (same_rows a h) i.inv.shape.chain (i.inv.shape.sane.locals s l h.knows).below.row (i.inv.shape.walks s l h.knows)
-
-  -- it was at its row
-  at_row : IsEnding a → IsAtItsRow r'.world.rows (word z r'.world) l
-  at_row x = subst (λ q. IsAtItsRow q (word z r'.world) l) (sym h.rows) (walks.at (subst IsAtRow (sym h.activity) (ending_reads a x).2))
+  -- it was at its row, and is so with the words after the event
+  at_row : IsEnding a → IsAtItsRow (word z r'.world) r'.ledger.rows s l
+  at_row x =
+      let p = ending_passes a x in
+      row_stable _ _ _ _ s (own_rely z r r' s choice l a l' h i.inv.shape p.0 p.1) l ((i.inv.shape.walks s l h.knows).at (subst IsAtRow (sym h.activity) (ending_reads a x).2))
 
   -- the row that a reader has read
-  read_row : Readers z r' → IsEnding a → (m : Local) → SameRead l m → EndedAs m l' → HasReadRow z r' m (r'.seats s)
+  read_row : Readers z r' → IsEnding a → (m : Local) → SameRead l m → EndedAs m l' → HasReadRow z r' s m (r'.seats s)
   read_row n x m q e =
       let read : (r'.seats s).read ≡ Some m.row = ap (λ (g : SeatLog). g.read) h.log ∙ read_to_end z choice l _ l'.activity (r.seats s) r.origin r.history a x e.no_cell ∙ ap Some (sym q.row) in
       let copies = (n.gathers s l' (knows_next h)).kept e.keeping m.row read in
       let seen = n.seen s l' (knows_next h) in
       record {
-        at = same_at r'.world.rows (word z r'.world) l m q (at_row x);
+        at = same_at (word z r'.world) r'.ledger.rows s l m q (at_row x);
         copies = subst (λ c. AreCopies r'.history m.row c m.gathered (r'.seats s).ids) e.call (subst (λ c. AreCopies r'.history m.row l'.call c (r'.seats s).ids) e.gathered copies);
         stamped = λ p d. seen.stamped e.keeping m.row read p (subst (λ c. IsDue r'.history m.row c (r'.seats s).looked p) (sym e.call) d);
         taken = λ p d. seen.taken e.keeping m.row read p (subst (λ c. IsDue r'.history m.row c (r'.seats s).looked p) (sym e.call) d);
@@ -207,11 +216,11 @@ ending_no_settling : (a : Activity) → IsEnding a → IsSettling a → ⊥
 ending_no_settling ScanSettle x y = x
 ending_no_settling _ x y = y
 
--- a reader that goes on to the next cell, or has read its row
-pub cell_pairs : (z : Sizes) (r r' : Run) (s : ℕ) (choice : Choice) (l : Local) (a : Activity) (m : Local) (j : ℕ) (l' : Local) → Arrow z (word z r.world) s choice l a l' → Happens z r r' s choice l l' a → Before z r r' → Readers z r' → IsEnding a → SameRead l m → NextCell m j l' → HasPairs r'.history l'.activity l' (r'.seats s)
-cell_pairs z r r' s choice l a m j l' b h i n x q (reads_cell w) = stays z r r' s choice l a l' b h i q.want q.pairs (ending_no_settling a x) (λ y. absurd y) tt
-cell_pairs z r r' s choice l a m j l' b h i n x q (answers w e) = record { early = λ y. absurd y; from = λ f y. absurd y; upto = λ f y. absurd y; covers = λ f y. absurd y; covered = found_covered _ r'.history l' (r'.seats s) }
-cell_pairs z r r' s choice l a m j l' b h i n x q (ends_scan w e f) = record { early = λ y. absurd y; from = λ f y. absurd y; upto = λ f y. absurd y; covers = λ f y. absurd y; covered = covered }
+-- a reader that goes on to a remembered cell, or has read its row
+pub cell_pairs : (z : Sizes) (r r' : Run) (s : ℕ) (choice : Choice) (l : Local) (a : Activity) (m : Local) (l' : Local) → Arrow z (word z r.world) s choice l a l' → Happens z r r' s choice l l' a → Before z r r' → Readers z r' → IsEnding a → SameRead l m → NextRest m l' → HasPairs r'.history l'.activity l' (r'.seats s)
+cell_pairs z r r' s choice l a m l' b h i n x q (rests c w) = stays z r r' s choice l a l' b h i q.want q.pairs (ending_no_settling a x) (λ y. absurd y) tt
+cell_pairs z r r' s choice l a m l' b h i n x q (answers w e) = record { early = λ y. absurd y; from = λ f y. absurd y; upto = λ f y. absurd y; covers = λ f y. absurd y; covered = found_covered _ r'.history l' (r'.seats s) }
+cell_pairs z r r' s choice l a m l' b h i n x q (ends_scan w e f) = record { early = λ y. absurd y; from = λ f y. absurd y; upto = λ f y. absurd y; covers = λ f y. absurd y; covered = covered }
   where
     t : IsReading a × IsCovering a × IsAtRow a × IsPastStart a × IsUnderway a
     t = ending_reads a x
@@ -230,21 +239,21 @@ cell_pairs z r r' s choice l a m j l' b h i n x q (ends_scan w e f) = record { e
         which (inr y) = omega (arith, o, y)
 
     covered : Covers r'.history (first_key m.call) m.version (r'.seats s).drawn (last_key m.call + 1) (m.pairs ++ pairs_of m.gathered m.want (last_key m.call) m.version)
-    covered = row_covers z r' i.after.shape i.after.history i.after.puts i.after.positions m (r'.seats s)
+    covered = row_covers z r' i.after.shape i.after.history i.after.puts i.after.positions s m (r'.seats s)
         (read_row z r r' s choice l a l' b h i n x m q (record { call = refl; gathered = refl; keeping = tt; no_cell = refl }))
         m.version (r'.seats s).drawn (last_key m.call + 1) (omega (arith, draw_before_look z r r' s choice l a l' b h i t.0 scan))
         (omega (arith, was.from scan (subst IsCovering (sym h.activity) t.1), q.want, ap first_key q.call))
         (omega (arith, was.upto scan (subst IsCovering (sym h.activity) t.1), q.want, ap last_key q.call))
         (omega arith) under (λ o. absurd (omega (arith, o)))
         (rw (q.call, q.version, q.want, q.pairs) (old_covers z r r' s choice l a l' b h i t.1 scan))
-cell_pairs z r r' s choice l a m j l' b h i n x q (scans_on k w e f o) = record {
+cell_pairs z r r' s choice l a m l' b h i n x q (scans_on k w e f o) = record {
   early = λ y. absurd y;
-  from = λ g y. omega (arith, was.from scan (subst IsCovering (sym h.activity) t.1), q.want, ap first_key q.call, read.at.below k f);
+  from = λ g y. omega (arith, was.from scan (subst IsCovering (sym h.activity) t.1), q.want, ap first_key q.call, (read.at.next k f).below);
   upto = λ g y. o;
-  covers = λ g y. row_covers z r' i.after.shape i.after.history i.after.puts i.after.positions m (r'.seats s) read
+  covers = λ g y. row_covers z r' i.after.shape i.after.history i.after.puts i.after.positions s m (r'.seats s) read
       m.version (r'.seats s).drawn m.upper (omega (arith, draw_before_look z r r' s choice l a l' b h i t.0 scan))
       (omega (arith, was.from scan (subst IsCovering (sym h.activity) t.1), q.want, ap first_key q.call))
-      (read.at.below k f) (omega (arith, o)) (λ key d u v. u) (λ u. (k, f, omega arith))
+      ((read.at.next k f).below) (omega (arith, o)) (λ key d u v. u) (λ u. (k, f, omega arith))
       (rw (q.call, q.version, q.want, q.pairs) (old_covers z r r' s choice l a l' b h i t.1 scan));
   covered = tt;
 }
@@ -258,7 +267,7 @@ cell_pairs z r r' s choice l a m j l' b h i n x q (scans_on k w e f o) = record 
     was : HasPairs r.history l.activity l (r.seats s)
     was = i.inv.replies.pairs s l h.knows
 
-    read : HasReadRow z r' m (r'.seats s)
+    read : HasReadRow z r' s m (r'.seats s)
     read = read_row z r r' s choice l a l' b h i n x m q (record { call = refl; gathered = refl; keeping = tt; no_cell = refl })
 
 -- The answer of a get.
@@ -287,12 +296,12 @@ scan_call_answered (Some (Get key)) answer h l g x = absurd x
 scan_call_answered (Some (Scan from upto)) answer h l g x = tt
 scan_call_answered None answer h l g x = tt
 
--- a reader that goes on to the next cell, or has read its row
-pub cell_answered : (z : Sizes) (r r' : Run) (s : ℕ) (choice : Choice) (l : Local) (a : Activity) (m : Local) (j : ℕ) (l' : Local) → Arrow z (word z r.world) s choice l a l' → Happens z r r' s choice l l' a → Before z r r' → Readers z r' → IsEnding a → SameRead l m → NextCell m j l' → IsAnswered l'.activity l'.call r'.history l' (r'.seats s)
-cell_answered z r r' s choice l a m j l' b h i n x q (reads_cell w) = tt
-cell_answered z r r' s choice l a m j l' b h i n x q (ends_scan w e f) = tt
-cell_answered z r r' s choice l a m j l' b h i n x q (scans_on k w e f o) = tt
-cell_answered z r r' s choice l a m j l' b h i n x q (answers w e) = which m.call refl
+-- a reader that goes on to a remembered cell, or has read its row
+pub cell_answered : (z : Sizes) (r r' : Run) (s : ℕ) (choice : Choice) (l : Local) (a : Activity) (m : Local) (l' : Local) → Arrow z (word z r.world) s choice l a l' → Happens z r r' s choice l l' a → Before z r r' → Readers z r' → IsEnding a → SameRead l m → NextRest m l' → IsAnswered l'.activity l'.call r'.history l' (r'.seats s)
+cell_answered z r r' s choice l a m l' b h i n x q (rests c w) = tt
+cell_answered z r r' s choice l a m l' b h i n x q (ends_scan w e f) = tt
+cell_answered z r r' s choice l a m l' b h i n x q (scans_on k w e f o) = tt
+cell_answered z r r' s choice l a m l' b h i n x q (answers w e) = which m.call refl
   where
     t : IsReading a × IsCovering a × IsAtRow a × IsPastStart a × IsUnderway a
     t = ending_reads a x
@@ -304,11 +313,11 @@ cell_answered z r r' s choice l a m j l' b h i n x q (answers w e) = which m.cal
         get_wants (inl y) = y
         get_wants (inr y) = true_false (subst (λ c. is_scan c ≡ true) (sym q.call) y.0) e
 
-    read : HasReadRow z r' m (r'.seats s)
+    read : HasReadRow z r' s m (r'.seats s)
     read = read_row z r r' s choice l a l' b h i n x m q (record { call = refl; gathered = refl; keeping = tt; no_cell = refl })
 
     get : (key : ℕ) → m.call ≡ Some (Get key) → IsAnswered (Leave (answer_found (shown_at m.gathered NEWEST key))) (Some (Get key)) r'.history l' (r'.seats s)
-    get key c = subst (λ x. GetKey r'.history key (called r'.history (r'.seats s).call).first x (best_id m.gathered (r'.seats s).ids key NEWEST)) (sym (reply_of-found (shown_at m.gathered NEWEST key) m.pairs)) (get_known z r' i.after.shape i.after.history i.after.puts i.after.positions m (r'.seats s) read key (called r'.history (r'.seats s).call).first (want ∙ ap first_key c)
+    get key c = subst (λ x. GetKey r'.history key (called r'.history (r'.seats s).call).first x (best_id m.gathered (r'.seats s).ids key NEWEST)) (sym (reply_of-found (shown_at m.gathered NEWEST key) m.pairs)) (get_known z r' i.after.shape i.after.history i.after.puts i.after.positions s m (r'.seats s) read key (called r'.history (r'.seats s).call).first (want ∙ ap first_key c)
         (in_range_of m.call key (omega (arith, ap first_key c)) (omega (arith, ap last_key c))) (omega (arith, first_before_look z r r' s choice l a l' b h i t.0 t.4)))
 
     which : (c : Option Call) → m.call ≡ c → IsAnswered (Leave (answer_found (shown_at m.gathered NEWEST (first_key c)))) c r'.history l' (r'.seats s)

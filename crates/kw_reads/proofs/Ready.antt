@@ -1,41 +1,105 @@
 -- What is due to a reader, and what is known of it, lasts over every event.
 --
--- The facts here ask only that the record goes on and that versions that stand are kept, so they serve for the reader's own events
--- and for those of every other seat.
-use Rattle.std.proofs.Common.{ℕ, ◌≡◌, ◌≢◌, ◌⊎◌, inl, inr, ◌<◌, ◌≤◌, true, Option, List, arith, sym, ◌∙◌, subst, length}
-use Rattle.std.specs.Prelude.{All}
+-- The facts here ask only that the record goes on, that listed cells stay listed, and what an event leaves of a row's list; so they
+-- serve for the reader's own events and for those of every other seat.
+use Rattle.std.proofs.Common.{ℕ, ◌≡◌, ◌⊎◌, inl, inr, ◌≤◌, true, Option, Some, List, arith, sym, ◌∙◌, subst, length}
+use Rattle.std.specs.Prelude.{All, Contains}
 use Rattle.std.proofs.lemmas.List.Elements.{All-weaker}
-use Rattle.kw_words.specs.declared.layout.Name.TheVariants as name
 use Rattle.kw_cells.specs.declared.cell.Cell as kw_cell
 use Rattle.kw_model.specs.declared.call.Call.{Call}
+use Rattle.kw_lists.specs.Rows.{Row, IsOn}
+use Rattle.kw_lists.specs.Changes.{Leaves}
+use Rattle.kw_lists.proofs.Leaving.{on_left}
+use Rattle.kw_lists.proofs.Same.{stands_same, behind_same}
+use Rattle.kw_lists.proofs.Walking.{walk_stays, passed_stays}
 use Rattle.kw_world.specs.declared.activity.Activity.{Activity}
+use Rattle.kw_world.specs.declared.activity.Activity.TheVariants.{ListFrom, ListKey, ListVer, ListVal, RestKey, RestVal, Look, LookKey, LookClock, LookHelp}
 use Rattle.kw_world.specs.declared.local.Local.{Local}
 use Rattle.kw_world.specs.declared.marks.Mark.{Mark}
 use Rattle.kw_world.specs.Calls.{is_in_range}
+use Rattle.kw_world.specs.Marks.{is_marked}
 use Rattle.kw_world.specs.Sizes.{Sizes}
 use Rattle.kw_core.specs.History.{History, attempt}
 use Rattle.kw_core.specs.HistoryLaws.{IsPut}
 use Rattle.kw_core.specs.Run.{Origins}
 use Rattle.kw_core.specs.declared.seat_log.SeatLog.{SeatLog}
-use Rattle.kw_core.specs.Words.{Words, given_in}
-use Rattle.kw_reads.specs.Readers.{IsDue, Looks, Reads, IsNoted, IsReady, IsMarkOf, IsInHand, IsCopyOf, AreCopies}
+use Rattle.kw_core.specs.Listed.{Listed}
+use Rattle.kw_core.specs.Stages.{IsListing}
+use Rattle.kw_reads.specs.Readers.{IsDue, Looks, HasMetCell, ReadsList, IsFromHand, IsToCome, Reads, IsNoted, IsReady, IsMarkOf, IsInHand, IsCopyOf, AreCopies, Apart}
 use Rattle.kw_core.proofs.Attempts.{in_range}
 use Rattle.kw_core.proofs.Steps.{announced_within}
 use Rattle.kw_core.proofs.Marks.{zip_weaker}
 use Rattle.kw_puts.proofs.Rely.{SameAttempt, GoesOn}
 
--- versions that stand are kept
-pub record KeepsVersions (z : Sizes) (rows : ℕ) (v v' : Words) : Type 0 where
-  pub kept : (q c : ℕ) → q < rows → c < z.cells → v (name.Version q c) ≢ 0 → v' (name.Version q c) ≡ v (name.Version q c)
+-- cells that are listed stay listed
+abbrev pub KeepsListed : Listed → Listed → Type 0
+KeepsListed f f' = (q c : ℕ) → f q c ≡ true → f' q c ≡ true
 
 -- the key of a seat's call, whatever it is, is that of the attempt
 due_key : (call : Option Call) (k q : ℕ) → k ≡ q → is_in_range call k ≡ true → is_in_range call q ≡ true
 due_key call k q e i = subst (λ x. is_in_range call x ≡ true) e i
 
 -- a cell that the reader will read
-pub noted_lasts : (z : Sizes) (rows : ℕ) (v v' : Words) (l : Local) (c : ℕ) → KeepsVersions z rows v v' → l.row < rows → c < z.cells → IsNoted v l c → IsNoted v' l c
-noted_lasts z rows v v' l c keeps w i (inl m) = inl m
-noted_lasts z rows v v' l c keeps w i (inr n) = inr (λ e. n (sym (keeps.kept l.row c w i n) ∙ e))
+pub noted_lasts : (f f' : Listed) (l : Local) (c : ℕ) → KeepsListed f f' → IsNoted f l c → IsNoted f' l c
+noted_lasts f f' l c keeps (inl m) = inl m
+noted_lasts f f' l c keeps (inr n) = inr (keeps l.row c n)
+
+-- The list.
+
+module _ (n : ℕ) (row row' : Row) (w : Leaves n row row') where
+  -- a cell that was met
+  met_lasts : (l : Local) → HasMetCell n row l → HasMetCell n row' l
+  met_lasts l k = record {
+    on = on_left n row row' l.link w k.on;
+    behind = behind_same row row' w.cell l.link l.place k.on (w.cell l.place k.walks.on) k.behind;
+    walks = walk_stays n row row' (Some l.place) l.walked w k.walks;
+  }
+
+  -- where the reader is
+  pub walks_last : (a : Activity) (l : Local) → ReadsList n row a l → ReadsList n row' a l
+  walks_last (Look i) l k = k
+  walks_last LookKey l k = k
+  walks_last LookClock l k = k
+  walks_last LookHelp l k = k
+  walks_last ListFrom l k = walk_stays n row row' l.link l.walked w k
+  walks_last ListKey l k = met_lasts l k
+  walks_last ListVer l k = met_lasts l k
+  walks_last ListVal l k = met_lasts l k
+  walks_last _ l k = tt
+
+  -- a cell from the one in hand on
+  from_hand_lasts : (l : Local) (c : ℕ) → HasMetCell n row l → IsFromHand row l c → IsFromHand row' l c
+  from_hand_lasts l c k (e, inl x) = (w.listed c e, inl x)
+  from_hand_lasts l c k (e, inr x) = (w.listed c e, inr (stands_same row row' l.place c (w.cell l.place k.walks.on) (w.cell c e) x))
+
+  -- a cell that is to come
+  pub to_come_lasts : (a : Activity) (l : Local) (c : ℕ) → ReadsList n row a l → IsToCome row a l c → IsToCome row' a l c
+  to_come_lasts ListFrom l c k x = (w.listed c x.0, behind_same row row' w.cell l.link c k.on (w.cell c x.0) x.1)
+  to_come_lasts ListKey l c k x = from_hand_lasts l c k x
+  to_come_lasts ListVer l c k x = from_hand_lasts l c k x
+  to_come_lasts ListVal l c k x = from_hand_lasts l c k x
+  to_come_lasts RestKey l c k x = x
+  to_come_lasts RestVal l c k x = x
+  to_come_lasts _ l c k x = absurd x
+
+  -- the link at which the reader is
+  link_on : (a : Activity) (l : Local) → IsListing a → ReadsList n row a l → IsOn row l.link
+  link_on ListFrom l x k = k.on
+  link_on ListKey l x k = k.on
+  link_on ListVer l x k = k.on
+  link_on ListVal l x k = k.on
+  link_on _ l x k = absurd x
+
+-- no cell is gathered twice
+pub apart_lasts : (z : Sizes) (row row' : Row) → Leaves z.cells row row' → (a : Activity) (l : Local) → ReadsList z.cells row a l → Apart z row a l → Apart z row' a l
+apart_lasts z row row' w a l k x = record {
+  few = x.few;
+  unmarked = x.unmarked;
+  listed = λ y c e. w.listed c (x.listed y c e);
+  passed = λ y c e. passed_stays z.cells row row' l.link c w (link_on z.cells row row' w a l y k) (x.listed y c e) (x.passed y c e);
+  fresh = x.fresh;
+  hand = x.hand;
+}
 
 module _ {h h' : History} {o o' : Origins} (g : GoesOn h h' o o') where
   -- an attempt that is due after the event was due before, where the look was before the event
@@ -81,17 +145,17 @@ module _ {h h' : History} {o o' : Origins} (g : GoesOn h h' o o') where
   pub hand_lasts : (a : Activity) (l : Local) → IsInHand h o a l → IsInHand h' o' a l
   hand_lasts a l i =
       let s = stamped_lasts i.put i.stamped in
-      record { put = i.put; origin = g.origin l.row l.place i.put i.origin; stamped = s.0; version = s.1 ∙ i.version; key = λ y. (stamped_same i.put i.stamped).key ∙ i.key y; in_range = i.in_range }
+      record { put = i.put; origin = g.origin l.row l.place i.put i.origin; stamped = s.0; version = λ y. s.1 ∙ i.version y; key = λ y. (stamped_same i.put i.stamped).key ∙ i.key y; in_range = i.in_range }
 
   -- an attempt that is stamped, and whose cell the reader will read
-  pub ready_lasts : (z : Sizes) (rows : ℕ) (v v' : Words) (l : Local) (p : ℕ) → KeepsVersions z rows v v' → l.row < rows → (attempt h p).cell < z.cells → IsReady v h l p → IsReady v' h' l p
-  ready_lasts z rows v v' l p keeps w i n = record { stamped = (stamped_lasts p n.stamped).0; noted = subst (IsNoted v' l) (sym (stamped_same p n.stamped).cell) (noted_lasts z rows v v' l (attempt h p).cell keeps w i n.noted) }
+  pub ready_lasts : (f f' : Listed) (l : Local) (p : ℕ) → KeepsListed f f' → IsReady f h l p → IsReady f' h' l p
+  ready_lasts f f' l p keeps n = record { stamped = (stamped_lasts p n.stamped).0; noted = subst (IsNoted f' l) (sym (stamped_same p n.stamped).cell) (noted_lasts f f' l (attempt h p).cell keeps n.noted) }
 
   -- what is known of the entries that the reader looked at
-  pub looks_last : (z : Sizes) (rows : ℕ) (v v' : Words) (a : Activity) (l : Local) (s s' : SeatLog) → KeepsVersions z rows v v' → l.row < rows → ((p : ℕ) → p < length h.attempts → (attempt h p).cell < z.cells) → s'.looked ≡ s.looked → s.looked ≤ length h.log → Looks z v h a l s → Looks z v' h' a l s'
-  looks_last z rows v v' a l s s' keeps w cells e b n = record {
-    past = λ p d u. let c = was p d in lasts p c (n.past p c (rw (same p c) at u));
-    here = λ m p d f. let c = was p d in met p c (n.here m p c (sym (same p c) ∙ f));
+  pub looks_last : (z : Sizes) (f f' : Listed) (a : Activity) (l : Local) (s s' : SeatLog) → KeepsListed f f' → s'.looked ≡ s.looked → s.looked ≤ length h.log → Looks z f h a l s → Looks z f' h' a l s'
+  looks_last z f f' a l s s' keeps e b n = record {
+    past = λ p d u. let c = was p d in ready_lasts f f' l p keeps (n.past p c (rw (same p c) at u));
+    here = λ m p d x. let c = was p d in met p c (n.here m p c (sym (same p c) ∙ x));
   }
     where
       was : (p : ℕ) → IsDue h' l.row l.call s'.looked p → IsDue h l.row l.call s.looked p
@@ -100,26 +164,23 @@ module _ {h h' : History} {o o' : Origins} (g : GoesOn h h' o o') where
       same : (p : ℕ) → IsDue h l.row l.call s.looked p → (attempt h' p).seat ≡ (attempt h p).seat
       same p d = (due_same l.row l.call s.looked p d).seat
 
-      lasts : (p : ℕ) → IsDue h l.row l.call s.looked p → IsReady v h l p → IsReady v' h' l p
-      lasts p d q = ready_lasts z rows v v' l p keeps w (cells p (announced_within h p d.announced)) q
-
-      met : (p : ℕ) → IsDue h l.row l.call s.looked p → ((attempt h p).cell ≡ l.met) ⊎ IsReady v h l p → ((attempt h' p).cell ≡ l.met) ⊎ IsReady v' h' l p
-      met p d (inl f) = inl ((due_same l.row l.call s.looked p d).cell ∙ f)
-      met p d (inr q) = inr (lasts p d q)
+      met : (p : ℕ) → IsDue h l.row l.call s.looked p → ((attempt h p).cell ≡ l.met) ⊎ IsReady f h l p → ((attempt h' p).cell ≡ l.met) ⊎ IsReady f' h' l p
+      met p d (inl x) = inl ((due_same l.row l.call s.looked p d).cell ∙ x)
+      met p d (inr q) = inr (ready_lasts f f' l p keeps q)
 
   -- what is known of the cells that the reader reads
-  pub reads_last : (z : Sizes) (rows : ℕ) (v v' : Words) (a : Activity) (l : Local) (s s' : SeatLog) → KeepsVersions z rows v v' → l.row < rows → ((p : ℕ) → p < length h.attempts → (attempt h p).cell < z.cells) → given_in v l.row ≤ given_in v' l.row → s'.looked ≡ s.looked → s'.ids ≡ s.ids → s.looked ≤ length h.log → Reads v h o a l s → Reads v' h' o' a l s'
-  reads_last z rows v v' a l s s' keeps w cells given e f b n = record {
-    count = omega (arith, n.count, given);
-    stamped = λ p d. (stamped_lasts p (n.stamped p (was p d))).0;
-    cell = λ p d. rw (same p (was p d)) (n.cell p (was p d));
-    taken = λ p d u. rw f (n.taken p (was p d) (rw (same p (was p d)) at u));
-    noted = λ p d u. rw (same p (was p d)) (noted_lasts z rows v v' l (attempt h p).cell keeps w (cells p (announced_within h p (was p d).announced)) (n.noted p (was p d) (rw (same p (was p d)) at u)));
-    hand = λ x. hand_lasts a l (n.hand x);
+  pub reads_last : (n : ℕ) (row row' : Row) → Leaves n row row' → (a : Activity) (l : Local) (s s' : SeatLog) → ReadsList n row a l → s'.looked ≡ s.looked → s'.ids ≡ s.ids → s.looked ≤ length h.log → Reads row h o a l s → Reads row' h' o' a l s'
+  reads_last n row row' w a l s s' k e f b x = record {
+    stamped = λ p d. (stamped_lasts p (x.stamped p (was p d))).0;
+    found = λ p d. subst (λ ids. Contains ids p ⊎ (is_marked (attempt h' p).cell l.remembered ≡ true) ⊎ IsToCome row' a l (attempt h' p).cell) (sym f)
+        (subst (λ c. Contains s.ids p ⊎ (is_marked c l.remembered ≡ true) ⊎ IsToCome row' a l c) (sym (due_same l.row l.call s.looked p (was p d)).cell) (found p (x.found p (was p d))));
+    hand = λ y. hand_lasts a l (x.hand y);
   }
     where
       was : (p : ℕ) → IsDue h' l.row l.call s'.looked p → IsDue h l.row l.call s.looked p
       was p d = due_before l.row l.call s.looked p b (subst (λ x. IsDue h' l.row l.call x p) e d)
 
-      same : (p : ℕ) → IsDue h l.row l.call s.looked p → (attempt h' p).cell ≡ (attempt h p).cell
-      same p d = (due_same l.row l.call s.looked p d).cell
+      found : (p : ℕ) → Contains s.ids p ⊎ (is_marked (attempt h p).cell l.remembered ≡ true) ⊎ IsToCome row a l (attempt h p).cell → Contains s.ids p ⊎ (is_marked (attempt h p).cell l.remembered ≡ true) ⊎ IsToCome row' a l (attempt h p).cell
+      found p (inl y) = inl y
+      found p (inr (inl y)) = inr (inl y)
+      found p (inr (inr y)) = inr (inr (to_come_lasts n row row' w a l (attempt h p).cell k y))

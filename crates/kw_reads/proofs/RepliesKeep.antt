@@ -4,7 +4,7 @@ use Rattle.kw_world.specs.declared.answer.Answer.{Answer}
 use Rattle.kw_world.specs.Calls.{first_key, last_key}
 use Rattle.kw_world.specs.Answers.{reply_of}
 use Rattle.kw_world.specs.declared.activity.Activity.{Activity}
-use Rattle.kw_world.specs.declared.activity.Activity.TheVariants.{Idle, Enter, ScanClock, ScanWait, ScanDraw, ScanSettle, Look, LookKey, LookClock, LookHelp, LookCount, Cell, CellKey, CellValue, ClearScan, Leave}
+use Rattle.kw_world.specs.declared.activity.Activity.TheVariants.{Idle, Enter, ScanClock, ScanWait, ScanDraw, ScanSettle, Look, LookKey, LookClock, LookHelp, ListFrom, ListKey, ListVer, ListVal, RestKey, RestVal, ClearScan, Leave}
 use Rattle.kw_world.specs.declared.local.Local.{Local}
 use Rattle.kw_world.specs.declared.event.Choice.{Choice}
 use Rattle.kw_world.specs.Sizes.{Sizes}
@@ -36,7 +36,7 @@ use Rattle.kw_core.specs.Stages.{IsEarly}
 use Rattle.kw_shape.specs.Shape.{IsKind}
 use Rattle.kw_puts.proofs.Owners.{true_false}
 use Rattle.kw_reads.proofs.Relying.{goes_on_by}
-use Rattle.kw_core.proofs.Arrows.{NextLook, looks, counts, begins, enters, is_spent, settles_empty, settles, stops, meets_stamped, meets_neither, is_passed, helps, finds_stamped, finds_other, counts_cells, has_no_version, has_other_key, gathers, clears_scan, finds_none, takes_none, is_refused, is_not_own, clears, leaves}
+use Rattle.kw_core.proofs.Arrows.{NextLook, looks, lists, begins, enters, is_spent, settles_empty, settles, stops, meets_stamped, meets_neither, is_passed, helps, finds_stamped, finds_other, list_ends, key_above, rest_passed, gathers_rest, clears_scan, finds_none, takes_none, is_refused, is_not_own, clears, leaves}
 use Rattle.kw_puts.proofs.OwnScans.{IsAfterRead, after_read}
 use Rattle.kw_reads.proofs.OwnPairs.{covers_last, stays, settled_pairs, no_pairs, leave_covered, cell_pairs, put_answered, scan_answered, scan_call_answered, cell_answered}
 
@@ -91,17 +91,17 @@ answers_stable z r r' t k y i c n = subst (λ g. IsAnswered k.activity k.call r'
 -- a look at the next entry
 look_not_early : (z : Sizes) (j : ℕ) (next : Activity) → NextLook z j next → {A : Type 0} → IsEarly next → A
 look_not_early z j next (looks w) x = absurd x
-look_not_early z j next (counts w) x = absurd x
+look_not_early z j next (lists w) x = absurd x
 
 -- which ends no scan
 look_covered : (z : Sizes) (j : ℕ) (next : Activity) → NextLook z j next → (h : History) (l : Local) (g : SeatLog) → IsCovered next h l g
 look_covered z j next (looks w) h l g = tt
-look_covered z j next (counts w) h l g = tt
+look_covered z j next (lists w) h l g = tt
 
 -- and answers no get
 look_answered : (z : Sizes) (j : ℕ) (next : Activity) → NextLook z j next → (call : Option Call) (h : History) (l : Local) (g : SeatLog) → IsAnswered next call h l g
 look_answered z j next (looks w) call h l g = tt
-look_answered z j next (counts w) call h l g = tt
+look_answered z j next (lists w) call h l g = tt
 
 -- the activity is one of the call
 kind_of : (z : Sizes) (r r' : Run) (s : ℕ) (choice : Choice) (l l' : Local) {a : Activity} → Happens z r r' s choice l l' a → Inv z r → IsKind a l
@@ -129,10 +129,12 @@ arrow_early z v s choice l (Look j) k b n x = absurd (early_not_read k.activity 
 arrow_early z v s choice l LookKey k b n x = absurd (early_not_read k.activity x (after_read z v s choice l LookKey k b tt))
 arrow_early z v s choice l LookClock k b n x = absurd (early_not_read k.activity x (after_read z v s choice l LookClock k b tt))
 arrow_early z v s choice l LookHelp k b n x = absurd (early_not_read k.activity x (after_read z v s choice l LookHelp k b tt))
-arrow_early z v s choice l LookCount k b n x = absurd (early_not_read k.activity x (after_read z v s choice l LookCount k b tt))
-arrow_early z v s choice l (Cell j) k b n x = absurd (early_not_read k.activity x (after_read z v s choice l (Cell j) k b tt))
-arrow_early z v s choice l CellKey k b n x = absurd (early_not_read k.activity x (after_read z v s choice l CellKey k b tt))
-arrow_early z v s choice l CellValue k b n x = absurd (early_not_read k.activity x (after_read z v s choice l CellValue k b tt))
+arrow_early z v s choice l ListFrom k b n x = absurd (early_not_read k.activity x (after_read z v s choice l ListFrom k b tt))
+arrow_early z v s choice l ListKey k b n x = absurd (early_not_read k.activity x (after_read z v s choice l ListKey k b tt))
+arrow_early z v s choice l ListVer k b n x = absurd (early_not_read k.activity x (after_read z v s choice l ListVer k b tt))
+arrow_early z v s choice l ListVal k b n x = absurd (early_not_read k.activity x (after_read z v s choice l ListVal k b tt))
+arrow_early z v s choice l RestKey k b n x = absurd (early_not_read k.activity x (after_read z v s choice l RestKey k b tt))
+arrow_early z v s choice l RestVal k b n x = absurd (early_not_read k.activity x (after_read z v s choice l RestVal k b tt))
 arrow_early z v s choice l (Leave answer) k b n x = absurd n
 arrow_early z v s choice l a k b n x = absurd x
 
@@ -150,10 +152,10 @@ pairs_own z r r' s choice l a l' (clears_scan answer) h i n = record {
 }
 pairs_own z r r' s choice l a l' (leaves answer) h i n = record { early = λ x. refl; from = λ f x. absurd x; upto = λ f x. absurd x; covers = λ f x. absurd x; covered = tt }
 pairs_own z r r' s choice l a l' (enters e) h i n = record { early = λ x. absurd x; from = λ f x. true_false f e; upto = λ f x. true_false f e; covers = λ f x. true_false f e; covered = tt }
-pairs_own z r r' s choice l a l' (counts_cells next x) h i n = cell_pairs z r r' s choice l _ _ _ l' (counts_cells next x) h i n tt (record { call = refl; row = refl; want = refl; next = refl; upper = refl; version = refl; pairs = refl }) x
-pairs_own z r r' s choice l a l' (has_no_version j next e x) h i n = cell_pairs z r r' s choice l _ _ _ l' (has_no_version j next e x) h i n tt (record { call = refl; row = refl; want = refl; next = refl; upper = refl; version = refl; pairs = refl }) x
-pairs_own z r r' s choice l a l' (has_other_key next e x) h i n = cell_pairs z r r' s choice l _ _ _ l' (has_other_key next e x) h i n tt (record { call = refl; row = refl; want = refl; next = refl; upper = refl; version = refl; pairs = refl }) x
-pairs_own z r r' s choice l a l' (gathers next x) h i n = cell_pairs z r r' s choice l _ _ _ l' (gathers next x) h i n tt (record { call = refl; row = refl; want = refl; next = refl; upper = refl; version = refl; pairs = refl }) x
+pairs_own z r r' s choice l a l' (list_ends next e x) h i n = cell_pairs z r r' s choice l _ _ l' (list_ends next e x) h i n tt (record { call = refl; row = refl; want = refl; next = refl; upper = refl; version = refl; pairs = refl }) x
+pairs_own z r r' s choice l a l' (key_above next e x) h i n = cell_pairs z r r' s choice l _ _ l' (key_above next e x) h i n tt (record { call = refl; row = refl; want = refl; next = refl; upper = refl; version = refl; pairs = refl }) x
+pairs_own z r r' s choice l a l' (rest_passed next e x) h i n = cell_pairs z r r' s choice l _ _ l' (rest_passed next e x) h i n tt (record { call = refl; row = refl; want = refl; next = refl; upper = refl; version = refl; pairs = refl }) x
+pairs_own z r r' s choice l a l' (gathers_rest next x) h i n = cell_pairs z r r' s choice l _ _ l' (gathers_rest next x) h i n tt (record { call = refl; row = refl; want = refl; next = refl; upper = refl; version = refl; pairs = refl }) x
 pairs_own z r r' s choice l a l' (meets_stamped j c version next e x) h i n = stays z r r' s choice l _ _ (meets_stamped j c version next e x) h i refl refl (λ y. y) (look_not_early z _ next x) (look_covered z _ next x r'.history _ (r'.seats s))
 pairs_own z r r' s choice l a l' (meets_neither j next e x) h i n = stays z r r' s choice l _ _ (meets_neither j next e x) h i refl refl (λ y. y) (look_not_early z _ next x) (look_covered z _ next x r'.history _ (r'.seats s))
 pairs_own z r r' s choice l a l' (is_passed next e x) h i n = stays z r r' s choice l _ _ (is_passed next e x) h i refl refl (λ y. y) (look_not_early z _ next x) (look_covered z _ next x r'.history _ (r'.seats s))
@@ -172,10 +174,10 @@ answers_own z r r' s choice l a l' (takes_none e) h i n = put_answered l.call No
 answers_own z r r' s choice l a l' (is_refused e) h i n = put_answered l.call NoRows r'.history (leave NoRows l).local (r'.seats s) (kind_of z r r' s choice l l' h i.inv)
 answers_own z r r' s choice l a l' (is_not_own e) h i n = put_answered l.call NoRows r'.history (leave NoRows l).local (r'.seats s) (kind_of z r r' s choice l l' h i.inv)
 answers_own z r r' s choice l a l' clears h i n = put_answered l.call Done r'.history (leave Done l).local (r'.seats s) (kind_of z r r' s choice l l' h i.inv)
-answers_own z r r' s choice l a l' (counts_cells next x) h i n = cell_answered z r r' s choice l _ _ _ l' (counts_cells next x) h i n tt (record { call = refl; row = refl; want = refl; next = refl; upper = refl; version = refl; pairs = refl }) x
-answers_own z r r' s choice l a l' (has_no_version j next e x) h i n = cell_answered z r r' s choice l _ _ _ l' (has_no_version j next e x) h i n tt (record { call = refl; row = refl; want = refl; next = refl; upper = refl; version = refl; pairs = refl }) x
-answers_own z r r' s choice l a l' (has_other_key next e x) h i n = cell_answered z r r' s choice l _ _ _ l' (has_other_key next e x) h i n tt (record { call = refl; row = refl; want = refl; next = refl; upper = refl; version = refl; pairs = refl }) x
-answers_own z r r' s choice l a l' (gathers next x) h i n = cell_answered z r r' s choice l _ _ _ l' (gathers next x) h i n tt (record { call = refl; row = refl; want = refl; next = refl; upper = refl; version = refl; pairs = refl }) x
+answers_own z r r' s choice l a l' (list_ends next e x) h i n = cell_answered z r r' s choice l _ _ l' (list_ends next e x) h i n tt (record { call = refl; row = refl; want = refl; next = refl; upper = refl; version = refl; pairs = refl }) x
+answers_own z r r' s choice l a l' (key_above next e x) h i n = cell_answered z r r' s choice l _ _ l' (key_above next e x) h i n tt (record { call = refl; row = refl; want = refl; next = refl; upper = refl; version = refl; pairs = refl }) x
+answers_own z r r' s choice l a l' (rest_passed next e x) h i n = cell_answered z r r' s choice l _ _ l' (rest_passed next e x) h i n tt (record { call = refl; row = refl; want = refl; next = refl; upper = refl; version = refl; pairs = refl }) x
+answers_own z r r' s choice l a l' (gathers_rest next x) h i n = cell_answered z r r' s choice l _ _ l' (gathers_rest next x) h i n tt (record { call = refl; row = refl; want = refl; next = refl; upper = refl; version = refl; pairs = refl }) x
 answers_own z r r' s choice l a l' (meets_stamped j c version next e x) h i n = look_answered z _ next x l.call r'.history _ (r'.seats s)
 answers_own z r r' s choice l a l' (meets_neither j next e x) h i n = look_answered z _ next x l.call r'.history _ (r'.seats s)
 answers_own z r r' s choice l a l' (is_passed next e x) h i n = look_answered z _ next x l.call r'.history _ (r'.seats s)

@@ -1,10 +1,11 @@
 -- What a reader has gathered, and what it has seen of the row that it read, is kept by its own events.
-use Rattle.std.proofs.Common.{ℕ, ◌≡◌, ◌⊎◌, inl, inr, ◌+◌, ◌≤◌, Bool, true, false, if◌then◌else◌, Some, None, [], ◌∷◌, ◌++◌, arith, refl, sym, ◌∙◌, ap, subst, length, unwrap_or, ne_eqb}
+use Rattle.std.proofs.Common.{ℕ, ◌≡◌, ◌⊎◌, inl, inr, ◌+◌, ◌≤◌, Bool, true, false, if◌then◌else◌, Some, None, [], arith, refl, sym, ◌∙◌, ap, subst, length, unwrap_or, ne_eqb}
+use Rattle.std.specs.Prelude.{insert}
 use Rattle.std.proofs.lemmas.Bool.{cases_eq}
 use Rattle.kw_words.specs.declared.layout.Name.TheVariants as name
 use Rattle.kw_words.specs.Plain.{value_of_word}
 use Rattle.kw_world.specs.declared.activity.Activity.{Activity}
-use Rattle.kw_world.specs.declared.activity.Activity.TheVariants.{Enter, LookKey, LookClock, LookHelp, CellKey, CellValue, PutKey}
+use Rattle.kw_world.specs.declared.activity.Activity.TheVariants.{Enter, LookKey, LookClock, LookHelp, ListFrom, ListKey, ListVer, ListVal, RestVal, PutKey}
 use Rattle.kw_world.specs.declared.local.Local.{Local}
 use Rattle.kw_world.specs.declared.event.Choice.{Choice}
 use Rattle.kw_world.specs.Sizes.{Sizes}
@@ -13,17 +14,24 @@ use Rattle.kw_core.specs.History.{History, attempt}
 use Rattle.kw_core.specs.HistoryLaws.{IsPut}
 use Rattle.kw_core.specs.Run.{Run, log_begun, log_look}
 use Rattle.kw_core.specs.declared.seat_log.SeatLog.{SeatLog}
-use Rattle.kw_core.specs.Stages.{IsLooking, IsTaking, IsReading, IsKeeping, HasLooked}
+use Rattle.kw_core.specs.Stages.{IsLooking, IsTaking, IsReading, IsKeeping, HasLooked, HasPlace, HasVersion, HasCellKey}
+use Rattle.kw_cells.specs.declared.cell.Cell as kw_cell
+use Rattle.kw_cells.specs.InOrder.{place_in}
+use Rattle.kw_world.specs.Marks.{is_marked}
+use Rattle.kw_world.specs.ReadTransitions.{cell_in_hand, gathering}
+use Rattle.kw_puts.specs.Lists.{list_in}
 use Rattle.kw_puts.specs.Puts.{HasCell}
-use Rattle.kw_reads.specs.Readers.{IsDue, IsCopyOf, IsInHand, AreCopies, Gathers, HasSeen}
+use Rattle.kw_reads.specs.Readers.{IsDue, IsCopyOf, IsInHand, AreCopies, Gathers, Apart, HasSeen, has_place}
 use Rattle.kw_reads.specs.Inv.{Inv}
-use Rattle.kw_core.proofs.Arrows.{NextLook, looks, counts, Arrow, begins, reads_last, reads_before, meets_pending, meets_stamped, meets_neither, is_wanted, is_passed, loads_to_help, helps, finds_stamped, finds_other, counts_cells, has_version, has_no_version, has_key, has_other_key, gathers, takes_cell, takes_none, leaves}
+use Rattle.kw_core.proofs.Arrows.{NextLook, looks, lists, Arrow, begins, reads_last, reads_before, meets_pending, meets_stamped, meets_neither, is_wanted, is_passed, loads_to_help, helps, finds_stamped, finds_other, list_leads, list_ends, key_below, key_within, key_above, loads_version, gathers_listed, rest_wanted, rest_passed, gathers_rest, takes_cell, takes_none, leaves}
 use Rattle.kw_core.proofs.Happens.{Happens}
-use Rattle.kw_core.proofs.Marks.{zip_push}
+use Rattle.kw_core.proofs.Marks.{zip_insert}
 use Rattle.kw_reads.proofs.Ready.{due_before, stamped_lasts, stamped_same, copies_last}
 use Rattle.kw_puts.specs.Below.{Below}
 use Rattle.kw_reads.proofs.LooksKeep.{goes}
-use Rattle.kw_reads.proofs.CellsKeep.{seen_next, copies_next, cells_before, unread_before, read_to_counted, read_to_passed, read_to_other, read_to_gathered, value_stands}
+use Rattle.kw_reads.proofs.CellsKeep.{seen_next, copies_next, cells_before, unread_before, left_at_end, left_above, left_passed, left_gathered, value_stands}
+use Rattle.kw_reads.proofs.WalksKeep.{walks_before}
+use Rattle.kw_reads.proofs.ApartKeeps.{apart_before, hand_fresh, gather_is, place_below}
 
 -- nothing is said of a row where none counts as read
 seen_unread : (h : History) (a : Activity) (l : Local) (g : SeatLog) → g.read ≡ None → HasSeen h a l g
@@ -98,12 +106,16 @@ seen_by z r r' s choice l _ _ loads_to_help h i k = seen_unread r'.history _ _ (
 seen_by z r r' s choice l _ _ (helps next e n) h i k = seen_unread r'.history _ _ (r'.seats s) (ap (λ g. g.read) h.log ∙ unread_before h i tt)
 seen_by z r r' s choice l _ _ (finds_stamped c version next e n) h i k = seen_unread r'.history _ _ (r'.seats s) (ap (λ g. g.read) h.log ∙ unread_before h i tt)
 seen_by z r r' s choice l _ _ (finds_other next e n) h i k = seen_unread r'.history _ _ (r'.seats s) (ap (λ g. g.read) h.log ∙ unread_before h i tt)
-seen_by z r r' s choice l _ _ (counts_cells next n) h i k = subst (HasSeen r'.history next.activity next) (sym h.log) (seen_next (word z r'.world) r'.history _ 0 next (r.seats s) n (read_to_counted h i k) (unread_before h i tt))
-seen_by z r r' s choice l _ _ (has_version j version e) h i k = seen_unread r'.history _ _ (r'.seats s) (ap (λ g. g.read) h.log ∙ unread_before h i tt)
-seen_by z r r' s choice l _ _ (has_no_version j next e n) h i k = subst (HasSeen r'.history next.activity next) (sym h.log) (seen_next (word z r'.world) r'.history l (j + 1) next (r.seats s) n (read_to_passed j h i e) (unread_before h i tt))
-seen_by z r r' s choice l _ _ (has_key e) h i k = seen_unread r'.history _ _ (r'.seats s) (ap (λ g. g.read) h.log ∙ unread_before h i tt)
-seen_by z r r' s choice l _ _ (has_other_key next e n) h i k = subst (HasSeen r'.history next.activity next) (sym h.log) (seen_next (word z r'.world) r'.history l (l.place + 1) next (r.seats s) n (read_to_other h i k e) (unread_before h i tt))
-seen_by z r r' s choice l _ _ (gathers next n) h i k = subst (HasSeen r'.history next.activity next) (sym h.log) (seen_next (word z r'.world) r'.history _ (l.place + 1) next _ n (read_to_gathered h i k _) (unread_before h i tt))
+seen_by z r r' s choice l _ _ (list_leads c e) h i k = seen_unread r'.history _ _ (r'.seats s) (ap (λ g. g.read) h.log ∙ unread_before h i tt)
+seen_by z r r' s choice l _ _ (list_ends next e n) h i k = subst (HasSeen r'.history next.activity next) (sym h.log) (seen_next r'.history l next _ n (left_at_end h i k e) (unread_before h i tt))
+seen_by z r r' s choice l _ _ (key_below e) h i k = seen_unread r'.history _ _ (r'.seats s) (ap (λ g. g.read) h.log ∙ unread_before h i tt)
+seen_by z r r' s choice l _ _ (key_within e w) h i k = seen_unread r'.history _ _ (r'.seats s) (ap (λ g. g.read) h.log ∙ unread_before h i tt)
+seen_by z r r' s choice l _ _ (key_above next e n) h i k = subst (HasSeen r'.history next.activity next) (sym h.log) (seen_next r'.history l next _ n (left_above h i k e) (unread_before h i tt))
+seen_by z r r' s choice l _ _ loads_version h i k = seen_unread r'.history _ _ (r'.seats s) (ap (λ g. g.read) h.log ∙ unread_before h i tt)
+seen_by z r r' s choice l _ _ gathers_listed h i k = seen_unread r'.history _ _ (r'.seats s) (ap (λ g. g.read) h.log ∙ unread_before h i tt)
+seen_by z r r' s choice l _ _ (rest_wanted e) h i k = seen_unread r'.history _ _ (r'.seats s) (ap (λ g. g.read) h.log ∙ unread_before h i tt)
+seen_by z r r' s choice l _ _ (rest_passed next e n) h i k = subst (HasSeen r'.history next.activity next) (sym h.log) (seen_next r'.history l next _ n (left_passed h i k e) (unread_before h i tt))
+seen_by z r r' s choice l _ _ (gathers_rest next n) h i k = subst (HasSeen r'.history next.activity next) (sym h.log) (seen_next r'.history _ next _ n (left_gathered h i k _ _) (unread_before h i tt))
 seen_by z r r' s choice l _ _ (takes_cell e) h i k = seen_kept h i PutKey tt refl (ap (λ g. g.looked) h.log ∙ added_same (λ g. g.looked) _ (r.seats s) _ refl) (ap (λ g. g.ids) h.log ∙ added_same (λ g. g.ids) _ (r.seats s) _ refl) (ap (λ g. g.read) h.log ∙ added_same (λ g. g.read) _ (r.seats s) _ refl) (λ x. x)
 seen_by z r r' s choice l _ _ (takes_none e) h i k = seen_kept h i _ tt refl (ap (λ g. g.looked) h.log ∙ added_same (λ g. g.looked) _ (r.seats s) _ refl) (ap (λ g. g.ids) h.log ∙ added_same (λ g. g.ids) _ (r.seats s) _ refl) (ap (λ g. g.read) h.log ∙ added_same (λ g. g.read) _ (r.seats s) _ refl) (λ x. x)
 seen_by z r r' s choice l _ _ (leaves answer) h i k = record { unread = λ x. absurd x; stamped = λ x. absurd x; taken = λ x. absurd x }
@@ -114,7 +126,7 @@ seen_by z r r' s choice l a l' b h i k = seen_kept h i l'.activity tt refl (ap (
 -- a reader that looks on has gathered nothing
 gathers_none : (z : Sizes) (h : History) (j : ℕ) (next : Activity) (l : Local) (g : SeatLog) → NextLook z j next → l.gathered ≡ [] → g.ids ≡ [] → Gathers h next l g
 gathers_none z h j _ l g (looks w) e f = record { empty = λ x. e; no_ids = λ x. f; taking = λ x. absurd x; kept = λ x. absurd x }
-gathers_none z h j _ l g (counts w) e f = record { empty = λ x. e; no_ids = λ x. f; taking = λ x. absurd x; kept = λ x. absurd x }
+gathers_none z h j _ l g (lists w) e f = record { empty = λ x. absurd x; no_ids = λ x. absurd x; taking = λ x. rw (e, f) tt; kept = λ x q y. rw (e, f) tt }
 
 -- a reader that has met an entry has gathered nothing
 gathers_met : (h : History) (c : Activity) (l : Local) (g : SeatLog) → l.gathered ≡ [] → g.ids ≡ [] → (IsTaking c → ⊥) → (IsKeeping c → ⊥) → Gathers h c l g
@@ -130,30 +142,40 @@ module _ {z : Sizes} {r r' : Run} {s : ℕ} {choice : Choice} {l l' : Local} {a 
   copies_kept : IsTaking a → AreCopies r'.history l.row l.call l.gathered (r.seats s).ids
   copies_kept x = copies_last (goes h i) l.row l.call l.gathered (r.seats s).ids ((gathered_before h i).taking x)
 
--- the cell that is gathered is that of its attempt
-copies_more : {z : Sizes} {r r' : Run} {s : ℕ} {choice : Choice} {l l' : Local} (h : Happens z r r' s choice l l' CellValue) (i : Inv z r) (k : Below z r') → AreCopies r'.history l.row l.call (l.gathered ++ record { key = l.place_key; version = l.place_version; place = l.place; value = value_of_word (word z r.world (name.Value l.row l.place)) } ∷ []) ((r.seats s).ids ++ unwrap_or (r.origin l.row l.place) 0 ∷ [])
-copies_more {z} {r} {r'} {s} {choice} {l} {l'} h i k = rw hand.origin (zip_push (IsCopyOf r'.history l.row l.call) l.gathered (r.seats s).ids _ hand.put (copies_kept h i tt) (record {
-  within = w.within;
-  stamped = stamped.0;
-  row = w.row;
-  key = (stamped_same (goes h i) hand.put hand.stamped).key ∙ hand.key tt;
-  version = stamped.1 ∙ hand.version;
-  cell = w.cell;
-  value = sym (value_stands k l.row l.place hand.put origin stamped.0) ∙ ap value_of_word (h.changed.loaded refl (name.Value l.row l.place));
-  in_range = hand.in_range tt;
-}))
-  where
-    hand : IsInHand r.history r.origin CellValue l
-    hand = (cells_before h i tt).hand tt
+-- the cell in hand
+abbrev in_hand : Sizes → Run → Local → kw_cell.Cell
+in_hand z r l = cell_in_hand (value_of_word (word z r.world (name.Value l.row l.place))) l
 
-    origin : r'.origin l.row l.place ≡ Some hand.put
-    origin = (goes h i).origin l.row l.place hand.put hand.origin
+-- the cell that is gathered is that of its attempt, and stands beside it
+module _ {z : Sizes} {r r' : Run} {s : ℕ} {choice : Choice} {l l' : Local} {a : Activity} (h : Happens z r r' s choice l l' a) (i : Inv z r) (k : Below z r') (x : IsTaking a) (v : HasVersion a) (u : HasCellKey a) (p : HasPlace a) (w : word z r'.world (name.Value l.row l.place) ≡ word z r.world (name.Value l.row l.place)) where
+  hand : IsInHand r.history r.origin a l
+  hand = (cells_before h i x).hand p
 
-    stamped : IsPut r'.history hand.put × ((attempt r'.history hand.put).version ≡ (attempt r.history hand.put).version)
-    stamped = stamped_lasts (goes h i) hand.put hand.stamped
+  origin : r'.origin l.row l.place ≡ Some hand.put
+  origin = (goes h i).origin l.row l.place hand.put hand.origin
 
-    w : HasCell r'.history l.row l.place hand.put
-    w = k.puts.places.owner l.row l.place hand.put origin
+  stamped : IsPut r'.history hand.put × ((attempt r'.history hand.put).version ≡ (attempt r.history hand.put).version)
+  stamped = stamped_lasts (goes h i) hand.put hand.stamped
+
+  owner : HasCell r'.history l.row l.place hand.put
+  owner = k.puts.places.owner l.row l.place hand.put origin
+
+  copy : IsCopyOf r'.history l.row l.call (in_hand z r l) hand.put
+  copy = record {
+    within = owner.within;
+    stamped = stamped.0;
+    row = owner.row;
+    key = (stamped_same (goes h i) hand.put hand.stamped).key ∙ hand.key u;
+    version = stamped.1 ∙ hand.version v;
+    cell = owner.cell;
+    value = sym (value_stands k l.row l.place hand.put origin stamped.0) ∙ ap value_of_word w;
+    in_range = hand.in_range u;
+  }
+
+  -- at the place where the cell is put
+  copies_more : Apart z (list_in (word z r.world) r.listed l.row) a l → has_place l.place l.gathered ≡ false → is_marked l.place l.remembered ≡ false →
+      AreCopies r'.history l.row l.call (gathering z (value_of_word (word z r.world (name.Value l.row l.place))) l).gathered (insert (r.seats s).ids (place_in (in_hand z r l) l.gathered) (unwrap_or (r.origin l.row l.place) 0))
+  copies_more apart fresh free = rw (gather_is z _ a l (value_of_word (word z r.world (name.Value l.row l.place))) apart (place_below h i) fresh free, hand.origin) (zip_insert (IsCopyOf r'.history l.row l.call) l.gathered (r.seats s).ids (place_in (in_hand z r l) l.gathered) (in_hand z r l) hand.put (copies_kept h i x) copy)
 
 -- what the acting seat has gathered
 pub gathers_by : (z : Sizes) (r r' : Run) (s : ℕ) (choice : Choice) (l : Local) (a : Activity) (l' : Local) → Arrow z (word z r.world) s choice l a l' → Happens z r r' s choice l l' a → Inv z r → Below z r' → Gathers r'.history l'.activity l' (r'.seats s)
@@ -169,12 +191,16 @@ gathers_by z r r' s choice l _ _ loads_to_help h i k = gathers_met r'.history Lo
 gathers_by z r r' s choice l _ _ (helps next e n) h i k = gathers_none z r'.history (l.looked + 1) next _ (r'.seats s) n ((gathered_before h i).empty tt) (ap (λ g. g.ids) h.log ∙ (gathered_before h i).no_ids tt)
 gathers_by z r r' s choice l _ _ (finds_stamped c version next e n) h i k = gathers_none z r'.history (l.looked + 1) next _ (r'.seats s) n ((gathered_before h i).empty tt) (ap (λ g. g.ids) h.log ∙ (gathered_before h i).no_ids tt)
 gathers_by z r r' s choice l _ _ (finds_other next e n) h i k = gathers_none z r'.history (l.looked + 1) next _ (r'.seats s) n ((gathered_before h i).empty tt) (ap (λ g. g.ids) h.log ∙ (gathered_before h i).no_ids tt)
-gathers_by z r r' s choice l _ _ (counts_cells next n) h i k = subst (Gathers r'.history next.activity next) (sym h.log) (copies_next r'.history _ 0 next (r.seats s) n (rw ((gathered_before h i).empty tt, (gathered_before h i).no_ids tt) tt) (unread_before h i tt))
-gathers_by z r r' s choice l _ _ (has_version j version e) h i k = gathers_hand r'.history CellKey _ (r'.seats s) (subst (λ x. AreCopies r'.history l.row l.call l.gathered x) (sym (ap (λ g. g.ids) h.log)) (copies_kept h i tt)) (ap (λ g. g.read) h.log ∙ unread_before h i tt) (λ x. x) (λ x. x)
-gathers_by z r r' s choice l _ _ (has_no_version j next e n) h i k = subst (Gathers r'.history next.activity next) (sym h.log) (copies_next r'.history l (j + 1) next (r.seats s) n (copies_kept h i tt) (unread_before h i tt))
-gathers_by z r r' s choice l _ _ (has_key e) h i k = gathers_hand r'.history CellValue _ (r'.seats s) (subst (λ x. AreCopies r'.history l.row l.call l.gathered x) (sym (ap (λ g. g.ids) h.log)) (copies_kept h i tt)) (ap (λ g. g.read) h.log ∙ unread_before h i tt) (λ x. x) (λ x. x)
-gathers_by z r r' s choice l _ _ (has_other_key next e n) h i k = subst (Gathers r'.history next.activity next) (sym h.log) (copies_next r'.history l (l.place + 1) next (r.seats s) n (copies_kept h i tt) (unread_before h i tt))
-gathers_by z r r' s choice l _ _ (gathers next n) h i k = subst (Gathers r'.history next.activity next) (sym h.log) (copies_next r'.history _ (l.place + 1) next _ n (copies_more h i k) (unread_before h i tt))
+gathers_by z r r' s choice l _ _ (list_leads c e) h i k = gathers_hand r'.history ListKey _ (r'.seats s) (subst (λ x. AreCopies r'.history l.row l.call l.gathered x) (sym (ap (λ g. g.ids) h.log)) (copies_kept h i tt)) (ap (λ g. g.read) h.log ∙ unread_before h i tt) (λ x. x) (λ x. x)
+gathers_by z r r' s choice l _ _ (list_ends next e n) h i k = subst (Gathers r'.history next.activity next) (sym h.log) (copies_next r'.history l next (r.seats s) n (copies_kept h i tt) (unread_before h i tt))
+gathers_by z r r' s choice l _ _ (key_below e) h i k = gathers_hand r'.history ListFrom _ (r'.seats s) (subst (λ x. AreCopies r'.history l.row l.call l.gathered x) (sym (ap (λ g. g.ids) h.log)) (copies_kept h i tt)) (ap (λ g. g.read) h.log ∙ unread_before h i tt) (λ x. x) (λ x. x)
+gathers_by z r r' s choice l _ _ (key_within e w) h i k = gathers_hand r'.history ListVer _ (r'.seats s) (subst (λ x. AreCopies r'.history l.row l.call l.gathered x) (sym (ap (λ g. g.ids) h.log)) (copies_kept h i tt)) (ap (λ g. g.read) h.log ∙ unread_before h i tt) (λ x. x) (λ x. x)
+gathers_by z r r' s choice l _ _ (key_above next e n) h i k = subst (Gathers r'.history next.activity next) (sym h.log) (copies_next r'.history l next (r.seats s) n (copies_kept h i tt) (unread_before h i tt))
+gathers_by z r r' s choice l _ _ loads_version h i k = gathers_hand r'.history ListVal _ (r'.seats s) (subst (λ x. AreCopies r'.history l.row l.call l.gathered x) (sym (ap (λ g. g.ids) h.log)) (copies_kept h i tt)) (ap (λ g. g.read) h.log ∙ unread_before h i tt) (λ x. x) (λ x. x)
+gathers_by z r r' s choice l _ _ gathers_listed h i k = gathers_hand r'.history ListFrom _ (r'.seats s) (subst (λ x. AreCopies r'.history l.row l.call (gathering z (value_of_word (word z r.world (name.Value l.row l.place))) l).gathered x) (sym (ap (λ g. g.ids) h.log)) (let x = apart_before h i tt in copies_more h i k tt tt tt tt (h.changed.loaded refl (name.Value l.row l.place)) x (hand_fresh z _ l (walks_before h i) x) (x.hand tt))) (ap (λ g. g.read) h.log ∙ unread_before h i tt) (λ x. x) (λ x. x)
+gathers_by z r r' s choice l _ _ (rest_wanted e) h i k = gathers_hand r'.history RestVal _ (r'.seats s) (subst (λ x. AreCopies r'.history l.row l.call l.gathered x) (sym (ap (λ g. g.ids) h.log)) (copies_kept h i tt)) (ap (λ g. g.read) h.log ∙ unread_before h i tt) (λ x. x) (λ x. x)
+gathers_by z r r' s choice l _ _ (rest_passed next e n) h i k = subst (Gathers r'.history next.activity next) (sym h.log) (copies_next r'.history l next (r.seats s) n (copies_kept h i tt) (unread_before h i tt))
+gathers_by z r r' s choice l _ _ (gathers_rest next n) h i k = subst (Gathers r'.history next.activity next) (sym h.log) (copies_next r'.history _ next _ n (let x = apart_before h i tt in copies_more h i k tt tt tt tt (h.changed.loaded refl (name.Value l.row l.place)) x (x.fresh tt) (x.hand tt)) (unread_before h i tt))
 gathers_by z r r' s choice l _ _ (takes_cell e) h i k = gathers_kept h i PutKey tt refl refl (ap (λ g. g.ids) h.log ∙ added_same (λ g. g.ids) _ (r.seats s) _ refl) (ap (λ g. g.read) h.log ∙ added_same (λ g. g.read) _ (r.seats s) _ refl) (λ x. x) (λ x. x) (λ x. x)
 gathers_by z r r' s choice l _ _ (takes_none e) h i k = gathers_kept h i _ tt refl refl (ap (λ g. g.ids) h.log ∙ added_same (λ g. g.ids) _ (r.seats s) _ refl) (ap (λ g. g.read) h.log ∙ added_same (λ g. g.read) _ (r.seats s) _ refl) (λ x. x) (λ x. x) (λ x. x)
 gathers_by z r r' s choice l _ _ (leaves answer) h i k = record { empty = λ x. absurd x; no_ids = λ x. absurd x; taking = λ x. absurd x; kept = λ x. absurd x }

@@ -1,23 +1,26 @@
 -- What holds of a get or a scan that reads a row: which attempts are due to it, that each of them is stamped and will be gathered,
--- and what it has gathered.
-use Rattle.std.specs.Prelude.{ℕ, ◌≡◌, ◌≢◌, ◌⊎◌, ◌<◌, ◌≤◌, true, Option, Some, None, List, [], All, Contains, length, slice_get}
+-- where it is on its walk along the row's list, and what it has gathered.
+use Rattle.std.specs.Prelude.{ℕ, ◌≡◌, ◌⊎◌, ◌<◌, ◌≤◌, ◌==◌, Bool, true, false, if◌then◌else◌, Option, Some, None, List, [], ◌∷◌, All, Contains, length, slice_get}
 use Rattle.std.specs.List.{AllZip}
-use Rattle.kw_words.specs.declared.layout.Name.TheVariants as name
 use Rattle.kw_cells.specs.declared.cell.Cell as kw_cell
+use Rattle.kw_lists.specs.Counts.{count_below}
+use Rattle.kw_lists.specs.Rows.{Row, Stands, IsBehind, IsOn}
+use Rattle.kw_lists.specs.Walks.{IsPassed, IsWalking}
 use Rattle.kw_model.specs.declared.call.Call.{Call}
 use Rattle.kw_world.specs.declared.activity.Activity.{Activity}
-use Rattle.kw_world.specs.declared.activity.Activity.TheVariants.{Look, LookKey, LookClock, LookHelp, Cell}
+use Rattle.kw_world.specs.declared.activity.Activity.TheVariants.{Look, LookKey, LookClock, LookHelp, ListFrom, ListKey, ListVer, ListVal, RestKey, RestVal}
 use Rattle.kw_world.specs.declared.local.Local.{Local}
 use Rattle.kw_world.specs.declared.marks.Mark.{Mark}
 use Rattle.kw_world.specs.Sizes.{Sizes}
 use Rattle.kw_world.specs.Calls.{is_in_range}
-use Rattle.kw_world.specs.Marks.{version_marked}
+use Rattle.kw_world.specs.Marks.{is_marked}
 use Rattle.kw_world.specs.Step.{word}
 use Rattle.kw_core.specs.History.{History, attempt}
+use Rattle.kw_core.specs.Listed.{Listed}
 use Rattle.kw_core.specs.declared.seat_log.SeatLog.{SeatLog}
 use Rattle.kw_core.specs.Run.{Origins, Run}
-use Rattle.kw_core.specs.Words.{Words, given_in}
-use Rattle.kw_core.specs.Stages.{IsLooking, HasLooked, HasMet, IsTaking, HasVersion, HasCellKey, IsReading, IsKeeping}
+use Rattle.kw_core.specs.Stages.{IsLooking, HasLooked, HasMet, IsTaking, IsListing, IsResting, HasPlace, HasVersion, HasCellKey, IsReading, IsKeeping}
+use Rattle.kw_puts.specs.Lists.{list_in}
 
 -- What is due.
 
@@ -29,14 +32,14 @@ pub record IsDue (h : History) (r : ℕ) (call : Option Call) (looked p : ℕ) :
   pub before : (attempt h p).announced < looked
   pub key : is_in_range call (attempt h p).key ≡ true
 
--- the reader will read this cell: it remembers it, or a version stands there
-abbrev pub IsNoted : Words → Local → ℕ → Type 0
-IsNoted v l c = ((version : ℕ) × (version_marked c l.remembered ≡ Some version)) ⊎ (v (name.Version l.row c) ≢ 0)
+-- the reader will read this cell: it remembers it, or the cell is listed
+abbrev pub IsNoted : Listed → Local → ℕ → Type 0
+IsNoted f l c = (is_marked c l.remembered ≡ true) ⊎ (f l.row c ≡ true)
 
 -- the attempt is stamped, and the reader will read its cell
-pub record IsReady (v : Words) (h : History) (l : Local) (p : ℕ) : Type 0 where
+pub record IsReady (f : Listed) (h : History) (l : Local) (p : ℕ) : Type 0 where
   pub stamped : (attempt h p).is_stamped ≡ true
-  pub noted : IsNoted v l (attempt h p).cell
+  pub noted : IsNoted f l (attempt h p).cell
 
 -- Looking at the entries.
 
@@ -57,35 +60,61 @@ looked_by z _ l = z.seats
 
 -- each attempt that is due and whose seat's entry the reader is done with is ready; and where it met a pending entry, so is each
 -- one of that seat, but for the one with the cell that it met
-pub record Looks (z : Sizes) (v : Words) (h : History) (a : Activity) (l : Local) (g : SeatLog) : Type 0 where
-  pub past : (p : ℕ) → IsDue h l.row l.call g.looked p → (attempt h p).seat < looked_by z a l → IsReady v h l p
-  pub here : HasMet a → (p : ℕ) → IsDue h l.row l.call g.looked p → (attempt h p).seat ≡ l.looked → ((attempt h p).cell ≡ l.met) ⊎ IsReady v h l p
+pub record Looks (z : Sizes) (f : Listed) (h : History) (a : Activity) (l : Local) (g : SeatLog) : Type 0 where
+  pub past : (p : ℕ) → IsDue h l.row l.call g.looked p → (attempt h p).seat < looked_by z a l → IsReady f h l p
+  pub here : HasMet a → (p : ℕ) → IsDue h l.row l.call g.looked p → (attempt h p).seat ≡ l.looked → ((attempt h p).cell ≡ l.met) ⊎ IsReady f h l p
 
--- Reading the cells.
+-- Walking along the list.
 
--- the cells that the reader is done with: those below this place
-abbrev pub read_by : Activity → Local → ℕ
-read_by (Cell j) l = j
-read_by _ l = l.place
+-- a reader, in the list of a row of n cells, has met the cell in hand: this is listed, and stands behind the link of the list at which
+-- the reader is
+pub record HasMetCell (n : ℕ) (r : Row) (l : Local) : Type 0 where
+  pub on : IsOn r l.link
+  pub behind : IsBehind r l.link l.place
+  pub walks : IsWalking n r (Some l.place) l.walked
 
--- the cell in hand is that of an attempt that is stamped with the version in hand, and whose key is the one in hand, once it is
+-- where a reader is in the list of its row: at the first link while it looks at entries; then at its link, or at the cell that it has
+-- met. It has counted no more cells than there are listed ones up to there, for it meets none twice
+abbrev pub ReadsList : ℕ → Row → Activity → Local → Type 0
+ReadsList n r (Look i) l = (l.link ≡ None) × (l.walked ≡ 0)
+ReadsList n r LookKey l = (l.link ≡ None) × (l.walked ≡ 0)
+ReadsList n r LookClock l = (l.link ≡ None) × (l.walked ≡ 0)
+ReadsList n r LookHelp l = (l.link ≡ None) × (l.walked ≡ 0)
+ReadsList n r ListFrom l = IsWalking n r l.link l.walked
+ReadsList n r ListKey l = HasMetCell n r l
+ReadsList n r ListVer l = HasMetCell n r l
+ReadsList n r ListVal l = HasMetCell n r l
+ReadsList n r _ l = Unit {0}
+
+-- the cell is the one in hand, or stands behind it in the list
+abbrev pub IsFromHand : Row → Local → ℕ → Type 0
+IsFromHand r l c = (r.listed c ≡ true) × ((c ≡ l.place) ⊎ Stands r l.place c)
+
+-- the walk will meet the cell, or it is in hand: it is listed behind the reader's link, or from the cell in hand on; of the cells that
+-- were not met it is the one in hand
+abbrev pub IsToCome : Row → Activity → Local → ℕ → Type 0
+IsToCome r ListFrom l c = (r.listed c ≡ true) × IsBehind r l.link c
+IsToCome r ListKey l c = IsFromHand r l c
+IsToCome r ListVer l c = IsFromHand r l c
+IsToCome r ListVal l c = IsFromHand r l c
+IsToCome r RestKey l c = c ≡ l.place
+IsToCome r RestVal l c = c ≡ l.place
+IsToCome r _ l c = ⊥
+
+-- the cell in hand is that of an attempt that is stamped, with the version in hand and with the key in hand, once they are
 pub record IsInHand (h : History) (o : Origins) (a : Activity) (l : Local) : Type 0 where
   pub put : ℕ
   pub origin : o l.row l.place ≡ Some put
   pub stamped : (attempt h put).is_stamped ≡ true
-  pub version : (attempt h put).version ≡ l.place_version
+  pub version : HasVersion a → (attempt h put).version ≡ l.place_version
   pub key : HasCellKey a → (attempt h put).key ≡ l.place_key
   pub in_range : HasCellKey a → is_in_range l.call l.place_key ≡ true
 
--- the reader reads no cell that was not given. Each attempt that is due is stamped and has one of the cells that are read: it is
--- gathered if its cell is read already, and else it will be
-pub record Reads (v : Words) (h : History) (o : Origins) (a : Activity) (l : Local) (g : SeatLog) : Type 0 where
-  pub count : l.count ≤ given_in v l.row
+-- each attempt that is due is stamped: it is gathered, or its cell is remembered or still to come
+pub record Reads (r : Row) (h : History) (o : Origins) (a : Activity) (l : Local) (g : SeatLog) : Type 0 where
   pub stamped : (p : ℕ) → IsDue h l.row l.call g.looked p → (attempt h p).is_stamped ≡ true
-  pub cell : (p : ℕ) → IsDue h l.row l.call g.looked p → (attempt h p).cell < l.count
-  pub taken : (p : ℕ) → IsDue h l.row l.call g.looked p → (attempt h p).cell < read_by a l → Contains g.ids p
-  pub noted : (p : ℕ) → IsDue h l.row l.call g.looked p → read_by a l ≤ (attempt h p).cell → IsNoted v l (attempt h p).cell
-  pub hand : HasVersion a → IsInHand h o a l
+  pub found : (p : ℕ) → IsDue h l.row l.call g.looked p → Contains g.ids p ⊎ (is_marked (attempt h p).cell l.remembered ≡ true) ⊎ IsToCome r a l (attempt h p).cell
+  pub hand : HasPlace a → IsInHand h o a l
 
 -- What was gathered.
 
@@ -106,12 +135,27 @@ abbrev pub AreCopies : History → ℕ → Option Call → List kw_cell.Cell →
 AreCopies h row call cells ids = AllZip (IsCopyOf h row call) cells ids
 
 -- nothing is gathered while the reader looks at entries; while it reads the cells, and after that until the next row, what it
--- gathered are cells of attempts of the row. That the places rise is said with the ranges of a local
+-- gathered are cells of attempts of the row
 pub record Gathers (h : History) (a : Activity) (l : Local) (g : SeatLog) : Type 0 where
   pub empty : IsLooking a → l.gathered ≡ []
   pub no_ids : HasLooked a → g.ids ≡ []
   pub taking : IsTaking a → AreCopies h l.row l.call l.gathered g.ids
   pub kept : IsKeeping a → (r : ℕ) → g.read ≡ Some r → AreCopies h r l.call l.gathered g.ids
+
+-- a cell of this place is gathered
+abbrev pub has_place : ℕ → List kw_cell.Cell → Bool
+has_place c [] = false
+has_place c (d ∷ cells) = if d.place == c then true else has_place c cells
+
+-- no cell is gathered twice: no more are gathered than places of the row are, none that is still remembered is, and the one in hand is
+-- neither; what is gathered on the walk is listed, and the walk has passed it
+pub record Apart (z : Sizes) (r : Row) (a : Activity) (l : Local) : Type 0 where
+  pub few : length l.gathered ≤ count_below z.cells (λ c. has_place c l.gathered)
+  pub unmarked : (c : ℕ) → is_marked c l.remembered ≡ true → has_place c l.gathered ≡ false
+  pub listed : IsListing a → (c : ℕ) → has_place c l.gathered ≡ true → r.listed c ≡ true
+  pub passed : IsListing a → (c : ℕ) → has_place c l.gathered ≡ true → IsPassed r l.link c
+  pub fresh : IsResting a → has_place l.place l.gathered ≡ false
+  pub hand : HasPlace a → is_marked l.place l.remembered ≡ false
 
 -- no row counts as read while the reader looks at entries or reads cells; of the row that it has read each attempt that was due is
 -- stamped and gathered
@@ -125,7 +169,9 @@ pub record HasSeen (h : History) (a : Activity) (l : Local) (g : SeatLog) : Type
 -- what holds of the readers
 pub record Readers (z : Sizes) (r : Run) : Type 0 where
   pub remembers : (t : ℕ) (l : Local) → slice_get r.world.locals t ≡ Some l → IsLooking l.activity ⊎ IsTaking l.activity → All (IsMarkOf r.history r.origin l.row) l.remembered
-  pub looks : (t : ℕ) (l : Local) → slice_get r.world.locals t ≡ Some l → IsLooking l.activity → Looks z (word z r.world) r.history l.activity l (r.seats t)
-  pub reads : (t : ℕ) (l : Local) → slice_get r.world.locals t ≡ Some l → IsTaking l.activity → Reads (word z r.world) r.history r.origin l.activity l (r.seats t)
+  pub looks : (t : ℕ) (l : Local) → slice_get r.world.locals t ≡ Some l → IsLooking l.activity → Looks z r.listed r.history l.activity l (r.seats t)
+  pub walks : (t : ℕ) (l : Local) → slice_get r.world.locals t ≡ Some l → ReadsList z.cells (list_in (word z r.world) r.listed l.row) l.activity l
+  pub reads : (t : ℕ) (l : Local) → slice_get r.world.locals t ≡ Some l → IsTaking l.activity → Reads (list_in (word z r.world) r.listed l.row) r.history r.origin l.activity l (r.seats t)
   pub gathers : (t : ℕ) (l : Local) → slice_get r.world.locals t ≡ Some l → Gathers r.history l.activity l (r.seats t)
+  pub apart : (t : ℕ) (l : Local) → slice_get r.world.locals t ≡ Some l → IsTaking l.activity → Apart z (list_in (word z r.world) r.listed l.row) l.activity l
   pub seen : (t : ℕ) (l : Local) → slice_get r.world.locals t ≡ Some l → HasSeen r.history l.activity l (r.seats t)

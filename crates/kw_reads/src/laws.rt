@@ -14,6 +14,8 @@ ghost use Rattle.kw_reads.specs.Inv.{Inv};
 /// The record may note every event that may come, and every valid list of events from an opening keeps the invariant: the groups
 /// below, what is due to each reader and what it has gathered, the pairs of scans, and what a get is going to answer.
 pub fn reads_laws()
-    ensures notes { (z : Sizes) (o : Opening) (r : Run) (e : Event) → Inv z r → may_step o r.world e ≡ true → MayTake z r e }
-    ensures keeps { (z : Sizes) (o : Opening) (events : List Event) → IsOpening z o → is_valid z o events ≡ true → Inv z (history z o events) }
+    ensures notes { (z : Sizes) (o : Opening) (r : Run) (e : Event) → Inv z r → may_step o r.world e
+        ≡ true → MayTake z r e }
+    ensures keeps { (z : Sizes) (o : Opening) (events : List Event) → IsOpening z o →
+        is_valid z o events ≡ true → Inv z (history z o events) }
 {}

@@ -5,6 +5,7 @@ pub mod Framed
 pub mod Frames
 pub mod Kept
 pub mod Lists
+pub mod Named
 pub mod Replaced
 pub mod Sets
 pub mod StatesKeep

@@ -8,7 +8,7 @@ use Rattle.kw_world.specs.declared.event.Choice.{Choice}
 use Rattle.kw_world.specs.Sizes.{Sizes}
 use Rattle.kw_shape.specs.Rooms.{adding, adders, drawing, drawers}
 use Rattle.kw_core.specs.Words.{Words}
-use Rattle.kw_core.proofs.Arrows.{Arrow, waits, stores_waiting, finds_room, meets_stamped, meets_neither, is_passed, helps, finds_stamped, finds_other, counts_cells, has_no_version, has_other_key, gathers, NextLook, looks, counts, NextCell, reads_cell, answers, ends_scan, scans_on}
+use Rattle.kw_core.proofs.Arrows.{Arrow, waits, stores_waiting, finds_room, meets_stamped, meets_neither, is_passed, helps, finds_stamped, finds_other, list_ends, key_above, rest_passed, gathers_rest, NextLook, looks, lists, NextRest, rests, answers, ends_scan, scans_on}
 
 -- the seats that are about to ask a row for a cell, with one seat's local set
 pub adders-set : (q : ℕ) (ls : List Local) (s : ℕ) (l l' : Local) → slice_get ls s ≡ Some l → adders q (slice_set ls s l') + adding l.activity l.row q ≡ adders q ls + adding l'.activity l'.row q
@@ -55,23 +55,23 @@ IsToWait _ = ⊥
 
 look_adds : (z : Sizes) (j row q : ℕ) (next : Activity) → NextLook z j next → adding next row q ≡ 0
 look_adds z j row q next (looks o) = refl
-look_adds z j row q next (counts o) = refl
+look_adds z j row q next (lists o) = refl
 
-cell_adds : (l : Local) (j q : ℕ) (next : Local) → NextCell l j next → adding next.activity next.row q ≡ 0
-cell_adds l j q next (reads_cell o) = refl
-cell_adds l j q next (answers o n) = refl
-cell_adds l j q next (ends_scan o y n) = refl
-cell_adds l j q next (scans_on r o y n w) = refl
+cell_adds : (l : Local) (q : ℕ) (next : Local) → NextRest l next → adding next.activity next.row q ≡ 0
+cell_adds l q next (rests m o) = refl
+cell_adds l q next (answers o n) = refl
+cell_adds l q next (ends_scan o y n) = refl
+cell_adds l q next (scans_on r o y n w) = refl
 
 look_draws : (z : Sizes) (j : ℕ) (next : Activity) → NextLook z j next → drawing next ≡ 0
 look_draws z j next (looks o) = refl
-look_draws z j next (counts o) = refl
+look_draws z j next (lists o) = refl
 
-cell_draws : (l : Local) (j : ℕ) (next : Local) → NextCell l j next → drawing next.activity ≡ 0
-cell_draws l j next (reads_cell o) = refl
-cell_draws l j next (answers o n) = refl
-cell_draws l j next (ends_scan o y n) = refl
-cell_draws l j next (scans_on r o y n w) = refl
+cell_draws : (l : Local) (next : Local) → NextRest l next → drawing next.activity ≡ 0
+cell_draws l next (rests m o) = refl
+cell_draws l next (answers o n) = refl
+cell_draws l next (ends_scan o y n) = refl
+cell_draws l next (scans_on r o y n w) = refl
 
 -- only a seat that found room goes on to ask for a cell
 pub adding_next : (z : Sizes) (v : Words) (s : ℕ) (choice : Choice) (l : Local) (a : Activity) (l' : Local) (q : ℕ) → Arrow z v s choice l a l' → (IsCounting a → ⊥) → adding l'.activity l'.row q ≡ 0
@@ -82,10 +82,10 @@ adding_next z v s choice l a l' q (is_passed next y m) n = look_adds z _ l.row q
 adding_next z v s choice l a l' q (helps next y m) n = look_adds z _ l.row q next m
 adding_next z v s choice l a l' q (finds_stamped c version next y m) n = look_adds z _ l.row q next m
 adding_next z v s choice l a l' q (finds_other next y m) n = look_adds z _ l.row q next m
-adding_next z v s choice l a l' q (counts_cells next m) n = cell_adds _ _ q next m
-adding_next z v s choice l a l' q (has_no_version j next y m) n = cell_adds _ _ q next m
-adding_next z v s choice l a l' q (has_other_key next y m) n = cell_adds _ _ q next m
-adding_next z v s choice l a l' q (gathers next m) n = cell_adds _ _ q next m
+adding_next z v s choice l a l' q (list_ends next e m) n = cell_adds _ q next m
+adding_next z v s choice l a l' q (key_above next y m) n = cell_adds _ q next m
+adding_next z v s choice l a l' q (rest_passed next y m) n = cell_adds _ q next m
+adding_next z v s choice l a l' q (gathers_rest next m) n = cell_adds _ q next m
 adding_next z v s choice l a l' q _ n = refl
 
 -- only a scan that found the clock below its end goes on to draw
@@ -98,8 +98,8 @@ drawing_next z v s choice l a l' (is_passed next y m) n = look_draws z _ next m
 drawing_next z v s choice l a l' (helps next y m) n = look_draws z _ next m
 drawing_next z v s choice l a l' (finds_stamped c version next y m) n = look_draws z _ next m
 drawing_next z v s choice l a l' (finds_other next y m) n = look_draws z _ next m
-drawing_next z v s choice l a l' (counts_cells next m) n = cell_draws _ _ next m
-drawing_next z v s choice l a l' (has_no_version j next y m) n = cell_draws _ _ next m
-drawing_next z v s choice l a l' (has_other_key next y m) n = cell_draws _ _ next m
-drawing_next z v s choice l a l' (gathers next m) n = cell_draws _ _ next m
+drawing_next z v s choice l a l' (list_ends next e m) n = cell_draws _ next m
+drawing_next z v s choice l a l' (key_above next y m) n = cell_draws _ next m
+drawing_next z v s choice l a l' (rest_passed next y m) n = cell_draws _ next m
+drawing_next z v s choice l a l' (gathers_rest next m) n = cell_draws _ next m
 drawing_next z v s choice l a l' _ n = refl

@@ -1,5 +1,5 @@
 -- The words stay in range: the one that an event writes, and all others.
-use Rattle.std.proofs.Common.{ℕ, ◌≡◌, ◌⊎◌, inl, inr, ◌+◌, ◌<◌, ◌==◌, Bool, true, false, Option, Some, None, arith, refl, sym, ap, subst, if◌then◌else◌}
+use Rattle.std.proofs.Common.{ℕ, ◌≡◌, ◌⊎◌, inl, inr, ◌+◌, ◌<◌, ◌≤◌, ◌==◌, Bool, true, false, Option, Some, None, arith, refl, sym, ap, subst, if◌then◌else◌}
 use Rattle.std.proofs.lemmas.Bool.{cases_eq}
 use Rattle.kw_words.specs.declared.layout.Name.{Name}
 use Rattle.kw_words.specs.declared.layout.Name.TheVariants as name
@@ -12,14 +12,14 @@ use Rattle.kw_words.specs.declared.sizes.TheConstants.{VERSION_END}
 use Rattle.kw_words.specs.Layout.{IsWithin, place_of}
 use Rattle.kw_words.specs.Count.{count_of}
 use Rattle.kw_words.specs.Pend.{IsPend, pend_of, pend_word}
-use Rattle.kw_words.specs.Plain.{IsValue, value_word}
+use Rattle.kw_words.specs.Plain.{IsValue, value_word, cell_link_word}
 use Rattle.kw_words.specs.Scan.{IsScan, scan_of, scan_word}
 use Rattle.kw_words.proofs.CountWords.{count_of_next}
 use Rattle.kw_words.proofs.PendWords.{pend_of-pend_word}
 use Rattle.kw_words.proofs.ScanWords.{scan_of-scan_word}
 use Rattle.kw_words.proofs.Places.{same_name}
 use Rattle.kw_world.specs.declared.activity.Activity.{Activity}
-use Rattle.kw_world.specs.declared.activity.Activity.TheVariants.{Enter, ScanWait, ScanDraw, ScanSettle, Start, Walk, LookHelp, ClearScan, PutAdd, PutKey, PutValue, Announce, Stamp, PutVersion, PutClear, Leave}
+use Rattle.kw_world.specs.declared.activity.Activity.TheVariants.{Enter, ScanWait, ScanDraw, ScanSettle, Start, Walk, LookHelp, ClearScan, PutAdd, PutKey, PutValue, Announce, Stamp, PutVersion, InsSet, Insert, PutClear, Leave}
 use Rattle.kw_world.specs.declared.limits.TheConstants.{GIVEN_END}
 use Rattle.kw_world.specs.declared.local.Local.{Local}
 use Rattle.kw_world.specs.declared.event.Choice.{Choice}
@@ -31,7 +31,9 @@ use Rattle.kw_world.specs.Transition.{Transition}
 use Rattle.kw_world.specs.PutTransitions.{given_of}
 use Rattle.kw_world.specs.WalkTransitions.{start_transition, walk_transition, is_stopped}
 use Rattle.kw_world.specs.Table.{transition}
-use Rattle.kw_world.specs.Sane.{IsGiven, IsEntry, IsKnownWord, IsValueWord, IsWord, IsLed}
+use Rattle.kw_world.specs.declared.operation.Action.TheVariants.{Exchange}
+use Rattle.kw_world.specs.ListTransitions.{link_name}
+use Rattle.kw_world.specs.Sane.{IsCellBelow, IsGiven, IsEntry, IsKnownWord, IsValueWord, IsWord, IsLed}
 use Rattle.kw_core.specs.Words.{Words, given_in}
 use Rattle.kw_core.proofs.Happens.{Changed}
 use Rattle.kw_core.proofs.InRange.{first_in_range, put_in_range}
@@ -57,6 +59,11 @@ entry_known z x i e = subst (IsEntry z) (sym (pend_of-pend_word x i)) e
 given_known : (w : ℕ) (c : Option Counted) → count_of w ≡ c → IsGiven c → given_of c + 1 < GIVEN_END → IsGiven (count_of (w + 1))
 given_known w (Some c) e g o = subst IsGiven (sym (count_of_next w c e (omega (arith, o)))) o
 given_known w None e g o = absurd g
+
+-- the word of a link to a cell that is in range
+held_below : {n : ℕ} (held : Option ℕ) → IsCellBelow n held → cell_link_word held ≤ n
+held_below (Some c) o = omega (arith, o)
+held_below None o = omega arith
 
 -- the word of a value
 value_known : (x : Option ℕ) → IsValue x → IsValueWord (value_word x)
@@ -97,6 +104,16 @@ module _ (z : Sizes) (rows : ℕ) (v : Words) (s : ℕ) (choice : Choice) (l : L
   written Announce k n c g = (exchanges (λ x. IsEntry z (pend_of x)) (v (name.Pend l.row s)) _ _ (w.each (name.Pend l.row s) n) (entry_known z (pend.Pending l.cell) (omega (arith, k.ranges.cell, w.sized.few_cells)) k.ranges.cell), tt)
   written Stamp k n c g = (exchanges (λ x. IsEntry z (pend_of x)) (v (name.Pend l.row s)) _ _ (w.each (name.Pend l.row s) n) (entry_known z (pend.Stamped l.cell l.version) (omega (arith, k.ranges.cell, w.sized.few_cells), k.ranges.version.0, k.ranges.version.1) (k.ranges.cell, k.ranges.version)), tt)
   written PutVersion k n c g = (k.ranges.version.1, tt)
+  written InsSet k n c g = (held_below l.held k.ranges.held, tt)
+  written Insert k n c g = (linked l.link (v (link_name l.row l.link)) (w.each (link_name l.row l.link) n) k.ranges.cell, led l.link _)
+    where
+      linked : (link : Option ℕ) (found : ℕ) → IsWord z (link_name l.row link) found → l.cell < z.cells → IsWord z (link_name l.row link) (word_after (Exchange (cell_link_word l.held) (cell_link_word (Some l.cell))) found)
+      linked (Some c) found f o = exchanges (λ x. x ≤ z.cells) found _ _ f (omega (arith, o))
+      linked None found f o = exchanges (λ x. x ≤ z.cells) found _ _ f (omega (arith, o))
+
+      led : (link : Option ℕ) (x : ℕ) → IsLed rows (link_name l.row link) x
+      led (Some c) x = tt
+      led None x = tt
   written PutClear k n c g = (entry_known z pend.Idle tt tt, tt)
   written (Leave answer) k n c g = (omega arith, tt)
   written a k n c g = loaded (transition z a s choice l).operation.name n

@@ -1,5 +1,8 @@
 pub mod NextCalls
 pub mod Counts
+pub mod RelyRows
+pub mod RowsKeep
+pub mod PassesKeep
 pub mod Walking
 pub mod Known
 pub mod InTable

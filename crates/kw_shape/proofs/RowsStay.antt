@@ -1,33 +1,30 @@
--- The rows stay: an event leaves the rows of the list, and the keys that each of them may hold. A put's row may hold its key.
-use Rattle.std.proofs.Common.{ℕ, ◌≡◌, ◌⊎◌, inl, inr, ◌<◌, ◌≤◌, true, false, Option, Some, None, arith, sym, ◌∙◌, ap, subst, slice_get}
-use Rattle.kw_words.specs.Link.{link_of}
-use Rattle.kw_words.specs.Plain.{key_of_word}
+-- What an event leaves of a row that was linked, and of the keys that it may hold; a put's row may hold its key.
+use Rattle.std.proofs.Common.{ℕ, ◌≡◌, ◌⊎◌, inl, inr, ◌<◌, ◌≤◌, true, false, Option, Some, None, arith, refl, sym, ◌∙◌, ap, subst, slice_get}
+use Rattle.std.proofs.lemmas.Option.{same_Some}
 use Rattle.kw_model.specs.declared.call.Call.{Call}
 use Rattle.kw_model.specs.declared.call.Call.TheVariants.{Put, Del, Get, Scan}
 use Rattle.kw_world.specs.declared.activity.Activity.TheVariants.{PutAdd}
 use Rattle.kw_world.specs.declared.local.Local.{Local}
 use Rattle.kw_world.specs.Sizes.{Sizes}
-use Rattle.kw_world.specs.WorldView.{WorldView}
 use Rattle.kw_world.specs.Calls.{first_key, is_scan}
-use Rattle.kw_world.specs.Transition.{row_linked}
 use Rattle.kw_world.specs.Step.{word}
 use Rattle.kw_core.specs.Stages.{IsAtRow, IsPastStart}
 use Rattle.kw_core.specs.Words.{Words, next_in, least_in}
-use Rattle.kw_shape.specs.Shape.{IsLinked, HoldsKey, Chain, IsAtItsRow, IsPutCall, IsKind, Shape}
-use Rattle.kw_core.proofs.Frame.{SameRows}
+use Rattle.std.proofs.lemmas.Bool.{cases_lt}
+use Rattle.kw_rows.specs.Ledger.{Dead, Fate, Free, IsFresh, IsLive, Ledger, Live}
+use Rattle.kw_rows.specs.Rows.{Closed, WasLinked}
+use Rattle.kw_rows.proofs.Named.{held_by, last_row, one_beginning, row_after}
+use Rattle.kw_shape.specs.RowsIn.{rows_in}
+use Rattle.kw_world.specs.declared.activity.Activity.{Activity}
+use Rattle.kw_world.specs.declared.event.Choice.{Choice}
+use Rattle.kw_core.proofs.Happens.{Happens}
+use Rattle.kw_shape.proofs.RowsKeep.{fates_kept}
+use Rattle.kw_shape.specs.Shape.{HoldsKey, IsAtItsRow, IsStill, IsPutCall, IsKind, Shape}
+use Rattle.kw_core.specs.Run.{Run}
 
--- a row of the list stays in it
-pub linked_stays : (rows : ℕ) (v v' : Words) (q : ℕ) → SameRows rows v v' → IsLinked rows v q → IsLinked rows v' q
-linked_stays rows v v' q y i = record { below = i.below; normal = y.state q i.below ∙ i.normal }
-
--- and may hold the keys that it might
-pub holds_stays : (rows : ℕ) (v v' : Words) (q key : ℕ) → SameRows rows v v' → Chain rows v → IsLinked rows v q → HoldsKey v q key → HoldsKey v' q key
-holds_stays rows v v' q key y c i h = record {
-  from = subst (λ w. key_of_word w ≤ key) (sym (y.least q i.below)) h.from;
-  below = λ n e.
-      let x : next_in v q ≡ Some n = ap (λ w. row_linked (link_of w)) (sym (y.next q i.below)) ∙ e in
-      subst (λ w. key < key_of_word w) (sym (y.least n (c.linked q n i x).below)) (h.below n x);
-}
+-- a row may hold the keys that it might, as long as the ends of its range are as they were
+pub holds_stays : (v v' : Words) (g g' : Ledger) (q key : ℕ) → (g'.fates q).upper ≡ (g.fates q).upper → least_in v' q ≡ least_in v q → HoldsKey v g q key → HoldsKey v' g' q key
+holds_stays v v' g g' q key e f h = record { from = omega (arith, h.from, f); below = λ u x. h.below u (sym e ∙ x) }
 
 -- a put or a delete is no scan
 put_scans : {A : Type 0} (c : Option Call) → IsPutCall c → is_scan c ≡ true → A
@@ -37,13 +34,73 @@ put_scans (Some (Get key)) h e = absurd h
 put_scans (Some (Scan from upto)) h e = absurd h
 put_scans None h e = absurd h
 
+-- a row at which a seat has arrived may hold the wanted key
+pub holds_wanted : (v : Words) (g : Ledger) (t : ℕ) (l : Local) → IsAtItsRow v g t l → HoldsKey v g l.row l.want
+holds_wanted v g t l at = record { from = at.from; below = λ u e. which l.next refl u e }
+  where
+    which : (n : Option ℕ) → l.next ≡ n → (u : ℕ) → (g.fates l.row).upper ≡ Some u → l.want < u
+    which None f u e = let x : None ≡ Some u = sym (at.last f) ∙ e in absurd (cc)
+    which (Some n) f u e = let k = at.next n f in omega (arith, k.below, same_Some l.upper u (sym k.ends ∙ e))
+
 -- the row of a seat that asks for a cell may hold its key
-pub holds_first : (z : Sizes) (w : WorldView) (s : ℕ) (l : Local) → Shape z w → slice_get w.locals s ≡ Some l → l.activity ≡ PutAdd → HoldsKey (word z w) l.row (first_key l.call)
-holds_first z w s l y k e = wanted ((y.walks s l k).at (subst IsAtRow (sym e) tt)) ((y.walks s l k).wants (subst IsPastStart (sym e) tt))
+pub holds_first : (z : Sizes) (r : Run) (s : ℕ) (l : Local) → Shape z r → slice_get r.world.locals s ≡ Some l → l.activity ≡ PutAdd → HoldsKey (word z r.world) r.ledger.rows l.row (first_key l.call)
+holds_first z r s l y k e = wanted ((y.walks s l k).at (subst IsAtRow (sym e) tt)) ((y.walks s l k).wants (subst IsPastStart (sym e) tt))
   where
     kind : IsPutCall l.call
     kind = subst (λ a. IsKind a l) e (y.kinds s l k).kind
 
-    wanted : IsAtItsRow w.rows (word z w) l → (l.want ≡ first_key l.call) ⊎ (is_scan l.call ≡ true) × (least_in (word z w) l.row ≡ l.want) → HoldsKey (word z w) l.row (first_key l.call)
-    wanted at (inl x) = subst (HoldsKey (word z w) l.row) x (record { from = at.from; below = λ n u. let f : l.next ≡ Some n = at.next ∙ u in omega (arith, at.below n f, at.upper n f) })
+    wanted : IsAtItsRow (word z r.world) r.ledger.rows s l → (l.want ≡ first_key l.call) ⊎ (is_scan l.call ≡ true) × (least_in (word z r.world) l.row ≡ l.want) → HoldsKey (word z r.world) r.ledger.rows l.row (first_key l.call)
+    wanted at (inl x) = subst (HoldsKey (word z r.world) r.ledger.rows l.row) x (holds_wanted (word z r.world) r.ledger.rows s l at)
     wanted at (inr x) = put_scans l.call kind x.0
+
+-- Rows that were linked.
+
+-- a row that was linked is one of the table
+pub was_below : (z : Sizes) (r : Run) → Shape z r → (q : ℕ) → WasLinked r.ledger.rows q → q < r.world.rows
+was_below z r i q k = which (cases_lt q r.world.rows)
+  where
+    not_free : WasLinked r.ledger.rows q → (r.ledger.rows.fates q).status ≡ Free → ⊥
+    not_free (inl e) f = let x : Live ≡ Free = sym e ∙ f in cc
+    not_free (inr e) f = let x : Dead ≡ Free = sym e ∙ f in cc
+
+    which : (q < r.world.rows) ⊎ (r.world.rows ≤ q) → q < r.world.rows
+    which (inl o) = o
+    which (inr o) = absurd (not_free k (i.beyond q o))
+
+-- a row that a seat may name was linked
+pub fresh_linked : (g : Ledger) (t q : ℕ) → IsFresh g t q → WasLinked g q
+fresh_linked g t q (inl a) = inl a
+fresh_linked g t q (inr h) = inr h.dead
+
+-- as long as no row is rebalanced, one that was linked is live
+pub still_live : (v : Words) (g : Ledger) (q : ℕ) → IsStill v g q → WasLinked g q → IsLive g q
+still_live v g q (inl x) k = x.0
+still_live v g q (inr x) (inl e) = e
+still_live v g q (inr x) (inr e) = let y : Free ≡ Dead = sym x ∙ e in absurd (cc)
+
+-- no event links a row, and one that was linked stays so
+pub linked_was : {z : Sizes} {r r' : Run} {s : ℕ} {choice : Choice} {l l' : Local} (a : Activity) → Happens z r r' s choice l l' a → (q : ℕ) → WasLinked r'.ledger.rows q → WasLinked r.ledger.rows q
+linked_was a h q (inl e) = inl (ap (λ (x : Fate). x.status) (sym (fates_kept a h q)) ∙ e)
+linked_was a h q (inr e) = inr (ap (λ (x : Fate). x.status) (sym (fates_kept a h q)) ∙ e)
+
+pub linked_stays : {z : Sizes} {r r' : Run} {s : ℕ} {choice : Choice} {l l' : Local} (a : Activity) → Happens z r r' s choice l l' a → (q : ℕ) → WasLinked r.ledger.rows q → WasLinked r'.ledger.rows q
+linked_stays a h q (inl e) = inl (ap (λ (x : Fate). x.status) (fates_kept a h q) ∙ e)
+linked_stays a h q (inr e) = inr (ap (λ (x : Fate). x.status) (fates_kept a h q) ∙ e)
+
+-- as long as no row is rebalanced, the row that a seat knows to stand after its own is the one to which the link of that leads
+pub next_known : (z : Sizes) (r : Run) → Shape z r → (t : ℕ) (l : Local) → IsAtItsRow (word z r.world) r.ledger.rows t l → l.next ≡ next_in (word z r.world) l.row
+next_known z r i t l at = which l.next refl
+  where
+    closed : Closed (rows_in (word z r.world)) r.ledger.rows
+    closed = i.rows.closed
+
+    live : (q : ℕ) → IsFresh r.ledger.rows t q → IsLive r.ledger.rows q
+    live q f = still_live (word z r.world) r.ledger.rows q (i.still q) (fresh_linked r.ledger.rows t q f)
+
+    which : (n : Option ℕ) → l.next ≡ n → n ≡ next_in (word z r.world) l.row
+    which None e = sym (last_row (rows_in (word z r.world)) r.ledger.rows closed l.row (held_by r.ledger.rows t l.row at.fresh) (at.last e))
+    which (Some n) e =
+        let k = at.next n e in
+        let a = row_after (rows_in (word z r.world)) r.ledger.rows closed l.row l.upper (held_by r.ledger.rows t l.row at.fresh) k.ends in
+        let y = i.rows.chain.linked l.row a.0 (live l.row at.fresh) a.1 in
+        ap Some (one_beginning (rows_in (word z r.world)) r.ledger.rows n a.0 i.rows.chain (live n k.fresh) y (sym k.least ∙ sym a.2)) ∙ sym a.1

@@ -1,15 +1,15 @@
 -- Every event keeps the shape of the world.
-use Rattle.std.proofs.Common.{ℕ, ◌≡◌, ◌⊎◌, inl, inr, ◌+◌, ◌<◌, ◌≤◌, true, false, Option, Some, None, arith, refl, sym, ◌∙◌, ap, subst, length}
+use Rattle.std.proofs.Common.{ℕ, ◌≡◌, ◌≢◌, ◌⊎◌, inl, inr, ◌+◌, ◌<◌, ◌≤◌, true, false, Option, Some, None, arith, refl, sym, ◌∙◌, ap, subst, length, slice_get}
 use Rattle.kw_words.specs.declared.layout.Name.TheVariants as name
 use Rattle.kw_world.specs.declared.activity.Activity.{Activity}
-use Rattle.kw_world.specs.declared.activity.Activity.TheVariants.{ScanClock, ScanWait, GuessMin, Walk, WalkMin, PutCount, PutAdd}
+use Rattle.kw_world.specs.declared.activity.Activity.TheVariants.{Idle, Enter, ScanClock, ScanWait, PutCount, PutAdd}
 use Rattle.kw_world.specs.declared.local.Local.{Local}
 use Rattle.kw_world.specs.declared.event.Choice.{Choice}
 use Rattle.kw_world.specs.Sizes.{Sizes}
 use Rattle.kw_world.specs.WorldView.{WorldView}
 use Rattle.kw_words.specs.declared.sizes.TheConstants.{SPENT}
 use Rattle.kw_words.specs.Layout.{IsSized, IsWithin, words_of}
-use Rattle.kw_world.specs.Sane.{IsSane, IsKnown, IsLed}
+use Rattle.kw_world.specs.Sane.{IsHead, IsSane, IsKnown, IsLed}
 use Rattle.kw_world.specs.Step.{word}
 use Rattle.kw_core.specs.Run.{Run}
 use Rattle.std.proofs.Common.{length-set, slice_set}
@@ -21,14 +21,18 @@ use Rattle.kw_core.proofs.Frame.{count_kept, clock_kept, given-next}
 use Rattle.kw_core.proofs.RoomBelow.{room_below}
 use Rattle.kw_shape.proofs.Counts.{adders-set, adders_at_most, drawers-set, drawers_at_most, adding_next, drawing_next}
 use Rattle.kw_core.proofs.Happens.{chosen, not_chosen}
-use Rattle.kw_words.specs.Link.{link_of}
-use Rattle.kw_words.specs.Plain.{key_of_word}
+use Rattle.kw_words.specs.declared.link.Link.{Link}
 use Rattle.kw_world.specs.Calls.{first_key, is_scan}
-use Rattle.kw_world.specs.Transition.{row_linked}
-use Rattle.kw_core.specs.Words.{Words, next_in, least_in, given_in}
-use Rattle.kw_shape.specs.Shape.{IsLinked, IsBefore, IsOnWalk, Chain, Walks, Kinds, Shape}
+use Rattle.kw_world.specs.Transition.{row_linked, row_or_first}
+use Rattle.kw_core.specs.Words.{Words, given_in}
+use Rattle.kw_rows.specs.Ledger.{Fate, Ledger}
+use Rattle.kw_shape.specs.Passes.{Passes}
+use Rattle.kw_shape.specs.Shape.{IsStill, Walks, Kinds, Shape}
+use Rattle.kw_shape.proofs.PassesKeep.{numbers_keep, passes_other, passes_own}
+use Rattle.kw_shape.proofs.RelyRows.{RelyRows, is_passing, walks_outside, walks_stable}
+use Rattle.kw_shape.proofs.RowsKeep.{fates_kept, others_kept, rely_rows, rows_kept, state_kept, structure_keeps}
 use Rattle.kw_core.proofs.Happens.{Happens, each_seat}
-use Rattle.kw_core.proofs.Frame.{SameRows, same_rows}
+use Rattle.kw_core.proofs.Frame.{WritesPass}
 use Rattle.kw_shape.proofs.Walking.{walks_by}
 use Rattle.kw_shape.proofs.Known.{AreSane, at_activity, known_by}
 use Rattle.kw_shape.proofs.InTable.{words_sane}
@@ -43,76 +47,9 @@ use Rattle.kw_world.specs.declared.event.Choice.TheVariants.{Stop}
 use Rattle.kw_world.specs.Calls.{last_key}
 use Rattle.kw_world.specs.ScanTransitions.{answer_or_stopped}
 use Rattle.kw_world.specs.WalkTransitions.{is_stop}
-use Rattle.kw_core.specs.Stages.{is_put}
+use Rattle.kw_core.specs.Stages.{IsPassing, is_put}
 use Rattle.kw_shape.specs.Shape.{IsSomeCall, IsPutCall, IsReadCall, IsScanCall, IsAnswerOf, IsPairs}
-use Rattle.kw_core.proofs.Arrows.{Arrow, begins, enters, enters_scan, is_spent, waits, stores_waiting, draws, settles_empty, settles, starts_at_head, guesses, guess_fails, takes_head, guess_serves, guess_is_above, stops, puts_in_last, reads_last, meets_next, walks_on, puts_before, reads_before, meets_pending, meets_stamped, meets_neither, is_wanted, is_passed, loads_to_help, helps, finds_stamped, finds_other, counts_cells, has_version, has_no_version, has_key, has_other_key, gathers, clears_scan, finds_room, finds_none, takes_cell, takes_none, stores_key, stores_value, announces, is_refused, loads_clock, stamps, is_stamped, is_not_own, stores_version, clears, leaves, NextLook, looks, counts, NextCell, reads_cell, answers, ends_scan, scans_on, not_below}
-
--- Where a seat is survives every event of another one: no event changes the rows.
-
--- the words of the rows read as they did
-pub next_same : (rows : ℕ) (v v' : Words) → SameRows rows v v' → (q : ℕ) → q < rows → next_in v' q ≡ next_in v q
-next_same rows v v' same q o = ap (λ w. row_linked (link_of w)) (same.next q o)
-
-pub least_same : (rows : ℕ) (v v' : Words) → SameRows rows v v' → (q : ℕ) → q < rows → least_in v' q ≡ least_in v q
-least_same rows v v' same q o = ap key_of_word (same.least q o)
-
-pub linked_now : (rows : ℕ) (v v' : Words) → SameRows rows v v' → (q : ℕ) → IsLinked rows v q → IsLinked rows v' q
-linked_now rows v v' same q a = record { below = a.below; normal = same.state q a.below ∙ a.normal }
-
-pub linked_was : (rows : ℕ) (v v' : Words) → SameRows rows v v' → (q : ℕ) → IsLinked rows v' q → IsLinked rows v q
-linked_was rows v v' same q a = record { below = a.below; normal = sym (same.state q a.below) ∙ a.normal }
-
--- what depends on the rows alone
-pub chain_stable : (rows : ℕ) (v v' : Words) → SameRows rows v v' → Chain rows v → Chain rows v'
-chain_stable rows v v' same c = record {
-  first = c.first;
-  leads = ap (λ w. row_linked (link_of w)) same.head ∙ c.leads;
-  first_linked = linked_now rows v v' same c.first c.first_linked;
-  first_least = least_same rows v v' same c.first c.first_linked.below ∙ c.first_least;
-  linked = λ r q a e. let b = linked_was rows v v' same r a in linked_now rows v v' same q (c.linked r q b (sym (next_same rows v v' same r b.below) ∙ e));
-  rises = λ r q a e.
-      let b = linked_was rows v v' same r a in
-      let f = sym (next_same rows v v' same r b.below) ∙ e in
-      omega (arith, c.rises r q b f, least_same rows v v' same r b.below, least_same rows v v' same q (c.linked r q b f).below);
-  apart = λ r q a b. let x = linked_was rows v v' same r a in let y = linked_was rows v v' same q b in which r q x y (c.apart r q x y);
-}
-  where
-    before : (r q : ℕ) → IsLinked rows v r → IsLinked rows v q → IsBefore v r q → IsBefore v' r q
-    before r q x y b = record {
-      next = b.next;
-      follows = next_same rows v v' same r x.below ∙ b.follows;
-      above = omega (arith, b.above, least_same rows v v' same b.next (c.linked r b.next x b.follows).below, least_same rows v v' same q y.below);
-    }
-
-    which : (r q : ℕ) → IsLinked rows v r → IsLinked rows v q → (r ≡ q) ⊎ IsBefore v r q ⊎ IsBefore v q r → (r ≡ q) ⊎ IsBefore v' r q ⊎ IsBefore v' q r
-    which r q x y (inl e) = inl e
-    which r q x y (inr (inl b)) = inr (inl (before r q x y b))
-    which r q x y (inr (inr b)) = inr (inr (before q r y x b))
-
-pub walks_stable : (rows : ℕ) (v v' : Words) (a : Activity) (l : Local) → SameRows rows v v' → Chain rows v → l.row < rows → Walks rows v a l → Walks rows v' a l
-walks_stable rows v v' a l same c o w = record {
-  on = on_walk a w.on;
-  lower = λ y. w.lower y ∙ sym (least_same rows v v' same l.row o);
-  at = λ y. let x = w.at y in record {
-    linked = linked_now rows v v' same l.row x.linked;
-    from = omega (arith, x.from, least_same rows v v' same l.row o);
-    next = x.next ∙ sym (next_same rows v v' same l.row o);
-    upper = λ n e. x.upper n e ∙ sym (least_same rows v v' same n (c.linked l.row n x.linked (sym x.next ∙ e)).below);
-    below = x.below;
-  };
-  begins = w.begins;
-  wants = λ y. wanted (w.wants y);
-}
-  where
-    on_walk : (b : Activity) → IsOnWalk b rows v l → IsOnWalk b rows v' l
-    on_walk GuessMin x = linked_now rows v v' same l.row x
-    on_walk Walk x = (linked_now rows v v' same l.row x.0, omega (arith, x.1, least_same rows v v' same l.row o))
-    on_walk WalkMin x = (linked_now rows v v' same l.row x.0, omega (arith, x.1, least_same rows v v' same l.row o), next_same rows v v' same l.row o ∙ x.2)
-    on_walk _ x = tt
-
-    wanted : (l.want ≡ first_key l.call) ⊎ (is_scan l.call ≡ true) × (least_in v l.row ≡ l.want) → (l.want ≡ first_key l.call) ⊎ (is_scan l.call ≡ true) × (least_in v' l.row ≡ l.want)
-    wanted (inl e) = inl e
-    wanted (inr e) = inr (e.0, least_same rows v v' same l.row o ∙ e.1)
+use Rattle.kw_core.proofs.Arrows.{Arrow, begins, enters, enters_scan, is_spent, waits, stores_waiting, draws, settles_empty, settles, starts_at_head, guesses, guess_fails, takes_head, guess_serves, guess_is_above, stops, puts_in_last, reads_last, meets_next, walks_on, puts_before, reads_before, meets_pending, meets_stamped, meets_neither, is_wanted, is_passed, loads_to_help, helps, finds_stamped, finds_other, list_leads, list_ends, key_below, key_within, key_above, loads_version, gathers_listed, rest_wanted, rest_passed, gathers_rest, clears_scan, finds_room, finds_none, takes_cell, takes_none, stores_key, stores_value, announces, is_refused, loads_clock, stamps, is_stamped, is_not_own, stores_version, meets_cell, meets_none, key_before, key_same, key_after, version_before, version_after, stores_after, inserts, loses, clears, leaves, NextLook, looks, lists, NextRest, rests, answers, ends_scan, scans_on, not_below}
 
 -- The acting seat.
 
@@ -120,18 +57,23 @@ walks_stable rows v v' a l same c o w = record {
 words_of_sane : (z : Sizes) (w : WorldView) → IsSane z w → AreSane z w.rows (word z w)
 words_of_sane z w i = record { sized = i.sized; each = i.each; led = i.led }
 
+-- the first row is one of the table
+head_below : (rows : ℕ) (x : Option Link) → IsHead rows x → row_or_first (row_linked x) < rows
+head_below rows (Some link) h = subst (λ x. row_or_first x < rows) (sym h.0.1) h.0.2
+head_below rows None h = absurd h
+
 -- what the acting seat knows is in range
-known_own : (z : Sizes) (r r' : Run) (s : ℕ) (choice : Choice) (l : Local) (a : Activity) (l' : Local) → Arrow z (word z r.world) s choice l a l' → Happens z r r' s choice l l' a → Shape z r.world → IsKnown z r.world.rows l'
-known_own z r r' s choice l a l' b h i = known_by z r.world.rows (word z r.world) s choice l a l' b (words_of_sane z r.world i.sane) i.chain h.seat h.begins h.offers (at_activity z r.world.rows a l h.activity (i.sane.locals s l h.knows))
+known_own : (z : Sizes) (r r' : Run) (s : ℕ) (choice : Choice) (l : Local) (a : Activity) (l' : Local) → Arrow z (word z r.world) s choice l a l' → Happens z r r' s choice l l' a → Shape z r → IsKnown z r.world.rows l'
+known_own z r r' s choice l a l' b h i = known_by z r.world.rows (word z r.world) s choice l a l' b (words_of_sane z r.world i.sane) (head_below r.world.rows _ (i.sane.led name.Head tt)) h.seat h.begins h.offers (at_activity z r.world.rows a l h.activity (i.sane.locals s l h.knows))
 
 -- the words are in range
-words_keep : (z : Sizes) (r r' : Run) (s : ℕ) (choice : Choice) (l : Local) (a : Activity) (l' : Local) → Happens z r r' s choice l l' a → Shape z r.world → AreSane z r.world.rows (word z r'.world)
+words_keep : (z : Sizes) (r r' : Run) (s : ℕ) (choice : Choice) (l : Local) (a : Activity) (l' : Local) → Happens z r r' s choice l l' a → Shape z r → AreSane z r.world.rows (word z r'.world)
 words_keep z r r' s choice l a l' h i =
     words_sane z r.world.rows (word z r.world) s choice l (words_of_sane z r.world i.sane) a (word z r'.world) (at_activity z r.world.rows a l h.activity (i.sane.locals s l h.knows)) h.named
     (omega (arith, i.clock, i.sane.sized.few_seats)) (λ q o. omega (arith, i.room q o, i.sane.sized.few_seats, i.sane.sized.few_cells)) h.changed
 
 -- the world is sane
-pub sane_keeps : (z : Sizes) (r r' : Run) (s : ℕ) (choice : Choice) (l : Local) (a : Activity) (l' : Local) → Arrow z (word z r.world) s choice l a l' → Happens z r r' s choice l l' a → Shape z r.world → IsSane z r'.world
+pub sane_keeps : (z : Sizes) (r r' : Run) (s : ℕ) (choice : Choice) (l : Local) (a : Activity) (l' : Local) → Arrow z (word z r.world) s choice l a l' → Happens z r r' s choice l l' a → Shape z r → IsSane z r'.world
 sane_keeps z r r' s choice l a l' b h i =
     let v = words_keep z r r' s choice l a l' h i in
     record {
@@ -144,11 +86,11 @@ sane_keeps z r r' s choice l a l' b h i =
     }
 
 -- an event that asks for no cell, and after which the seat is not about to
-room_plain : (z : Sizes) (r r' : Run) (s : ℕ) (choice : Choice) (l : Local) (a : Activity) (l' : Local) → Happens z r r' s choice l l' a → Shape z r.world → (q : ℕ) → given_in (word z r'.world) q ≡ given_in (word z r.world) q → adding l'.activity l'.row q ≡ 0 → q < r.world.rows → given_in (word z r'.world) q + adders q r'.world.locals < z.cells + z.seats
+room_plain : (z : Sizes) (r r' : Run) (s : ℕ) (choice : Choice) (l : Local) (a : Activity) (l' : Local) → Happens z r r' s choice l l' a → Shape z r → (q : ℕ) → given_in (word z r'.world) q ≡ given_in (word z r.world) q → adding l'.activity l'.row q ≡ 0 → q < r.world.rows → given_in (word z r'.world) q + adders q r'.world.locals < z.cells + z.seats
 room_plain z r r' s choice l a l' h i q e f o = omega (arith, i.room q o, e, f, adders-set q r.world.locals s l l' h.knows, ap (adders q) h.locals)
 
 -- an event that asks for a cell
-room_add : (z : Sizes) (r r' : Run) (s : ℕ) (choice : Choice) (l : Local) (l' : Local) → Happens z r r' s choice l l' PutAdd → Shape z r.world → (q : ℕ) → adding l'.activity l'.row q ≡ 0 → q < r.world.rows → given_in (word z r'.world) q + adders q r'.world.locals < z.cells + z.seats
+room_add : (z : Sizes) (r r' : Run) (s : ℕ) (choice : Choice) (l : Local) (l' : Local) → Happens z r r' s choice l l' PutAdd → Shape z r → (q : ℕ) → adding l'.activity l'.row q ≡ 0 → q < r.world.rows → given_in (word z r'.world) q + adders q r'.world.locals < z.cells + z.seats
 room_add z r r' s choice l l' h i q f o = which (cases_eq q l.row)
   where
     part : adding l.activity l.row q ≡ adding PutAdd l.row q
@@ -162,7 +104,7 @@ room_add z r r' s choice l l' h i q f o = which (cases_eq q l.row)
     which (inr d) = room_plain z r r' s choice l PutAdd l' h i q (ap (λ w. given_of (count_of w)) (count_kept PutAdd h q o (λ x u. d u))) f o
 
 -- each row has room for the cells that are asked for
-pub room_keeps : (z : Sizes) (r r' : Run) (s : ℕ) (choice : Choice) (l : Local) (a : Activity) (l' : Local) → Arrow z (word z r.world) s choice l a l' → Happens z r r' s choice l l' a → Shape z r.world → (q : ℕ) → q < r.world.rows → given_in (word z r'.world) q + adders q r'.world.locals < z.cells + z.seats
+pub room_keeps : (z : Sizes) (r r' : Run) (s : ℕ) (choice : Choice) (l : Local) (a : Activity) (l' : Local) → Arrow z (word z r.world) s choice l a l' → Happens z r r' s choice l l' a → Shape z r → (q : ℕ) → q < r.world.rows → given_in (word z r'.world) q + adders q r'.world.locals < z.cells + z.seats
 room_keeps z r r' s choice l a l' (finds_room e) h i q o = which (cases_eq l.row q)
   where
     seats : length (slice_set r.world.locals s l') ≡ length r.world.locals
@@ -182,7 +124,7 @@ room_keeps z r r' s choice l a l' (takes_none e) h i q o = room_add z r r' s cho
 room_keeps z r r' s choice l a l' b h i q o = room_plain z r r' s choice l _ l' h i q (ap (λ w. given_of (count_of w)) (count_kept _ h q o (λ x u. x))) (adding_next z (word z r.world) s choice l _ l' q b (λ x. x)) o
 
 -- the clock has room for the versions that are drawn
-pub clock_keeps : (z : Sizes) (r r' : Run) (s : ℕ) (choice : Choice) (l : Local) (a : Activity) (l' : Local) → Arrow z (word z r.world) s choice l a l' → Happens z r r' s choice l l' a → Shape z r.world → word z r'.world name.Clock + drawers r'.world.locals ≤ SPENT + z.seats
+pub clock_keeps : (z : Sizes) (r r' : Run) (s : ℕ) (choice : Choice) (l : Local) (a : Activity) (l' : Local) → Arrow z (word z r.world) s choice l a l' → Happens z r r' s choice l l' a → Shape z r → word z r'.world name.Clock + drawers r'.world.locals ≤ SPENT + z.seats
 clock_keeps z r r' s choice l a l' (waits e) h i = omega (arith, e, clock_kept ScanClock h (λ x. x), drawers_at_most r'.world.locals, ap length h.locals, length-set r.world.locals s l', i.sane.seats)
 clock_keeps z r r' s choice l a l' (is_spent e) h i = omega (arith, i.clock, clock_kept ScanClock h (λ x. x), drawers-set r.world.locals s l l' h.knows, ap drawers h.locals)
 clock_keeps z r r' s choice l a l' stores_waiting h i = omega (arith, i.clock, clock_kept ScanWait h (λ x. x), ap drawing h.activity, drawers-set r.world.locals s l l' h.knows, ap drawers h.locals)
@@ -266,13 +208,13 @@ get_answer None x k e = absurd k
 -- what a reader does next
 kinds_look : (z : Sizes) (j : ℕ) (l : Local) (next : Activity) → NextLook z j next → IsReadCall l.call → first_key l.call ≤ last_key l.call → Kinds next l
 kinds_look z j l next (looks o) k e = record { reached = tt; kind = k; range = λ x. e }
-kinds_look z j l next (counts o) k e = record { reached = tt; kind = k; range = λ x. e }
+kinds_look z j l next (lists o) k e = record { reached = tt; kind = k; range = λ x. e }
 
-kinds_cell : (l : Local) (j : ℕ) (next : Local) → NextCell l j next → IsReadCall l.call → first_key l.call ≤ last_key l.call → Kinds next.activity next
-kinds_cell l j next (reads_cell o) k e = record { reached = tt; kind = (k, o); range = λ x. e }
-kinds_cell l j next (answers o n) k e = record { reached = tt; kind = get_answer l.call _ k n; range = λ x. absurd x }
-kinds_cell l j next (ends_scan o y n) k e = record { reached = tt; kind = (scan_call l.call y, tt); range = λ x. absurd x }
-kinds_cell l j next (scans_on q o y n w) k e = record { reached = tt; kind = some_read l.call k; range = λ x. e }
+kinds_cell : (l : Local) (next : Local) → NextRest l next → IsReadCall l.call → first_key l.call ≤ last_key l.call → Kinds next.activity next
+kinds_cell l next (rests m o) k e = record { reached = tt; kind = k; range = λ x. e }
+kinds_cell l next (answers o n) k e = record { reached = tt; kind = get_answer l.call _ k n; range = λ x. absurd x }
+kinds_cell l next (ends_scan o y n) k e = record { reached = tt; kind = (scan_call l.call y, tt); range = λ x. absurd x }
+kinds_cell l next (scans_on q o y n w) k e = record { reached = tt; kind = some_read l.call k; range = λ x. e }
 
 -- by the arrow that the seat takes
 kinds_by : (z : Sizes) (v : Words) (s : ℕ) (choice : Choice) (l : Local) (a : Activity) (l' : Local) → Arrow z v s choice l a l' → Kinds a l → Kinds l'.activity l'
@@ -310,12 +252,16 @@ kinds_by z v s choice l a l' loads_to_help k = record { reached = tt; kind = k.k
 kinds_by z v s choice l a l' (helps next y n) k = kinds_look z _ _ next n k.kind (k.range tt)
 kinds_by z v s choice l a l' (finds_stamped c version next y n) k = kinds_look z _ _ next n k.kind (k.range tt)
 kinds_by z v s choice l a l' (finds_other next y n) k = kinds_look z _ _ next n k.kind (k.range tt)
-kinds_by z v s choice l a l' (counts_cells next n) k = kinds_cell _ _ next n k.kind (k.range tt)
-kinds_by z v s choice l a l' (has_version j version y) k = record { reached = tt; kind = k.kind; range = λ x. k.range tt }
-kinds_by z v s choice l a l' (has_no_version j next y n) k = kinds_cell _ _ next n k.kind.0 (k.range tt)
-kinds_by z v s choice l a l' (has_key y) k = record { reached = tt; kind = k.kind; range = λ x. k.range tt }
-kinds_by z v s choice l a l' (has_other_key next y n) k = kinds_cell _ _ next n k.kind.0 (k.range tt)
-kinds_by z v s choice l a l' (gathers next n) k = kinds_cell _ _ next n k.kind.0 (k.range tt)
+kinds_by z v s choice l a l' (list_ends next e n) k = kinds_cell _ next n k.kind (k.range tt)
+kinds_by z v s choice l a l' (list_leads c y) k = record { reached = tt; kind = k.kind; range = λ x. k.range tt }
+kinds_by z v s choice l a l' (key_below y) k = record { reached = tt; kind = k.kind; range = λ x. k.range tt }
+kinds_by z v s choice l a l' (key_within y w) k = record { reached = tt; kind = k.kind; range = λ x. k.range tt }
+kinds_by z v s choice l a l' loads_version k = record { reached = tt; kind = k.kind; range = λ x. k.range tt }
+kinds_by z v s choice l a l' gathers_listed k = record { reached = tt; kind = k.kind; range = λ x. k.range tt }
+kinds_by z v s choice l a l' (rest_wanted y) k = record { reached = tt; kind = k.kind; range = λ x. k.range tt }
+kinds_by z v s choice l a l' (key_above next y n) k = kinds_cell _ next n k.kind (k.range tt)
+kinds_by z v s choice l a l' (rest_passed next y n) k = kinds_cell _ next n k.kind (k.range tt)
+kinds_by z v s choice l a l' (gathers_rest next n) k = kinds_cell _ next n k.kind (k.range tt)
 kinds_by z v s choice l a l' (clears_scan answer) k = record { reached = tt; kind = cleared choice answer k.kind.1; range = λ x. absurd x }
   where
     cleared : (c : Choice) (y : Answer) → IsPairs y → IsAnswerOf l.call (answer_or_stopped y c)
@@ -335,30 +281,77 @@ kinds_by z v s choice l a l' (stamps y) k = record { reached = tt; kind = k.kind
 kinds_by z v s choice l a l' (is_stamped version y) k = record { reached = tt; kind = k.kind; range = λ x. absurd x }
 kinds_by z v s choice l a l' (is_not_own y) k = record { reached = tt; kind = no_rows l.call k.kind; range = λ x. absurd x }
 kinds_by z v s choice l a l' stores_version k = record { reached = tt; kind = k.kind; range = λ x. absurd x }
+kinds_by z v s choice l a l' (meets_cell c y) k = record { reached = tt; kind = k.kind; range = λ x. absurd x }
+kinds_by z v s choice l a l' (meets_none y) k = record { reached = tt; kind = k.kind; range = λ x. absurd x }
+kinds_by z v s choice l a l' (key_before y) k = record { reached = tt; kind = k.kind; range = λ x. absurd x }
+kinds_by z v s choice l a l' (key_same y) k = record { reached = tt; kind = k.kind; range = λ x. absurd x }
+kinds_by z v s choice l a l' (key_after y) k = record { reached = tt; kind = k.kind; range = λ x. absurd x }
+kinds_by z v s choice l a l' (version_before y) k = record { reached = tt; kind = k.kind; range = λ x. absurd x }
+kinds_by z v s choice l a l' (version_after y) k = record { reached = tt; kind = k.kind; range = λ x. absurd x }
+kinds_by z v s choice l a l' stores_after k = record { reached = tt; kind = k.kind; range = λ x. absurd x }
+kinds_by z v s choice l a l' (inserts y) k = record { reached = tt; kind = k.kind; range = λ x. absurd x }
+kinds_by z v s choice l a l' (loses y) k = record { reached = tt; kind = k.kind; range = λ x. absurd x }
 kinds_by z v s choice l a l' clears k = record { reached = tt; kind = put_done l.call k.kind; range = λ x. absurd x }
 kinds_by z v s choice l a l' (leaves answer) k = record { reached = tt; kind = tt; range = λ x. absurd x }
 
 -- the acting seat goes on to an activity of its call
-pub kinds_own : (z : Sizes) (r r' : Run) (s : ℕ) (choice : Choice) (l : Local) (a : Activity) (l' : Local) → Arrow z (word z r.world) s choice l a l' → Happens z r r' s choice l l' a → Shape z r.world → Kinds l'.activity l'
+pub kinds_own : (z : Sizes) (r r' : Run) (s : ℕ) (choice : Choice) (l : Local) (a : Activity) (l' : Local) → Arrow z (word z r.world) s choice l a l' → Happens z r r' s choice l l' a → Shape z r → Kinds l'.activity l'
 kinds_own z r r' s choice l a l' b h i = kinds_by z (word z r.world) s choice l a l' b (subst (λ q. Kinds q l) h.activity (i.kinds s l h.knows))
 
--- the acting seat is where its call has it
-pub walks_own : (z : Sizes) (r r' : Run) (s : ℕ) (choice : Choice) (l : Local) (a : Activity) (l' : Local) → Arrow z (word z r.world) s choice l a l' → Happens z r r' s choice l l' a → Shape z r.world → Walks r.world.rows (word z r'.world) l'.activity l'
-walks_own z r r' s choice l a l' b h i =
-    let w = subst (λ q. Walks r.world.rows (word z r.world) q l) h.activity (i.walks s l h.knows) in
-    walks_stable r.world.rows (word z r.world) (word z r'.world) l'.activity l' (same_rows a h) i.chain (known_own z r r' s choice l a l' b h i).below.row
-    (walks_by z r.world.rows (word z r.world) s choice l a l' b i.chain h.offers w)
+-- a seat that goes on in its pass may name the rows that it might
+pub own_rely : (z : Sizes) (r r' : Run) (s : ℕ) (choice : Choice) (l : Local) (a : Activity) (l' : Local) → Happens z r r' s choice l l' a → Shape z r → IsPassing a → (WritesPass a → ⊥) → RelyRows (word z r.world) (word z r'.world) r.ledger.rows r'.ledger.rows s
+own_rely z r r' s choice l a l' h i x n =
+    let p = (subst (λ q. Passes (word z r.world) r.ledger.rows s q l) h.activity (i.passes s l h.knows)).in_pass x in
+    rely_rows a h i.sane i.rows s p.since p.passes (ap (λ (g : Ledger). g.passes s) (rows_kept a h n) ∙ p.passes)
+
+-- a seat that goes on in its pass is where its call has it
+walks_in_pass : (z : Sizes) (r r' : Run) (s : ℕ) (choice : Choice) (l : Local) (a : Activity) (l' : Local) → Arrow z (word z r.world) s choice l a l' → Happens z r r' s choice l l' a → Shape z r → IsPassing a → (WritesPass a → ⊥) → Walks (word z r'.world) r'.ledger.rows s l'.activity l'
+walks_in_pass z r r' s choice l a l' b h i x n =
+    walks_stable _ _ _ _ s (own_rely z r r' s choice l a l' h i x n) l'.activity l' (walks_by z (word z r.world) r.ledger.rows s choice l a l' b i.rows (subst (λ q. Walks (word z r.world) r.ledger.rows s q l) h.activity (i.walks s l h.knows)))
+
+-- the acting seat is where its call has it: as it enters and leaves it is nowhere along the rows, and else it goes on in its pass
+pub walks_own : (z : Sizes) (r r' : Run) (s : ℕ) (choice : Choice) (l : Local) (a : Activity) (l' : Local) → Arrow z (word z r.world) s choice l a l' → Happens z r r' s choice l l' a → Shape z r → Walks (word z r'.world) r'.ledger.rows s l'.activity l'
+walks_own z r r' s choice l a l' (begins call e b) h i = walks_outside _ _ s Enter l' (λ x. x)
+walks_own z r r' s choice l a l' (enters e) h i = record { on = tt; lower = λ q. absurd q; at = λ q. absurd q; begins = λ q. refl; wants = λ q. absurd q }
+walks_own z r r' s choice l a l' (enters_scan e) h i = record { on = tt; lower = λ q. absurd q; at = λ q. absurd q; begins = λ q. absurd q; wants = λ q. absurd q }
+walks_own z r r' s choice l a l' (leaves answer) h i = walks_outside _ _ s Idle l' (λ x. x)
+walks_own z r r' s choice l a l' b h i = walks_in_pass z r r' s choice l _ l' b h i tt (λ x. x)
+
+-- Another seat.
+
+-- it is where its call has it
+walks_other : (z : Sizes) (r r' : Run) (s : ℕ) (choice : Choice) (l : Local) (a : Activity) (l' : Local) → Happens z r r' s choice l l' a → Shape z r → (t : ℕ) (k : Local) → t ≢ s → slice_get r.world.locals t ≡ Some k → Walks (word z r'.world) r'.ledger.rows t k.activity k
+walks_other z r r' s choice l a l' h i t k d g = which (is_passing k.activity)
+  where
+    which : IsPassing k.activity ⊎ (IsPassing k.activity → ⊥) → Walks (word z r'.world) r'.ledger.rows t k.activity k
+    which (inl x) =
+        let p = (i.passes t k g).in_pass x in
+        walks_stable _ _ _ _ t (rely_rows a h i.sane i.rows t p.since p.passes (others_kept a h t d ∙ p.passes)) k.activity k (i.walks t k g)
+    which (inr x) = walks_outside _ _ t k.activity k x
 
 -- The group.
 
-pub shape_keeps : (z : Sizes) (r r' : Run) (s : ℕ) (choice : Choice) (l : Local) (a : Activity) (l' : Local) → Happens z r r' s choice l l' a → Shape z r.world → Shape z r'.world
+-- a row is still in the list and normal, or free
+still_keeps : (z : Sizes) (r r' : Run) (s : ℕ) (choice : Choice) (l : Local) (a : Activity) (l' : Local) → Happens z r r' s choice l l' a → Shape z r → (q : ℕ) → IsStill (word z r'.world) r'.ledger.rows q
+still_keeps z r r' s choice l a l' h i q = which (i.still q)
+  where
+    status : (r'.ledger.rows.fates q).status ≡ (r.ledger.rows.fates q).status
+    status = ap (λ (x : Fate). x.status) (fates_kept a h q)
+
+    which : IsStill (word z r.world) r.ledger.rows q → IsStill (word z r'.world) r'.ledger.rows q
+    which (inl x) = inl (status ∙ x.0, state_kept a h i.sane q ∙ x.1)
+    which (inr x) = inr (status ∙ x)
+
+pub shape_keeps : (z : Sizes) (r r' : Run) (s : ℕ) (choice : Choice) (l : Local) (a : Activity) (l' : Local) → Happens z r r' s choice l l' a → Shape z r → Shape z r'
 shape_keeps z r r' s choice l a l' h i = record {
   sane = sane_keeps z r r' s choice l a l' h.arrow h i;
   room = λ q o. room_keeps z r r' s choice l a l' h.arrow h i q (subst (λ x. q < x) h.rows o);
   clock = clock_keeps z r r' s choice l a l' h.arrow h i;
-  chain = subst (λ x. Chain x (word z r'.world)) (sym h.rows) (chain_stable r.world.rows (word z r.world) (word z r'.world) (same_rows a h) i.chain);
+  rows = structure_keeps a h i.sane i.rows;
+  beyond = λ q o. ap (λ (x : Fate). x.status) (fates_kept a h q) ∙ i.beyond q (omega (arith, o, h.rows));
+  still = still_keeps z r r' s choice l a l' h i;
+  numbers = numbers_keep z r r' s choice l a l' h i;
   kinds = each_seat h (λ t k. Kinds k.activity k) (kinds_own z r r' s choice l a l' h.arrow h i) (λ t k d g. i.kinds t k g);
-  walks = each_seat h (λ t k. Walks r'.world.rows (word z r'.world) k.activity k)
-      (subst (λ x. Walks x (word z r'.world) l'.activity l') (sym h.rows) (walks_own z r r' s choice l a l' h.arrow h i))
-      (λ t k d g. subst (λ x. Walks x (word z r'.world) k.activity k) (sym h.rows) (walks_stable r.world.rows (word z r.world) (word z r'.world) k.activity k (same_rows a h) i.chain (i.sane.locals t k g).below.row (i.walks t k g)));
+  passes = each_seat h (λ t k. Passes (word z r'.world) r'.ledger.rows t k.activity k) (passes_own z r r' s choice l a l' h.arrow h i) (passes_other z r r' s choice l a l' h i);
+  walks = each_seat h (λ t k. Walks (word z r'.world) r'.ledger.rows t k.activity k) (walks_own z r r' s choice l a l' h.arrow h i) (walks_other z r r' s choice l a l' h i);
 }

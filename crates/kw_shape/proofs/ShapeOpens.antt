@@ -1,27 +1,42 @@
 -- The shape holds where nothing happened.
-use Rattle.std.proofs.Common.{ℕ, zero, suc, ◌≡◌, inl, ◌<◌, Some, None, arith, refl, sym, ◌∙◌, ap}
+use Rattle.std.proofs.Common.{ℕ, zero, suc, ◌≡◌, ◌⊎◌, inl, inr, ◌<◌, ◌≤◌, true, false, Some, None, arith, refl, sym, ◌∙◌, ap, subst}
+use Rattle.std.proofs.lemmas.Bool.{cases_lt}
+use Rattle.std.proofs.lemmas.Option.{slice_get_within}
+use Rattle.kw_world.specs.declared.activity.Activity.TheVariants.{Idle}
 use Rattle.kw_words.specs.declared.layout.Name.{Name}
 use Rattle.kw_words.specs.declared.layout.Name.TheVariants as name
 use Rattle.kw_world.specs.Sizes.{Sizes}
 use Rattle.kw_world.specs.declared.opening.Opening.{Opening}
 use Rattle.std.specs.Prelude.{replicate}
 use Rattle.kw_words.specs.declared.state.State.TheVariants.{Normal}
-use Rattle.kw_words.specs.Layout.{IsWithin}
+use Rattle.kw_words.specs.Layout.{IsWithin, place_of, row_start}
 use Rattle.kw_words.specs.Count.{count_of}
 use Rattle.kw_words.specs.Link.{link_of, link_word}
-use Rattle.kw_words.specs.State.{state_word}
+use Rattle.kw_words.specs.State.{state_of, state_word}
+use Rattle.kw_words.proofs.StateWords.{state_of-Free, state_of-Normal}
 use Rattle.kw_words.specs.Plain.{key_of_word}
 use Rattle.kw_world.specs.Local.{resting}
 use Rattle.kw_world.specs.Transition.{row_linked}
 use Rattle.kw_world.specs.PutTransitions.{given_of}
-use Rattle.kw_world.specs.Opening.{IsOpening, opened, opening_word, opening_state, link_to}
+use Rattle.kw_world.specs.Opening.{IsOpening, opened, opening_word, link_to}
 pub use Rattle.kw_world.proofs.Opens.{all_resting, each_rests}
 use Rattle.kw_world.proofs.Opens.{opened-sane}
 use Rattle.kw_world.proofs.Begins.{opened-word}
 use Rattle.kw_shape.specs.Rooms.{adders, drawers}
 use Rattle.kw_world.specs.Step.{word}
 use Rattle.kw_core.specs.Words.{next_in, given_in}
-use Rattle.kw_shape.specs.Shape.{IsLinked, Chain, Kinds, Walks, Shape}
+use Rattle.kw_core.specs.Ledger.{fate_at_first, ledger_at_first}
+use Rattle.kw_core.specs.Run.{start}
+use Rattle.kw_core.proofs.Beyond.{beyond}
+use Rattle.kw_rows.specs.Ledger.{Free, Live, Dead, IsDead, IsHeld, IsLive}
+use Rattle.kw_rows.specs.RowState as row
+use Rattle.kw_rows.specs.Rows.{Chain, bound}
+use Rattle.kw_rows.specs.States.{IsLiveState, Marks, States}
+use Rattle.kw_rows.specs.Structure.{Structure}
+use Rattle.kw_shape.specs.Passes.{Passes}
+use Rattle.kw_shape.specs.RowsIn.{has_frozen, has_mark, rows_in, state_met}
+use Rattle.kw_shape.specs.Shape.{IsStill, Kinds, Shape, Walks}
+use Rattle.kw_shape.proofs.RelyRows.{walks_outside}
 
 no_adders : (n q : ℕ) → adders q (replicate n (resting 0)) ≡ 0
 no_adders zero q = refl
@@ -39,6 +54,14 @@ no_link : row_linked (link_of 0) ≡ None
 unfolding link_of
 no_link = refl
 
+no_mark : has_mark (link_of 0) ≡ false
+unfolding link_of
+no_mark = refl
+
+not_frozen : has_frozen (count_of 0) ≡ false
+unfolding count_of
+not_frozen = refl
+
 to_first : row_linked (link_of (link_word (link_to 0))) ≡ Some 0
 unfolding link_of
 to_first = refl
@@ -54,34 +77,123 @@ module _ (z : Sizes) (o : Opening) (i : IsOpening z o) where
   pub given-none : (q : ℕ) → q < o.rows → given_in (word z (opened z o)) q ≡ 0
   given-none q w = ap (λ x. given_of (count_of x)) (opens (name.Count q) w) ∙ none_given
 
-  next-none : (q : ℕ) → q < o.rows → next_in (word z (opened z o)) q ≡ None
-  next-none q w = ap (λ x. row_linked (link_of x)) (opens (name.Next q) w) ∙ no_link
+  -- a row that the table does not have has words of 0, as all rows but the first
+  word-none : (n : Name) (q : ℕ) → (q < o.rows → IsWithin z.seats z.cells o.rows n) → row_start z.seats z.cells q ≤ place_of z.seats z.cells n → opening_word o n ≡ 0 → word z (opened z o) n ≡ 0
+  word-none n q w b e = which (cases_lt q o.rows)
+    where
+      which : (q < o.rows) ⊎ (o.rows ≤ q) → word z (opened z o) n ≡ 0
+      which (inl p) = opens n (w p) ∙ e
+      which (inr p) = beyond z (opened z o) n q (opened-sane z o i).words p b
 
-  -- only the first row is in the list
-  only_first : (q : ℕ) → IsLinked o.rows (word z (opened z o)) q → q ≡ 0
+  next-none : (q : ℕ) → next_in (word z (opened z o)) q ≡ None
+  next-none q = ap (λ x. row_linked (link_of x)) (word-none (name.Next q) q (λ x. x) (omega arith) refl) ∙ no_link
+
+  mark-none : (q : ℕ) → (rows_in (word z (opened z o))).marked q ≡ false
+  mark-none q = ap (λ x. has_mark (link_of x)) (word-none (name.Next q) q (λ x. x) (omega arith) refl) ∙ no_mark
+
+  frozen-none : (q : ℕ) → (rows_in (word z (opened z o))).frozen q ≡ false
+  frozen-none q = ap (λ x. has_frozen (count_of x)) (word-none (name.Count q) q (λ x. x) (omega arith) refl) ∙ not_frozen
+
+  -- the first row is normal, and every other one free
+  first-normal : word z (opened z o) (name.State 0) ≡ state_word Normal
+  first-normal = opens (name.State 0) i.sized.some_rows
+
+  first-state : (rows_in (word z (opened z o))).state 0 ≡ row.Normal
+  first-state = ap (λ x. state_met (state_of x)) first-normal ∙ ap state_met state_of-Normal
+
+  other-state : (q : ℕ) → (rows_in (word z (opened z o))).state (suc q) ≡ row.Free
+  other-state q = ap (λ x. state_met (state_of x)) (word-none (name.State (suc q)) (suc q) (λ x. x) (omega arith) refl) ∙ ap state_met state_of-Free
+
+  -- only the first row is in the list, and none was unlinked
+  only_first : (q : ℕ) → IsLive (ledger_at_first o).rows q → q ≡ 0
   only_first zero a = refl
-  only_first (suc q) a = let x : opening_state (suc q) ≡ state_word Normal = sym (opens (name.State (suc q)) a.below) ∙ a.normal in absurd (omega (arith, x))
+  only_first (suc q) a = let x : Free ≡ Live = a in absurd (cc)
 
-  chain_starts : Chain o.rows (word z (opened z o))
+  none_dead : {A : Type 0} (q : ℕ) → IsDead (ledger_at_first o).rows q → A
+  none_dead zero a = let x : Live ≡ Dead = a in absurd (cc)
+  none_dead (suc q) a = let x : Free ≡ Dead = a in absurd (cc)
+
+  -- no row is held but the first, which has no next row
+  held_live : (q : ℕ) → IsHeld (ledger_at_first o).rows q → IsLive (ledger_at_first o).rows q
+  held_live q (inl a) = a
+  held_live q (inr h) = none_dead q h.1.dead
+
+  no_next : {A : Type 0} (q n : ℕ) → next_in (word z (opened z o)) q ≡ Some n → A
+  no_next q n e = let x : None ≡ Some n = sym (next-none q) ∙ e in absurd (cc)
+
+  no_mark_of : {A : Type 0} (q : ℕ) → (rows_in (word z (opened z o))).marked q ≡ true → A
+  no_mark_of q e = let x : false ≡ true = sym (mark-none q) ∙ e in absurd (cc)
+
+  chain_starts : Chain (rows_in (word z (opened z o))) (ledger_at_first o).rows
   chain_starts = record {
     first = 0;
     leads = ap (λ x. row_linked (link_of x)) (opens name.Head tt) ∙ to_first;
-    first_linked = record { below = i.sized.some_rows; normal = opens (name.State 0) i.sized.some_rows };
+    first_live = refl;
     first_least = ap key_of_word (opens (name.Min 0) i.sized.some_rows) ∙ least_key;
-    linked = λ q n a e. no_next q n a e;
-    rises = λ q n a e. no_next q n a e;
+    linked = λ q n a e. no_next q n e;
+    rises = λ q n a e. no_next q n e;
     apart = λ q n a b. inl (only_first q a ∙ sym (only_first n b));
   }
-    where
-      no_next : {A : Type 0} (q n : ℕ) → IsLinked o.rows (word z (opened z o)) q → next_in (word z (opened z o)) q ≡ Some n → A
-      no_next q n a e = let x : None ≡ Some n = sym (next-none q a.below) ∙ e in absurd (cc)
 
-  pub shape_starts : Shape z (opened z o)
+  states_start : States (rows_in (word z (opened z o))) (ledger_at_first o).rows
+  states_start zero = subst (IsLiveState (rows_in (word z (opened z o))) (ledger_at_first o).rows 0) (sym first-state) tt
+  states_start (suc q) = other-state q
+
+  -- no row leads a group
+  no_leader : {A : Type 0} (q n : ℕ) → (rows_in (word z (opened z o))).state q ≡ row.Leader n → A
+  no_leader zero n e = let x : row.Normal ≡ row.Leader n = sym first-state ∙ e in absurd (cc)
+  no_leader (suc q) n e = let x : row.Free ≡ row.Leader n = sym (other-state q) ∙ e in absurd (cc)
+
+  marks_start : (q : ℕ) → Marks (rows_in (word z (opened z o))) (ledger_at_first o).rows q
+  marks_start q = record {
+    engaged = λ a e. no_mark_of q e;
+    decided = λ m a o e. no_leader q m e;
+    frozen = λ a e. let x : false ≡ true = sym (frozen-none q) ∙ e in absurd (cc);
+    buried = λ d. none_dead q d;
+  }
+
+  structure_starts : Structure (rows_in (word z (opened z o))) (ledger_at_first o).rows 0
+  structure_starts = record {
+    chain = chain_starts;
+    closed = record {
+      linked = λ q n a e. no_next q n e;
+      later = λ q n a e d. no_next q n e;
+      rises = λ q n a e. no_next q n e;
+      upper = λ q a. ap (bound (rows_in (word z (opened z o)))) (sym (next-none q));
+    };
+    states = states_start;
+    marks = marks_start;
+    pairs = λ q. record { next = λ a e. no_leader q 2 e; claimed = λ a d e. none_dead q d; together = λ p a d e. none_dead q d };
+    follows = λ x y key d w p q n. none_dead x d;
+    past = record { gone = λ q d. none_dead q d; begun = λ t since e. let x : None ≡ Some since = e in absurd (cc); drawn = λ m at e. let x : None ≡ Some at = e in absurd (cc) };
+  }
+
+  still_starts : (q : ℕ) → IsStill (word z (opened z o)) (ledger_at_first o).rows q
+  still_starts zero = inl (refl, first-normal)
+  still_starts (suc q) = inr refl
+
+  beyond_starts : (q : ℕ) → o.rows ≤ q → (fate_at_first o q).status ≡ Free
+  beyond_starts zero w = absurd (omega (arith, w, i.sized.some_rows))
+  beyond_starts (suc q) w = refl
+
+  passes_start : (t : ℕ) → t < z.seats → Passes (word z (opened z o)) (ledger_at_first o).rows t Idle (resting 0)
+  passes_start t w = record {
+    in_pass = λ x. absurd x;
+    in_none = λ x. record { passes = refl; word = opens (name.Pass t) w };
+    epoch = λ x. absurd x;
+    before = λ m at since o e f. let x : None ≡ Some at = e in absurd (cc);
+  }
+
+  pub shape_starts : Shape z (start z o)
   shape_starts = record {
     sane = opened-sane z o i;
     room = λ q w. omega (arith, given-none q w, no_adders o.seats q, i.sized.some_cells);
     clock = omega (arith, opens name.Clock tt, no_drawers o.seats, i.clock);
-    chain = chain_starts;
+    rows = structure_starts;
+    beyond = beyond_starts;
+    still = still_starts;
+    numbers = record { below = λ m at e. let x : None ≡ Some at = e in absurd (cc); rises = λ m n x y e f. let u : None ≡ Some x = e in absurd (cc) };
     kinds = each_rests z o (λ t l. Kinds l.activity l) (λ t. record { reached = tt; kind = tt; range = λ x. absurd x });
-    walks = each_rests z o (λ t l. Walks o.rows (word z (opened z o)) l.activity l) (λ t. record { on = tt; lower = λ x. absurd x; at = λ x. absurd x; begins = λ x. absurd x; wants = λ x. absurd x });
+    passes = λ t l g. each_rests z o (λ t l. t < z.seats → Passes (word z (opened z o)) (ledger_at_first o).rows t l.activity l) passes_start t l g (omega (arith, slice_get_within (opened z o).locals t l g, (opened-sane z o i).seats));
+    walks = each_rests z o (λ t l. Walks (word z (opened z o)) (ledger_at_first o).rows t l.activity l) (λ t. walks_outside (word z (opened z o)) (ledger_at_first o).rows t Idle (resting 0) (λ x. x));
   }

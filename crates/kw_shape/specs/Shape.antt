@@ -1,83 +1,73 @@
--- What holds of the rows and of where each seat is: the chain of rows, the room in the counts, which activities a call has, and
--- at which row a seat walks.
+-- What holds of the rows and of where each seat is: the rows as a list, the room in the counts, which activities a call has, and at
+-- which row a seat walks. A seat names rows that are in the list, or were so in its pass (`IsFresh`, of `kw_rows`).
 --
 -- The words are a function of names here, so that a fact says what it reads.
-use Rattle.std.specs.Prelude.{ℕ, ◌≡◌, ◌⊎◌, ◌+◌, ◌<◌, ◌≤◌, true, Option, Some, None, slice_get}
+use Rattle.std.specs.Prelude.{ℕ, ◌≡◌, ◌⊎◌, ◌+◌, ◌<◌, ◌≤◌, true, Option, Some, None, length, slice_get}
 use Rattle.kw_words.specs.declared.layout.Name.TheVariants as name
 use Rattle.kw_words.specs.declared.state.State.TheVariants.{Normal}
 use Rattle.kw_words.specs.declared.sizes.TheConstants.{SPENT}
-use Rattle.kw_words.specs.Link.{link_of}
 use Rattle.kw_words.specs.State.{state_word}
 use Rattle.kw_model.specs.declared.call.Call.{Call}
 use Rattle.kw_model.specs.declared.call.Call.TheVariants.{Put, Del, Get, Scan}
 use Rattle.kw_world.specs.declared.answer.Answer.{Answer}
 use Rattle.kw_world.specs.declared.answer.Answer.TheVariants.{Done, Value, Absent, Pairs, NoRows, Spent, Stopped}
 use Rattle.kw_world.specs.declared.activity.Activity.{Activity}
-use Rattle.kw_world.specs.declared.activity.Activity.TheVariants.{Idle, ScanClock, ScanWait, ScanDraw, ScanSettle, GuessMin, Walk, WalkMin, Look, LookKey, LookClock, LookHelp, LookCount, Cell, CellKey, CellValue, ClearScan, PutCount, PutAdd, PutKey, PutValue, Announce, PutClock, Stamp, PutVersion, PutClear, Leave}
+use Rattle.kw_world.specs.declared.activity.Activity.TheVariants.{Idle, ScanClock, ScanWait, ScanDraw, ScanSettle, GuessMin, Walk, WalkMin, Look, LookKey, LookClock, LookHelp, ListFrom, ListKey, ListVer, ListVal, RestKey, RestVal, ClearScan, PutCount, PutAdd, PutKey, PutValue, Announce, PutClock, Stamp, PutVersion, InsFrom, InsKey, InsVer, InsSet, Insert, PutClear, Leave}
 use Rattle.kw_world.specs.declared.local.Local.{Local}
 use Rattle.kw_world.specs.Sizes.{Sizes}
-use Rattle.kw_world.specs.WorldView.{WorldView}
 use Rattle.kw_world.specs.Calls.{first_key, last_key, is_scan}
-use Rattle.kw_world.specs.Transition.{row_linked}
 use Rattle.kw_world.specs.Sane.{IsSane}
 use Rattle.kw_world.specs.Step.{word}
 pub use Rattle.kw_core.specs.Words.{Words, next_in, least_in, given_in}
 use Rattle.kw_core.specs.Stages.{IsStarting, IsCovering, IsAtRow, IsPastStart, IsReached}
+use Rattle.kw_core.specs.Run.{Run}
+use Rattle.kw_rows.specs.Ledger.{Ledger, Free, IsLive, IsFresh}
+use Rattle.kw_rows.specs.Rows as rows
+use Rattle.kw_rows.specs.Structure.{Structure}
 use Rattle.kw_shape.specs.Rooms.{adders, drawers}
+use Rattle.kw_shape.specs.RowsIn.{rows_in}
+use Rattle.kw_shape.specs.Passes.{Passes, Numbers}
 
 -- The rows.
 
--- the row is one of the table's, and is in the normal state: it is in the list of rows
-pub record IsLinked (rows : ℕ) (v : Words) (r : ℕ) : Type 0 where
-  pub below : r < rows
-  pub normal : v (name.State r) ≡ state_word Normal
+-- what stands in place of rows that come and go, as long as no row is rebalanced: the row is in the list and normal, or free
+abbrev pub IsStill : Words → Ledger → ℕ → Type 0
+IsStill v g q = IsLive g q × (v (name.State q) ≡ state_word Normal) ⊎ ((g.fates q).status ≡ Free)
 
--- the key is one that the row may hold: not below its minimum, and below that of the next row
-pub record HoldsKey (v : Words) (r key : ℕ) : Type 0 where
-  pub from : least_in v r ≤ key
-  pub below : (n : ℕ) → next_in v r ≡ Some n → key < least_in v n
-
--- no key that the row q may hold is one of the row r: a row stands after r whose minimum is at most that of q
-pub record IsBefore (v : Words) (r q : ℕ) : Type 0 where
-  pub next : ℕ
-  pub follows : next_in v r ≡ Some next
-  pub above : least_in v next ≤ least_in v q
-
--- the list of rows: it begins with a row of minimum 0, links lead from linked rows to linked rows and minima rise along them,
--- and of two linked rows one stands before the other
-pub record Chain (rows : ℕ) (v : Words) : Type 0 where
-  pub first : ℕ
-  pub leads : row_linked (link_of (v name.Head)) ≡ Some first
-  pub first_linked : IsLinked rows v first
-  pub first_least : least_in v first ≡ 0
-  pub linked : (r q : ℕ) → IsLinked rows v r → next_in v r ≡ Some q → IsLinked rows v q
-  pub rises : (r q : ℕ) → IsLinked rows v r → next_in v r ≡ Some q → least_in v r < least_in v q
-  pub apart : (r q : ℕ) → IsLinked rows v r → IsLinked rows v q → (r ≡ q) ⊎ IsBefore v r q ⊎ IsBefore v q r
+-- the key is one that the row may hold: not below its minimum, and below the end of its range
+abbrev pub HoldsKey : Words → Ledger → ℕ → ℕ → Type 0
+HoldsKey v g q key = rows.HoldsKey (rows_in v) g q key
 
 -- Where a seat is.
 
--- the seat is at the row of its wanted key, and knows the row after it
-pub record IsAtItsRow (rows : ℕ) (v : Words) (l : Local) : Type 0 where
-  pub linked : IsLinked rows v l.row
-  pub from : least_in v l.row ≤ l.want
-  pub next : l.next ≡ next_in v l.row
-  pub upper : (n : ℕ) → l.next ≡ Some n → l.upper ≡ least_in v n
-  pub below : (n : ℕ) → l.next ≡ Some n → l.want < l.upper
+-- the row n stands after the one of the seat, which knows its minimum: the range of its row ends there, above the wanted key
+pub record IsAfterRow (v : Words) (g : Ledger) (t : ℕ) (l : Local) (n : ℕ) : Type 0 where
+  pub fresh : IsFresh g t n
+  pub least : l.upper ≡ least_in v n
+  pub ends : (g.fates l.row).upper ≡ Some l.upper
+  pub below : l.want < l.upper
 
--- the row that the walk is on is linked, its minimum is at most the wanted key, and the candidate is the row after it
-abbrev pub IsOnWalk : Activity → ℕ → Words → Local → Type 0
-IsOnWalk GuessMin rows v l = IsLinked rows v l.row
-IsOnWalk Walk rows v l = IsLinked rows v l.row × (least_in v l.row ≤ l.want)
-IsOnWalk WalkMin rows v l = IsLinked rows v l.row × (least_in v l.row ≤ l.want) × (next_in v l.row ≡ Some l.candidate)
-IsOnWalk _ rows v l = Unit {0}
+-- the seat is at the row of its wanted key, which it may name, and knows the row after it
+pub record IsAtItsRow (v : Words) (g : Ledger) (t : ℕ) (l : Local) : Type 0 where
+  pub fresh : IsFresh g t l.row
+  pub from : least_in v l.row ≤ l.want
+  pub last : l.next ≡ None → (g.fates l.row).upper ≡ None
+  pub next : (n : ℕ) → l.next ≡ Some n → IsAfterRow v g t l n
+
+-- the seat may name the row that its walk is on, whose minimum is at most the wanted key, and the candidate, where the row's range ends
+abbrev pub IsOnWalk : Activity → Words → Ledger → ℕ → Local → Type 0
+IsOnWalk GuessMin v g t l = IsFresh g t l.row
+IsOnWalk Walk v g t l = IsFresh g t l.row × (least_in v l.row ≤ l.want)
+IsOnWalk WalkMin v g t l = IsFresh g t l.row × (least_in v l.row ≤ l.want) × IsFresh g t l.candidate × ((g.fates l.row).upper ≡ Some (least_in v l.candidate))
+IsOnWalk _ v g t l = Unit {0}
 
 -- what a seat's walk is at. A put, a delete or a get wants its key throughout; a scan wants its first key, or the minimum of the
 -- row to which it went on. From the first row on the seat knows the minimum of the row that it is at; as minima rise along the
 -- links, so does what it knows from row to row, and the walk ends
-pub record Walks (rows : ℕ) (v : Words) (a : Activity) (l : Local) : Type 0 where
-  pub on : IsOnWalk a rows v l
+pub record Walks (v : Words) (g : Ledger) (t : ℕ) (a : Activity) (l : Local) : Type 0 where
+  pub on : IsOnWalk a v g t l
   pub lower : IsPastStart a → l.lower ≡ least_in v l.row
-  pub at : IsAtRow a → IsAtItsRow rows v l
+  pub at : IsAtRow a → IsAtItsRow v g t l
   pub begins : IsStarting a → l.want ≡ first_key l.call
   pub wants : IsPastStart a → (l.want ≡ first_key l.call) ⊎ (is_scan l.call ≡ true) × (least_in v l.row ≡ l.want)
 
@@ -123,7 +113,7 @@ abbrev pub IsPairs : Answer → Type 0
 IsPairs Pairs = Unit {0}
 IsPairs _ = ⊥
 
--- the activity is one of such a call, and what it names is in range
+-- the activity is one of such a call
 abbrev pub IsKind : Activity → Local → Type 0
 IsKind Idle l = Unit {0}
 IsKind ScanClock l = IsScanCall l.call
@@ -134,10 +124,12 @@ IsKind (Look i) l = IsReadCall l.call
 IsKind LookKey l = IsReadCall l.call
 IsKind LookClock l = IsReadCall l.call
 IsKind LookHelp l = IsReadCall l.call
-IsKind LookCount l = IsReadCall l.call
-IsKind (Cell j) l = IsReadCall l.call × (j < l.count)
-IsKind CellKey l = IsReadCall l.call × (l.place < l.count)
-IsKind CellValue l = IsReadCall l.call × (l.place < l.count)
+IsKind ListFrom l = IsReadCall l.call
+IsKind ListKey l = IsReadCall l.call
+IsKind ListVer l = IsReadCall l.call
+IsKind ListVal l = IsReadCall l.call
+IsKind RestKey l = IsReadCall l.call
+IsKind RestVal l = IsReadCall l.call
 IsKind (ClearScan answer) l = IsScanCall l.call × IsPairs answer
 IsKind PutCount l = IsPutCall l.call
 IsKind PutAdd l = IsPutCall l.call
@@ -147,6 +139,11 @@ IsKind Announce l = IsPutCall l.call
 IsKind PutClock l = IsPutCall l.call
 IsKind Stamp l = IsPutCall l.call
 IsKind PutVersion l = IsPutCall l.call
+IsKind InsFrom l = IsPutCall l.call
+IsKind InsKey l = IsPutCall l.call
+IsKind InsVer l = IsPutCall l.call
+IsKind InsSet l = IsPutCall l.call
+IsKind Insert l = IsPutCall l.call
 IsKind PutClear l = IsPutCall l.call
 IsKind (Leave answer) l = IsAnswerOf l.call answer
 IsKind _ l = IsSomeCall l.call
@@ -159,12 +156,20 @@ pub record Kinds (a : Activity) (l : Local) : Type 0 where
 
 -- The group.
 
--- what holds of a world: it is sane, each row has room for the cells that are asked for, the clock for the versions that are
--- drawn, the rows are a chain, and each seat is where its call has it
-pub record Shape (z : Sizes) (w : WorldView) : Type 0 where
-  pub sane : IsSane z w
-  pub room : (r : ℕ) → r < w.rows → given_in (word z w) r + adders r w.locals < z.cells + z.seats
-  pub clock : word z w name.Clock + drawers w.locals ≤ SPENT + z.seats
-  pub chain : Chain w.rows (word z w)
-  pub kinds : (t : ℕ) (l : Local) → slice_get w.locals t ≡ Some l → Kinds l.activity l
-  pub walks : (t : ℕ) (l : Local) → slice_get w.locals t ≡ Some l → Walks w.rows (word z w) l.activity l
+-- what holds of a run, whatever its record says of calls: the world is sane, each row has room for the cells that are asked for, the
+-- clock for the versions that are drawn, the rows have the structure of a list whose rows come and go, and each seat is where its call
+-- has it
+pub record Shape (z : Sizes) (r : Run) : Type 0 where
+  pub sane : IsSane z r.world
+  pub room : (q : ℕ) → q < r.world.rows → given_in (word z r.world) q + adders q r.world.locals < z.cells + z.seats
+  pub clock : word z r.world name.Clock + drawers r.world.locals ≤ SPENT + z.seats
+  -- the live rows are one list, rows that a seat may name lead to such rows, and states and marks go with the fates
+  pub rows : Structure (rows_in (word z r.world)) r.ledger.rows (length r.history.log)
+  -- a row that the table does not have is free
+  pub beyond : (q : ℕ) → r.world.rows ≤ q → (r.ledger.rows.fates q).status ≡ Free
+  -- as long as no row is rebalanced, none comes or goes
+  pub still : (q : ℕ) → IsStill (word z r.world) r.ledger.rows q
+  pub numbers : Numbers (word z r.world) r.ledger.rows
+  pub kinds : (t : ℕ) (l : Local) → slice_get r.world.locals t ≡ Some l → Kinds l.activity l
+  pub passes : (t : ℕ) (l : Local) → slice_get r.world.locals t ≡ Some l → Passes (word z r.world) r.ledger.rows t l.activity l
+  pub walks : (t : ℕ) (l : Local) → slice_get r.world.locals t ≡ Some l → Walks (word z r.world) r.ledger.rows t l.activity l

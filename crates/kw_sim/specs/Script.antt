@@ -1,47 +1,20 @@
 -- The lines of a script: which commands there are, and how each is written.
 use Rattle.std.specs.Prelude.{ℕ, ◌≡◌, ◌+◌, ◌<◌, ◌≤◌, List, [], ◌∷◌, ◌++◌, map, length, codes, decimal, Result, Ok, Err}
 use Rattle.std.specs.List.{join_with_byte, AllByRecursion}
-use Rattle.kw_model.specs.declared.call.Call.{Call}
 use Rattle.kw_model.specs.declared.call.Call.TheVariants as call
 use Rattle.kw_words.specs.declared.sizes.TheConstants.{SEATS}
 use Rattle.kw_words.specs.Kind.{name_of}
 use Rattle.kw_line.specs.declared.words.TheConstants.{SPACE}
 use Rattle.kw_line.specs.Cut.{lines}
-use Rattle.kw_line.specs.Line.{arguments, FitsCall}
+use Rattle.kw_line.specs.Line.{FitsCall}
+use Rattle.kw_judge.specs.Texts.{call_words}
 use Rattle.kw_sim.specs.declared.command.Command.{Command}
 use Rattle.kw_sim.specs.declared.command.Command.TheVariants as command
 use Rattle.kw_sim.specs.declared.command.ScriptError.{ScriptError}
 use Rattle.kw_sim.specs.declared.command.ScriptError.TheVariants as error
 use Rattle.kw_sim.specs.declared.parse.Verb.{Verb}
 use Rattle.kw_sim.specs.declared.parse.Verb.TheVariants as verb
-use Rattle.kw_sim.specs.declared.parse.CallVerb.{CallVerb}
-use Rattle.kw_sim.specs.declared.parse.CallVerb.TheVariants as call_verb
 use Rattle.kw_sim.specs.declared.parse.TheConstants.{MOST_LINES, MOST_STEPS}
-
--- what a call does, and the word for it
-abbrev pub call_verb_of : Call → CallVerb
-call_verb_of (call.Put k v) = call_verb.Put
-call_verb_of (call.Del k) = call_verb.Del
-call_verb_of (call.Get k) = call_verb.Get
-call_verb_of (call.Scan a b) = call_verb.Scan
-
-abbrev pub call_verb_word : CallVerb → List ℕ
-call_verb_word call_verb.Put = codes "put"
-call_verb_word call_verb.Del = codes "del"
-call_verb_word call_verb.Get = codes "get"
-call_verb_word call_verb.Scan = codes "scan"
-
--- the word that a call begins with
-abbrev pub call_word : Call → List ℕ
-call_word c = call_verb_word (call_verb_of c)
-
--- the words of a call: its own, and its numbers without a sign or a leading zero
-abbrev pub call_words : Call → List (List ℕ)
-call_words c = call_word c ∷ map decimal (arguments c)
-
--- a call as a script has it: its words, separated by one space each
-abbrev pub call_text : Call → List ℕ
-call_text c = join_with_byte SPACE (call_words c)
 
 -- the verb of a command, and the word for it
 abbrev pub verb_of : Command → Verb

@@ -3,19 +3,16 @@
 //! A line is read word by word, and it is the text of a command exactly where all its words are read. Each reader takes
 //! what it reads off the front of the words that are left, and its contract says the same both ways: which words it takes
 //! for what, and that no other words would have been that.
-ghost use Rattle.std.specs.Prelude.{◌≡◌, ◌≢◌, ◌≤◌, ◌++◌, ◌∷◌, ℕ, List, map, decimal, MatchOption, IfOk};
-ghost use Rattle.kw_model.specs.declared.call.Call.{Call as AnyCall};
+ghost use Rattle.std.specs.Prelude.{◌≡◌, ◌≢◌, ◌≤◌, ◌++◌, ◌∷◌, ℕ, List, decimal, MatchOption, IfOk};
 ghost use Rattle.kw_words.specs.declared.kind.Kind.{Kind as AnyKind};
 ghost use Rattle.kw_words.specs.Kind.{name_of};
-ghost use Rattle.kw_line.specs.Line.{FitsCall, arguments};
 ghost use Rattle.kw_sim.specs.declared.command.Command.{Command as AnyCommand};
 ghost use Rattle.kw_sim.specs.declared.parse.Verb.{Verb as AnyVerb};
-ghost use Rattle.kw_sim.specs.declared.parse.CallVerb.{CallVerb as AnyCallVerb};
-ghost use Rattle.kw_sim.specs.Script.{call_words, call_verb_of, call_verb_word, verb_word, verb_of, seat_of, rest_words, command_text, HasRange, IsCommand, IsText, AreLinesOf, IfBad};
+ghost use Rattle.kw_sim.specs.Script.{verb_word, verb_of, seat_of, rest_words, command_text, HasRange, IsCommand, IsText, AreLinesOf, IfBad};
 
 use crate::command::{Command, ScriptError};
+use kw_judge::parse::call;
 use kw_line::words::{Lines, Words};
-use kw_model::call::Call;
 use kw_words::kind::Kind;
 use kw_words::sizes::SEAT_COUNT;
 use std::alloc::Global;
@@ -36,15 +33,6 @@ pub enum Verb {
     Until,
     Guess,
     Stop,
-}
-
-/// The first word of a call.
-#[derive(Clone, Copy, Debug, PartialEq, Eq)]
-pub enum CallVerb {
-    Put,
-    Del,
-    Get,
-    Scan,
 }
 
 /// The commands of a script's lines, one for each line, for a table of this many rows.
@@ -133,53 +121,6 @@ fn rest(rows: u32, verb: Verb, seat: u32, words: &mut Words) -> Option<Command>
             (row < rows).then_some(Command::Guess { seat, row })
         }
         Verb::Stop => Some(Command::Stop { seat }),
-    }
-}
-
-/// The call whose words are the next ones, or none.
-fn call(words: &mut Words) -> Option<Call>
-    ensures { MatchOption result
-        ((call : AnyCall) (left : List (List ℕ)) → FitsCall call → words.old ≢ call_words call ++ left)
-        (λ call. FitsCall call × (words.old ≡ call_words call ++ words.new)) }
-{
-    let verb = call_verb_named(words.next()?)?;
-    call_of(verb, words)
-}
-
-/// What a call does that begins with this word, or none.
-fn call_verb_named(word: &[u8]) -> Option<CallVerb>
-    ensures { MatchOption result
-        ((verb : AnyCallVerb) → word.now ≢ call_verb_word verb)
-        (λ verb. word.now ≡ call_verb_word verb) }
-{
-    match word {
-        b"put" => Some(CallVerb::Put),
-        b"del" => Some(CallVerb::Del),
-        b"get" => Some(CallVerb::Get),
-        b"scan" => Some(CallVerb::Scan),
-        _ => None,
-    }
-}
-
-/// The call that does this and whose numbers are the next words, or none.
-fn call_of(verb: CallVerb, words: &mut Words) -> Option<Call>
-    ensures { MatchOption result
-        ((call : AnyCall) (left : List (List ℕ)) → call_verb_of call ≡ verb → FitsCall call
-        → words.old ≢ map decimal (arguments call) ++ left)
-        (λ call. (call_verb_of call ≡ verb) × FitsCall call
-        × (words.old ≡ map decimal (arguments call) ++ words.new)) }
-{
-    match verb {
-        CallVerb::Put => {
-            let key = words.key()?;
-            Some(Call::Put(key, words.value()?))
-        }
-        CallVerb::Del => Some(Call::Del(words.key()?)),
-        CallVerb::Get => Some(Call::Get(words.key()?)),
-        CallVerb::Scan => {
-            let from = words.key()?;
-            Some(Call::Scan(from, words.key()?))
-        }
     }
 }
 

@@ -15,9 +15,10 @@ ghost use Rattle.kw_sim.specs.Output.{IsOutputAt};
 
 use crate::command::Command;
 use crate::parse::MOST_STEPS;
-use crate::print::{push_done, push_missed, push_order};
+use crate::print::{judged, push_done, push_missed};
 use crate::queue::Queue;
 use kw_core::step::kind_of;
+use kw_judge::print::push_order;
 use kw_model::call::Call;
 use kw_model::memory::Memory;
 use kw_order::trace::{Trace, order};
@@ -72,7 +73,7 @@ impl Simulator {
     {
         let names = order(alloc, &self.trace)?;
         let mut text = self.text;
-        push_order(&mut text, &names)?;
+        push_order(&mut text, &judged(alloc, &names)?)?;
         Ok(text)
     }
 
@@ -139,7 +140,8 @@ impl Simulator {
     fn meets(&mut self, seat: u32, kind: Kind) -> Result<bool, Memory>
         requires seat { seat < SEATS }
         requires room { length self.old.trace.events + MOST_STEPS ≤ MOST_CALLS }
-        ensures { IfOk result (λ met. until MOST_STEPS kind seat self.old ≡ (if met then self.new else missed self.new)) }
+        ensures { IfOk result (λ met. until MOST_STEPS kind seat self.old
+            ≡ (if met then self.new else missed self.new)) }
     {
         for _step in 0..MOST_STEPS {
             let made = self.step(seat)?;
@@ -170,7 +172,8 @@ impl Simulator {
     fn next_choice(&mut self, seat: u32) -> Choice
         requires { seat < SEATS }
         ensures choice { result ≡ next_choice (is_idle seat self.old) (queue_of seat self.old) }
-        ensures state { self.new ≡ taken (is_idle seat self.old) (queue_of seat self.old) seat self.old }
+        ensures state { self.new ≡ taken (is_idle seat self.old) (queue_of seat self.old) seat
+            self.old }
         ensures fits { FitsChoice result }
     {
         if !self.is_idle(seat) {
@@ -186,7 +189,8 @@ impl Simulator {
     fn take_call(&mut self, seat: u32) -> Option<Call>
         requires { seat < SEATS }
         ensures none { IfNone result (queue_of seat self.old ≡ []) }
-        ensures first { IfSome result (λ call. queue_of seat self.old ≡ call ∷ queue_of seat self.new) }
+        ensures first { IfSome result (λ call. queue_of seat self.old ≡ call ∷ queue_of seat
+            self.new) }
         ensures state { self.new ≡ taken true (queue_of seat self.old) seat self.old }
         ensures fits { IfSome result (λ call. FitsCall call) }
     {

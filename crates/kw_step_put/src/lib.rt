@@ -12,7 +12,8 @@ pub mod reading;
 pub mod resume;
 mod resume_cells;
 mod resume_entries;
-mod resume_put;
+pub mod resume_insert;
+pub mod resume_put;
 mod resume_scan;
 pub mod step;
 #[cfg(test)]

@@ -1,20 +1,22 @@
 //! Which operation a seat makes.
 //!
 //! The operation depends on what the seat knows and on its choice, and on no word.
-ghost use Rattle.std.specs.Prelude.{◌≡◌, ◌<◌};
+ghost use Rattle.std.specs.Prelude.{◌≡◌, ◌<◌, Some};
 ghost use Rattle.kw_words.specs.Pend.{pend_word};
 ghost use Rattle.kw_words.specs.Scan.{scan_word};
 ghost use Rattle.kw_world.specs.Sizes.{product};
 ghost use Rattle.kw_world.specs.Parts.{part_of};
 ghost use Rattle.kw_world.specs.declared.part.Part.{Part};
-ghost use Rattle.kw_world.specs.Sane.{IsLocal, IsVersion};
+ghost use Rattle.kw_words.specs.Plain.{cell_link_word};
+ghost use Rattle.kw_world.specs.ListTransitions.{link_name};
+ghost use Rattle.kw_world.specs.Sane.{IsLocal, IsVersion, IsCellBelow};
 ghost use Rattle.kw_world.specs.Step.{transition_of};
 ghost use Rattle.kw_words.specs.declared.sizes.TheConstants.{CELLS};
 
 use kw_words::kind::Kind;
 use kw_words::layout::Name;
 use kw_words::pend::Pend;
-use kw_words::plain::{pack_key, pack_pass, pack_value, pack_version};
+use kw_words::plain::{pack_cell_link, pack_key, pack_pass, pack_value, pack_version};
 use kw_words::scan::ScanWord;
 use kw_world::activity::Activity;
 use kw_world::calls::{first_key, put_value};
@@ -52,10 +54,12 @@ pub fn put_operation(seat: u32, local: &Local, choice: Choice) -> Operation
             let entry = Name::Pend(row, local.looked);
             stamp(Kind::HelpStamp, entry, local.met, local.helping)
         }
-        Activity::LookCount => load(Kind::LoadCount, Name::Count(row)),
-        Activity::Cell(place) => load(Kind::LoadVersion, Name::Version(row, place)),
-        Activity::CellKey => load(Kind::LoadKey, Name::Key(row, local.place)),
-        Activity::CellValue => load(Kind::LoadValue, Name::Value(row, local.place)),
+        Activity::ListFrom => load(Kind::LoadAfter, link_name(row, local.link)),
+        Activity::ListKey => load(Kind::LoadKey, Name::Key(row, local.place)),
+        Activity::ListVer => load(Kind::LoadVersion, Name::Version(row, local.place)),
+        Activity::ListVal => load(Kind::LoadValue, Name::Value(row, local.place)),
+        Activity::RestKey => load(Kind::LoadKey, Name::Key(row, local.place)),
+        Activity::RestVal => load(Kind::LoadValue, Name::Value(row, local.place)),
         Activity::ClearScan(_) => clear_scan(seat),
         Activity::PutCount => load(Kind::LoadCount, Name::Count(row)),
         Activity::PutAdd => add_one(Kind::AddCount, Name::Count(row)),
@@ -77,6 +81,14 @@ pub fn put_operation(seat: u32, local: &Local, choice: Choice) -> Operation
             let version = pack_version(Some(local.version));
             store(Kind::StoreVersion, Name::Version(row, cell), version)
         }
+        Activity::InsFrom => load(Kind::LoadAfter, link_name(row, local.link)),
+        Activity::InsKey => load(Kind::LoadKey, Name::Key(row, local.place)),
+        Activity::InsVer => load(Kind::LoadVersion, Name::Version(row, local.place)),
+        Activity::InsSet => {
+            let held = pack_cell_link(local.held);
+            store(Kind::StoreAfter, Name::After(row, cell), held)
+        }
+        Activity::Insert => insert(link_name(row, local.link), local.held, cell),
         Activity::PutClear => {
             let idle = Pend::Idle.pack();
             store(Kind::ClearPend, Name::Pend(row, seat), idle)
@@ -117,7 +129,8 @@ fn add_one(kind: Kind, name: Name) -> Operation
 fn settle(seat: u32, waiting: u64, drawn: u64) -> Operation
     requires waiting { IsVersion waiting }
     requires drawn { IsVersion drawn }
-    ensures { result ≡ record { kind = Kind.Settle; name = Name.Scan seat; action = Action.Exchange (scan_word (ScanWord.Waiting waiting)) (scan_word (ScanWord.Drawn drawn)) } }
+    ensures { result ≡ record { kind = Kind.Settle; name = Name.Scan seat; action = Action.Exchange
+        (scan_word (ScanWord.Waiting waiting)) (scan_word (ScanWord.Drawn drawn)) } }
 {
     let waiting = ScanWord::Waiting(waiting).pack();
     let drawn = ScanWord::Drawn(drawn).pack();
@@ -130,7 +143,8 @@ fn settle(seat: u32, waiting: u64, drawn: u64) -> Operation
 
 // The store that ends a scan.
 fn clear_scan(seat: u32) -> Operation
-    ensures { result ≡ record { kind = Kind.ClearScan; name = Name.Scan seat; action = Action.Store (scan_word ScanWord.Quiet) } }
+    ensures { result ≡ record { kind = Kind.ClearScan; name = Name.Scan seat; action = Action.Store
+        (scan_word ScanWord.Quiet) } }
 {
     let quiet = ScanWord::Quiet.pack();
     store(Kind::ClearScan, Name::Scan(seat), quiet)
@@ -139,7 +153,8 @@ fn clear_scan(seat: u32) -> Operation
 // The exchange that announces a cell.
 fn announce(name: Name, cell: u32) -> Operation
     requires { cell < CELLS }
-    ensures { result ≡ record { kind = Kind.Announce; name = name; action = Action.Exchange (pend_word Pend.Idle) (pend_word (Pend.Pending cell)) } }
+    ensures { result ≡ record { kind = Kind.Announce; name = name; action = Action.Exchange
+        (pend_word Pend.Idle) (pend_word (Pend.Pending cell)) } }
 {
     let idle = Pend::Idle.pack();
     let pending = Pend::Pending(cell).pack();
@@ -154,7 +169,8 @@ fn announce(name: Name, cell: u32) -> Operation
 fn stamp(kind: Kind, name: Name, cell: u32, version: u64) -> Operation
     requires cell { cell < CELLS }
     requires version { IsVersion version }
-    ensures { result ≡ record { kind = kind; name = name; action = Action.Exchange (pend_word (Pend.Pending cell)) (pend_word (Pend.Stamped cell version)) } }
+    ensures { result ≡ record { kind = kind; name = name; action = Action.Exchange
+        (pend_word (Pend.Pending cell)) (pend_word (Pend.Stamped cell version)) } }
 {
     let pending = Pend::Pending(cell).pack();
     let stamped = Pend::Stamped(cell, version).pack();
@@ -162,5 +178,31 @@ fn stamp(kind: Kind, name: Name, cell: u32, version: u64) -> Operation
         kind,
         name,
         action: Action::Exchange(pending, stamped),
+    }
+}
+
+/// The word of a link between the cells of a row: that after a cell, or the row's first.
+pub fn link_name(row: u32, link: Option<u32>) -> Name
+    ensures { result ≡ link_name row link }
+{
+    match link {
+        Some(cell) => Name::After(row, cell),
+        None => Name::First(row),
+    }
+}
+
+// The exchange that inserts a cell at a link, which held this.
+fn insert(name: Name, held: Option<u32>, cell: u32) -> Operation
+    requires held { IsCellBelow CELLS held }
+    requires cell { cell < CELLS }
+    ensures { result ≡ record { kind = Kind.Insert; name = name; action = Action.Exchange
+        (cell_link_word held) (cell_link_word (Some cell)) } }
+{
+    let held = pack_cell_link(held);
+    let own = pack_cell_link(Some(cell));
+    Operation {
+        kind: Kind::Insert,
+        name,
+        action: Action::Exchange(held, own),
     }
 }

@@ -1,148 +1,79 @@
-//! What a reader learns from its looks at the count and the cells of a row.
+//! What a reader learns from its events along a row's list, one function for each thing.
 //!
-//! `read_on` is an event there without what follows once the row's cells are at their end: it takes no memory, so that
-//! whoever keeps a scan's pairs elsewhere can use it in place of `put_resume`, and pass the end of the row itself. Both
-//! stand on the same small functions here, one for each thing that is read.
-ghost use Rattle.std.specs.Prelude.{◌≡◌, ◌+◌, ◌<◌, ℕ, Some, None, length, if◌then◌else◌};
-ghost use Rattle.kw_words.specs.Count.{count_of};
-ghost use Rattle.kw_words.specs.Plain.{key_of_word, value_of_word, version_of_word};
+//! None of these takes memory or changes what the seat does next: `resume_cells` puts the events together from them, and so
+//! does the running map, which makes each event by itself.
+ghost use Rattle.std.specs.Prelude.{◌≡◌, ◌≤◌, ◌<◌, true, false, length, remove, unwrap_or, IfSome, IfNone, None};
+ghost use Rattle.kw_words.specs.Plain.{value_of_word, version_of_word};
 ghost use Rattle.kw_words.specs.declared.sizes.TheConstants.{CELLS};
+ghost use Rattle.kw_world.specs.declared.activity.Activity.{Activity};
 ghost use Rattle.kw_world.specs.Sizes.{product};
-ghost use Rattle.kw_world.specs.Calls.{is_in_range};
-ghost use Rattle.kw_world.specs.ReadTransitions.{version_in_hand, gathering, count_read};
-ghost use Rattle.kw_world.specs.RowEnd.{IsInCells, IsOnward, read_on, passed};
-ghost use Rattle.kw_world.specs.Sane.{IsLocal, HasRoom};
-ghost use Rattle.kw_world.specs.Step.{next_of};
+ghost use Rattle.kw_world.specs.Marks.{least_mark};
+ghost use Rattle.kw_world.specs.ListTransitions.{past_cell};
+ghost use Rattle.kw_world.specs.ReadTransitions.{reaching, gathering, to_rest};
 
+use crate::resume_insert::one_more;
 use kw_cells::cell::Cell;
-use kw_words::count::Count;
-use kw_words::plain::{unpack_key, unpack_value, unpack_version};
-use kw_words::sizes::CELL_COUNT;
-use kw_world::activity::Activity;
-use kw_world::calls::is_in_range;
-use kw_world::event::Choice;
+use kw_words::plain::{unpack_value, unpack_version};
 use kw_world::local::Local;
 
-/// What a reader knows after its event at the count or a cell of a row, where the operation told it this, but for the end
-/// of the row. Takes no memory.
-///
-/// The seat then stands at `CellKey`, at `CellValue`, or at a cell. Where that is not below the row's `count`, it is no cell
-/// to be read: the row's cells are at their end, which has no event and is still to be passed. It may be the cell of number
-/// `CELLS`, past all cells of a row, at which no seat makes an event.
-pub fn read_on(local: &mut Local, told: u64)
-    requires ranges { IsLocal product local.old }
-    requires room { HasRoom product local.old }
-    requires in_cells { IsInCells local.old.activity }
-    ensures read { local.new ≡ read_on product local.old told }
-    ensures onward { IsOnward product local.new.activity }
-    ensures passed { (rows : ℕ) → passed local.new ≡ next_of product rows Choice.Go local.old told }
+/// The reader has met this cell behind its link, and need not remember it any more.
+#[inline(always)]
+pub fn meet(local: &mut Local, cell: u32)
+    requires { local.old.walked ≤ CELLS }
+    ensures { local.new ≡ reaching product cell local.old }
 {
-    learn(local, told);
+    local.place = cell;
+    local.walked = one_more(local.walked);
+    local.remembered.forget(cell);
 }
 
-// What the seat was told of the row, at each of the four activities.
-fn learn(local: &mut Local, told: u64)
-    requires ranges { IsLocal product local.old }
-    requires room { HasRoom product local.old }
-    requires in_cells { IsInCells local.old.activity }
-    ensures read { local.new ≡ read_on product local.old told }
-    ensures onward { IsOnward product local.new.activity }
+/// The walk stands at the link after the cell that it met.
+#[inline(always)]
+pub fn pass_cell(local: &mut Local)
+    ensures { local.new ≡ past_cell local.old }
 {
-    match local.activity {
-        Activity::LookCount => {
-            local.count = count_read(told);
-            at_cell(local, 0);
-        }
-        Activity::Cell(place) => match version_in_hand(local, place, told) {
-            Some(version) => hold_version(local, place, version),
-            None => at_cell(local, place + 1),
-        },
-        Activity::CellKey => match key_in_range(local, told) {
-            Some(key) => hold_key(local, key),
-            None => pass_over(local),
-        },
-        Activity::CellValue => {
-            gather(local, told);
-            pass_over(local);
-        }
-        _ => unreachable!(),
-    }
+    local.link = Some(local.place);
 }
 
-// The seat goes on to this cell, or past the last one.
-fn at_cell(local: &mut Local, place: u32)
-    ensures { local.new ≡ record local.old { activity = Activity.Cell place } }
+/// The reader was told the version of the cell that it met. A cell without one counts as one of version 1; no list has such a cell.
+#[inline(always)]
+pub fn hold_version(local: &mut Local, found: u64)
+    ensures { local.new ≡ record local.old { place_version = unwrap_or (version_of_word found) 1 } }
 {
-    local.activity = Activity::Cell(place);
+    local.place_version = unpack_version(found).unwrap_or(1);
 }
 
-// The seat goes on to the cell after its own.
-fn pass_over(local: &mut Local)
-    requires { local.old.place < CELLS }
-    ensures { local.new ≡ record local.old { activity = Activity.Cell (local.old.place + 1) } }
+/// The reader was told the value of the cell in hand, and gathers the cell. The answer is the place at which it was put.
+#[inline(always)]
+pub fn gather(local: &mut Local, found: u64) -> Option<usize>
+    ensures gathered { local.new ≡ gathering product (value_of_word found) local.old }
+    ensures put { IfSome result (λ at. (at < length local.new.gathered)
+        × (remove local.new.gathered at ≡ local.old.gathered)) }
+    ensures kept { IfNone result (local.new ≡ local.old) }
 {
-    let next = local.place + 1;
-    at_cell(local, next);
-}
-
-// How many cells of a row are read, where this count was found.
-pub(crate) fn count_read(found: u64) -> u32
-    ensures { result ≡ count_read product (count_of found) }
-{
-    match Count::unpack(found) {
-        Some(count) => count.given.min(CELL_COUNT),
-        None => 0,
-    }
-}
-
-// The version of this cell: that of its word, or else the one that is remembered.
-pub(crate) fn version_in_hand(local: &Local, place: u32, found: u64) -> Option<u64>
-    ensures { result ≡ version_in_hand place (version_of_word found) local.now }
-{
-    match unpack_version(found) {
-        Some(version) => Some(version),
-        None => local.remembered.version(place),
-    }
-}
-
-// The seat holds the version of this cell, and goes on to its key.
-pub(crate) fn hold_version(local: &mut Local, place: u32, version: u64)
-    ensures { local.new ≡ record local.old { activity = Activity.CellKey; place = place; place_version = version } }
-{
-    local.place = place;
-    local.place_version = version;
-    local.activity = Activity::CellKey;
-}
-
-// The key of the cell, where it is in the range of the call.
-pub(crate) fn key_in_range(local: &Local, found: u64) -> Option<u32>
-    ensures { result ≡ (if is_in_range local.now.call (key_of_word found) then Some (key_of_word found) else None) }
-{
-    let key = unpack_key(found);
-    if is_in_range(local.call, key) {
-        Some(key)
-    } else {
-        None
-    }
-}
-
-// The seat holds the key of the cell, and goes on to its value.
-pub(crate) fn hold_key(local: &mut Local, key: u32)
-    ensures { local.new ≡ record local.old { activity = Activity.CellValue; place_key = key } }
-{
-    local.place_key = key;
-    local.activity = Activity::CellValue;
-}
-
-// The seat gathers the cell, whose value it was told.
-pub(crate) fn gather(local: &mut Local, found: u64)
-    requires { length local.old.gathered < CELLS }
-    ensures { local.new ≡ gathering (value_of_word found) local.old }
-{
-    local.gathered.push(Cell {
+    local.gathered.gather(Cell {
         key: local.place_key,
-        version: local.place_version,
         place: local.place,
+        version: local.place_version,
         value: unpack_value(found),
-    });
+    })
+}
+
+/// Takes a remembered cell of the least place in hand, whose key is to be loaded next. Whether there is one.
+pub fn take_remembered(local: &mut Local) -> bool
+    ensures taken { result ≡ true → record local.new { activity = Activity.RestKey }
+        ≡ (to_rest local.old).local }
+    ensures same { result ≡ true → local.new.activity ≡ local.old.activity }
+    ensures none { result ≡ false → (local.new ≡ local.old)
+        × (least_mark local.old.remembered ≡ None) }
+{
+    match local.remembered.least() {
+        Some(mark) => {
+            local.place = mark.cell;
+            local.place_version = mark.version;
+            local.remembered.forget(mark.cell);
+            true
+        }
+        None => false,
+    }
 }

@@ -13,8 +13,9 @@ ghost use Rattle.kw_world.specs.Sane.{IsLocal, HasRoom, CanBegin};
 ghost use Rattle.kw_world.specs.Step.{next_of};
 ghost use Rattle.kw_world.specs.RowEnd.{MayEndRow};
 
-use crate::resume_cells::{cell_key, cell_value, cell_version, start_cells};
+use crate::resume_cells::{list_from, list_key, list_value, list_version, rest_key, rest_value};
 use crate::resume_entries::{help, look, look_key};
+use crate::resume_insert::{insert, insert_from, insert_key, insert_version, start_insert};
 use crate::resume_put::{add, announce, count, stamp};
 use crate::resume_scan::{begin, clock, enter, settle};
 use kw_model::memory::Memory;
@@ -33,7 +34,8 @@ pub fn put_resume(local: &mut Local, choice: Choice, told: u64) -> Result<StepDo
     requires room { HasRoom product local.old }
     requires part { part_of choice local.old ≡ Part.Put }
     requires begin { CanBegin choice local.old }
-    ensures ok { IfOk result (λ done. (rows : ℕ) → outcome local.new done ≡ next_of product rows choice local.old told) }
+    ensures ok { IfOk result (λ done. (rows : ℕ) → outcome local.new done ≡ next_of product rows
+        choice local.old told) }
     ensures err { OnErr result (local.new ≡ local.old) }
     ensures memory { OnErr result (MayEndRow local.old) }
 {
@@ -55,10 +57,12 @@ pub fn put_resume(local: &mut Local, choice: Choice, told: u64) -> Result<StepDo
             Ok(to(local, Activity::LookHelp))
         }
         Activity::LookHelp => Ok(help(local, told)),
-        Activity::LookCount => start_cells(local, told),
-        Activity::Cell(place) => cell_version(local, place, told),
-        Activity::CellKey => cell_key(local, told),
-        Activity::CellValue => cell_value(local, told),
+        Activity::ListFrom => list_from(local, told),
+        Activity::ListKey => list_key(local, told),
+        Activity::ListVer => Ok(list_version(local, told)),
+        Activity::ListVal => Ok(list_value(local, told)),
+        Activity::RestKey => rest_key(local, told),
+        Activity::RestVal => rest_value(local, told),
         Activity::ClearScan(answer) => Ok(end_scan(local, answer, choice)),
         Activity::PutCount => Ok(count(local, told)),
         Activity::PutAdd => Ok(add(local, told)),
@@ -70,7 +74,12 @@ pub fn put_resume(local: &mut Local, choice: Choice, told: u64) -> Result<StepDo
             Ok(to(local, Activity::Stamp))
         }
         Activity::Stamp => Ok(stamp(local, told)),
-        Activity::PutVersion => Ok(to(local, Activity::PutClear)),
+        Activity::PutVersion => Ok(start_insert(local)),
+        Activity::InsFrom => Ok(insert_from(local, told)),
+        Activity::InsKey => Ok(insert_key(local, told)),
+        Activity::InsVer => Ok(insert_version(local, told)),
+        Activity::InsSet => Ok(to(local, Activity::Insert)),
+        Activity::Insert => Ok(insert(local, told)),
         Activity::PutClear => Ok(leave(local, Answer::Done)),
         Activity::Leave(answer) => Ok(end_call(local, answer)),
         Activity::Start | Activity::Head | Activity::GuessMin | Activity::WalkMin => unreachable!(),

@@ -1,112 +1,147 @@
-//! What a reader knows after its looks at the cells of a row, and after the last of them.
+//! What a reader knows after its events along the row's list, and after the last of them.
 //!
-//! `reading` has what the looks themselves tell. The end of a row's cells has no event of its own: it follows from the
-//! event on the last cell. A get has its answer then. A scan adds the pairs of the row to its own, the one place of a step that takes memory, and goes on to the next
-//! row or ends.
-ghost use Rattle.std.specs.Prelude.{◌≡◌, ◌+◌, ◌<◌, ◌≤◌, ◌++◌, true, length, if◌then◌else◌, IfOk, OnOk, OnErr};
-ghost use Rattle.kw_words.specs.Count.{count_of};
-ghost use Rattle.kw_words.specs.Plain.{key_of_word, value_of_word, version_of_word};
+//! `reading` has what the events themselves tell. The end of a row's cells has no event of its own: it follows from the event that
+//! ends the walk, or from that on the last remembered cell that was not met. A get has its answer then. A scan adds the pairs of the
+//! row to its own, the one place of a step that takes memory, and goes on to the next row or ends.
+ghost use Rattle.std.specs.Prelude.{◌≡◌, ◌+◌, ◌<◌, ◌≤◌, ◌++◌, true, length, remove, IfOk, IfSome, IfNone, OnOk, OnErr};
+ghost use Rattle.kw_words.specs.Plain.{key_of_word, value_of_word, version_of_word, cell_of_link_word};
 ghost use Rattle.kw_words.specs.declared.sizes.TheConstants.{CELLS};
 ghost use Rattle.kw_cells.specs.Cells.{shown_at, pairs_of};
+ghost use Rattle.kw_cells.specs.InOrder.{AreInOrder};
 ghost use Rattle.kw_world.specs.Answers.{answer_found};
 ghost use Rattle.kw_world.specs.Sizes.{product};
 ghost use Rattle.kw_world.specs.Calls.{is_in_range, is_scan};
 ghost use Rattle.kw_world.specs.Transition.{outcome, to, leave};
-ghost use Rattle.kw_world.specs.ReadTransitions.{to_cell, row_read, row_scanned, scan_on, scan_ended, get_answered, version_in_hand, version_met, gathering, count_read};
+ghost use Rattle.kw_world.specs.ReadTransitions.{list_met, list_key, list_version, list_past, rest_key, to_rest, row_read, row_scanned, scan_on, scan_ended, get_answered, gathering};
 
-use crate::reading::{count_read, gather, hold_key, hold_version, key_in_range, version_in_hand};
+use crate::reading::{gather, hold_version, meet, pass_cell, take_remembered};
 use crate::resume::{leave, to};
-use kw_cells::cell::{Cell, best, next_pair};
+use kw_cells::cell::Cell;
+use kw_cells::in_order::{first_fit, next_in_order};
 use kw_model::call::Call;
 use kw_model::memory::Memory;
 use kw_model::pair_list::PairList;
+use kw_words::plain::{unpack_cell_link, unpack_key};
 use kw_world::activity::Activity;
 use kw_world::answer::Answer;
-use kw_world::calls::first_key;
+use kw_world::calls::{first_key, is_in_range, last_key};
 use kw_world::event::StepDone;
 use kw_world::limits::NEWEST;
 use kw_world::local::Local;
 
-// The seat was told the count of the row, and begins with the first cell.
-pub(crate) fn start_cells(local: &mut Local, found: u64) -> Result<StepDone, Memory>
-    ensures ok { IfOk result (λ done. outcome local.new done ≡ to_cell 0 (record local.old { count = count_read product (count_of found) })) }
+// The seat was told the link at which it stands.
+pub(crate) fn list_from(local: &mut Local, found: u64) -> Result<StepDone, Memory>
+    requires { local.old.walked ≤ CELLS }
+    ensures ok { IfOk result (λ done. outcome local.new done
+        ≡ list_met product (cell_of_link_word found) local.old) }
     ensures err { OnErr result (local.new ≡ local.old) }
     ensures scan { OnErr result (is_scan local.old.call ≡ true) }
 {
-    let before = local.count;
-    local.count = count_read(found);
-    match to_cell(local, 0) {
-        Ok(done) => Ok(done),
-        Err(memory) => {
-            local.count = before;
-            Err(memory)
+    match unpack_cell_link(found) {
+        Some(cell) => {
+            meet(local, cell);
+            Ok(to(local, Activity::ListKey))
         }
+        None => to_rest(local),
     }
 }
 
-// The seat was told the version of this cell.
-pub(crate) fn cell_version(local: &mut Local, place: u32, found: u64) -> Result<StepDone, Memory>
-    requires { place < CELLS }
-    ensures ok { IfOk result (λ done. outcome local.new done ≡ version_met place (version_in_hand place (version_of_word found) local.old) local.old) }
+// The seat was told the key of the cell that it met.
+pub(crate) fn list_key(local: &mut Local, found: u64) -> Result<StepDone, Memory>
+    ensures ok { IfOk result (λ done. outcome local.new done ≡ list_key (key_of_word found)
+        local.old) }
     ensures err { OnErr result (local.new ≡ local.old) }
     ensures scan { OnErr result (is_scan local.old.call ≡ true) }
 {
-    match version_in_hand(local, place, found) {
-        Some(version) => {
-            hold_version(local, place, version);
-            Ok(StepDone::Moved)
-        }
-        None => to_cell(local, place + 1),
+    let key = unpack_key(found);
+    if key < first_key(local.call) {
+        Ok(go_on_past(local))
+    } else if key <= last_key(local.call) {
+        local.place_key = key;
+        Ok(to(local, Activity::ListVer))
+    } else {
+        to_rest(local)
     }
 }
 
-// The seat was told the key of the cell.
-pub(crate) fn cell_key(local: &mut Local, found: u64) -> Result<StepDone, Memory>
-    requires { local.old.place < CELLS }
-    ensures ok { IfOk result (λ done. outcome local.new done ≡ (if is_in_range local.old.call (key_of_word found) then to Activity.CellValue (record local.old { place_key = key_of_word found }) else to_cell (local.old.place + 1) local.old)) }
-    ensures err { OnErr result (local.new ≡ local.old) }
-    ensures scan { OnErr result (is_scan local.old.call ≡ true) }
+// The seat was told the version of that cell.
+pub(crate) fn list_version(local: &mut Local, found: u64) -> StepDone
+    ensures { outcome local.new result ≡ list_version (version_of_word found) local.old }
 {
-    match key_in_range(local, found) {
-        Some(key) => {
-            hold_key(local, key);
-            Ok(StepDone::Moved)
-        }
-        None => {
-            let next = local.place + 1;
-            to_cell(local, next)
-        }
-    }
+    hold_version(local, found);
+    to(local, Activity::ListVal)
 }
 
-// The seat was told the value of the cell, and gathers it.
-pub(crate) fn cell_value(local: &mut Local, found: u64) -> Result<StepDone, Memory>
-    requires place { local.old.place < CELLS }
-    requires room { length local.old.gathered < CELLS }
-    ensures ok { IfOk result (λ done. outcome local.new done ≡ to_cell (local.old.place + 1) (gathering (value_of_word found) local.old)) }
-    ensures err { OnErr result (local.new ≡ local.old) }
-    ensures scan { OnErr result (is_scan local.old.call ≡ true) }
+// The seat was told the value of that cell, and gathers it.
+pub(crate) fn list_value(local: &mut Local, found: u64) -> StepDone
+    ensures { outcome local.new result
+        ≡ list_past (gathering product (value_of_word found) local.old) }
 {
-    let next = local.place + 1;
-    let gathered = local.gathered.as_slice().len();
     gather(local, found);
-    match to_cell(local, next) {
+    go_on_past(local)
+}
+
+// The walk passes the cell that it met.
+fn go_on_past(local: &mut Local) -> StepDone
+    ensures { outcome local.new result ≡ list_past local.old }
+{
+    pass_cell(local);
+    to(local, Activity::ListFrom)
+}
+
+// The seat was told the key of a remembered cell.
+pub(crate) fn rest_key(local: &mut Local, found: u64) -> Result<StepDone, Memory>
+    ensures ok { IfOk result (λ done. outcome local.new done ≡ rest_key (key_of_word found)
+        local.old) }
+    ensures err { OnErr result (local.new ≡ local.old) }
+    ensures scan { OnErr result (is_scan local.old.call ≡ true) }
+{
+    let key = unpack_key(found);
+    if is_in_range(local.call, key) {
+        local.place_key = key;
+        Ok(to(local, Activity::RestVal))
+    } else {
+        to_rest(local)
+    }
+}
+
+// The seat was told the value of that cell, and gathers it.
+pub(crate) fn rest_value(local: &mut Local, found: u64) -> Result<StepDone, Memory>
+    ensures ok { IfOk result (λ done. outcome local.new done
+        ≡ to_rest (gathering product (value_of_word found) local.old)) }
+    ensures err { OnErr result (local.new ≡ local.old) }
+    ensures scan { OnErr result (is_scan local.old.call ≡ true) }
+{
+    let put = gather(local, found);
+    match to_rest(local) {
         Ok(done) => Ok(done),
         Err(memory) => {
-            local.gathered.truncate(gathered);
+            take_back(local, put);
             Err(memory)
         }
     }
 }
 
-// The seat goes on to this cell, or to what follows the last cell of the row.
-fn to_cell(local: &mut Local, place: u32) -> Result<StepDone, Memory>
-    ensures ok { IfOk result (λ done. outcome local.new done ≡ to_cell place local.old) }
+// The cell that was gathered at this place, if there is one, is not gathered any more.
+fn take_back(local: &mut Local, put: Option<usize>)
+    requires { IfSome put (λ at. at < length local.old.gathered) }
+    ensures taken { IfSome put (λ at. local.new ≡ record local.old { gathered = remove
+        local.old.gathered at }) }
+    ensures none { IfNone put (local.new ≡ local.old) }
+{
+    if let Some(at) = put {
+        local.gathered.remove(at);
+    }
+}
+
+// The seat goes on to a remembered cell that it did not meet, or the row is read.
+fn to_rest(local: &mut Local) -> Result<StepDone, Memory>
+    ensures ok { IfOk result (λ done. outcome local.new done ≡ to_rest local.old) }
     ensures err { OnErr result (local.new ≡ local.old) }
     ensures scan { OnErr result (is_scan local.old.call ≡ true) }
 {
-    if place < local.count {
-        return Ok(to(local, Activity::Cell(place)));
+    if take_remembered(local) {
+        return Ok(to(local, Activity::RestKey));
     }
     match local.call {
         Some(Call::Scan(_, upto)) => scan_row(local, upto),
@@ -121,7 +156,7 @@ fn to_cell(local: &mut Local, place: u32) -> Result<StepDone, Memory>
 fn answer(local: &mut Local, key: u32) -> StepDone
     ensures { outcome local.new result ≡ get_answered key local.old }
 {
-    let shown = match best(local.gathered.as_slice(), key, NEWEST) {
+    let shown = match first_fit(local.gathered.as_slice(), key, NEWEST) {
         Some(cell) => cell.value,
         None => None,
     };
@@ -162,7 +197,7 @@ fn go_on(local: &mut Local, upto: u32) -> StepDone
     }
 }
 
-// Adds the pairs that the cells show at this version in a range of keys, or none of them.
+// Adds the pairs that the cells, which are in order, show at this version in a range of keys, or none of them.
 fn add_pairs(
     pairs: &mut PairList,
     cells: &[Cell],
@@ -170,12 +205,14 @@ fn add_pairs(
     upto: u32,
     version: u64,
 ) -> Result<(), Memory>
+    requires { AreInOrder cells.now }
     ensures ok { OnOk result (pairs.new ≡ pairs.old ++ pairs_of cells.now from upto version) }
     ensures err { OnErr result (pairs.new ≡ pairs.old) }
 {
     let len = pairs.pairs().len();
     let mut low = from;
-    while let Some((key, value)) = next_pair(cells, low, upto, version) {
+    let mut at = 0;
+    while let Some((key, value)) = next_in_order(cells, &mut at, low, upto, version) {
         if let Err(memory) = pairs.push(key, value) {
             pairs.truncate(len);
             return Err(memory);

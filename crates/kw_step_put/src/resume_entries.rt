@@ -18,14 +18,14 @@ use kw_world::event::StepDone;
 use kw_world::local::Local;
 use kw_world::marks::Mark;
 
-// The seat goes on to the entry of this seat, or to the count after the last entry.
+// The seat goes on to the entry of this seat, or to the row's list after the last entry.
 fn to_look(local: &mut Local, entry: u32) -> StepDone
     ensures { outcome local.new result ≡ to_look product entry local.old }
 {
     if entry < SEAT_COUNT {
         to(local, Activity::Look(entry))
     } else {
-        to(local, Activity::LookCount)
+        to(local, Activity::ListFrom)
     }
 }
 
@@ -60,7 +60,9 @@ pub(crate) fn look(local: &mut Local, entry: u32, found: u64) -> StepDone
 // The seat was told the key of the pending cell.
 pub(crate) fn look_key(local: &mut Local, found: u64) -> StepDone
     requires { local.old.looked < SEATS }
-    ensures { outcome local.new result ≡ (if is_in_range local.old.call (key_of_word found) then to Activity.LookClock local.old else to_look product (local.old.looked + 1) local.old) }
+    ensures { outcome local.new result ≡ (if is_in_range local.old.call (key_of_word found)
+        then to Activity.LookClock local.old else to_look product (local.old.looked + 1) local.old)
+        }
 {
     if is_in_range(local.call, unpack_key(found)) {
         to(local, Activity::LookClock)

@@ -23,9 +23,10 @@ fn refuse(local: &mut Local) -> StepDone
     leave(local, Answer::NoRows)
 }
 
-// The cell that the row gives, if it gives one more.
-fn room(found: u64) -> Option<u32>
-    ensures { result ≡ (if has_room product (count_of found) then Some (given_of (count_of found)) else None) }
+/// The cell that a row with this count gives, if it gives one more. What is recorded of a put's attempt asks it too.
+pub fn room(found: u64) -> Option<u32>
+    ensures value { result ≡ (if has_room product (count_of found) then Some (given_of (count_of found))
+        else None) }
 {
     match Count::unpack(found) {
         Some(count) if !count.frozen && count.given < CELL_COUNT => Some(count.given),
@@ -33,9 +34,10 @@ fn room(found: u64) -> Option<u32>
     }
 }
 
-// The seat was told the count of its row.
-pub(crate) fn count(local: &mut Local, found: u64) -> StepDone
-    ensures { outcome local.new result ≡ (if has_room product (count_of found) then to Activity.PutAdd local.old else full local.old) }
+/// The seat was told the count of its row.
+pub fn count(local: &mut Local, found: u64) -> StepDone
+    ensures { outcome local.new result ≡ (if has_room product (count_of found)
+        then to Activity.PutAdd local.old else full local.old) }
 {
     match room(found) {
         Some(_) => to(local, Activity::PutAdd),
@@ -43,9 +45,11 @@ pub(crate) fn count(local: &mut Local, found: u64) -> StepDone
     }
 }
 
-// The seat has asked for a cell, and was told the count before.
-pub(crate) fn add(local: &mut Local, found: u64) -> StepDone
-    ensures { outcome local.new result ≡ (if has_room product (count_of found) then to Activity.PutKey (record local.old { cell = given_of (count_of found) }) else full local.old) }
+/// The seat has asked for a cell, and was told the count before.
+pub fn add(local: &mut Local, found: u64) -> StepDone
+    ensures { outcome local.new result ≡ (if has_room product (count_of found)
+        then to Activity.PutKey (record local.old { cell = given_of (count_of found) })
+        else full local.old) }
 {
     match room(found) {
         Some(cell) => {
@@ -56,9 +60,10 @@ pub(crate) fn add(local: &mut Local, found: u64) -> StepDone
     }
 }
 
-// The seat has tried to announce its cell, and was told the entry found.
-pub(crate) fn announce(local: &mut Local, found: u64) -> StepDone
-    ensures { outcome local.new result ≡ (if found == pend_word Pend.Idle then to Activity.PutClock local.old else full local.old) }
+/// The seat has tried to announce its cell, and was told the entry found.
+pub fn announce(local: &mut Local, found: u64) -> StepDone
+    ensures { outcome local.new result ≡ (if found == pend_word Pend.Idle then to Activity.PutClock
+        local.old else full local.old) }
 {
     if found == Pend::Idle.pack() {
         to(local, Activity::PutClock)
@@ -67,8 +72,8 @@ pub(crate) fn announce(local: &mut Local, found: u64) -> StepDone
     }
 }
 
-// The seat has tried to stamp its cell, and was told the entry found.
-pub(crate) fn stamp(local: &mut Local, found: u64) -> StepDone
+/// The seat has tried to stamp its cell, and was told the entry found.
+pub fn stamp(local: &mut Local, found: u64) -> StepDone
     ensures { outcome local.new result ≡ stamp_met (pend_of found) local.old }
 {
     match Pend::unpack(found) {

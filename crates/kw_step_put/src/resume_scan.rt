@@ -62,7 +62,8 @@ pub(crate) fn clock(local: &mut Local, clock: u64) -> StepDone
 
 // A scan has exchanged its waiting word, and was told the word found.
 pub(crate) fn settle(local: &mut Local, found: u64) -> StepDone
-    ensures { outcome local.new result ≡ settled (version_settled (scan_of found) local.old.drawn) local.old }
+    ensures { outcome local.new result ≡ settled (version_settled (scan_of found) local.old.drawn)
+        local.old }
 {
     local.version = match ScanWord::unpack(found) {
         Some(ScanWord::Drawn(version)) => version,

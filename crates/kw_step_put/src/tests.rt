@@ -24,25 +24,26 @@ use std::test::Fail;
 fn idle(alloc: Global) -> Result<World, Memory>
     ensures sane { IfOk result (λ world. IsSane product world) }
     ensures seat { IfOk result (λ world. 1 < length world.locals) }
-    ensures begin { IfOk result (λ world. (call : Call) → IsCall (Some call) → CanStep world (record { seat = 1; choice = Choice.Begin call })) }
+    ensures begin { IfOk result (λ world. (call : Call) → IsCall (Some call) →
+        CanStep world (record { seat = 1; choice = Choice.Begin call })) }
     ensures go { IfOk result (λ world. CanStep world (record { seat = 1; choice = Choice.Go })) }
-    ensures part { IfOk result (λ world. (choice : Choice) → IsOfPart Part.Put world (record { seat = 1; choice = choice })) }
+    ensures part { IfOk result (λ world. (choice : Choice) →
+        IsOfPart Part.Put world (record { seat = 1; choice = choice })) }
 {
     World::open(alloc, 3, 2, 7, 9)
 }
 
-// A scan of the keys 2 to 9 at version 5 has a row of one cell before it, of key 4 and version 3, whose value it is to load.
+// A scan of the keys 2 to 9 at version 5 has one cell left of its row, which it remembers: of key 4 and version 3, whose value it is to load.
 fn at_a_value(alloc: Global) -> Local
     ensures ranges { IsLocal product result }
     ensures room { HasRoom product result }
-    ensures at { result.activity ≡ Activity.CellValue }
+    ensures at { result.activity ≡ Activity.RestVal }
 {
     let mut local = Local::idle(alloc);
-    local.activity = Activity::CellValue;
+    local.activity = Activity::RestVal;
     local.call = Some(Call::Scan(2, 9));
     local.want = 2;
     local.version = 5;
-    local.count = 1;
     local.place_version = 3;
     local.place_key = 4;
     local

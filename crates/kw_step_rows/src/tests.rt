@@ -17,7 +17,8 @@ use std::test::Fail;
 fn before_a_walk(alloc: Global) -> Result<World, Memory>
     ensures sane { IfOk result (λ world. IsSane product world) }
     ensures seat { IfOk result (λ world. 1 < length world.locals) }
-    ensures part { IfOk result (λ world. (choice : Choice) → IsOfPart Part.Rows world (record { seat = 1; choice = choice })) }
+    ensures part { IfOk result (λ world. (choice : Choice) →
+        IsOfPart Part.Rows world (record { seat = 1; choice = choice })) }
 {
     let mut world = World::open(alloc, 3, 2, 7, 9)?;
     world.local_mut(1).activity = Activity::Start;

@@ -5,3 +5,4 @@ pub mod Calls
 pub mod Fresh
 pub mod Meetings
 pub mod Carried
+pub mod AskedOperations

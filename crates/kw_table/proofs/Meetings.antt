@@ -8,7 +8,7 @@ use Rattle.kw_table.specs.declared.pass.View.{View}
 use Rattle.kw_table.specs.declared.shared.Shared.{Shared}
 use Rattle.kw_table.specs.Passes.{view, IsPassOf}
 use Rattle.kw_table.specs.Views.{Meets}
-use Rattle.kw_table.specs.Meetings.{AtEach, Reaches, Gathers}
+use Rattle.kw_table.specs.Meetings.{AtEach, Reaches, MeetsAt}
 use Rattle.kw_table.proofs.Prefixes.{prefix_trans}
 
 pub meets_trans : (u v w : View) → Meets u v → Meets v w → Meets u w
@@ -33,10 +33,10 @@ reached_more s f g xs ys n x y inside done longer is here k d e lt = ⊎_elim
     (cases_eq k n)
 
 -- the first pass and the others, in one list
-pub gathers_all : (s : Shared) (ps os ns : List Pass) (f g : Pass) → ps ≡ f ∷ os → IsPassOf s g → Meets (view f) (view g) → g.local ≡ f.local → AtEach (Gathers s (view g).seen) os ns → AtEach (Gathers s (view g).seen) ps (g ∷ ns)
-gathers_all s ps os ns f g is at meets keeps others =
-    subst (λ (l : List Pass). AtEach (Gathers s (view g).seen) l (g ∷ ns)) (sym is) each
+pub meets_all : (s : Shared) (ps os ns : List Pass) (f g : Pass) → ps ≡ f ∷ os → IsPassOf s g → Meets (view f) (view g) → g.local ≡ f.local → AtEach (MeetsAt s (view g).seen) os ns → AtEach (MeetsAt s (view g).seen) ps (g ∷ ns)
+meets_all s ps os ns f g is at meets keeps others =
+    subst (λ (l : List Pass). AtEach (MeetsAt s (view g).seen) l (g ∷ ns)) (sym is) each
   where
-    each : AtEach (Gathers s (view g).seen) (f ∷ os) (g ∷ ns)
+    each : AtEach (MeetsAt s (view g).seen) (f ∷ os) (g ∷ ns)
     each zero d e lt = record { of_table = at; meets = meets; keeps = keeps; seen = refl }
     each (suc i) d e lt = others i d e (omega arith)

@@ -19,7 +19,7 @@ pub record Reaches (s : Shared) (front p q : Pass) : Type 0 where
   pub seen : IsPrefix (view q).seen (view front).seen
 
 -- p became q with its local, which has seen just E
-pub record Gathers (s : Shared) (E : List Event) (p q : Pass) : Type 0 where
+pub record MeetsAt (s : Shared) (E : List Event) (p q : Pass) : Type 0 where
   pub of_table : IsPassOf s q
   pub meets : Meets (view p) (view q)
   pub keeps : q.local ≡ p.local

@@ -43,7 +43,8 @@ pub fn load_epoch(shared: &Shared, pass: &mut Pass, choice: Choice, word: Name) 
 
 /// Stores the epoch that the seat announces.
 pub fn store_pass(shared: &Shared, pass: &mut Pass, choice: Choice, word: Name, stored: u64) -> u64
-    requires { Asks shared.now pass.old choice (operation Kind.StorePass word (Action.Store stored)) }
+    requires { Asks shared.now pass.old choice (operation Kind.StorePass word (Action.Store stored))
+        }
     ensures { Makes shared.now pass.old choice result pass.new }
 {
     step!(
@@ -60,7 +61,8 @@ pub fn store_pass(shared: &Shared, pass: &mut Pass, choice: Choice, word: Name, 
 
 /// Stores that the seat announces no epoch.
 pub fn clear_pass(shared: &Shared, pass: &mut Pass, choice: Choice, word: Name, stored: u64) -> u64
-    requires { Asks shared.now pass.old choice (operation Kind.ClearPass word (Action.Store stored)) }
+    requires { Asks shared.now pass.old choice (operation Kind.ClearPass word (Action.Store stored))
+        }
     ensures { Makes shared.now pass.old choice result pass.new }
 {
     step!(
@@ -104,7 +106,8 @@ pub fn add_count(shared: &Shared, pass: &mut Pass, choice: Choice, word: Name, n
 
 /// Stores the key of a cell.
 pub fn store_key(shared: &Shared, pass: &mut Pass, choice: Choice, word: Name, stored: u64) -> u64
-    requires { Asks shared.now pass.old choice (operation Kind.StoreKey word (Action.Store stored)) }
+    requires { Asks shared.now pass.old choice (operation Kind.StoreKey word (Action.Store stored))
+        }
     ensures { Makes shared.now pass.old choice result pass.new }
 {
     step!(
@@ -121,7 +124,8 @@ pub fn store_key(shared: &Shared, pass: &mut Pass, choice: Choice, word: Name, s
 
 /// Stores the value of a cell.
 pub fn store_value(shared: &Shared, pass: &mut Pass, choice: Choice, word: Name, stored: u64) -> u64
-    requires { Asks shared.now pass.old choice (operation Kind.StoreValue word (Action.Store stored)) }
+    requires { Asks shared.now pass.old choice
+        (operation Kind.StoreValue word (Action.Store stored)) }
     ensures { Makes shared.now pass.old choice result pass.new }
 {
     step!(
@@ -145,7 +149,8 @@ pub fn announce(
     expected: u64,
     stored: u64,
 ) -> u64
-    requires { Asks shared.now pass.old choice (operation Kind.Announce word (Action.Exchange expected stored)) }
+    requires { Asks shared.now pass.old choice
+        (operation Kind.Announce word (Action.Exchange expected stored)) }
     ensures { Makes shared.now pass.old choice result pass.new }
 {
     step!(
@@ -178,7 +183,8 @@ pub fn stamp(
     expected: u64,
     stored: u64,
 ) -> u64
-    requires { Asks shared.now pass.old choice (operation Kind.Stamp word (Action.Exchange expected stored)) }
+    requires { Asks shared.now pass.old choice
+        (operation Kind.Stamp word (Action.Exchange expected stored)) }
     ensures { Makes shared.now pass.old choice result pass.new }
 {
     step!(
@@ -202,7 +208,8 @@ pub fn store_version(
     word: Name,
     stored: u64,
 ) -> u64
-    requires { Asks shared.now pass.old choice (operation Kind.StoreVersion word (Action.Store stored)) }
+    requires { Asks shared.now pass.old choice
+        (operation Kind.StoreVersion word (Action.Store stored)) }
     ensures { Makes shared.now pass.old choice result pass.new }
 {
     step!(
@@ -219,9 +226,62 @@ pub fn store_version(
 
 // A reader at its row, and the end of a put.
 
+/// Loads a link between the cells of a row: its first, or that after a cell.
+pub fn load_after(shared: &Shared, pass: &mut Pass, choice: Choice, word: Name) -> u64
+    requires { Asks shared.now pass.old choice (operation Kind.LoadAfter word Action.Load) }
+    ensures { Makes shared.now pass.old choice result pass.new }
+{
+    step!(load, LoadAfter, Action::Load, shared, pass, choice, word)
+}
+
+/// Stores the link after a cell that is not listed yet.
+pub fn store_after(shared: &Shared, pass: &mut Pass, choice: Choice, word: Name, stored: u64) -> u64
+    requires { Asks shared.now pass.old choice
+        (operation Kind.StoreAfter word (Action.Store stored)) }
+    ensures { Makes shared.now pass.old choice result pass.new }
+{
+    step!(
+        store,
+        StoreAfter,
+        Action::Store(stored),
+        shared,
+        pass,
+        choice,
+        word,
+        stored
+    )
+}
+
+/// Exchanges a link between the cells of a row for one to a cell that is listed so.
+pub fn insert(
+    shared: &Shared,
+    pass: &mut Pass,
+    choice: Choice,
+    word: Name,
+    expected: u64,
+    stored: u64,
+) -> u64
+    requires { Asks shared.now pass.old choice
+        (operation Kind.Insert word (Action.Exchange expected stored)) }
+    ensures { Makes shared.now pass.old choice result pass.new }
+{
+    step!(
+        exchange,
+        Insert,
+        Action::Exchange(expected, stored),
+        shared,
+        pass,
+        choice,
+        word,
+        expected,
+        stored
+    )
+}
+
 /// Stores that the seat's entry in a row is idle.
 pub fn clear_pend(shared: &Shared, pass: &mut Pass, choice: Choice, word: Name, stored: u64) -> u64
-    requires { Asks shared.now pass.old choice (operation Kind.ClearPend word (Action.Store stored)) }
+    requires { Asks shared.now pass.old choice (operation Kind.ClearPend word (Action.Store stored))
+        }
     ensures { Makes shared.now pass.old choice result pass.new }
 {
     step!(
@@ -277,7 +337,8 @@ pub fn help_stamp(
     expected: u64,
     stored: u64,
 ) -> u64
-    requires { Asks shared.now pass.old choice (operation Kind.HelpStamp word (Action.Exchange expected stored)) }
+    requires { Asks shared.now pass.old choice
+        (operation Kind.HelpStamp word (Action.Exchange expected stored)) }
     ensures { Makes shared.now pass.old choice result pass.new }
 {
     step!(
@@ -303,7 +364,8 @@ pub fn store_waiting(
     word: Name,
     stored: u64,
 ) -> u64
-    requires { Asks shared.now pass.old choice (operation Kind.StoreWaiting word (Action.Store stored)) }
+    requires { Asks shared.now pass.old choice
+        (operation Kind.StoreWaiting word (Action.Store stored)) }
     ensures { Makes shared.now pass.old choice result pass.new }
 {
     step!(
@@ -344,7 +406,8 @@ pub fn settle(
     expected: u64,
     stored: u64,
 ) -> u64
-    requires { Asks shared.now pass.old choice (operation Kind.Settle word (Action.Exchange expected stored)) }
+    requires { Asks shared.now pass.old choice
+        (operation Kind.Settle word (Action.Exchange expected stored)) }
     ensures { Makes shared.now pass.old choice result pass.new }
 {
     step!(
@@ -362,7 +425,8 @@ pub fn settle(
 
 /// Stores that the seat makes no scan.
 pub fn clear_scan(shared: &Shared, pass: &mut Pass, choice: Choice, word: Name, stored: u64) -> u64
-    requires { Asks shared.now pass.old choice (operation Kind.ClearScan word (Action.Store stored)) }
+    requires { Asks shared.now pass.old choice (operation Kind.ClearScan word (Action.Store stored))
+        }
     ensures { Makes shared.now pass.old choice result pass.new }
 {
     step!(

@@ -22,14 +22,16 @@ mod shared;
 mod steps;
 #[cfg(test)]
 mod tests;
+#[cfg(test)]
+mod tests_kinds;
 
 pub use kinds::{
-    add_count, announce, clear_pass, clear_pend, clear_scan, draw, help_stamp, load_clock,
-    load_count, load_epoch, load_head, load_key, load_link, load_min, load_pend, load_state,
-    load_value, load_version, settle, stamp, store_key, store_pass, store_value, store_version,
-    store_waiting,
+    add_count, announce, clear_pass, clear_pend, clear_scan, draw, help_stamp, insert, load_after,
+    load_clock, load_count, load_epoch, load_head, load_key, load_link, load_min, load_pend,
+    load_state, load_value, load_version, settle, stamp, store_after, store_key, store_pass,
+    store_value, store_version, store_waiting,
 };
-pub use meeting::{gather, gather_all, meet};
+pub use meeting::{meet, meet_all, meet_each};
 pub use pass::{Pass, View};
 pub use rule::Rules;
 pub use shared::Shared;

@@ -3,7 +3,7 @@ ghost use Rattle.std.specs.Prelude.{◌≡◌, [], All};
 ghost use mathlib.Core.List.{IsPrefix};
 ghost use Rattle.kw_table.specs.Passes.{view, IsPassOf};
 ghost use Rattle.kw_table.specs.Views.{note_of, told_of, Looks, Meets};
-ghost use Rattle.kw_table.specs.Meetings.{AtEach, Reaches, Gathers, front_seen};
+ghost use Rattle.kw_table.specs.Meetings.{AtEach, Reaches, MeetsAt, front_seen};
 
 use crate::pass::{Pass, View};
 use crate::rule::{Catching, Hear, Looking, Note};
@@ -15,7 +15,8 @@ impl Shared {
     fn note(&self, pass: &mut Pass) -> Seat<(), View>
         requires { IsPassOf self.now pass.old }
         ensures pass { IsPassOf self.now pass.new × (view pass.new ≡ view pass.old) }
-        ensures note { (result.table_id ≡ self.now.table.shared.table_id) × (result.me ≡ (note_of (view pass.old), [])) }
+        ensures note { (result.table_id ≡ self.now.table.shared.table_id)
+            × (result.me ≡ (note_of (view pass.old), [])) }
         ensures local { pass.new.local ≡ pass.old.local }
     {
         self.table.shared.split_seat::<Note>(&mut pass.seat)
@@ -25,7 +26,8 @@ impl Shared {
     fn tell(&self, pass: &mut Pass, note: Seat<(), View>)
         requires pass { IsPassOf self.now pass.old }
         requires note { (note.table_id ≡ self.now.table.shared.table_id) × (note.me.1 ≡ []) }
-        ensures pass { IsPassOf self.now pass.new × (view pass.new ≡ told_of (view pass.old) note.me.0.seen) }
+        ensures pass { IsPassOf self.now pass.new
+            × (view pass.new ≡ told_of (view pass.old) note.me.0.seen) }
         ensures local { pass.new.local ≡ pass.old.local }
     {
         self.table.shared.join_seat::<Hear>(&mut pass.seat, note);
@@ -97,11 +99,11 @@ pub fn meet(shared: &Shared, a: &mut Pass, b: &mut Pass)
 }
 
 /// All passes have then seen one list, which all old ones begin.
-pub fn gather(shared: &Shared, front: &mut Pass, others: &mut [Pass])
+pub fn meet_each(shared: &Shared, front: &mut Pass, others: &mut [Pass])
     requires front { IsPassOf shared.now front.old }
     requires others { All (λ p. IsPassOf shared.now p) others.old }
     ensures front { IsPassOf shared.now front.new × Meets (view front.old) (view front.new) }
-    ensures others { AtEach (Gathers shared.now (view front.new).seen) others.old others.new }
+    ensures others { AtEach (MeetsAt shared.now (view front.new).seen) others.old others.new }
     ensures local { front.new.local ≡ front.old.local }
 {
     shared.reach_each(front, others);
@@ -109,12 +111,12 @@ pub fn gather(shared: &Shared, front: &mut Pass, others: &mut [Pass])
 }
 
 /// The same, of all passes in a slice.
-pub fn gather_all(shared: &Shared, passes: &mut [Pass])
+pub fn meet_all(shared: &Shared, passes: &mut [Pass])
     requires { All (λ p. IsPassOf shared.now p) passes.old }
-    ensures { AtEach (Gathers shared.now (front_seen passes.new)) passes.old passes.new }
+    ensures { AtEach (MeetsAt shared.now (front_seen passes.new)) passes.old passes.new }
 {
     if let Some((front, others)) = passes.split_first_mut() {
-        gather(shared, front, others);
+        meet_each(shared, front, others);
     }
 }
 
@@ -133,9 +135,10 @@ impl Shared {
 
     fn follow_each(&self, front: &mut Pass, others: &mut [Pass])
         requires front { IsPassOf self.now front.old }
-        requires others { All (λ p. IsPassOf self.now p × IsPrefix (view p).seen (view front.old).seen) others.old }
+        requires others { All (λ p. IsPassOf self.now p
+            × IsPrefix (view p).seen (view front.old).seen) others.old }
         ensures front { IsPassOf self.now front.new × (view front.new ≡ view front.old) }
-        ensures others { AtEach (Gathers self.now (view front.new).seen) others.old others.new }
+        ensures others { AtEach (MeetsAt self.now (view front.new).seen) others.old others.new }
         ensures local { front.new.local ≡ front.old.local }
     {
         for pass in others.iter_mut() {

@@ -54,10 +54,13 @@ impl Shared {
         clock: u64,
         epoch: u64,
     ) -> Result<(Shared, Vec<Pass>), Memory>
-        requires { IsOpening product (record { rows = rows; seats = passes; clock = clock; epoch = epoch }) }
-        ensures opening { IfOk result (λ made. made.0.opening ≡ record { rows = rows; seats = passes; clock = clock; epoch = epoch }) }
+        requires { IsOpening product (record { rows = rows; seats = passes; clock = clock; epoch =
+            epoch }) }
+        ensures opening { IfOk result (λ made. made.0.opening ≡ record { rows = rows; seats =
+            passes; clock = clock; epoch = epoch }) }
         ensures len { IfOk result (λ made. vec_len made.1 ≡ passes) }
-        ensures each { IfOk result (λ made. (i : ℕ) (d : _) → i < vec_len made.1 → IsFresh made.0 i (slice_index_or made.1.items i d)) }
+        ensures each { IfOk result (λ made. (i : ℕ) (d : _) → i < vec_len made.1 →
+            IsFresh made.0 i (slice_index_or made.1.items i d)) }
     {
         let opening = Opening {
             rows,
@@ -77,7 +80,8 @@ impl Shared {
         requires table { rest.table_id ≡ self.now.table.shared.table_id }
         requires rest { rest.me ≡ (rest_view self.now.opening 0, []) }
         ensures len { IfOk result (λ v. vec_len v ≡ self.now.opening.seats) }
-        ensures each { IfOk result (λ v. (i : ℕ) (d : _) → i < vec_len v → IsFresh self.now i (slice_index_or v.items i d)) }
+        ensures each { IfOk result (λ v. (i : ℕ) (d : _) → i < vec_len v →
+            IsFresh self.now i (slice_index_or v.items i d)) }
     {
         let mut passes = Vec::new(alloc);
         for number in 0..self.opening.seats {
@@ -95,7 +99,8 @@ impl Shared {
         requires some { number < self.now.opening.seats }
         requires rests { local.value ≡ resting 0 }
         ensures pass { IsFresh self.now number result }
-        ensures rest { (rest.new.table_id ≡ rest.old.table_id) × (rest.new.me ≡ (rest_view self.now.opening (number + 1), [])) }
+        ensures rest { (rest.new.table_id ≡ rest.old.table_id)
+            × (rest.new.me ≡ (rest_view self.now.opening (number + 1), [])) }
     {
         let seat = self.table.shared.split_seat::<Deal>(rest);
         Pass {

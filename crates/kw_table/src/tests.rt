@@ -133,7 +133,7 @@ fn a_scan_finds_the_pair_that_was_stamped_before_it_drew(rt: HostRuntime) -> Res
 }
 
 #[test]
-fn passes_are_numbered_and_gather(rt: HostRuntime) -> Result<(), Fail> {
+fn passes_are_numbered_and_meet(rt: HostRuntime) -> Result<(), Fail> {
     let (shared, mut passes) = Shared::open(rt.alloc(), 64, 8, 1, 1)?;
     assert_eq!(rt; shared.rows(), 64);
     let mut number = 0;
@@ -142,6 +142,6 @@ fn passes_are_numbered_and_gather(rt: HostRuntime) -> Result<(), Fail> {
         number += 1;
     }
     assert_eq!(rt; number, 8);
-    gather_all(&shared, passes.as_mut_slice());
+    meet_all(&shared, passes.as_mut_slice());
     Ok(())
 }

@@ -1,7 +1,7 @@
 -- The names of the kinds of event.
 use Rattle.std.specs.Prelude.{ℕ, List, codes}
 use Rattle.kw_words.specs.declared.kind.Kind.{Kind}
-use Rattle.kw_words.specs.declared.kind.Kind.TheVariants.{LoadEpoch, StorePass, ClearPass, LoadCount, AddCount, StoreKey, StoreValue, Announce, LoadClock, Stamp, StoreVersion, ClearPend, LoadPend, LoadKey, LoadValue, LoadVersion, HelpStamp, StoreWaiting, Draw, Settle, ClearScan, LoadHead, LoadLink, LoadMin, LoadState, Engage, FreezeCount, FreezePend, LoadScan, HelpDraw, HelpSettle, TakeRow, StoreInfant, Replace, Normalise, GiveBack, Number, StoreRetired, LoadPass, Reclaim, MarkLink, LoadNextCount, Decide, EngageNext}
+use Rattle.kw_words.specs.declared.kind.Kind.TheVariants.{LoadEpoch, StorePass, ClearPass, LoadCount, AddCount, StoreKey, StoreValue, Announce, LoadClock, Stamp, StoreVersion, ClearPend, LoadPend, LoadKey, LoadValue, LoadVersion, HelpStamp, StoreWaiting, Draw, Settle, ClearScan, LoadHead, LoadLink, LoadMin, LoadState, Engage, FreezeCount, FreezePend, LoadScan, HelpDraw, HelpSettle, TakeRow, StoreInfant, Replace, Normalise, GiveBack, Number, StoreRetired, LoadPass, Reclaim, MarkLink, LoadNextCount, Decide, EngageNext, LoadAfter, StoreAfter, Insert}
 
 -- the name of a kind, as its characters
 abbrev pub name_of : Kind → List ℕ
@@ -49,6 +49,9 @@ name_of MarkLink = codes "mark_link"
 name_of LoadNextCount = codes "load_next_count"
 name_of Decide = codes "decide"
 name_of EngageNext = codes "engage_next"
+name_of LoadAfter = codes "load_after"
+name_of StoreAfter = codes "store_after"
+name_of Insert = codes "insert"
 
 -- the place of a kind among all kinds, in the order in which they are declared
 abbrev pub place_in_kinds : Kind → ℕ
@@ -96,3 +99,6 @@ place_in_kinds MarkLink = 40
 place_in_kinds LoadNextCount = 41
 place_in_kinds Decide = 42
 place_in_kinds EngageNext = 43
+place_in_kinds LoadAfter = 44
+place_in_kinds StoreAfter = 45
+place_in_kinds Insert = 46

@@ -36,8 +36,10 @@ impl Count {
     pub fn unpack(word: u64) -> Option<Count>
         ensures value { result ≡ count_of word }
         // So a word that no count in range packs to gives none.
-        ensures right { (count : Count) → result ≡ Some count → IsCount count × (count_word count ≡ word) }
-        ensures every { (count : Count) → IsCount count → count_word count ≡ word → result ≡ Some count }
+        ensures right { (count : Count) → result ≡ Some count → IsCount count
+            × (count_word count ≡ word) }
+        ensures every { (count : Count) → IsCount count → count_word count ≡ word →
+            result ≡ Some count }
     {
         if word < FROZEN_BIT {
             Some(Count {

@@ -98,6 +98,12 @@ pub enum Kind {
     Decide,
     /// Exchanges the normal state of the row after a leader for that of its follower.
     EngageNext,
+    /// Loads the link to the first listed cell of a row, or to the one after a cell.
+    LoadAfter,
+    /// Stores the link after a cell that is not listed yet.
+    StoreAfter,
+    /// Exchanges a link between the cells of a row for one to a cell that is listed so.
+    Insert,
 }
 
 /// The names of the kinds, in the order of the enum.
@@ -146,11 +152,14 @@ pub const KINDS: &[&str] = &[
     "load_next_count",
     "decide",
     "engage_next",
+    "load_after",
+    "store_after",
+    "insert",
 ];
 
 impl Kind {
     /// All kinds, in the order of `KINDS`.
-    pub const ALL: [Kind; 44] = [
+    pub const ALL: [Kind; 47] = [
         Kind::LoadEpoch,
         Kind::StorePass,
         Kind::ClearPass,
@@ -195,6 +204,9 @@ impl Kind {
         Kind::LoadNextCount,
         Kind::Decide,
         Kind::EngageNext,
+        Kind::LoadAfter,
+        Kind::StoreAfter,
+        Kind::Insert,
     ];
 
     /// The kind of this name, if there is one.
@@ -230,7 +242,8 @@ impl Kind {
     /// The name of this kind in `KINDS`.
     pub fn name(self) -> &'static str
         ensures value { result.now ≡ name_of self }
-        ensures listed { slice_get KINDS.now (place_in_kinds self) ≡ Some (record { now = name_of self }) }
+        ensures listed { slice_get KINDS.now (place_in_kinds self)
+            ≡ Some (record { now = name_of self }) }
     {
         KINDS[self as usize]
     }

@@ -65,7 +65,8 @@ impl<const SEATS: usize, const CELLS: usize> Layout<SEATS, CELLS> {
         requires within { IsWithin SEATS CELLS rows name }
         ensures value { result ≡ place_of SEATS CELLS name }
         ensures below { result < words_of SEATS CELLS rows }
-        ensures distinct { (other : Name) → IsWithin SEATS CELLS rows other → place_of SEATS CELLS other ≡ result → other ≡ name }
+        ensures distinct { (other : Name) → IsWithin SEATS CELLS rows other →
+            place_of SEATS CELLS other ≡ result → other ≡ name }
     {
         Self::placed(rows, name)
     }

@@ -42,8 +42,10 @@ impl Pend {
     pub fn unpack(word: u64) -> Option<Pend>
         ensures value { result ≡ pend_of word }
         // So a word that no entry in range packs to gives none.
-        ensures right { (entry : Pend) → result ≡ Some entry → IsPend entry × (pend_word entry ≡ word) }
-        ensures every { (entry : Pend) → IsPend entry → pend_word entry ≡ word → result ≡ Some entry }
+        ensures right { (entry : Pend) → result ≡ Some entry → IsPend entry
+            × (pend_word entry ≡ word) }
+        ensures every { (entry : Pend) → IsPend entry → pend_word entry ≡ word →
+            result ≡ Some entry }
     {
         let cell = word % STAMP_UNIT / 4;
         let version = word / STAMP_UNIT;

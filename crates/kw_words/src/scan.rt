@@ -39,8 +39,10 @@ impl ScanWord {
     pub fn unpack(word: u64) -> Option<ScanWord>
         ensures value { result ≡ scan_of word }
         // So a word that no scan in range packs to gives none.
-        ensures right { (scan : ScanWord) → result ≡ Some scan → IsScan scan × (scan_word scan ≡ word) }
-        ensures every { (scan : ScanWord) → IsScan scan → scan_word scan ≡ word → result ≡ Some scan }
+        ensures right { (scan : ScanWord) → result ≡ Some scan → IsScan scan
+            × (scan_word scan ≡ word) }
+        ensures every { (scan : ScanWord) → IsScan scan → scan_word scan ≡ word →
+            result ≡ Some scan }
     {
         let version = word / 4;
         if word == 0 {

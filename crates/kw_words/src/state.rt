@@ -48,8 +48,10 @@ impl State {
     pub fn unpack(word: u64) -> Option<State>
         ensures value { result ≡ state_of word }
         // So a word that no state in range packs to gives none.
-        ensures right { (state : State) → result ≡ Some state → IsState state × (state_word state ≡ word) }
-        ensures every { (state : State) → IsState state → state_word state ≡ word → result ≡ Some state }
+        ensures right { (state : State) → result ≡ Some state → IsState state
+            × (state_word state ≡ word) }
+        ensures every { (state : State) → IsState state → state_word state ≡ word →
+            result ≡ Some state }
     {
         let number = word / 8;
         if word == 0 {

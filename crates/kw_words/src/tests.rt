@@ -172,10 +172,13 @@ fn words_are_read_back(rt: HostRuntime) {
 
 #[test]
 fn kinds_have_their_names(rt: HostRuntime) {
-    assert_eq!(rt; KINDS.len(), 44);
+    assert_eq!(rt; KINDS.len(), 47);
     assert_eq!(rt; Kind::LoadEpoch.name(), "load_epoch");
     assert_eq!(rt; Kind::Engage.name(), "engage");
     assert_eq!(rt; Kind::EngageNext.name(), "engage_next");
+    assert_eq!(rt; Kind::LoadAfter.name(), "load_after");
+    assert_eq!(rt; Kind::Insert.place(), 46);
+    assert_eq!(rt; Kind::named("store_after"), Some(Kind::StoreAfter));
     assert_eq!(rt; Kind::named("freeze_count"), Some(Kind::FreezeCount));
     assert_eq!(rt; Kind::named("take_turn"), None);
 }

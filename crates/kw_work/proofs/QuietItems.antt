@@ -14,7 +14,7 @@ use Rattle.kw_line.specs.Line.{IsItem, IsCallOf, calls, forms}
 use Rattle.kw_line.specs.Answered.{is_range}
 use Rattle.kw_work.specs.declared.line.Line.{Line}
 use Rattle.kw_work.specs.Dealing.{blocks_of, lines_of, line_at}
-use Rattle.kw_work.specs.LineOrder.{IsOrderOf, IsLegalIn, joined, calls_of, KeepsKeys, HaveForms, IsAnswered, QuietAnswered, NoItemRefused, QuietItemsAnswered}
+use Rattle.kw_work.specs.LineOrder.{IsOrderOf, IsLegalIn, joined, calls_of, KeepsKeys, HaveForms, IsAnswered, QuietServed, NoItemRefused, QuietItemsAnswered}
 use Rattle.kw_work.proofs.Numbers.{calls-lines_of, forms-lines_of, joined-blocks_of}
 use Rattle.kw_work.proofs.Quieted.{quiet-blocks_of}
 use Rattle.kw_work.proofs.Asked.{element_at}
@@ -52,7 +52,7 @@ module _ (n : ℕ) (items : List Item) (rs : List Reply) where
   pub quiet_items_answered : (xs : List ℕ) → AllByRecursion IsItem items → length rs ≡ length (calls items) → IsOrderOf (length (calls items)) xs → KeepsKeys (blocks_of n items) xs → NoItemRefused items rs → IsLegalIn (calls items) rs xs → QuietItemsAnswered items rs
   quiet_items_answered xs all long o keeps served legal i c f r at_call at_form at_reply is_quiet = go (each i l.0 r l.1 at_reply (ap (λ qs. slice_get qs i) (quiet-blocks_of n items) ∙ is_quiet))
     where
-      each : QuietAnswered (blocks_of n items) rs
+      each : QuietServed (blocks_of n items) rs
       each =
           quiet_answered (blocks_of n items) rs xs (long ∙ sym long_as) (subst HaveForms (sym (joined-blocks_of n items)) (have_forms n items all)) (subst (λ m. IsOrderOf m xs) (sym long_as) o) keeps
           (λ j m s e g u. served j m.form s (form_at j m e) g u) (subst (λ cs. IsLegalIn cs rs xs) (sym calls_are) legal)

@@ -17,7 +17,7 @@ use Rattle.kw_line.specs.Line.{IsCallOf}
 use Rattle.kw_line.specs.Answered as form
 use Rattle.kw_work.specs.declared.line.Line.{Line}
 use Rattle.kw_work.specs.Lines.{quiet_lines}
-use Rattle.kw_work.specs.LineOrder.{IsOrderOf, StandsBefore, IsLegalIn, call_at, reply_at, key_of, joined, calls_of, lines_before, KeepsKeys, HaveForms, NoneRefused, IsAnswered, QuietAnswered}
+use Rattle.kw_work.specs.LineOrder.{IsOrderOf, StandsBefore, IsLegalIn, call_at, reply_at, key_of, joined, calls_of, lines_before, KeepsKeys, HaveForms, NoneRefused, IsAnswered, QuietServed}
 use Rattle.kw_work.proofs.LastShown.{AreAlike}
 use Rattle.kw_work.proofs.Asked.{from_take, in_take, element_at, map_after, right_at, answered_at, same_value, same_range}
 use Rattle.kw_work.proofs.LineOrders.{listed}
@@ -187,7 +187,7 @@ module _ (blocks : List (List Line)) (rs : List Reply) (xs : List ℕ) (long : l
       (answered_at asks replies [] (range_with_len 0 many) i i each_went (at_number many i l))
 
   -- the replies to quiet lines are those in line order
-  pub quiet_answered : IsLegalIn (calls_of (joined blocks)) rs xs → QuietAnswered blocks rs
+  pub quiet_answered : IsLegalIn (calls_of (joined blocks)) rs xs → QuietServed blocks rs
   quiet_answered legal i l r e f q = go ((right_is (map_after asks replies [] (take a.0 xs)) l.call r).0 right)
     where
       inside : i < many

@@ -84,8 +84,8 @@ abbrev pub IsAnswered : Line → Reply → Option Reply → Type 0
 IsAnswered l r answer = (answer ≡ Some r) ⊎ (IsTrue (is_range l.form) × IsTrue (may_refuse l.call r))
 
 -- each quiet line has the reply that the map gives when it is asked by the lines in line order, or is a range line that was refused
-abbrev pub QuietAnswered : List (List Line) → List Reply → Type 0
-QuietAnswered blocks rs =
+abbrev pub QuietServed : List (List Line) → List Reply → Type 0
+QuietServed blocks rs =
     (i : ℕ) (l : Line) (r : Reply) → slice_get (joined blocks) i ≡ Some l → slice_get rs i ≡ Some r → slice_get (flat_map quiet_lines blocks) i ≡ Some true → IsAnswered l r (slice_get (answers [] (calls_of (joined blocks))) i)
 
 -- Calls that were made, by their numbers, and the lines that they are of.

@@ -20,7 +20,8 @@ pub fn collect(
 ) -> Result<Vec<Answer>, Memory>
     requires len { vec_len parts ≡ block.now.workers }
     requires each { AnswersEach block.now.workers block.now.lines parts.items }
-    ensures { IfOk result (λ answers. answers.items ≡ map (λ a. a.answer) (merge block.now.workers (answers_of parts.items) no_answer [] block.now.lines)) }
+    ensures { IfOk result (λ answers. answers.items ≡ map (λ a. a.answer)
+        (merge block.now.workers (answers_of parts.items) no_answer [] block.now.lines)) }
 {
     let mut parts = parts;
     let workers = block.workers();
@@ -39,7 +40,8 @@ pub fn collect(
 fn take_answer(parts: &mut Vec<Vec<Answered>>, worker: usize, place: usize) -> Answer
     requires worker { worker < vec_len parts.old }
     requires place { place < length (answers_of parts.old.items worker) }
-    ensures answer { result ≡ (slice_index_or (answers_of parts.old.items worker) place no_answer).answer }
+    ensures answer { result ≡ (slice_index_or (answers_of parts.old.items worker) place
+        no_answer).answer }
     ensures len { vec_len parts.new ≡ vec_len parts.old }
     ensures lengths { SameLengths parts.old.items parts.new.items }
     ensures others { SameElse worker place parts.old.items parts.new.items }

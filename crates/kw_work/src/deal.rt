@@ -18,9 +18,11 @@ use std::mem;
 pub fn deal(alloc: Global, items: &[Item], workers: u32) -> Result<Vec<Block>, Memory>
     requires workers { 0 < workers }
     requires few { length items.now < 2 ^ 32 }
-    ensures blocks { IfOk result (λ blocks. map (λ b. b.lines) blocks.items ≡ blocks_of 1 items.now) }
+    ensures blocks { IfOk result (λ blocks. map (λ b. b.lines) blocks.items
+        ≡ blocks_of 1 items.now) }
     ensures workers { IfOk result (λ blocks. All (λ b. b.workers ≡ workers) blocks.items) }
-    ensures lines { AllByRecursion IsItem items.now → IfOk result (λ blocks. All (λ b. All IsLine b.lines) blocks.items) }
+    ensures lines { AllByRecursion IsItem items.now → IfOk result
+        (λ blocks. All (λ b. All IsLine b.lines) blocks.items) }
 {
     let mut blocks = Vec::new(alloc);
     let mut lines = Vec::new(alloc);

@@ -17,29 +17,40 @@ ghost use Rattle.kw_work.specs.declared.line.Answered.{Answered};
 ghost use Rattle.kw_work.specs.Dealing.{blocks_of, lines_of, part};
 ghost use Rattle.kw_work.specs.Collecting.{answers_of, merge, no_answer, AnswersEach};
 ghost use Rattle.kw_work.specs.Lines.{all_parts, quiet_lines, IsItemOf, AreRising};
-ghost use Rattle.kw_work.specs.LineOrder.{IsOrderOf, StandsBefore, IsLegalIn, joined, calls_of, KeepsKeys, KeepsWorkers, HaveForms, NoneRefused, QuietAnswered, NoItemRefused, QuietItemsAnswered, AreOfLines, StandsBeforeBy};
+ghost use Rattle.kw_work.specs.LineOrder.{IsOrderOf, StandsBefore, IsLegalIn, joined, calls_of, KeepsKeys, KeepsWorkers, HaveForms, NoneRefused, QuietServed, NoItemRefused, QuietItemsAnswered, AreOfLines, StandsBeforeBy};
 
 /// The lines are the items that make calls, in order. The blocks, one after another, are the lines, cut where the waits
 /// stand, and a line is as quiet as its item. The lines of a worker in a block rise. Each line of a block is dealt to one
 /// worker, and once.
 pub fn dealing_laws()
     ensures items { (n : ℕ) (items : List Item) → All (IsItemOf n items) (lines_of n items) }
-    ensures calls { (n : ℕ) (items : List Item) → map (λ l. l.call) (lines_of n items) ≡ calls items }
-    ensures forms { (n : ℕ) (items : List Item) → map (λ l. l.form) (lines_of n items) ≡ forms items }
-    ensures blocks { (n : ℕ) (items : List Item) → flat_map (λ block. block) (blocks_of n items) ≡ lines_of n items }
-    ensures cut { (n : ℕ) (items : List Item) → map (λ block. map (λ l. l.form) block) (blocks_of n items) ≡ map forms (blocks items) }
-    ensures quiet { (n : ℕ) (items : List Item) → flat_map quiet_lines (blocks_of n items) ≡ quiet items }
-    ensures rising { (n workers worker : ℕ) (items : List Item) → All (λ block. AreRising (part workers worker block)) (blocks_of n items) }
-    ensures once { (workers : ℕ) (lines : List Line) → 0 < workers → IsPermutation lines (all_parts workers lines) }
+    ensures calls { (n : ℕ) (items : List Item) → map (λ l. l.call) (lines_of n items)
+        ≡ calls items }
+    ensures forms { (n : ℕ) (items : List Item) → map (λ l. l.form) (lines_of n items)
+        ≡ forms items }
+    ensures blocks { (n : ℕ) (items : List Item) → flat_map (λ block. block) (blocks_of n items)
+        ≡ lines_of n items }
+    ensures cut { (n : ℕ) (items : List Item) → map (λ block. map (λ l. l.form) block)
+        (blocks_of n items) ≡ map forms (blocks items) }
+    ensures quiet { (n : ℕ) (items : List Item) → flat_map quiet_lines (blocks_of n items)
+        ≡ quiet items }
+    ensures rising { (n workers worker : ℕ) (items : List Item) →
+        All (λ block. AreRising (part workers worker block)) (blocks_of n items) }
+    ensures once { (workers : ℕ) (lines : List Line) → 0 < workers →
+        IsPermutation lines (all_parts workers lines) }
 {}
 
 /// Answers that are collected stand in the order of their lines, and what is dealt and then collected is as it was before.
 /// One worker has all lines of a block, and what it answers is what is collected.
 pub fn collecting_laws()
-    ensures order { (workers : ℕ) (lines : List Line) (parts : List (Vec Answered Global)) → 0 < workers → AnswersEach workers lines parts → map (λ a. a.line) (merge workers (answers_of parts) no_answer [] lines) ≡ map (λ l. l.number) lines }
-    ensures back { (workers : ℕ) (lines : List Line) (none : Line) → 0 < workers → merge workers (λ worker. part workers worker lines) none [] lines ≡ lines }
+    ensures order { (workers : ℕ) (lines : List Line) (parts : List (Vec Answered Global)) →
+        0 < workers → AnswersEach workers lines parts → map (λ a. a.line)
+        (merge workers (answers_of parts) no_answer [] lines) ≡ map (λ l. l.number) lines }
+    ensures back { (workers : ℕ) (lines : List Line) (none : Line) → 0 < workers →
+        merge workers (λ worker. part workers worker lines) none [] lines ≡ lines }
     ensures one_part { (lines : List Line) → part 1 0 lines ≡ lines }
-    ensures one { (lines : List Line) (given : ℕ → List Answered) → length (given 0) ≡ length lines → merge 1 given no_answer [] lines ≡ given 0 }
+    ensures one { (lines : List Line) (given : ℕ → List Answered) →
+        length (given 0) ≡ length lines → merge 1 given no_answer [] lines ≡ given 0 }
 {}
 
 /// Replies that are right in some order of the lines are, where the order keeps enough of the order of the lines, those that
@@ -48,19 +59,38 @@ pub fn collecting_laws()
 /// keeps the lines on each key in their order, and then the replies to quiet lines are the map's, if no line that sets a
 /// value or takes a key away was refused; a range line may be refused all the same.
 pub fn quiet_laws()
-    ensures whole { (n : ℕ) (xs : List ℕ) → IsOrderOf n xs → ((i j : ℕ) → i < j → StandsBefore xs i j) → xs ≡ range_with_len 0 n }
-    ensures right { (cs : List Call) (rs : List Reply) (xs : List ℕ) → length cs ≡ length rs → IsOrderOf (length cs) xs → ((i j : ℕ) → i < j → StandsBefore xs i j) → IsLegalIn cs rs xs → IsLegal [] cs rs }
-    ensures answered { (cs : List Call) (rs : List Reply) → All (λ r. is_refusal r ≡ false) rs → IsLegal [] cs rs → rs ≡ answers [] cs }
-    ensures one_worker { (blocks : List (List Line)) (xs : List ℕ) → IsOrderOf (length (joined blocks)) xs → KeepsWorkers 1 blocks xs → (i j : ℕ) → i < j → StandsBefore xs i j }
-    ensures keys { (workers : ℕ) (blocks : List (List Line)) (xs : List ℕ) → KeepsWorkers workers blocks xs → KeepsKeys blocks xs }
-    ensures quiet { (blocks : List (List Line)) (rs : List Reply) (xs : List ℕ) → length rs ≡ length (joined blocks) → HaveForms (joined blocks) → IsOrderOf (length (joined blocks)) xs → KeepsKeys blocks xs → NoneRefused (joined blocks) rs → IsLegalIn (calls_of (joined blocks)) rs xs → QuietAnswered blocks rs }
-    ensures items { (n : ℕ) (items : List Item) (rs : List Reply) (xs : List ℕ) → AllByRecursion IsItem items → length rs ≡ length (calls items) → IsOrderOf (length (calls items)) xs → KeepsKeys (blocks_of n items) xs → NoItemRefused items rs → IsLegalIn (calls items) rs xs → QuietItemsAnswered items rs }
+    ensures whole { (n : ℕ) (xs : List ℕ) → IsOrderOf n xs →
+        ((i j : ℕ) → i < j → StandsBefore xs i j) → xs ≡ range_with_len 0 n }
+    ensures right { (cs : List Call) (rs : List Reply) (xs : List ℕ) → length cs ≡ length rs →
+        IsOrderOf (length cs) xs → ((i j : ℕ) → i < j → StandsBefore xs i j) → IsLegalIn cs rs xs →
+        IsLegal [] cs rs }
+    ensures answered { (cs : List Call) (rs : List Reply) → All (λ r. is_refusal r ≡ false) rs →
+        IsLegal [] cs rs → rs ≡ answers [] cs }
+    ensures one_worker { (blocks : List (List Line)) (xs : List ℕ) →
+        IsOrderOf (length (joined blocks)) xs → KeepsWorkers 1 blocks xs → (i j : ℕ) → i < j →
+        StandsBefore xs i j }
+    ensures keys { (workers : ℕ) (blocks : List (List Line)) (xs : List ℕ) →
+        KeepsWorkers workers blocks xs → KeepsKeys blocks xs }
+    ensures quiet { (blocks : List (List Line)) (rs : List Reply) (xs : List ℕ) →
+        length rs ≡ length (joined blocks) → HaveForms (joined blocks) →
+        IsOrderOf (length (joined blocks)) xs → KeepsKeys blocks xs →
+        NoneRefused (joined blocks) rs → IsLegalIn (calls_of (joined blocks)) rs xs →
+        QuietServed blocks rs }
+    ensures items { (n : ℕ) (items : List Item) (rs : List Reply) (xs : List ℕ) →
+        AllByRecursion IsItem items → length rs ≡ length (calls items) →
+        IsOrderOf (length (calls items)) xs → KeepsKeys (blocks_of n items) xs →
+        NoItemRefused items rs → IsLegalIn (calls items) rs xs → QuietItemsAnswered items rs }
 {}
 
 /// Calls that were made in some order, each of one line: by their lines this is an order of the lines. It is legal where the
 /// order of the calls is, and a line stands before another where its call does.
 pub fn made_calls_laws()
-    ensures order { (cs : List Call) (rs : List Reply) (call_of : ℕ → Call) (reply_of : ℕ → Reply) (line_of : ℕ → ℕ) (ys : List ℕ) → AreOfLines cs rs call_of reply_of line_of ys → IsOrderOf (length cs) (map line_of ys) }
-    ensures legal { (cs : List Call) (rs : List Reply) (call_of : ℕ → Call) (reply_of : ℕ → Reply) (line_of : ℕ → ℕ) (ys : List ℕ) → AreOfLines cs rs call_of reply_of line_of ys → IsLegal [] (map call_of ys) (map reply_of ys) → IsLegalIn cs rs (map line_of ys) }
-    ensures before { (line_of : ℕ → ℕ) (ys : List ℕ) (i j : ℕ) → StandsBeforeBy line_of ys i j → StandsBefore (map line_of ys) i j }
+    ensures order { (cs : List Call) (rs : List Reply) (call_of : ℕ → Call) (reply_of : ℕ →
+        Reply) (line_of : ℕ → ℕ) (ys : List ℕ) → AreOfLines cs rs call_of reply_of line_of ys →
+        IsOrderOf (length cs) (map line_of ys) }
+    ensures legal { (cs : List Call) (rs : List Reply) (call_of : ℕ → Call) (reply_of : ℕ →
+        Reply) (line_of : ℕ → ℕ) (ys : List ℕ) → AreOfLines cs rs call_of reply_of line_of ys →
+        IsLegal [] (map call_of ys) (map reply_of ys) → IsLegalIn cs rs (map line_of ys) }
+    ensures before { (line_of : ℕ → ℕ) (ys : List ℕ) (i j : ℕ) → StandsBeforeBy line_of ys i j →
+        StandsBefore (map line_of ys) i j }
 {}

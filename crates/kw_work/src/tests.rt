@@ -14,7 +14,8 @@ use std::test::Fail;
 
 // for each line, its own number as its answer
 fn answer_lines(alloc: Global, lines: &[Line]) -> Result<Vec<Answered>, Fail>
-    ensures { IfOk result (λ answers. map (λ a. a.line) answers.items ≡ map (λ l. l.number) lines.now) }
+    ensures { IfOk result (λ answers. map (λ a. a.line) answers.items
+        ≡ map (λ l. l.number) lines.now) }
 {
     let mut answers = Vec::new(alloc);
     for line in lines {
@@ -30,7 +31,8 @@ fn answer_lines(alloc: Global, lines: &[Line]) -> Result<Vec<Answered>, Fail>
 // the answers of all workers of a block
 fn answer_parts(alloc: Global, block: &Block) -> Result<Vec<Vec<Answered>>, Fail>
     ensures len { IfOk result (λ parts. vec_len parts ≡ block.now.workers) }
-    ensures each { IfOk result (λ parts. AnswersEach block.now.workers block.now.lines parts.items) }
+    ensures each { IfOk result (λ parts. AnswersEach block.now.workers block.now.lines
+        parts.items) }
 {
     let mut parts = Vec::new(alloc);
     for worker in 0..block.workers() {

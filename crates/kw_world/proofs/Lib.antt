@@ -1,8 +1,7 @@
 pub mod Lists
-pub mod Rooms
 pub mod Transitions
 pub mod Frame
-pub mod Made
+pub mod GoingOn
 pub mod Steps
 pub mod Skipping
 pub mod Replies

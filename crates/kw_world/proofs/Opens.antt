@@ -43,12 +43,15 @@ rests_known z rows n sized = record {
     met = omega (arith, sized.some_cells);
     helping = (omega arith, omega arith);
     marks = All-nil (IsMark z);
-    count = omega arith;
     place = omega (arith, sized.some_cells);
     place_version = (omega arith, omega arith);
     place_key = omega arith;
     copies = All-nil IsCopy;
     cell = omega (arith, sized.some_cells);
+    link = tt;
+    held = tt;
+    walked = omega arith;
+    lost = omega arith;
   };
   below = record { row = omega (arith, sized.some_rows); candidate = omega (arith, sized.some_rows); next = tt };
   room = record { remembered = omega arith; gathered = omega arith };

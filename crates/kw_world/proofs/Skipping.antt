@@ -13,7 +13,7 @@ use Rattle.kw_world.specs.WorldView.{WorldView}
 use Rattle.kw_world.specs.Operation.{told_by}
 use Rattle.kw_world.specs.WalkTransitions.{offered}
 use Rattle.kw_world.specs.Step.{word, transition_of, transition_at, step, stepped, Stepped, is_skipped, IsSkipped, IsMade}
-use Rattle.kw_world.proofs.Made.{goes_on}
+use Rattle.kw_world.proofs.GoingOn.{is_made}
 use Rattle.kw_world.proofs.Steps.{step-absent, step-moved, step-skipped}
 
 -- an event that is not skipped is not where its guess is not offered
@@ -29,7 +29,7 @@ pub step-made : (z : Sizes) (w : WorldView) (e : Event) (l : Local) → slice_ge
 unfolding transition_of
 step-made z w e l knows moves =
     subst (λ (s : Stepped). IsMade s.done) (sym (step-moved z w e l knows moves))
-    (goes_on z l.activity e.seat (offered w.rows e.choice) l w.rows (told_by (transition_at z w e l).operation.action (word z w (transition_at z w e l).operation.name)) (skipped_offered l.activity w.rows e.choice moves)).made
+    (is_made z l.activity e.seat (offered w.rows e.choice) l w.rows (told_by (transition_at z w e l).operation.action (word z w (transition_at z w e l).operation.name)) (skipped_offered l.activity w.rows e.choice moves))
 
 -- an event that answers that it was skipped leaves the world as it was
 pub step-still : (z : Sizes) (w : WorldView) (e : Event) → (step z w e).done ≡ Skipped → step z w e ≡ stepped w Skipped

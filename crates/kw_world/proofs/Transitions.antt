@@ -5,7 +5,7 @@ use Rattle.kw_words.specs.declared.count.Count.{Count as Counted}
 use Rattle.kw_words.specs.Layout.{IsWithin}
 use Rattle.kw_words.specs.Count.{count_of}
 use Rattle.kw_world.specs.declared.activity.Activity.{Activity}
-use Rattle.kw_world.specs.declared.activity.Activity.TheVariants.{Idle, Enter, ScanClock, ScanWait, ScanDraw, ScanSettle, Start, Head, GuessMin, Walk, WalkMin, Look, LookKey, LookClock, LookHelp, LookCount, Cell, CellKey, CellValue, ClearScan, PutCount, PutAdd, PutKey, PutValue, Announce, PutClock, Stamp, PutVersion, PutClear, Leave}
+use Rattle.kw_world.specs.declared.activity.Activity.TheVariants.{Idle, Enter, ScanClock, ScanWait, ScanDraw, ScanSettle, Start, Head, GuessMin, Walk, WalkMin, Look, LookKey, LookClock, LookHelp, ListFrom, ListKey, ListVer, ListVal, RestKey, RestVal, ClearScan, PutCount, PutAdd, PutKey, PutValue, Announce, PutClock, Stamp, PutVersion, InsFrom, InsKey, InsVer, InsSet, Insert, PutClear, Leave}
 use Rattle.kw_world.specs.declared.local.Local.{Local}
 use Rattle.kw_world.specs.declared.event.Event.{Event}
 use Rattle.kw_world.specs.declared.event.Choice.{Choice}
@@ -19,7 +19,8 @@ use Rattle.kw_world.specs.Parts.{part_of, part_at}
 use Rattle.kw_world.specs.Table.{transition}
 use Rattle.kw_world.specs.Transition.{Outcome}
 use Rattle.kw_world.specs.Step.{word, transition_of, transition_at, next_of}
-use Rattle.kw_world.specs.Sane.{IsLocal, IsLocalBelow, IsActivity, IsWord, IsGiven, IsSane, IsOffered, IsStore}
+use Rattle.kw_world.specs.ListTransitions.{link_name}
+use Rattle.kw_world.specs.Sane.{IsLocal, IsLocalBelow, IsCellBelow, IsActivity, IsWord, IsGiven, IsSane, IsOffered, IsStore}
 
 -- a guess that is offered is at a row of the table
 pub offered_below : (rows : ℕ) (choice : Choice) → IsOffered rows (offered rows choice)
@@ -63,6 +64,11 @@ part-not_rebalance choice l = which l.activity
     which WalkMin = λ e. cc
     which _ = λ e. cc
 
+-- a link of a row's list is one of the table
+pub link_within : (z : Sizes) (rows r : ℕ) (link : Option ℕ) → IsCellBelow z.cells link → r < rows → IsWithin z.seats z.cells rows (link_name r link)
+link_within z rows r (Some cell) h b = (b, h)
+link_within z rows r None h b = b
+
 -- the word of a line is one of the table
 pub within : (z : Sizes) (a : Activity) (rows s : ℕ) (choice : Choice) (l : Local) → IsLocal z l → IsLocalBelow rows l → s < z.seats → IsActivity z a → IsOffered rows choice → IsWithin z.seats z.cells rows (transition z a s choice l).operation.name
 within z Idle rows s choice l i b t o g = tt
@@ -90,10 +96,12 @@ within z (Look k) rows s choice l i b t o g = (b.row, o)
 within z LookKey rows s choice l i b t o g = (b.row, i.met)
 within z LookClock rows s choice l i b t o g = tt
 within z LookHelp rows s choice l i b t o g = (b.row, i.looked)
-within z LookCount rows s choice l i b t o g = b.row
-within z (Cell j) rows s choice l i b t o g = (b.row, o)
-within z CellKey rows s choice l i b t o g = (b.row, i.place)
-within z CellValue rows s choice l i b t o g = (b.row, i.place)
+within z ListFrom rows s choice l i b t o g = link_within z rows l.row l.link i.link b.row
+within z ListKey rows s choice l i b t o g = (b.row, i.place)
+within z ListVer rows s choice l i b t o g = (b.row, i.place)
+within z ListVal rows s choice l i b t o g = (b.row, i.place)
+within z RestKey rows s choice l i b t o g = (b.row, i.place)
+within z RestVal rows s choice l i b t o g = (b.row, i.place)
 within z (ClearScan answer) rows s choice l i b t o g = t
 within z PutCount rows s choice l i b t o g = b.row
 within z PutAdd rows s choice l i b t o g = b.row
@@ -103,6 +111,11 @@ within z Announce rows s choice l i b t o g = (b.row, t)
 within z PutClock rows s choice l i b t o g = tt
 within z Stamp rows s choice l i b t o g = (b.row, t)
 within z PutVersion rows s choice l i b t o g = (b.row, i.cell)
+within z InsFrom rows s choice l i b t o g = link_within z rows l.row l.link i.link b.row
+within z InsKey rows s choice l i b t o g = (b.row, i.place)
+within z InsVer rows s choice l i b t o g = (b.row, i.place)
+within z InsSet rows s choice l i b t o g = (b.row, i.cell)
+within z Insert rows s choice l i b t o g = link_within z rows l.row l.link i.link b.row
 within z PutClear rows s choice l i b t o g = (b.row, t)
 within z (Leave answer) rows s choice l i b t o g = t
 
@@ -166,10 +179,12 @@ store_blind z (Look i) s choice l v w h rows = absurd h
 store_blind z LookKey s choice l v w h rows = absurd h
 store_blind z LookClock s choice l v w h rows = absurd h
 store_blind z LookHelp s choice l v w h rows = absurd h
-store_blind z LookCount s choice l v w h rows = absurd h
-store_blind z (Cell j) s choice l v w h rows = absurd h
-store_blind z CellKey s choice l v w h rows = absurd h
-store_blind z CellValue s choice l v w h rows = absurd h
+store_blind z ListFrom s choice l v w h rows = absurd h
+store_blind z ListKey s choice l v w h rows = absurd h
+store_blind z ListVer s choice l v w h rows = absurd h
+store_blind z ListVal s choice l v w h rows = absurd h
+store_blind z RestKey s choice l v w h rows = absurd h
+store_blind z RestVal s choice l v w h rows = absurd h
 store_blind z (ClearScan answer) s choice l v w h rows = refl
 store_blind z PutCount s choice l v w h rows = absurd h
 store_blind z PutAdd s choice l v w h rows = absurd h
@@ -179,6 +194,11 @@ store_blind z Announce s choice l v w h rows = absurd h
 store_blind z PutClock s choice l v w h rows = absurd h
 store_blind z Stamp s choice l v w h rows = absurd h
 store_blind z PutVersion s choice l v w h rows = refl
+store_blind z InsFrom s choice l v w h rows = absurd h
+store_blind z InsKey s choice l v w h rows = absurd h
+store_blind z InsVer s choice l v w h rows = absurd h
+store_blind z InsSet s choice l v w h rows = refl
+store_blind z Insert s choice l v w h rows = absurd h
 store_blind z PutClear s choice l v w h rows = refl
 store_blind z (Leave answer) s choice l v w h rows = refl
 

@@ -8,6 +8,7 @@ pub mod WorldView
 pub mod Lending
 pub mod Transition
 pub mod PutTransitions
+pub mod ListTransitions
 pub mod ReadTransitions
 pub mod ScanTransitions
 pub mod WalkTransitions

@@ -25,18 +25,21 @@ resting number = record {
   met = 0;
   helping = 1;
   remembered = [];
-  count = 0;
   place = 0;
   place_version = 1;
   place_key = 0;
   gathered = [];
   cell = 0;
+  link = None;
+  held = None;
+  walked = 0;
+  lost = 0;
 }
 
 -- no row is known any more
 abbrev pub without_rows : Local → Local
 without_rows l = record l { row = 0; lower = 0; candidate = 0; next = None; upper = 0 }
 
--- nothing of a row is remembered or gathered
+-- nothing of a row is remembered or gathered, and no cell of its list is met
 abbrev pub before_row : Local → Local
-before_row l = record l { remembered = []; gathered = [] }
+before_row l = record l { remembered = []; gathered = []; link = None; walked = 0 }

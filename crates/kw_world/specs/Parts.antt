@@ -1,5 +1,5 @@
 -- Which part of the table an event is of.
-use Rattle.std.specs.Prelude.{Bool, true, false, if◌then◌else◌}
+use Rattle.std.specs.Prelude.{if◌then◌else◌}
 use Rattle.kw_world.specs.declared.activity.Activity.{Activity}
 use Rattle.kw_world.specs.declared.activity.Activity.TheVariants.{Start, Head, GuessMin, Walk, WalkMin}
 use Rattle.kw_world.specs.declared.local.Local.{Local}
@@ -7,15 +7,6 @@ use Rattle.kw_world.specs.declared.event.Choice.{Choice}
 use Rattle.kw_world.specs.declared.part.Part.{Part}
 use Rattle.kw_world.specs.declared.part.Part.TheVariants as part
 use Rattle.kw_world.specs.WalkTransitions.{is_stopped}
-
--- the activity is one of a walk
-abbrev pub is_walking : Activity → Bool
-is_walking Start = true
-is_walking Head = true
-is_walking GuessMin = true
-is_walking Walk = true
-is_walking WalkMin = true
-is_walking _ = false
 
 -- the part that has the event at this activity; a walk that is stopped does not walk: the event ends the scan
 abbrev pub part_at : Activity → Choice → Local → Part

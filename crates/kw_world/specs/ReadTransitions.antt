@@ -1,24 +1,28 @@
 -- What follows from the events of a get or a scan that reads a row.
-use Rattle.std.specs.Prelude.{ℕ, ◌+◌, nat_lt, ◌==◌, if◌then◌else◌, Option, Some, None, [], ◌∷◌, ◌++◌, true, min}
+use Rattle.std.specs.Prelude.{ℕ, ◌+◌, nat_lt, nat_le, ◌==◌, if◌then◌else◌, Option, Some, None, [], ◌∷◌, ◌++◌, true, length, unwrap_or}
 use Rattle.kw_words.specs.declared.pend.Pend.{Pend}
 use Rattle.kw_words.specs.declared.pend.Pend.TheVariants.{Idle, Pending, Stamped, Frozen}
-use Rattle.kw_words.specs.declared.count.Count.{Count}
+use Rattle.kw_cells.specs.declared.cell.Cell.{Cell}
 use Rattle.kw_cells.specs.Cells.{shown_at, pairs_of}
+use Rattle.kw_cells.specs.InOrder.{with_cell}
 use Rattle.kw_model.specs.declared.call.Call.{Call}
 use Rattle.kw_model.specs.declared.call.Call.TheVariants.{Put, Del, Get, Scan}
 use Rattle.kw_world.specs.declared.answer.Answer.TheVariants.{Pairs}
 use Rattle.kw_world.specs.Answers.{answer_found}
-use Rattle.kw_world.specs.declared.activity.Activity.TheVariants.{Look, LookKey, LookCount, Cell, CellKey, ClearScan, Walk}
+use Rattle.kw_world.specs.declared.activity.Activity.TheVariants.{Look, LookKey, ListFrom, ListKey, ListVer, ListVal, RestKey, RestVal, ClearScan, Walk}
 use Rattle.kw_world.specs.declared.local.Local.{Local}
+use Rattle.kw_world.specs.declared.marks.Mark.{Mark}
 use Rattle.kw_world.specs.declared.limits.TheConstants.{NEWEST}
 use Rattle.kw_world.specs.Sizes.{Sizes}
-use Rattle.kw_world.specs.Marks.{mark_of, version_marked}
+use Rattle.kw_world.specs.Calls.{first_key, last_key, is_in_range}
+use Rattle.kw_world.specs.Marks.{mark_of, unmarked, least_mark}
 use Rattle.kw_world.specs.Transition.{Outcome, to, leave}
-use Rattle.kw_world.specs.PutTransitions.{given_of}
+use Rattle.kw_world.specs.ListTransitions.{one_more, past_cell}
 
--- Look(i): the entry of seat i; once all entries are looked at, the count
+-- Look(i): the entry of seat i; once all entries are looked at, the row's list, from its first link on, at which a reader stands since it
+-- came to the row
 abbrev pub to_look : Sizes → ℕ → Local → Outcome
-to_look z i l = if nat_lt i z.seats then to (Look i) l else to LookCount l
+to_look z i l = if nat_lt i z.seats then to (Look i) l else to ListFrom l
 
 -- the cell is remembered with this version
 abbrev pub remembering : ℕ → ℕ → Local → Local
@@ -39,10 +43,6 @@ help_met z (Some (Pending cell)) l = to_look z (l.looked + 1) (if cell == l.met 
 help_met z (Some (Stamped cell version)) l = to_look z (l.looked + 1) (remembering cell version l)
 help_met z (Some Frozen) l = to_look z (l.looked + 1) l
 help_met z None l = to_look z (l.looked + 1) l
-
--- how many cells are read: as many as were given, and no more than there are
-abbrev pub count_read : Sizes → Option Count → ℕ
-count_read z count = min (given_of count) z.cells
 
 -- the end of a row's cells, for a get: what the best cell for the greatest version shows is the answer
 abbrev pub get_answered : ℕ → Local → Outcome
@@ -68,7 +68,7 @@ with_pairs upto l = record l { pairs = l.pairs ++ pairs_of l.gathered l.want upt
 abbrev pub row_scanned : ℕ → Local → Outcome
 row_scanned upto l = scan_on l.next upto (with_pairs upto l)
 
--- Cell(n): the end of a row's cells has no event
+-- the end of a row's cells has no event
 abbrev pub row_read : Option Call → Local → Outcome
 row_read (Some (Put key value)) l = get_answered key l
 row_read (Some (Del key)) l = get_answered key l
@@ -76,20 +76,47 @@ row_read (Some (Get key)) l = get_answered key l
 row_read (Some (Scan from upto)) l = row_scanned upto l
 row_read None l = get_answered 0 l
 
--- Cell(j): the next cell that is read, or the end of the row's cells
-abbrev pub to_cell : ℕ → Local → Outcome
-to_cell j l = if nat_lt j l.count then to (Cell j) l else row_read l.call l
+-- Rest: a remembered cell of the least place is read, and remembered no more; where none is left, the row is read
+abbrev pub rest_of : Option Mark → Local → Outcome
+rest_of (Some m) l = to RestKey (record l { place = m.cell; place_version = m.version; remembered = unmarked m.cell l.remembered })
+rest_of None l = row_read l.call l
 
--- the version of a cell: that of its word, else the one that is remembered
-abbrev pub version_in_hand : ℕ → Option ℕ → Local → Option ℕ
-version_in_hand j (Some version) l = Some version
-version_in_hand j None l = version_marked j l.remembered
+-- the remembered cells that were not met are left
+abbrev pub to_rest : Local → Outcome
+to_rest l = rest_of (least_mark l.remembered) l
 
--- Cell(j): a cell without a version is passed over, and every other one is read
-abbrev pub version_met : ℕ → Option ℕ → Local → Outcome
-version_met j (Some version) l = to CellKey (record l { place = j; place_version = version })
-version_met j None l = to_cell (j + 1) l
+-- the reader has met this cell behind its link: it need not be remembered any more
+abbrev pub reaching : Sizes → ℕ → Local → Local
+reaching z cell l = record l { place = cell; walked = one_more z l.walked; remembered = unmarked cell l.remembered }
 
--- the cell that was read, with this value, is gathered
-abbrev pub gathering : Option ℕ → Local → Local
-gathering value l = record l { gathered = l.gathered ++ record { key = l.place_key; version = l.place_version; place = l.place; value = value } ∷ [] }
+-- ListFrom: the link leads to a cell, which is met, or the list is at its end
+abbrev pub list_met : Sizes → Option ℕ → Local → Outcome
+list_met z (Some cell) l = to ListKey (reaching z cell l)
+list_met z None l = to_rest l
+
+-- the cell that was met is passed
+abbrev pub list_past : Local → Outcome
+list_past l = to ListFrom (past_cell l)
+
+-- ListKey: a cell below the range is passed, one of the range is read on, and at one above it the walk is over
+abbrev pub list_key : ℕ → Local → Outcome
+list_key key l =
+    if nat_lt key (first_key l.call) then list_past l
+    else if nat_le key (last_key l.call) then to ListVer (record l { place_key = key })
+    else to_rest l
+
+-- ListVer: a cell without a version, of which no list has one, counts as one of version 1
+abbrev pub list_version : Option ℕ → Local → Outcome
+list_version version l = to ListVal (record l { place_version = unwrap_or version 1 })
+
+-- the cell that was read, with its value
+abbrev pub cell_in_hand : Option ℕ → Local → Cell
+cell_in_hand value l = record { key = l.place_key; version = l.place_version; place = l.place; value = value }
+
+-- it is gathered: put among those that were, in the order of the list. A row has no more cells than are gathered
+abbrev pub gathering : Sizes → Option ℕ → Local → Local
+gathering z value l = record l { gathered = if nat_lt (length l.gathered) z.cells then with_cell (cell_in_hand value l) l.gathered else l.gathered }
+
+-- RestKey: a remembered cell is read on if its key is in the range
+abbrev pub rest_key : ℕ → Local → Outcome
+rest_key key l = if is_in_range l.call key then to RestVal (record l { place_key = key }) else to_rest l

@@ -1,5 +1,5 @@
 -- Sane worlds: all that a world holds is in range, so that every event of it is safe.
-use Rattle.std.specs.Prelude.{ℕ, suc, ◌≡◌, ◌⊎◌, ◌+◌, ◌<◌, ◌≤◌, false, Option, Some, None, List, [], ◌∷◌, length, All, slice_get}
+use Rattle.std.specs.Prelude.{ℕ, ◌≡◌, ◌⊎◌, ◌+◌, ◌<◌, ◌≤◌, false, Option, Some, None, length, All, slice_get}
 use Rattle.kw_words.specs.declared.layout.Name.{Name}
 use Rattle.kw_words.specs.declared.layout.Name.TheVariants as name
 use Rattle.kw_words.specs.declared.pend.Pend.{Pend}
@@ -22,7 +22,7 @@ use Rattle.kw_model.specs.declared.call.Call.TheVariants.{Put, Del, Get, Scan}
 use Rattle.kw_world.specs.declared.answer.Answer.{Answer}
 use Rattle.kw_world.specs.declared.answer.Answer.TheVariants.{Value}
 use Rattle.kw_world.specs.declared.activity.Activity.{Activity}
-use Rattle.kw_world.specs.declared.activity.Activity.TheVariants.{Idle, Look, LookKey, LookClock, LookHelp, LookCount, Cell, CellKey, CellValue, ClearScan, Leave}
+use Rattle.kw_world.specs.declared.activity.Activity.TheVariants.{Idle, Look, LookKey, LookClock, LookHelp, ClearScan, Leave}
 use Rattle.kw_world.specs.declared.local.Local.{Local}
 use Rattle.kw_world.specs.declared.marks.Mark.{Mark}
 use Rattle.kw_world.specs.declared.event.Event.{Event}
@@ -153,10 +153,14 @@ IsAnswer _ = Unit {0}
 -- the seat, the cell or the value that an activity names is in range
 abbrev pub IsActivity : Sizes → Activity → Type 0
 IsActivity z (Look i) = i < z.seats
-IsActivity z (Cell j) = j < z.cells
 IsActivity z (ClearScan answer) = IsAnswer answer
 IsActivity z (Leave answer) = IsAnswer answer
 IsActivity z _ = Unit {0}
+
+-- the cell, if there is one, is one of the row's
+abbrev pub IsCellBelow : ℕ → Option ℕ → Type 0
+IsCellBelow cells (Some cell) = cell < cells
+IsCellBelow cells None = Unit {0}
 
 -- a remembered cell and its version are in range
 abbrev pub IsMark : Sizes → Mark → Type 0
@@ -182,23 +186,21 @@ pub record IsLocal (z : Sizes) (l : Local) : Type 0 where
   pub met : l.met < z.cells
   pub helping : IsVersion l.helping
   pub marks : All (IsMark z) l.remembered
-  pub count : l.count ≤ z.cells
   pub place : l.place < z.cells
   pub place_version : IsVersion l.place_version
   pub place_key : l.place_key < KEY_END
   pub copies : All IsCopy l.gathered
   pub cell : l.cell < z.cells
+  pub link : IsCellBelow z.cells l.link
+  pub held : IsCellBelow z.cells l.held
+  pub walked : l.walked ≤ z.cells
+  pub lost : l.lost ≤ z.cells
 
 -- the rows that a seat knows are those of the table
 pub record IsLocalBelow (rows : ℕ) (l : Local) : Type 0 where
   pub row : l.row < rows
   pub candidate : l.candidate < rows
   pub next : IsRowBelow rows l.next
-
--- the places of the cells rise strictly, from the first number on and below the second
-abbrev pub RisesBetween : ℕ → ℕ → List kw_cell.Cell → Type 0
-RisesBetween low high [] = low ≤ high
-RisesBetween low high (c ∷ cs) = (low ≤ c.place) × RisesBetween (suc c.place) high cs
 
 -- as many cells may be remembered where a seat does this: one for each entry that it has looked at
 abbrev pub marks_by : Sizes → Activity → Local → ℕ
@@ -208,22 +210,10 @@ marks_by z LookClock l = l.looked
 marks_by z LookHelp l = l.looked
 marks_by z _ l = z.seats
 
--- below this place lie the cells that are gathered where a seat does this: those that it has read
-abbrev pub copies_by : Sizes → Activity → Local → ℕ
-copies_by z (Look i) l = 0
-copies_by z LookKey l = 0
-copies_by z LookClock l = 0
-copies_by z LookHelp l = 0
-copies_by z LookCount l = 0
-copies_by z (Cell j) l = j
-copies_by z CellKey l = l.place
-copies_by z CellValue l = l.place
-copies_by z _ l = z.cells
-
--- a seat's lists have room for what its next event adds, and no two of its cells are one
+-- a seat's list of remembered cells has room for what its next event adds, and no more cells are gathered than a row has
 pub record HasRoom (z : Sizes) (l : Local) : Type 0 where
   pub remembered : length l.remembered ≤ marks_by z l.activity l
-  pub gathered : RisesBetween 0 (copies_by z l.activity l) l.gathered
+  pub gathered : length l.gathered ≤ z.cells
 
 -- all that a seat knows is in range
 pub record IsKnown (z : Sizes) (rows : ℕ) (l : Local) : Type 0 where

@@ -5,7 +5,6 @@
 //! goes by these variants, so a new one is a new line there.
 ghost use Rattle.std.specs.Prelude.{◌≡◌};
 ghost use Rattle.kw_world.specs.Step.{is_skipped};
-ghost use Rattle.kw_world.specs.Parts.{is_walking};
 
 use crate::answer::Answer;
 use crate::event::Choice;
@@ -43,14 +42,18 @@ pub enum Activity {
     LookClock,
     /// Exchanges the pending entry for one with that version.
     LookHelp,
-    /// Loads the count of the row, once all entries are looked at.
-    LookCount,
-    /// Loads the version of this cell of the row, below the number of cells.
-    Cell(u32),
-    /// Loads the key of the cell.
-    CellKey,
-    /// Loads the value of the cell.
-    CellValue,
+    /// Loads the link of the row's list at which a reader stands, once all entries are looked at.
+    ListFrom,
+    /// Loads the key of the cell that was met there.
+    ListKey,
+    /// Loads the version of that cell, whose key is in the range.
+    ListVer,
+    /// Loads the value of that cell.
+    ListVal,
+    /// Loads the key of a remembered cell that was not met.
+    RestKey,
+    /// Loads the value of that cell.
+    RestVal,
     /// Ends the scan with this answer: stores that the seat makes no scan.
     ClearScan(Answer),
     /// Loads the count of the row, for a put or a delete.
@@ -69,6 +72,16 @@ pub enum Activity {
     Stamp,
     /// Stores the version in the cell.
     PutVersion,
+    /// Loads the link of the row's list at which the put stands, to find the place of its cell.
+    InsFrom,
+    /// Loads the key of the cell that was met there.
+    InsKey,
+    /// Loads the version of that cell, whose key is the own.
+    InsVer,
+    /// Stores what the link held in the link after the own cell.
+    InsSet,
+    /// Exchanges the link for one to the own cell.
+    Insert,
     /// Stores that the seat's entry is idle.
     PutClear,
     /// Ends the call with this answer: stores that the seat announces no epoch.
@@ -83,20 +96,6 @@ impl Activity {
         match (self, choice) {
             (Activity::Idle, Choice::Begin(_)) => false,
             (Activity::Idle, _) => true,
-            _ => false,
-        }
-    }
-
-    /// Whether this is one of the activities of a walk along the rows.
-    pub fn is_walking(&self) -> bool
-        ensures { result ≡ is_walking self.now }
-    {
-        match self {
-            Activity::Start
-            | Activity::Head
-            | Activity::GuessMin
-            | Activity::Walk
-            | Activity::WalkMin => true,
             _ => false,
         }
     }

@@ -1,17 +1,21 @@
 //! The cells that a reader has gathered in a row.
 //!
-//! Of each cell of the row whose key is in its range and whose put has a version a reader keeps a copy. A row has `CELLS`
-//! cells, so the list lies in place and takes no memory.
-ghost use Rattle.std.specs.Prelude.{◌≡◌, ◌<◌, ◌++◌, ◌∷◌, [], length, take};
+//! Of each cell of the row whose key is in its range and whose put has a version a reader keeps a copy. The copies stand in the
+//! order of the row's list, so that what a version shows of them is found in one pass. A row has `CELLS` cells, so the list
+//! lies in place and takes no memory.
+ghost use Rattle.std.specs.Prelude.{◌≡◌, ◌<◌, [], true, length, nat_lt, if◌then◌else◌, slice_index_or, remove, IfSome, IfNone};
 ghost use Rattle.kw_words.specs.declared.sizes.TheConstants.{CELLS};
+ghost use Rattle.kw_cells.specs.InOrder.{AreInOrder, place_in, stands_before, with_cell};
 
 use arrayvec::ArrayVec;
 use kw_cells::cell::Cell;
+use kw_cells::in_order::place_in;
 use kw_words::sizes::CELLS;
 use std::alloc::AllocError;
 use std::marker::Model;
 
-/// The gathered cells, in the order in which they were read; at most `CELLS`.
+/// The gathered cells, in the order of the row's list: by key, then by falling version, then by falling place; at most `CELLS`, of
+/// which no two agree in key, version and place.
 #[derive(Debug, Drop)]
 pub struct Gathered {
     cells: ArrayVec<Cell, CELLS>,
@@ -20,10 +24,13 @@ pub struct Gathered {
 impl Model for Gathered {
     ghost use Rattle.std.specs.Prelude.{List};
     ghost use Rattle.kw_cells.specs.declared.cell.Cell.{Cell};
+    ghost use Rattle.kw_cells.specs.InOrder.{AreInOrder};
 
     ghost Value = { List Cell };
 
     ghost view = { λ g. g.cells.items };
+
+    ghost invariant = { λ g. AreInOrder g.cells.items };
 }
 
 impl Clone for Gathered {
@@ -55,25 +62,60 @@ impl Gathered {
         self.cells.clear();
     }
 
-    /// Keeps the first `len` cells.
-    pub fn truncate(&mut self, len: usize)
-        ensures { self.new ≡ take len self.old }
+    /// Puts a cell at its place among those that were gathered. The answer is that place.
+    ///
+    /// None where the cell is not put there, and all stays as it was: there is no room, or a cell was gathered that agrees with it
+    /// in key, version and place. No reader of a row meets either. A walk along a row's list has the next cell for the end.
+    pub fn gather(&mut self, cell: Cell) -> Option<usize>
+        ensures gathered { self.new ≡ (if nat_lt (length self.old) CELLS
+            then with_cell cell self.old else self.old) }
+        ensures put { IfSome result (λ at. (at < length self.new) × (remove self.new at ≡ self.old))
+            }
+        ensures kept { IfNone result (self.new ≡ self.old) }
     {
-        self.cells.truncate(len);
+        if self.cells.is_full() {
+            return None;
+        }
+        let at = place_in(&cell, self.cells.as_slice());
+        if !is_new(&cell, self.cells.as_slice(), at) {
+            return None;
+        }
+        self.cells.insert(at, cell);
+        Some(at)
     }
 
-    /// Adds a cell at the end. There must be room.
-    pub fn push(&mut self, cell: Cell)
-        requires { length self.old < CELLS }
-        ensures { self.new ≡ self.old ++ cell ∷ [] }
+    /// The place at which the cell is put among those that were gathered: how many of them stand before it in the list.
+    pub fn place_of(&self, cell: &Cell) -> usize
+        ensures { result ≡ place_in cell.now self.now }
     {
-        self.cells.push(cell);
+        place_in(cell, self.cells.as_slice())
+    }
+
+    /// Takes the cell at a place away.
+    pub fn remove(&mut self, at: usize)
+        requires { at < length self.old }
+        ensures { self.new ≡ remove self.old at }
+    {
+        self.cells.remove(at);
     }
 
     /// The cells, in order.
     pub fn as_slice(&self) -> &[Cell]
-        ensures { result.now ≡ self.now }
+        ensures cells { result.now ≡ self.now }
+        ensures in_order { AreInOrder self.now }
     {
         self.cells.as_slice()
+    }
+}
+
+// Whether the cell stands before the one at this place, if there is one. At the cell's own place it then agrees with none.
+fn is_new(cell: &Cell, cells: &[Cell], at: usize) -> bool
+    ensures { result ≡ (if nat_lt at (length cells.now) then stands_before cell.now
+        (slice_index_or cells.now at cell.now) else true) }
+{
+    if at < cells.len() {
+        cell.stands_before(&cells[at])
+    } else {
+        true
     }
 }

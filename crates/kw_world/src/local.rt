@@ -61,11 +61,9 @@ pub struct Local {
     pub met: u32,
     /// The version with which a reader helps that cell's put, from 1 to below `VERSION_END`.
     pub helping: u64,
-    /// The stamped cells that a reader has met in the row.
+    /// The stamped cells that a reader has met in entries of the row, and not yet in its list.
     pub remembered: Marks,
-    /// How many cells of the row a reader reads, at most the number of cells.
-    pub count: u32,
-    /// The cell that a reader reads, below the number of cells.
+    /// The cell that a walk along the row's list has met, or that a reader remembered, below the number of cells.
     pub place: u32,
     /// The version of that cell, from 1 to below `VERSION_END`.
     pub place_version: u64,
@@ -76,6 +74,14 @@ pub struct Local {
 
     /// The cell of a put or a delete, below the number of cells.
     pub cell: u32,
+    /// The cell after which the link stands that a walk along the row's list is at; none at the row's first link.
+    pub link: Option<u32>,
+    /// The cell to which that link led; none where it led to no cell.
+    pub held: Option<u32>,
+    /// How many cells the walk has met since the row's first link, at most the number of cells.
+    pub walked: u32,
+    /// How many exchanges the put has lost that were to insert its cell, at most the number of cells.
+    pub lost: u32,
 }
 
 impl Clone for Local {
@@ -105,12 +111,15 @@ impl Clone for Local {
             met: self.met,
             helping: self.helping,
             remembered: self.remembered.clone()?,
-            count: self.count,
             place: self.place,
             place_version: self.place_version,
             place_key: self.place_key,
             gathered: self.gathered.clone()?,
             cell: self.cell,
+            link: self.link,
+            held: self.held,
+            walked: self.walked,
+            lost: self.lost,
         })
     }
 }
@@ -140,14 +149,18 @@ impl Local {
             met: 0,
             helping: 1,
             remembered: Marks::new(),
-            count: 0,
             place: 0,
             place_version: 1,
             place_key: 0,
             gathered: Gathered::new(),
             cell: 0,
+            link: None,
+            held: None,
+            walked: 0,
+            lost: 0,
         }
     }
+
     /// Between calls a seat knows how many calls it has begun, and nothing else.
     pub fn rest(&mut self)
         ensures { self.new ≡ resting self.old.number }
@@ -170,12 +183,15 @@ impl Local {
         self.met = 0;
         self.helping = 1;
         self.remembered.clear();
-        self.count = 0;
         self.place = 0;
         self.place_version = 1;
         self.place_key = 0;
         self.gathered.clear();
         self.cell = 0;
+        self.link = None;
+        self.held = None;
+        self.walked = 0;
+        self.lost = 0;
     }
 
     /// Forgets every row.
@@ -189,12 +205,14 @@ impl Local {
         self.upper = 0;
     }
 
-    /// Forgets what was remembered and gathered of a row.
+    /// Forgets what was remembered and gathered of a row, and stands at the first link of a list.
     pub fn forget_cells(&mut self)
         ensures { self.new ≡ before_row self.old }
     {
         self.remembered.clear();
         self.gathered.clear();
+        self.link = None;
+        self.walked = 0;
     }
 
     /// Whether the choice stops the walk that this seat is on: it is a scan that has read a row.

@@ -1,10 +1,11 @@
 //! The stamped cells that a reader has met in a row.
 //!
-//! A reader looks at the entry of each seat before it reads the cells, and remembers the cell and the version of each put
-//! that has a version in its entry and may have none in its cell yet. There is one entry for each seat, so the list lies in
+//! A reader looks at the entry of each seat before it walks along the row's list, and remembers the cell and the version of
+//! each put that has a version in its entry and may not be listed yet. A cell that it meets in the list is remembered no
+//! more; those that are left it reads by themselves. There is one entry for each seat, so the list lies in
 //! place and takes no memory.
 ghost use Rattle.std.specs.Prelude.{◌≡◌, ◌<◌, ◌++◌, ◌∷◌, [], length};
-ghost use Rattle.kw_world.specs.Marks.{version_marked};
+ghost use Rattle.kw_world.specs.Marks.{unmarked, least_mark, lesser_of};
 ghost use Rattle.kw_words.specs.declared.sizes.TheConstants.{SEATS};
 
 use arrayvec::ArrayVec;
@@ -21,7 +22,7 @@ pub struct Mark {
     pub version: u64,
 }
 
-/// The stamped cells that were met, in the order of the entries; at most `SEATS`.
+/// The stamped cells that were met in entries, in the order of these; at most `SEATS`.
 #[derive(Debug, Drop)]
 pub struct Marks {
     items: ArrayVec<Mark, SEATS>,
@@ -73,12 +74,35 @@ impl Marks {
         self.items.push(mark);
     }
 
-    /// The version of the first of these that has this cell, or none.
-    pub fn version(&self, cell: u32) -> Option<u64>
-        ensures { result ≡ version_marked cell self.now }
+    /// Forgets each mark of this cell.
+    pub fn forget(&mut self, cell: u32)
+        ensures { self.new ≡ unmarked cell self.old }
     {
-        let found = self.items.iter().find(|mark| mark.cell == cell);
-        found.map(|mark| mark.version)
+        let marks = self.items.as_slice();
+        if marks.is_empty() {
+            return;
+        }
+        let mut kept = ArrayVec::new();
+        for mark in marks {
+            if mark.cell != cell {
+                kept.push(*mark);
+            }
+        }
+        self.items = kept;
+    }
+
+    /// A mark of the least cell, or none where there is none.
+    pub fn least(&self) -> Option<Mark>
+        ensures { result ≡ least_mark self.now }
+    {
+        let marks = self.items.as_slice();
+        let mut least: Option<Mark> = None;
+        let mut at = marks.len();
+        while at > 0 {
+            at -= 1;
+            least = Some(lesser_of(marks[at], least));
+        }
+        least
     }
 
     /// The cells, in order.
@@ -86,5 +110,15 @@ impl Marks {
         ensures { result.now ≡ self.now }
     {
         self.items.as_slice()
+    }
+}
+
+// Of two marks the one of the lesser cell.
+fn lesser_of(mark: Mark, other: Option<Mark>) -> Mark
+    ensures { result ≡ lesser_of mark other }
+{
+    match other {
+        Some(other) if other.cell < mark.cell => other,
+        _ => mark,
     }
 }

@@ -55,3 +55,26 @@ fn a_script_names_rows_of_as_many_as_asked(rt: HostRuntime) -> Result<(), Fail> 
     }
     Ok(())
 }
+
+// Seat 0 stands before its exchange at the row's first link when seat 1 inserts a smaller key there.
+#[test]
+fn a_put_that_loses_its_insert_is_found_behind_the_smaller_key(
+    rt: HostRuntime,
+) -> Result<(), Fail> {
+    let script =
+        b"call 0 put 5 1\ncall 1 put 3 2\nuntil 0 store_after\ngo 1 100\ngo 0 100\ncall 2 scan 0 9\ngo 2 100\n";
+    let ended = ran(
+        &rt,
+        rt.alloc(),
+        &["simulate"],
+        Vec::from_slice(rt.alloc(), script)?,
+        &[],
+        ROOM,
+    )?;
+    assert_eq!(rt; ended.outcome.status, Status::Done);
+    assert_eq!(rt;
+        ended.written.as_slice(),
+        b"1.1 put 3 2: ok\n0.1 put 5 1: ok\n2.1 scan 0 9: 3=2 5=1\norder 0.1 1.1 2.1\n".as_slice()
+    );
+    Ok(())
+}

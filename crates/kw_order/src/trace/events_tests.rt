@@ -1,9 +1,9 @@
-//! The words and the locals after events that are pushed one by one.
+//! The words after events that are pushed one by one.
 //!
 //! The expected lines come from a model of the events that was written apart from this code. Each line of a table is a point
 //! of a run. Before its colon stand the seat that makes the next events, the choice of the first of them, and how many they
-//! are; the others go on. Behind it stand what the seat does next and what its call ended with, then all that has changed of
-//! what the seat knows since its own last point, and then each word that has changed since the line before.
+//! are; the others go on. Behind it stand what the seat does next and what its call ended with, and then each word that has
+//! changed since the line before.
 ghost use Rattle.std.specs.Prelude.{IsTrue, IfOk, length, ◌≡◌, ◌<◌};
 ghost use Rattle.kw_words.specs.declared.sizes.TheConstants.{SEATS, CELLS};
 ghost use Rattle.kw_world.specs.Sane.{CanBegin, IsSane};
@@ -20,12 +20,11 @@ use kw_world::local::Local;
 use std::str::SplitWhitespace;
 use std::test::Fail;
 
-// a trace, and the words and what each seat knew, as texts, at the last point
+// a trace, and the words at the last point
 #[derive(Drop)]
 struct Run {
     trace: Trace,
     words: Vec<u64>,
-    fields: Vec<Vec<String>>,
 }
 
 impl Run {
@@ -35,16 +34,8 @@ impl Run {
             return Err("no such seats")?;
         }
         let trace = Trace::open(alloc, 64, seats, 1, 1)?;
-        let mut fields = Vec::new(alloc);
-        for _seat in 0..seats {
-            fields.push(fields_of(alloc, &Local::idle(alloc))?)?;
-        }
         let words = vec![in alloc; 0u64; Layout::<SEATS, CELLS>::words(64)]?;
-        Ok(Run {
-            trace,
-            words,
-            fields,
-        })
+        Ok(Run { trace, words })
     }
 
     // one more event
@@ -79,37 +70,20 @@ impl Run {
         let count = next_number(&mut words)?;
         let done = self.advance(seat, choice, count)?;
         let mut text = format!(in alloc; "{events}: ")?;
-        self.add_news(alloc, &mut text, seat, &done)?;
+        self.add_news(&mut text, seat, &done)?;
         self.add_words(alloc, &mut text)?;
         Ok(text)
     }
 
-    // adds what the seat does next, what its call ended with, and what changed of what it knows since its last point
-    fn add_news(
-        &mut self,
-        alloc: Global,
-        text: &mut String,
-        seat: u32,
-        done: &StepDone,
-    ) -> Result<(), Fail> {
+    // adds what the seat does next, and what its call ended with
+    fn add_news(&self, text: &mut String, seat: u32, done: &StepDone) -> Result<(), Fail> {
         if seat >= self.trace.opening().seats {
             return Err("no such seat")?;
         }
-        let local = self.trace.world().local(seat);
-        write!(text, "{:?}", local.activity)?;
+        write!(text, "{:?}", self.trace.world().local(seat).activity)?;
         if let StepDone::Ended(reply) = done {
             write!(text, ", Ended({reply:?})")?;
         }
-        let now = fields_of(alloc, local)?;
-        let Some(before) = self.fields.get_mut(seat as usize) else {
-            return Err("no such seat")?;
-        };
-        for (field, old) in now.iter().zip(before.iter()) {
-            if field != old {
-                write!(text, ", {field}")?;
-            }
-        }
-        *before = now;
         Ok(())
     }
 
@@ -234,86 +208,49 @@ fn can_begin(choice: Choice, local: &Local) -> bool
     }
 }
 
-// the numbers that a seat knows, by their names
-fn numbers_of(local: &Local) -> [(&'static str, u64); 18] {
-    [
-        ("number", u64::from(local.number)),
-        ("epoch", local.epoch),
-        ("want", u64::from(local.want)),
-        ("row", u64::from(local.row)),
-        ("lower", u64::from(local.lower)),
-        ("candidate", u64::from(local.candidate)),
-        ("upper", u64::from(local.upper)),
-        ("waiting", local.waiting),
-        ("drawn", local.drawn),
-        ("version", local.version),
-        ("looked", u64::from(local.looked)),
-        ("met", u64::from(local.met)),
-        ("helping", local.helping),
-        ("count", u64::from(local.count)),
-        ("place", u64::from(local.place)),
-        ("place_version", local.place_version),
-        ("place_key", u64::from(local.place_key)),
-        ("cell", u64::from(local.cell)),
-    ]
-}
-
-// all that a seat knows but for its activity, a text for each field
-fn fields_of(alloc: Global, local: &Local) -> Result<Vec<String>, Fail> {
-    let mut fields = Vec::new(alloc);
-    for (name, number) in numbers_of(local) {
-        fields.push(format!(in alloc; "{name} {number}")?)?;
-    }
-    fields.push(match local.call {
-        Some(call) => format!(in alloc; "call {call:?}")?,
-        None => format!(in alloc; "no call")?,
-    })?;
-    fields.push(match local.next {
-        Some(row) => format!(in alloc; "next {row}")?,
-        None => format!(in alloc; "no next")?,
-    })?;
-    let read = if local.has_read { "" } else { " not" };
-    fields.push(format!(in alloc; "has{read} read")?)?;
-    fields.push(format!(in alloc; "pairs {:?}", local.pairs.pairs())?)?;
-    fields.push(format!(in alloc; "remembered {:?}", local.remembered.as_slice())?)?;
-    fields.push(format!(in alloc; "gathered {:?}", local.gathered.as_slice())?)?;
-    Ok(fields)
-}
-
 // two puts of one key: the first has the lower cell and gets its version last; a get reads both times the second's value
 const TWO_PUTS: &str = "\
-0 put 5 10 2: Start, number 1, want 5, call Put(5, 10), Clock = 1, Epoch = 1, Head = 1, Pass(0) = 1, State(0) = 2
+0 put 5 10 2: Start, Clock = 1, Epoch = 1, Head = 1, Pass(0) = 1, State(0) = 2
 0 go 4: PutKey, Count(0) = 1
-1 put 5 20 2: Start, number 1, want 5, call Put(5, 20), Pass(1) = 1
-1 go 4: PutKey, cell 1, Count(0) = 2
+1 put 5 20 2: Start, Pass(1) = 1
+1 go 4: PutKey, Count(0) = 2
 1 go 1: PutValue, Key(0, 1) = 5
 1 go 1: Announce, Value(0, 1) = 9223372036854775828
 1 go 1: PutClock, Pend(0, 1) = 5
 1 go 1: Stamp
 1 go 1: PutVersion, Pend(0, 1) = 32774
-1 go 1: PutClear, Version(0, 1) = 1
+1 go 1: InsFrom, Version(0, 1) = 1
+1 go 1: InsSet
+1 go 1: Insert
+1 go 1: PutClear, First(0) = 2
 1 go 1: Leave(Done), Pend(0, 1) = 0
-1 go 1: Idle, Ended(Done), want 0, cell 0, no call, Pass(1) = 0
-2 get 5 2: Start, number 1, want 5, call Get(5), Pass(2) = 1
-2 go 11: Cell(0), count 2
-2 go 3: CellValue, place 1, place_key 5
-2 go 1: Leave(Value(20)), gathered [Cell { key: 5, place: 1, version: 1, value: Some(20) }]
-2 go 1: Idle, Ended(Value(20)), want 0, count 0, place 0, place_key 0, no call, gathered [], Pass(2) = 0
+1 go 1: Idle, Ended(Done), Pass(1) = 0
+2 get 5 2: Start, Pass(2) = 1
+2 go 11: ListKey
+2 go 3: ListFrom
+2 go 1: Leave(Value(20))
+2 go 1: Idle, Ended(Value(20)), Pass(2) = 0
 0 go 1: PutValue, Key(0, 0) = 5
 0 go 1: Announce, Value(0, 0) = 9223372036854775818
 0 go 1: PutClock, Pend(0, 0) = 1
 0 go 1: Stamp
 0 go 1: PutVersion, Pend(0, 0) = 32770
-0 go 1: PutClear, Version(0, 0) = 1
+0 go 1: InsFrom, Version(0, 0) = 1
+0 go 1: InsKey
+0 go 1: InsVer
+0 go 1: InsFrom
+0 go 1: InsSet
+0 go 1: Insert
+0 go 1: PutClear, After(0, 1) = 1
 0 go 1: Leave(Done), Pend(0, 0) = 0
-0 go 1: Idle, Ended(Done), want 0, no call, Pass(0) = 0
-2 get 5 2: Start, number 2, want 5, call Get(5), Pass(2) = 1
-2 go 11: Cell(0), count 2
-2 go 2: CellValue, place_key 5
-2 go 1: Cell(1), gathered [Cell { key: 5, place: 0, version: 1, value: Some(10) }]
-2 go 2: CellValue, place 1
-2 go 1: Leave(Value(20)), gathered [Cell { key: 5, place: 0, version: 1, value: Some(10) }, Cell { key: 5, place: 1, version: 1, value: Some(20) }]
-2 go 1: Idle, Ended(Value(20)), want 0, count 0, place 0, place_key 0, no call, gathered [], Pass(2) = 0
+0 go 1: Idle, Ended(Done), Pass(0) = 0
+2 get 5 2: Start, Pass(2) = 1
+2 go 11: ListKey
+2 go 3: ListFrom
+2 go 1: ListKey
+2 go 3: ListFrom
+2 go 1: Leave(Value(20))
+2 go 1: Idle, Ended(Value(20)), Pass(2) = 0
 ";
 
 #[test]
@@ -327,38 +264,39 @@ fn two_puts_of_one_key_get_their_cells_and_versions(rt: HostRuntime) -> Result<(
 
 // a scan that draws 1 finds a put that has loaded 1 and no version yet, and stamps it with 2; the next scan shows it
 const STAMPED_BY_A_SCAN: &str = "\
-0 put 5 10 2: Start, number 1, want 5, call Put(5, 10), Clock = 1, Epoch = 1, Head = 1, Pass(0) = 1, State(0) = 2
+0 put 5 10 2: Start, Clock = 1, Epoch = 1, Head = 1, Pass(0) = 1, State(0) = 2
 0 go 4: PutKey, Count(0) = 1
 0 go 1: PutValue, Key(0, 0) = 5
 0 go 1: Announce, Value(0, 0) = 9223372036854775818
 0 go 1: PutClock, Pend(0, 0) = 1
 0 go 1: Stamp
-1 scan 0 9 2: ScanClock, number 1, call Scan(0, 9), Pass(1) = 1
+1 scan 0 9 2: ScanClock, Pass(1) = 1
 1 go 1: ScanWait
 1 go 1: ScanDraw, Scan(1) = 5
 1 go 1: ScanSettle, Clock = 2
 1 go 1: Start, Scan(1) = 6
 1 go 4: LookClock
-1 go 1: LookHelp, helping 2
-1 go 1: Look(1), remembered [Mark { cell: 0, version: 2 }], Pend(0, 0) = 65538
-1 go 8: Cell(0), count 1
-1 go 2: CellValue, place_version 2, place_key 5
-1 go 1: ClearScan(Pairs), has read, gathered [Cell { key: 5, place: 0, version: 2, value: Some(10) }]
+1 go 1: LookHelp
+1 go 1: Look(1), Pend(0, 0) = 65538
+1 go 8: RestKey
+1 go 1: RestVal
+1 go 1: ClearScan(Pairs)
 1 go 1: Leave(Pairs), Scan(1) = 0
-1 go 1: Idle, Ended(Pairs(PairList { pairs: [] })), helping 1, count 0, place_version 1, place_key 0, no call, has not read, remembered [], gathered [], Pass(1) = 0
-1 scan 0 9 2: ScanClock, number 2, call Scan(0, 9), Pass(1) = 1
-1 go 1: ScanWait, waiting 2
+1 go 1: Idle, Ended(Pairs(PairList { pairs: [] })), Pass(1) = 0
+1 scan 0 9 2: ScanClock, Pass(1) = 1
+1 go 1: ScanWait
 1 go 1: ScanDraw, Scan(1) = 9
-1 go 1: ScanSettle, drawn 2, Clock = 3
-1 go 1: Start, version 2, Scan(1) = 10
-1 go 11: Cell(0), count 1, remembered [Mark { cell: 0, version: 2 }]
-1 go 2: CellValue, place_version 2, place_key 5
-1 go 1: ClearScan(Pairs), has read, pairs [(5, 10)], gathered [Cell { key: 5, place: 0, version: 2, value: Some(10) }]
+1 go 1: ScanSettle, Clock = 3
+1 go 1: Start, Scan(1) = 10
+1 go 11: RestKey
+1 go 1: RestVal
+1 go 1: ClearScan(Pairs)
 1 go 1: Leave(Pairs), Scan(1) = 0
-1 go 1: Idle, Ended(Pairs(PairList { pairs: [(5, 10)] })), waiting 1, drawn 1, version 1, count 0, place_version 1, place_key 0, no call, has not read, pairs [], remembered [], gathered [], Pass(1) = 0
-0 go 2: PutClear, version 2, Version(0, 0) = 2
+1 go 1: Idle, Ended(Pairs(PairList { pairs: [(5, 10)] })), Pass(1) = 0
+0 go 2: InsFrom, Version(0, 0) = 2
+0 go 3: PutClear, First(0) = 1
 0 go 1: Leave(Done), Pend(0, 0) = 0
-0 go 1: Idle, Ended(Done), want 0, version 1, no call, Pass(0) = 0
+0 go 1: Idle, Ended(Done), Pass(0) = 0
 ";
 
 #[test]
@@ -372,26 +310,27 @@ fn a_scan_stamps_a_put_above_its_own_version(rt: HostRuntime) -> Result<(), Fail
 
 // a put that is stamped after a scan drew, with the version that the scan drew, is shown by it
 const STAMPED_BEHIND_A_DRAW: &str = "\
-0 put 5 10 2: Start, number 1, want 5, call Put(5, 10), Clock = 1, Epoch = 1, Head = 1, Pass(0) = 1, State(0) = 2
+0 put 5 10 2: Start, Clock = 1, Epoch = 1, Head = 1, Pass(0) = 1, State(0) = 2
 0 go 4: PutKey, Count(0) = 1
 0 go 1: PutValue, Key(0, 0) = 5
 0 go 1: Announce, Value(0, 0) = 9223372036854775818
 0 go 1: PutClock, Pend(0, 0) = 1
 0 go 1: Stamp
-1 scan 0 9 2: ScanClock, number 1, call Scan(0, 9), Pass(1) = 1
+1 scan 0 9 2: ScanClock, Pass(1) = 1
 1 go 1: ScanWait
 1 go 1: ScanDraw, Scan(1) = 5
 1 go 1: ScanSettle, Clock = 2
 0 go 1: PutVersion, Pend(0, 0) = 32770
 1 go 1: Start, Scan(1) = 6
-1 go 11: Cell(0), count 1, remembered [Mark { cell: 0, version: 1 }]
-1 go 2: CellValue, place_key 5
-1 go 1: ClearScan(Pairs), has read, pairs [(5, 10)], gathered [Cell { key: 5, place: 0, version: 1, value: Some(10) }]
+1 go 11: RestKey
+1 go 1: RestVal
+1 go 1: ClearScan(Pairs)
 1 go 1: Leave(Pairs), Scan(1) = 0
-1 go 1: Idle, Ended(Pairs(PairList { pairs: [(5, 10)] })), count 0, place_key 0, no call, has not read, pairs [], remembered [], gathered [], Pass(1) = 0
-0 go 1: PutClear, Version(0, 0) = 1
+1 go 1: Idle, Ended(Pairs(PairList { pairs: [(5, 10)] })), Pass(1) = 0
+0 go 1: InsFrom, Version(0, 0) = 1
+0 go 3: PutClear, First(0) = 1
 0 go 1: Leave(Done), Pend(0, 0) = 0
-0 go 1: Idle, Ended(Done), want 0, no call, Pass(0) = 0
+0 go 1: Idle, Ended(Done), Pass(0) = 0
 ";
 
 #[test]
@@ -403,23 +342,63 @@ fn a_scan_shows_a_put_that_was_stamped_with_its_version(rt: HostRuntime) -> Resu
     Ok(())
 }
 
+// a put stands before the exchange at the row's first link when another one inserts a smaller key there: it loses, walks again from the
+// first link, and inserts its cell behind that one. A key between the two goes between them, and a cell of the same key and version goes
+// before one at a lower place
+const LOST_INSERT: &str = "\
+0 put 5 1 14: Insert, Clock = 1, Epoch = 1, Head = 1, Pass(0) = 1, State(0) = 2, Count(0) = 1, Pend(0, 0) = 32770, Key(0, 0) = 5, Value(0, 0) = 9223372036854775809, Version(0, 0) = 1
+1 put 3 2 17: Idle, Ended(Done), Count(0) = 2, First(0) = 2, Key(0, 1) = 3, Value(0, 1) = 9223372036854775810, Version(0, 1) = 1
+0 go 1: InsFrom
+0 go 1: InsKey
+0 go 1: InsFrom
+0 go 1: InsSet
+0 go 1: Insert
+0 go 1: PutClear, After(0, 1) = 1
+0 go 2: Idle, Ended(Done), Pass(0) = 0, Pend(0, 0) = 0
+1 put 4 3 12: InsFrom, Pass(1) = 1, Count(0) = 3, Pend(0, 1) = 32778, Key(0, 2) = 4, Value(0, 2) = 9223372036854775811, Version(0, 2) = 1
+1 go 2: InsFrom
+1 go 1: InsKey
+1 go 1: InsSet
+1 go 1: Insert, After(0, 2) = 1
+1 go 1: PutClear, After(0, 1) = 3
+1 go 2: Idle, Ended(Done), Pass(1) = 0, Pend(0, 1) = 0
+0 put 5 4 16: InsFrom, Pass(0) = 1, Count(0) = 4, Pend(0, 0) = 32782, Key(0, 3) = 5, Value(0, 3) = 9223372036854775812, Version(0, 3) = 1
+0 go 2: InsVer
+0 go 1: InsSet
+0 go 1: Insert, After(0, 3) = 1
+0 go 1: PutClear, After(0, 2) = 4
+0 go 2: Idle, Ended(Done), Pass(0) = 0, Pend(0, 0) = 0
+";
+
+#[test]
+fn a_put_that_loses_its_insert_walks_again_from_the_first_link(
+    rt: HostRuntime,
+) -> Result<(), Fail> {
+    let mut run = Run::open(rt.alloc(), 2)?;
+    for line in LOST_INSERT.lines() {
+        assert_eq!(rt; run.line(rt.alloc(), line)?.as_str(), line);
+    }
+    Ok(())
+}
+
 // the last cell of a row goes to seat 0, after seat 1 has found room; then no put gets one
 const FULL_ROW: &str = "\
-1 put 7 1 5: PutAdd, number 1, want 7, call Put(7, 1), Pass(1) = 1
-0 put 63 100 6: PutKey, number 64, want 63, cell 63, call Put(63, 100), Pass(0) = 1, Count(0) = 64
-0 go 8: Idle, Ended(Done), want 0, cell 0, no call, Pass(0) = 0, Key(0, 63) = 63, Value(0, 63) = 9223372036854775908, Version(0, 63) = 1
+1 put 7 1 5: PutAdd, Pass(1) = 1
+0 put 63 100 6: PutKey, Pass(0) = 1, Count(0) = 64
+0 go 137: Idle, Ended(Done), Pass(0) = 0, After(0, 62) = 64, Key(0, 63) = 63, Value(0, 63) = 9223372036854775908, Version(0, 63) = 1
 1 go 1: Leave(NoRows), Count(0) = 65
-1 go 1: Idle, Ended(NoRows), want 0, no call, Pass(1) = 0
-0 put 5 1 4: PutCount, number 65, want 5, call Put(5, 1), Pass(0) = 1
+1 go 1: Idle, Ended(NoRows), Pass(1) = 0
+0 put 5 1 4: PutCount, Pass(0) = 1
 0 go 1: Leave(NoRows)
-0 go 1: Idle, Ended(NoRows), want 0, no call, Pass(0) = 0
+0 go 1: Idle, Ended(NoRows), Pass(0) = 0
 ";
 
 #[test]
 fn puts_on_a_full_row_end_with_no_rows(rt: HostRuntime) -> Result<(), Fail> {
     let mut run = Run::open(rt.alloc(), 2)?;
+    // each put walks past the keys before its own
     for key in 0..63 {
-        let done = run.advance(0, Choice::Begin(Call::Put(key, 100)), 14)?;
+        let done = run.advance(0, Choice::Begin(Call::Put(key, 100)), 17 + 2 * key)?;
         assert_eq!(rt; done, StepDone::Ended(Reply::Done));
     }
     run.add_words(rt.alloc(), &mut String::new(rt.alloc()))?;
@@ -431,11 +410,11 @@ fn puts_on_a_full_row_end_with_no_rows(rt: HostRuntime) -> Result<(), Fail> {
 
 // a scan from 9 to 0 draws its version, and reads no row
 const EMPTY_RANGE: &str = "\
-0 scan 9 0 4: ScanDraw, number 1, call Scan(9, 0), Clock = 1, Epoch = 1, Head = 1, Pass(0) = 1, Scan(0) = 5, State(0) = 2
+0 scan 9 0 4: ScanDraw, Clock = 1, Epoch = 1, Head = 1, Pass(0) = 1, Scan(0) = 5, State(0) = 2
 0 go 1: ScanSettle, Clock = 2
 0 go 1: ClearScan(Pairs), Scan(0) = 6
 0 go 1: Leave(Pairs), Scan(0) = 0
-0 go 1: Idle, Ended(Pairs(PairList { pairs: [] })), no call, Pass(0) = 0
+0 go 1: Idle, Ended(Pairs(PairList { pairs: [] })), Pass(0) = 0
 ";
 
 #[test]
@@ -449,19 +428,19 @@ fn a_scan_of_an_empty_range_reads_no_row(rt: HostRuntime) -> Result<(), Fail> {
 
 // row 3 is free, row 0 is normal, and there is no row 64
 const GUESSES: &str = "\
-0 get 5 2: Start, number 1, want 5, call Get(5), Clock = 1, Epoch = 1, Head = 1, Pass(0) = 1, State(0) = 2
+0 get 5 2: Start, Clock = 1, Epoch = 1, Head = 1, Pass(0) = 1, State(0) = 2
 0 guess 3 1: Head
 0 go 1: Walk
 0 go 10: Leave(Absent)
-0 go 1: Idle, Ended(Absent), want 0, no call, Pass(0) = 0
-0 get 5 2: Start, number 2, want 5, call Get(5), Pass(0) = 1
+0 go 1: Idle, Ended(Absent), Pass(0) = 0
+0 get 5 2: Start, Pass(0) = 1
 0 guess 64 1: Walk
-0 go 11: Idle, Ended(Absent), want 0, no call, Pass(0) = 0
-0 get 5 2: Start, number 3, want 5, call Get(5), Pass(0) = 1
+0 go 11: Idle, Ended(Absent), Pass(0) = 0
+0 get 5 2: Start, Pass(0) = 1
 0 guess 0 1: GuessMin
 0 go 1: Walk
 0 guess 3 1: Look(0)
-0 go 10: Idle, Ended(Absent), want 0, no call, Pass(0) = 0
+0 go 10: Idle, Ended(Absent), Pass(0) = 0
 ";
 
 #[test]
@@ -475,20 +454,20 @@ fn a_guess_at_a_free_row_falls_back_to_the_head(rt: HostRuntime) -> Result<(), F
 
 // a scan is stopped where it has read its row; anywhere else to stop is to go on
 const STOPS: &str = "\
-0 put 5 10 14: Idle, Ended(Done), number 1, Clock = 1, Epoch = 1, Head = 1, State(0) = 2, Count(0) = 1, Key(0, 0) = 5, Value(0, 0) = 9223372036854775818, Version(0, 0) = 1
-1 scan 0 9 4: ScanDraw, number 1, call Scan(0, 9), Pass(1) = 1, Scan(1) = 5
+0 put 5 10 17: Idle, Ended(Done), Clock = 1, Epoch = 1, Head = 1, State(0) = 2, Count(0) = 1, First(0) = 1, Key(0, 0) = 5, Value(0, 0) = 9223372036854775818, Version(0, 0) = 1
+1 scan 0 9 4: ScanDraw, Pass(1) = 1, Scan(1) = 5
 1 stop 1: ScanSettle, Clock = 2
 1 stop 1: Start, Scan(1) = 6
 1 stop 1: Walk
 1 stop 1: Look(0)
 1 stop 1: Look(1)
-1 go 9: CellKey, count 1
-1 go 2: ClearScan(Pairs), place_key 5, has read, pairs [(5, 10)], gathered [Cell { key: 5, place: 0, version: 1, value: Some(10) }]
+1 go 9: ListVer
+1 go 3: ClearScan(Pairs)
 1 stop 1: Leave(Stopped), Scan(1) = 0
-1 stop 1: Idle, Ended(Stopped), count 0, place_key 0, no call, has not read, pairs [], gathered [], Pass(1) = 0
-1 scan 0 9 20: ClearScan(Pairs), number 2, waiting 2, drawn 2, version 2, count 1, place_key 5, call Scan(0, 9), has read, pairs [(5, 10)], gathered [Cell { key: 5, place: 0, version: 1, value: Some(10) }], Clock = 3, Pass(1) = 1, Scan(1) = 10
+1 stop 1: Idle, Ended(Stopped), Pass(1) = 0
+1 scan 0 9 21: ClearScan(Pairs), Clock = 3, Pass(1) = 1, Scan(1) = 10
 1 go 1: Leave(Pairs), Scan(1) = 0
-1 stop 1: Idle, Ended(Pairs(PairList { pairs: [(5, 10)] })), waiting 1, drawn 1, version 1, count 0, place_key 0, no call, has not read, pairs [], gathered [], Pass(1) = 0
+1 stop 1: Idle, Ended(Pairs(PairList { pairs: [(5, 10)] })), Pass(1) = 0
 ";
 
 #[test]

@@ -4,4 +4,4 @@ use Rattle.kw_app.proofs.Gathered.{gathered}
 use Rattle.kw_app.proofs.asking.list.Goals as goal
 
 pub returns-in-Ok-clause-answers : goal.returns-in-Ok-clause-answers
-returns-in-Ok-clause-answers c = gathered _ _ _ _ _ _ _ _ _ _ _ refl c.in-Ok.ensures.answers c.new-into.ensures.stands (λ list stands. ap Pairs (c.finish.ensures.kept ∙ stands))
+returns-in-Ok-clause-answers c = gathered _ _ _ _ _ _ _ _ _ _ _ _ refl c.in-Ok.ensures.answers c.new-into.ensures.stands (λ list stands. ap Pairs (c.finish.ensures.kept ∙ stands))

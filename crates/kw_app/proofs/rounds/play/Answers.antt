@@ -10,8 +10,8 @@ returns-then-is_empty-clause-grew g c =
     grew_by_none c.args.kiwi.now.shared.opening c.args.block.now.workers c.args.block.now.lines (front_seen c.args.passes.items) c.new.result.items
     (sym c.lines.ensures ∙ nil_from_length c.lines.result.now (search rules)) c.new.ensures.items
 
-pub gathered-passes-requires : goal.gathered-passes-requires
-gathered-passes-requires g c = λ k d lt.
+pub met-passes-requires : goal.met-passes-requires
+met-passes-requires g c = λ k d lt.
     let a = c.args.passes in
     let e = c.in_ok-passes.passes in
     let p = element_at c.args.passes.items k (omega (arith, c.in_ok-passes.ensures.len.0)) in
@@ -27,15 +27,15 @@ pub returns-clause-together : goal.returns-clause-together
 returns-clause-together g c =
     let a = c.args.passes in
     let e = c.in_ok-passes.passes in
-    let r = c.gathered-passes.result in
-    together_again c.args.kiwi.now c.args.block.now c.args.passes.items c.in_ok-passes.passes.items c.gathered-passes.result.items c.in_ok-passes.parts.items _ _ c.requires.together (omega (arith, c.in_ok-passes.ensures.len.0)) (omega (arith, c.gathered-passes.ensures.len))
-    c.in_ok-passes.ensures.each c.gathered-passes.ensures.each
+    let r = c.met-passes.result in
+    together_again c.args.kiwi.now c.args.block.now c.args.passes.items c.in_ok-passes.passes.items c.met-passes.result.items c.in_ok-passes.parts.items _ _ c.requires.together (omega (arith, c.in_ok-passes.ensures.len.0)) (omega (arith, c.met-passes.ensures.len))
+    c.in_ok-passes.ensures.each c.met-passes.ensures.each
 
 pub returns-clause-grew : goal.returns-clause-grew
 returns-clause-grew g c =
     let a = c.args.passes in
     let e = c.in_ok-passes.passes in
-    grew c.args.kiwi.now c.args.block.now c.args.passes.items c.in_ok-passes.passes.items c.gathered-passes.result.items c.in_ok-passes.parts.items _ _ _ c.requires.together (omega (arith, c.in_ok-passes.ensures.len.0)) c.in_ok-passes.ensures.each c.gathered-passes.ensures.each c.in_ok-answers.ensures
+    grew c.args.kiwi.now c.args.block.now c.args.passes.items c.in_ok-passes.passes.items c.met-passes.result.items c.in_ok-passes.parts.items _ _ _ c.requires.together (omega (arith, c.in_ok-passes.ensures.len.0)) c.in_ok-passes.ensures.each c.met-passes.ensures.each c.in_ok-answers.ensures
 
 pub hand_out-requires-clause-idle : goal.hand_out-requires-clause-idle
 hand_out-requires-clause-idle g c lives outlives = λ k d lt.

@@ -1,29 +1,39 @@
 -- What is printed and told of the bytes that were read is printed and told of all that was left to read.
 use Rattle.std.proofs.Common.{◌≡◌, ℕ, List, sym, subst}
-use Rattle.std.specs.Prelude.{true, false, IfSome}
-use Rattle.std.specs.Io.KnownBytes.{Appends}
-use Rattle.kw_io.specs.Bytes.{AppendsPrefix}
-use Rattle.kw_app.specs.Ends.{Prints}
-use Rattle.kw_app.proofs.Ended.{prints_of_left, told_of_left}
+use Rattle.std.specs.Prelude.{IfSome, IsErrOf}
+use Rattle.kw_io.specs.declared.errors.ReadError.{ReadError}
+use Rattle.kw_app.proofs.RunEnds.{fault_reads, long_reads, reads_of_left, silent_at_bad_input, silent_at_fault, silent_at_want, silent_writes, want_reads, writes_of_left}
 use Rattle.kw_app.proofs.run.read_and_answer.Goals as goal
 
-pub returns-in-Ok-clause-done : goal.returns-in-Ok-clause-done
-returns-in-Ok-clause-done g c = λ done.
+pub returns-in-Ok-clause-writes : goal.returns-in-Ok-clause-writes
+returns-in-Ok-clause-writes g c =
     let all = subst (λ (bytes : List ℕ). IfSome (g.S.Source.left c.args.source.now) (λ left. bytes ≡ left)) (sym c.deref.ensures.value) c.in-Ok.ensures.all in
-    prints_of_left (Prints c.args.command c.answer.result.front false (Appends (g.K.Sink.written c.args.sink.now) (g.K.Sink.written c.answer.new.sink))) (g.S.Source.left c.args.source.now) c.deref.result.now all (c.answer.ensures.done done)
+    writes_of_left _ _ c.args.command _ c.deref.result.now _ _ _ c.requires.reads all c.answer.ensures.writes
 
-pub returns-in-Ok-clause-refused : goal.returns-in-Ok-clause-refused
-returns-in-Ok-clause-refused g c = λ refused.
+pub returns-in-Ok-clause-reads : goal.returns-in-Ok-clause-reads
+returns-in-Ok-clause-reads g c =
     let all = subst (λ (bytes : List ℕ). IfSome (g.S.Source.left c.args.source.now) (λ left. bytes ≡ left)) (sym c.deref.ensures.value) c.in-Ok.ensures.all in
-    prints_of_left (Prints c.args.command c.answer.result.front true (Appends (g.K.Sink.written c.args.sink.now) (g.K.Sink.written c.answer.new.sink))) (g.S.Source.left c.args.source.now) c.deref.result.now all (c.answer.ensures.refused refused)
+    reads_of_left _ _ c.args.command c.deref.result.now _ _ _ c.requires.reads all c.read_all.ensures.never_falls c.answer.ensures.reads
 
-pub returns-in-Ok-clause-cut_short : goal.returns-in-Ok-clause-cut_short
-returns-in-Ok-clause-cut_short g c = λ short.
-    let all = subst (λ (bytes : List ℕ). IfSome (g.S.Source.left c.args.source.now) (λ left. bytes ≡ left)) (sym c.deref.ensures.value) c.in-Ok.ensures.all in
-    let p = c.answer.ensures.cut_short short in
-    (p.0, prints_of_left (Prints c.args.command c.answer.result.front p.0 (AppendsPrefix (g.K.Sink.written c.args.sink.now) (g.K.Sink.written c.answer.new.sink))) (g.S.Source.left c.args.source.now) c.deref.result.now all p.1)
+pub returns-in-Err-Fault-clause-writes : goal.returns-in-Err-Fault-clause-writes
+returns-in-Err-Fault-clause-writes g c = silent_writes _ _ _ _ _ _ (silent_at_fault c.of.result c.of.ensures.status) c.of.ensures.front
 
-pub returns-in-Ok-clause-told : goal.returns-in-Ok-clause-told
-returns-in-Ok-clause-told g c =
-    let all = subst (λ (bytes : List ℕ). IfSome (g.S.Source.left c.args.source.now) (λ left. bytes ≡ left)) (sym c.deref.ensures.value) c.in-Ok.ensures.all in
-    told_of_left c.args.command (g.S.Source.left c.args.source.now) c.deref.result.now c.answer.result all c.answer.ensures.told
+pub returns-in-Err-Fault-clause-reads : goal.returns-in-Err-Fault-clause-reads
+returns-in-Err-Fault-clause-reads g c =
+    let is : IsErrOf c.read_all.result ReadError.Fault = cc in
+    fault_reads _ _ c.args.command c.of.result _ _ c.requires.reads (c.read_all.ensures.fault is) c.read_all.ensures.never_falls c.of.ensures.status c.of.ensures.line
+
+pub returns-in-Err-Long-clause-writes : goal.returns-in-Err-Long-clause-writes
+returns-in-Err-Long-clause-writes g c = silent_writes _ _ _ _ _ _ (silent_at_bad_input c.bad_input.result c.bad_input.ensures.status) c.bad_input.ensures.front
+
+pub returns-in-Err-Long-clause-reads : goal.returns-in-Err-Long-clause-reads
+returns-in-Err-Long-clause-reads g c =
+    let is : IsErrOf c.read_all.result ReadError.Long = cc in
+    long_reads _ _ c.args.command c.bad_input.result _ _ c.requires.reads (c.read_all.ensures.long is) c.read_all.ensures.never_falls c.bad_input.ensures.status c.bad_input.ensures.line
+
+pub returns-in-Err-Memory-clause-writes : goal.returns-in-Err-Memory-clause-writes
+returns-in-Err-Memory-clause-writes g c = silent_writes _ _ _ _ _ _ (silent_at_want c.of-in-Err-Memory.result c.of-in-Err-Memory.ensures.status) c.of-in-Err-Memory.ensures.front
+
+pub returns-in-Err-Memory-clause-reads : goal.returns-in-Err-Memory-clause-reads
+returns-in-Err-Memory-clause-reads g c =
+    want_reads _ _ c.args.command c.of-in-Err-Memory.result _ _ c.requires.reads c.read_all.ensures.never_falls c.of-in-Err-Memory.ensures.status c.of-in-Err-Memory.ensures.line

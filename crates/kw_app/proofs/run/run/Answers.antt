@@ -1,12 +1,11 @@
 -- Words mean one command, so what is said of it holds of each command that they mean.
-use Rattle.std.proofs.Common.{◌≡◌, ℕ, Bool, true, false, List, Option, Some, None, subst}
-use Rattle.std.specs.Prelude.{IfSome, MatchOption}
-use Rattle.std.specs.Io.KnownBytes.{Appends}
-use Rattle.kw_io.specs.Bytes.{AppendsPrefix}
+use Rattle.std.proofs.Common.{◌≡◌, ℕ, List, Option, Some, None, refl, subst}
+use Rattle.std.specs.Prelude.{MatchOption}
 use Rattle.kw_command.specs.declared.command.Command.{Command}
-use Rattle.kw_app.specs.Ends.{IsBadInput, IsToldBad, Tells}
 use Rattle.kw_command.specs.Words.{Means}
 use Rattle.kw_command.proofs.Commands.{at_command}
+use Rattle.kw_app.proofs.Ended.{memory_is_told}
+use Rattle.kw_app.proofs.RunEnds.{reads_for, silent_at_bad_words, silent_at_want, silent_writes, unread_reads, writes_for}
 use Rattle.kw_app.proofs.run.run.Goals as goal
 
 -- the command that was found is one that the words mean
@@ -21,30 +20,32 @@ none_of : (ws : List (List ℕ)) (o : Option Command) → o ≡ None → MatchOp
 none_of ws None e h = h
 none_of ws (Some d) e h = absurd cc
 
-pub returns-in-Ok-Some-clause-done : goal.returns-in-Ok-Some-clause-done
-returns-in-Ok-Some-clause-done g c = λ is other means.
-    at_command (λ (d : Command). Tells d (g.S.Source.left c.args.source.now) c.run_command.result.front false (Appends (g.K.Sink.written c.args.sink.now) (g.K.Sink.written c.run_command.new.sink))) c.args.words.now c.in-Ok-Some.command other
-    (meant_of c.args.words.now c.in-Ok-Some.field-0 c.in-Ok-Some.command c.in-Ok-Some.field-0-is c.in-Ok-Some.ensures.meant) means (c.run_command.ensures.done is)
+-- each command that the words mean is the one that was found
+only : (ws : List (List ℕ)) (c : Command) → Means ws c → (d : Command) → Means ws d → d ≡ c
+only ws c one d other = at_command (λ (x : Command). x ≡ c) ws c d one other refl
 
-pub returns-in-Ok-Some-clause-refused : goal.returns-in-Ok-Some-clause-refused
-returns-in-Ok-Some-clause-refused g c = λ is other means.
-    at_command (λ (d : Command). Tells d (g.S.Source.left c.args.source.now) c.run_command.result.front true (Appends (g.K.Sink.written c.args.sink.now) (g.K.Sink.written c.run_command.new.sink))) c.args.words.now c.in-Ok-Some.command other
-    (meant_of c.args.words.now c.in-Ok-Some.field-0 c.in-Ok-Some.command c.in-Ok-Some.field-0-is c.in-Ok-Some.ensures.meant) means (c.run_command.ensures.refused is)
+pub returns-in-Ok-Some-clause-writes : goal.returns-in-Ok-Some-clause-writes
+returns-in-Ok-Some-clause-writes g c =
+    let means = meant_of c.args.words.now c.in-Ok-Some.field-0 c.in-Ok-Some.command c.in-Ok-Some.field-0-is c.in-Ok-Some.ensures.meant in
+    writes_for _ _ _ _ _ _ _ _ (only c.args.words.now c.in-Ok-Some.command means) c.run_command.ensures.writes
 
-pub returns-in-Ok-Some-clause-cut_short : goal.returns-in-Ok-Some-clause-cut_short
-returns-in-Ok-Some-clause-cut_short g c = λ short other means.
-    at_command (λ (d : Command). (refused : Bool) × Tells d (g.S.Source.left c.args.source.now) c.run_command.result.front refused (AppendsPrefix (g.K.Sink.written c.args.sink.now) (g.K.Sink.written c.run_command.new.sink))) c.args.words.now c.in-Ok-Some.command other
-    (meant_of c.args.words.now c.in-Ok-Some.field-0 c.in-Ok-Some.command c.in-Ok-Some.field-0-is c.in-Ok-Some.ensures.meant) means (c.run_command.ensures.cut_short short)
+pub returns-in-Ok-Some-clause-reads : goal.returns-in-Ok-Some-clause-reads
+returns-in-Ok-Some-clause-reads g c =
+    let means = meant_of c.args.words.now c.in-Ok-Some.field-0 c.in-Ok-Some.command c.in-Ok-Some.field-0-is c.in-Ok-Some.ensures.meant in
+    reads_for _ _ _ _ _ _ _ (only c.args.words.now c.in-Ok-Some.command means) c.run_command.ensures.reads
 
-pub returns-in-Ok-Some-clause-bad_input : goal.returns-in-Ok-Some-clause-bad_input
-returns-in-Ok-Some-clause-bad_input g c = λ bad other means.
-    at_command (λ (d : Command). IfSome (g.S.Source.left c.args.source.now) (IsBadInput d c.run_command.result.line)) c.args.words.now c.in-Ok-Some.command other
-    (meant_of c.args.words.now c.in-Ok-Some.field-0 c.in-Ok-Some.command c.in-Ok-Some.field-0-is c.in-Ok-Some.ensures.meant) means (c.run_command.ensures.bad_input bad)
+pub returns-in-Ok-None-clause-writes : goal.returns-in-Ok-None-clause-writes
+returns-in-Ok-None-clause-writes g c = silent_writes _ _ _ _ _ _ (silent_at_bad_words c.of.result c.of.ensures.status) c.of.ensures.front
 
-pub returns-in-Ok-Some-clause-told : goal.returns-in-Ok-Some-clause-told
-returns-in-Ok-Some-clause-told g c = λ other means.
-    at_command (λ (d : Command). IfSome (g.S.Source.left c.args.source.now) (IsToldBad d c.run_command.result)) c.args.words.now c.in-Ok-Some.command other
-    (meant_of c.args.words.now c.in-Ok-Some.field-0 c.in-Ok-Some.command c.in-Ok-Some.field-0-is c.in-Ok-Some.ensures.meant) means c.run_command.ensures.told
+pub returns-in-Ok-None-clause-reads : goal.returns-in-Ok-None-clause-reads
+returns-in-Ok-None-clause-reads g c =
+    let status = c.of.ensures.status in
+    unread_reads _ _ _ _ _ (λ e. cc) (λ e. cc) c.of.ensures.line (λ other means. absurd (none_of c.args.words.now c.in-Ok-None.field-0 c.in-Ok-None.field-0-is c.in-Ok-None.ensures.meant other means))
 
-pub returns-in-Ok-None-clause-told : goal.returns-in-Ok-None-clause-told
-returns-in-Ok-None-clause-told g c = λ other means. absurd (none_of c.args.words.now c.in-Ok-None.field-0 c.in-Ok-None.field-0-is c.in-Ok-None.ensures.meant other means)
+pub returns-in-Err-clause-writes : goal.returns-in-Err-clause-writes
+returns-in-Err-clause-writes g c = silent_writes _ _ _ _ _ _ (silent_at_want c.of-in-Err.result c.of-in-Err.ensures.status) c.of-in-Err.ensures.front
+
+pub returns-in-Err-clause-reads : goal.returns-in-Err-clause-reads
+returns-in-Err-clause-reads g c =
+    let status = c.of-in-Err.ensures.status in
+    unread_reads _ _ _ _ _ (λ e. cc) (λ e. cc) c.of-in-Err.ensures.line (λ other means. memory_is_told other _ c.of-in-Err.result status)

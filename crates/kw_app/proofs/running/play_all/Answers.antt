@@ -12,7 +12,7 @@ use Rattle.kw_app.proofs.running.play_all.Goals as goal
 pub loop-block-init : goal.loop-block-init
 loop-block-init g c =
     let m = c.args.kiwi.now in
-    let n = c.args.workers in
+    let n = c.args.crew.now.workers in
     let front : front_seen c.args.passes.items ≡ [] = front_is _ _ _ _ c.requires.together in record {
       together = subst (λ (E : List Event). AreTogether m n E c.args.passes.items) (sym front) c.requires.together;
       ran = subst (λ (E : List Event). Ran m.shared.opening n [] E c.new-answers.result.items) (sym front)
@@ -24,7 +24,7 @@ loop-block-preserved g c =
     let inv = c.loop-block.invariant in
     let lt : c.loop-block.block-index < length c.args.blocks.now = omega arith in
     let b : Dealt = c.block-item.result in
-    let workers : b.workers ≡ c.args.workers = ap (λ (x : Dealt). x.workers) c.block-item.is ∙ c.requires.workers c.loop-block.block-index b lt in
+    let workers : b.workers ≡ c.args.crew.now.workers = ap (λ (x : Dealt). x.workers) c.block-item.is ∙ c.requires.workers c.loop-block.block-index b lt in
     record {
       together = subst (λ n. AreTogether c.args.kiwi.now n (front_seen c.in_ok-next.next.items) c.in_ok-next.next.items) workers c.in_ok-next.ensures.together;
       ran = ran_step _ _ _ _ b _ _ _ _ _ inv.together.some lt c.block-item.is workers c.in_ok-append.ensures.items inv.ran c.in_ok-next.ensures.grew;

@@ -7,6 +7,6 @@ use Rattle.kw_app.proofs.running.play_all.Given as goal
 
 abbrev pub invariant-loop-block : goal.invariant-loop-block
 invariant-loop-block g l = record {
-  together : AreTogether l.kiwi l.workers (front_seen l.passes.items) l.passes.items;
-  ran : Ran l.kiwi.shared.opening l.workers (map (λ (b : Dealt). b.lines) (take l.block-index l.blocks)) (front_seen l.passes.items) l.answers.items;
+  together : AreTogether l.kiwi l.crew.workers (front_seen l.passes.items) l.passes.items;
+  ran : Ran l.kiwi.shared.opening l.crew.workers (map (λ (b : Dealt). b.lines) (take l.block-index l.blocks)) (front_seen l.passes.items) l.answers.items;
 }

@@ -5,4 +5,4 @@ abbrev pub invariant-loop-pass : goal.invariant-loop-pass
 invariant-loop-pass l = IsTrying l.shared l.initial.pass l.pass l.local
 
 abbrev pub decreases-loop-pass : goal.decreases-loop-pass
-decreases-loop-pass l = put_ahead l.local.activity
+decreases-loop-pass l = put_ahead l.local.activity l.local.walked l.local.lost

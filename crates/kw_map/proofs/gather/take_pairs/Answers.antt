@@ -10,7 +10,7 @@ on_err (Ok x) P p = tt
 on_err (Err e) P p = p
 
 pub take-requires-clause-value : goal.take-requires-clause-value
-take-requires-clause-value g c = shown_is_value c.args.cells.now c.args.version c.in-Some.key c.in-Some.value c.requires.values c.in-Some.ensures.next.shown
+take-requires-clause-value g c = shown_is_value c.args.cells.now c.args.version c.in-Some.key c.in-Some.value c.requires.values (rw c.as_slice-list.ensures.cells at c.in-Some.ensures.next.shown)
 
 pub returns-in_err-take-clause-prefix : goal.returns-in_err-take-clause-prefix
 returns-in_err-take-clause-prefix g c = on_err c.from_residual.result _
@@ -19,12 +19,13 @@ returns-in_err-take-clause-prefix g c = on_err c.from_residual.result _
 pub returns-then-key-upto-clause-all : goal.returns-then-key-upto-clause-all
 returns-then-key-upto-clause-all g c =
     handing_end g.G.Gather.last g.G.Gather.stands c.args.into.now c.take.new.self _ _
-    (handing_more g.G.Gather.last g.G.Gather.stands c.args.into.now c.loop-key.into c.take.new.self _ _ _ _ c.loop-key.invariant.handing c.in-Some.ensures.pairs c.in_ok-take.ensures.taken)
+    (handing_more g.G.Gather.last g.G.Gather.stands c.args.into.now c.loop-key.into c.take.new.self _ _ _ _ c.loop-key.invariant.handing (rw c.as_slice-list.ensures.cells at c.in-Some.ensures.pairs) c.in_ok-take.ensures.taken)
     (pairs_of-behind c.args.cells.now c.args.version c.in-Some.key c.args.upto c.if-key-upto.true)
 
 pub loop-key-preserved : goal.loop-key-preserved
 loop-key-preserved g c = record {
-  handing = handing_more g.G.Gather.last g.G.Gather.stands c.args.into.now c.loop-key.into c.take.new.self _ _ _ _ c.loop-key.invariant.handing c.in-Some.ensures.pairs c.in_ok-take.ensures.taken;
+  handing = handing_more g.G.Gather.last g.G.Gather.stands c.args.into.now c.loop-key.into c.take.new.self _ _ _ _ c.loop-key.invariant.handing (rw c.as_slice-list.ensures.cells at c.in-Some.ensures.pairs) c.in_ok-take.ensures.taken;
+  reached = c.in-Some.ensures.passed;
   below = taken_below g.G.Gather.last g.G.Gather.stands c.loop-key.into c.take.new.self c.in-Some.key c.in-Some.value c.in_ok-take.ensures.taken;
   in_range = omega (arith, c.in-Some.ensures.next.to, c.if-key-upto.false);
   never_falls = omega (arith, c.loop-key.invariant.never_falls, c.in_ok-take.ensures.never_falls);

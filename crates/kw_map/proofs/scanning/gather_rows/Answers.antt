@@ -1,4 +1,5 @@
-use Rattle.std.proofs.Common.{◌∙◌, arith, subst, sym}
+use Rattle.std.proofs.Common.{ap, ◌∙◌, arith, subst, sym}
+use Rattle.kw_core.specs.Stages.{is_walking_stage}
 use Rattle.kw_model.specs.Map.{Pairs}
 use Rattle.kw_follow.proofs.OwnEvents.{goes_trans}
 use Rattle.kw_map.specs.Gather.{Takes, TakesPrefix}
@@ -12,7 +13,7 @@ returns-in-Err-clause-prefix g c =
     let r = c.in-Err.ensures in
     let took = subst (λ (ps : Pairs). TakesPrefix g.G.Gather.last g.G.Gather.stands c.args.into.now ps c.gather_row.new.into) (sym r.held)
     (prefix_behind g.G.Gather.last g.G.Gather.stands c.args.into.now c.loop-pass.into c.gather_row.new.into _ _ i.takes r.prefix) in
-    stopped_here g.G.Gather.last g.G.Gather.stands c.args.shared.now c.args.pass.now c.gather_row.new.pass c.stop_scan.new.pass c.gather_row.new.local c.args.local.now.call c.args.into.now c.gather_row.new.into
+    stopped_here (λ (ps : Pairs). Takes g.G.Gather.last g.G.Gather.stands c.args.into.now ps c.gather_row.new.into) c.args.shared.now c.args.pass.now c.gather_row.new.pass c.stop_scan.new.pass c.gather_row.new.local c.args.local.now.call
     c.loop-pass.local.want c.args.upto c.loop-pass.local.version (goes_trans _ _ _ _ i.goes r.goes) c.stop_scan.ensures.goes r.follows (r.call ∙ i.asks) (c.requires.scan.0, (r.call ∙ i.asks) ∙ c.requires.scan.1) r.stage took
 
 pub loop-pass-preserved : goal.loop-pass-preserved
@@ -28,5 +29,5 @@ loop-pass-preserved g c =
           (Takes-append g.G.Gather.last g.G.Gather.stands c.args.into.now c.loop-pass.into c.gather_row.new.into _ _ i.takes r.all);
       counts = omega (arith, i.counts, r.never_falls);
       between = between_rows g.G.Gather.last g.G.Gather.stands c.loop-pass.into c.gather_row.new.into c.loop-pass.local.want c.args.upto c.loop-pass.local.version c.gather_row.new.local
-          (wanted_above g.G.Gather.last c.loop-pass.into c.loop-pass.local (sym c.is_walking.ensures ∙ c.loop-pass-test.true) i.between) r.stage r.all;
+          (wanted_above g.G.Gather.last c.loop-pass.into c.loop-pass.local (ap is_walking_stage (sym c.of.ensures) ∙ sym c.is_walking.ensures ∙ c.loop-pass-test.true) i.between) r.stage r.all;
     }

@@ -1,4 +1,4 @@
-use Rattle.kw_world.specs.Parts.{is_walking}
+use Rattle.kw_core.specs.Stages.{is_walking}
 use Rattle.kw_map.proofs.RowStages.{IsGathering, rows_ahead}
 use Rattle.kw_map.proofs.scanning.gather_rows.Given as goal
 

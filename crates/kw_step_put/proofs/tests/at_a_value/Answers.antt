@@ -1,7 +1,7 @@
 use Rattle.std.proofs.Common.{Some, arith, sym, subst}
 use Rattle.std.proofs.lemmas.List.Elements.{All-nil}
 use Rattle.kw_model.specs.declared.call.Call.TheVariants.{Scan}
-use Rattle.kw_world.specs.declared.activity.Activity.TheVariants.{CellValue}
+use Rattle.kw_world.specs.declared.activity.Activity.TheVariants.{RestVal}
 use Rattle.kw_world.specs.declared.local.Local.{Local}
 use Rattle.kw_world.specs.Local.{resting}
 use Rattle.kw_world.specs.Sane.{IsLocal, IsPair, IsMark, IsCopy}
@@ -10,7 +10,7 @@ use Rattle.kw_step_put.proofs.tests.at_a_value.Goals as goal
 
 -- the scan, from what an idle seat knows
 abbrev reading : Local → Local
-reading l = record l { activity = CellValue; call = Some (Scan 2 9); want = 2; version = 5; count = 1; place_version = 3; place_key = 4 }
+reading l = record l { activity = RestVal; call = Some (Scan 2 9); want = 2; version = 5; place_version = 3; place_key = 4 }
 
 in_range : IsLocal product (reading (resting 0))
 in_range = record {
@@ -28,12 +28,15 @@ in_range = record {
   met = omega arith;
   helping = (omega arith, omega arith);
   marks = All-nil (IsMark product);
-  count = omega arith;
   place = omega arith;
   place_version = (omega arith, omega arith);
   place_key = omega arith;
   copies = All-nil IsCopy;
   cell = omega arith;
+  link = tt;
+  held = tt;
+  walked = omega arith;
+  lost = omega arith;
 }
 
 pub returns-clause-ranges : goal.returns-clause-ranges

@@ -1,4 +1,4 @@
-use Rattle.std.proofs.Common.{◌≡◌, false, true, Some, sym, ◌∙◌}
+use Rattle.std.proofs.Common.{◌≡◌, false, true, ◌∙◌}
 use Rattle.kw_world.specs.declared.local.Local.{Local}
 use Rattle.kw_world.specs.Sizes.{product}
 use Rattle.kw_world.specs.Step.{word, is_skipped}

@@ -43,12 +43,15 @@ starts_known z rows sized =
         met = k.ranges.met;
         helping = k.ranges.helping;
         marks = k.ranges.marks;
-        count = k.ranges.count;
         place = k.ranges.place;
         place_version = k.ranges.place_version;
         place_key = k.ranges.place_key;
         copies = k.ranges.copies;
         cell = k.ranges.cell;
+        link = k.ranges.link;
+        held = k.ranges.held;
+        walked = k.ranges.walked;
+        lost = k.ranges.lost;
       };
       below = record { row = k.below.row; candidate = k.below.candidate; next = k.below.next };
       room = record { remembered = k.room.remembered; gathered = k.room.gathered };

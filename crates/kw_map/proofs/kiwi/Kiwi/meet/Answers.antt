@@ -1,7 +1,6 @@
 use Rattle.std.proofs.Common.{◌≡◌, ◌∙◌, ap}
 use Rattle.kw_world.specs.declared.local.Local.{Local}
 use Rattle.kw_table.specs.declared.pass.Pass.{Pass}
-use Rattle.kw_table.specs.declared.shared.Shared.{Shared}
 use Rattle.kw_table.specs.Passes.{IsPassOf, view}
 use Rattle.kw_table.specs.Views.{Meets}
 use Rattle.kw_map.specs.declared.kiwi.Kiwi.{Kiwi}

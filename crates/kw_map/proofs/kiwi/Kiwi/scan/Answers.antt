@@ -19,7 +19,7 @@ pub returns-clause-goes : goal.returns-clause-goes
 returns-clause-goes g c = goes_lent c.args.pass.now c.lend-local.new.self c.scan_by-scanned.new.pass c.give.new.self c.lend-local.ensures.view c.give.ensures.view c.give.ensures.table c.scan_by-scanned.ensures.goes
 
 pub returns-clause-answers : goal.returns-clause-answers
-returns-clause-answers g c = answers_lent c.args.pass.now c.lend-local.new.self c.scan_by-scanned.new.pass c.give.new.self c.lend-local.ensures.view c.give.ensures.view g.G.Gather.last g.G.Gather.stands g.G.Gather.stops c.args.from c.args.to c.args.into.now c.scan_by-scanned.new.into c.scan_by-scanned.result c.scan_by-scanned.ensures.answers
+returns-clause-answers g c = answers_lent c.args.pass.now c.lend-local.new.self c.scan_by-scanned.new.pass c.give.new.self c.lend-local.ensures.view c.give.ensures.view _ _ _ c.args.from c.args.to c.scan_by-scanned.result c.scan_by-scanned.ensures.answers
 
 pub returns-clause-ordered : goal.returns-clause-ordered
 returns-clause-ordered g c = pass_ordered c.give.new.self

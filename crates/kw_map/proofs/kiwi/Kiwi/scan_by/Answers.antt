@@ -1,9 +1,10 @@
-use Rattle.std.proofs.Common.{Option, refl, subst}
+use Rattle.std.proofs.Common.{ℕ, List, Option, refl, subst}
 use Rattle.kw_model.specs.declared.call.Call.{Call}
 use Rattle.kw_model.specs.declared.call.Reply.TheVariants.{Pairs, Spent, Stopped}
 use Rattle.kw_world.specs.declared.answer.Answer.TheVariants as answer
 use Rattle.kw_follow.specs.Following.{held}
 use Rattle.kw_follow.proofs.OwnEvents.{goes_trans}
+use Rattle.kw_map.specs.Gather.{Takes}
 use Rattle.kw_map.specs.Scanning.{StoppedAt}
 use Rattle.kw_map.proofs.ScanEnds.{entered_between, entered_spent}
 use Rattle.kw_map.proofs.RowStages.{stopped_within}
@@ -21,7 +22,7 @@ returns-in-Leave-clause-answers g c =
     record {
       reply = Spent;
       calls = whole c.enter.ensures.opens refl (c.leave.ensures.closes answer.Spent (leaves_with answer.Spent c.enter.ensures.follows is)).0;
-      took = (refl, refl);
+      gave = (refl, refl);
       clock = spent.0;
       met = clock_later spent.1 c.leave.ensures.goes;
       spent = (λ e. spent.2.0 is, λ e. refl);
@@ -35,7 +36,7 @@ returns-in-Ok-clause-answers g c =
     record {
       reply = Pairs pairs;
       calls = whole c.enter.ensures.opens gathered.calls (c.leave-2.ensures.closes answer.Pairs (leaves_with answer.Pairs gathered.follows gathered.leaves)).0;
-      took = (pairs, refl, gathered.all);
+      gave = (pairs, refl, gathered.all);
       clock = spent.0;
       met = clock_later (clock_later spent.1 gathered.goes) c.leave-2.ensures.goes;
       spent = (λ e. absurd (cc e), λ e. absurd (c.in_default.not-Leave answer.Spent (spent.2.1 e)));
@@ -45,7 +46,8 @@ pub returns-in-Err : goal.returns-in-Err
 returns-in-Err g c =
     let gathered = c.in-Err.ensures in
     let spent = c.enter.ensures.spent refl in
-    let stopped = subst (λ (x : Option Call). StoppedAt g.G.Gather.last g.G.Gather.stands c.enter.new.pass c.gather_rows-gathered.new.pass x c.args.into.now c.gather_rows-gathered.new.into) c.enter.ensures.call gathered.prefix in
+    let took = λ (pairs : List (ℕ × ℕ)). Takes g.G.Gather.last g.G.Gather.stands c.args.into.now pairs c.gather_rows-gathered.new.into in
+    let stopped = subst (λ (x : Option Call). StoppedAt took c.enter.new.pass c.gather_rows-gathered.new.pass x) c.enter.ensures.call gathered.prefix in
     record {
       idle = c.leave-2.ensures.idle;
       rests = c.leave-2.ensures.rests;
@@ -53,7 +55,7 @@ returns-in-Err g c =
       answers = record {
         reply = Stopped;
         calls = whole c.enter.ensures.opens gathered.calls (c.leave-2.ensures.closes answer.Stopped (leaves_with answer.Stopped gathered.follows gathered.leaves)).0;
-        took = (refl, gathered.stopped, stopped_within g.G.Gather.last g.G.Gather.stands _ _ _ _ _ _ _ _ c.enter.ensures.goes c.leave-2.ensures.goes stopped);
+        gave = (refl, gathered.stopped, stopped_within took _ _ _ _ _ _ c.enter.ensures.goes c.leave-2.ensures.goes stopped);
         clock = spent.0;
         met = clock_later (clock_later spent.1 gathered.goes) c.leave-2.ensures.goes;
         spent = (λ e. absurd (cc e), λ e. absurd (c.in_default.not-Leave answer.Spent (spent.2.1 e)));

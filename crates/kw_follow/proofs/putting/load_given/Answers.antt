@@ -1,0 +1,10 @@
+use Rattle.std.proofs.Common.{◌∙◌}
+use Rattle.kw_world.specs.declared.activity.Activity.TheVariants.{PutCount}
+use Rattle.kw_follow.proofs.PutEvents.{asks_at, next_at}
+use Rattle.kw_follow.proofs.putting.load_given.Goals as goal
+
+pub load_count-told-requires : goal.load_count-told-requires
+load_count-told-requires c = asks_at _ _ c.args.local.now PutCount c.requires.follows c.requires.activity tt
+
+pub returns-clause-line : goal.returns-clause-line
+returns-clause-line c = c.count-done.ensures ∙ next_at _ PutCount c.args.local.now _ c.requires.activity

@@ -1,0 +1,14 @@
+use Rattle.std.proofs.Common.{◌∙◌}
+use Rattle.kw_world.specs.declared.activity.Activity.TheVariants.{InsFrom}
+use Rattle.kw_follow.proofs.PutEvents.{asks_link, next_at}
+use Rattle.kw_follow.proofs.OneEvent.{follows_ranges}
+use Rattle.kw_follow.proofs.putting.load_link.Goals as goal
+
+pub load_after-told-requires : goal.load_after-told-requires
+load_after-told-requires c = asks_link _ _ c.args.local.now _ c.requires.follows c.requires.activity c.link_name-link.ensures
+
+pub insert_from-done-requires : goal.insert_from-done-requires
+insert_from-done-requires c = (follows_ranges _ _ _ c.requires.follows).walked
+
+pub returns-clause-line : goal.returns-clause-line
+returns-clause-line c = c.insert_from-done.ensures ∙ next_at _ InsFrom c.args.local.now _ c.requires.activity

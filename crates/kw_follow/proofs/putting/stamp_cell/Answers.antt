@@ -1,0 +1,18 @@
+use Rattle.std.proofs.Common.{refl, ap, ◌∙◌}
+use Rattle.kw_world.specs.declared.activity.Activity.TheVariants.{Stamp}
+use Rattle.kw_words.specs.declared.layout.Name.TheVariants.{Pend}
+use Rattle.kw_follow.proofs.PutEvents.{asks_exchanged, pending_fits, stamped_fits, next_at}
+use Rattle.kw_follow.proofs.OneEvent.{follows_ranges}
+use Rattle.kw_follow.proofs.putting.stamp_cell.Goals as goal
+
+pub pack-pending-requires : goal.pack-pending-requires
+pack-pending-requires c = pending_fits c.args.local.now (follows_ranges _ _ _ c.requires.follows)
+
+pub pack-stamped-requires : goal.pack-stamped-requires
+pack-stamped-requires c = stamped_fits c.args.local.now (follows_ranges _ _ _ c.requires.follows)
+
+pub stamp-told-requires : goal.stamp-told-requires
+stamp-told-requires c = asks_exchanged _ _ c.args.local.now Stamp _ _ _ _ _ _ _ c.requires.follows c.requires.activity tt (ap (Pend c.args.local.now.row) c.number.ensures) c.pack-pending.ensures.value c.pack-stamped.ensures.value refl
+
+pub returns-clause-line : goal.returns-clause-line
+returns-clause-line c = c.stamp-done.ensures ∙ next_at _ Stamp c.args.local.now _ c.requires.activity

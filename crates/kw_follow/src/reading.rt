@@ -1,0 +1,298 @@
+//! The events of a reader along the list of its row, each by its own step of the table.
+//!
+//! A reader makes two events for each cell that it passes and four for each that it gathers; what it remembers of the entries and did not
+//! meet it reads at the end. The end of a row has no event of its own: it follows the one that ends the walk, or reads the last remembered cell. There the core keeps the pairs of a scan, which takes
+//! memory; code that follows a pass does not, so that it passes the end by itself here. All else of an event is the core's.
+ghost use Rattle.std.specs.Prelude.{◌≡◌, ◌≤◌};
+ghost use Rattle.kw_words.specs.Plain.{key_of_word, value_of_word, version_of_word, cell_of_link_word};
+ghost use Rattle.kw_words.specs.declared.sizes.TheConstants.{CELLS};
+ghost use Rattle.kw_core.specs.Stages.{IsTaking};
+ghost use Rattle.kw_world.specs.ReadTransitions.{get_answered, list_key, list_met, list_past, list_version, rest_key, row_read, row_scanned, to_rest, gathering};
+ghost use Rattle.kw_world.specs.Sizes.{product};
+ghost use Rattle.kw_world.specs.Step.{next_of};
+ghost use Rattle.kw_table.specs.Passes.{view, Makes};
+ghost use Rattle.kw_table.specs.Views.{local_in};
+ghost use Rattle.kw_follow.specs.Calling.{Keeps};
+ghost use Rattle.kw_follow.specs.Following.{Follows, GoesTo, unpaired};
+ghost use Rattle.kw_follow.specs.OwnEvents.{MetAs};
+
+use kw_cells::in_order::first_fit;
+use kw_model::call::Call;
+use kw_step_put::operation::link_name;
+use kw_step_put::reading::{gather, hold_version, meet, pass_cell, take_remembered};
+use kw_table::{Pass, Shared, load_after, load_key, load_value, load_version};
+use kw_words::layout::Name;
+use kw_words::plain::{unpack_cell_link, unpack_key};
+use kw_world::activity::Activity;
+use kw_world::answer::Answer;
+use kw_world::calls::{first_key, is_in_range, last_key};
+use kw_world::event::Choice;
+use kw_world::limits::NEWEST;
+use kw_world::local::Local;
+
+// Loads the link at which the reader stands. The answer is what it was told.
+#[inline(always)]
+fn load_next(shared: &Shared, pass: &mut Pass, local: &mut Local) -> u64
+    requires follows { Follows shared.now pass.old local.old }
+    requires activity { local.old.activity ≡ Activity.ListFrom }
+    ensures makes { Makes shared.now pass.old Choice.Go result pass.new }
+    ensures line { local.new ≡ unpaired local.old (next_of product shared.now.opening.rows Choice.Go
+        local.old result) }
+{
+    let link = link_name(local.row, local.link);
+    let told = load_after(shared, pass, Choice::Go, link);
+    met_link(local, told);
+    told
+}
+
+// Loads the key of the cell that the reader has met.
+#[inline(always)]
+fn load_listed_key(shared: &Shared, pass: &mut Pass, local: &mut Local) -> u64
+    requires follows { Follows shared.now pass.old local.old }
+    requires activity { local.old.activity ≡ Activity.ListKey }
+    ensures makes { Makes shared.now pass.old Choice.Go result pass.new }
+    ensures line { local.new ≡ unpaired local.old (next_of product shared.now.opening.rows Choice.Go
+        local.old result) }
+{
+    let key = Name::Key(local.row, local.place);
+    let told = load_key(shared, pass, Choice::Go, key);
+    met_key(local, told);
+    told
+}
+
+// Loads the version of that cell.
+#[inline(always)]
+fn load_listed_version(shared: &Shared, pass: &mut Pass, local: &mut Local) -> u64
+    requires follows { Follows shared.now pass.old local.old }
+    requires activity { local.old.activity ≡ Activity.ListVer }
+    ensures makes { Makes shared.now pass.old Choice.Go result pass.new }
+    ensures line { local.new ≡ unpaired local.old (next_of product shared.now.opening.rows Choice.Go
+        local.old result) }
+{
+    let version = Name::Version(local.row, local.place);
+    let told = load_version(shared, pass, Choice::Go, version);
+    met_version(local, told);
+    told
+}
+
+// Loads the value of that cell, which is gathered.
+#[inline(always)]
+fn load_listed_value(shared: &Shared, pass: &mut Pass, local: &mut Local) -> u64
+    requires follows { Follows shared.now pass.old local.old }
+    requires activity { local.old.activity ≡ Activity.ListVal }
+    ensures makes { Makes shared.now pass.old Choice.Go result pass.new }
+    ensures line { local.new ≡ unpaired local.old (next_of product shared.now.opening.rows Choice.Go
+        local.old result) }
+{
+    let value = Name::Value(local.row, local.place);
+    let told = load_value(shared, pass, Choice::Go, value);
+    met_value(local, told);
+    told
+}
+
+// Loads the key of a remembered cell that was not met.
+#[inline(always)]
+fn load_rest_key(shared: &Shared, pass: &mut Pass, local: &mut Local) -> u64
+    requires follows { Follows shared.now pass.old local.old }
+    requires activity { local.old.activity ≡ Activity.RestKey }
+    ensures makes { Makes shared.now pass.old Choice.Go result pass.new }
+    ensures line { local.new ≡ unpaired local.old (next_of product shared.now.opening.rows Choice.Go
+        local.old result) }
+{
+    let key = Name::Key(local.row, local.place);
+    let told = load_key(shared, pass, Choice::Go, key);
+    left_key(local, told);
+    told
+}
+
+// Loads the value of that cell, which is gathered.
+#[inline(always)]
+fn load_rest_value(shared: &Shared, pass: &mut Pass, local: &mut Local) -> u64
+    requires follows { Follows shared.now pass.old local.old }
+    requires activity { local.old.activity ≡ Activity.RestVal }
+    ensures makes { Makes shared.now pass.old Choice.Go result pass.new }
+    ensures line { local.new ≡ unpaired local.old (next_of product shared.now.opening.rows Choice.Go
+        local.old result) }
+{
+    let value = Name::Value(local.row, local.place);
+    let told = load_value(shared, pass, Choice::Go, value);
+    left_value(local, told);
+    told
+}
+
+// The next event along the list, by what the local does next.
+#[inline(always)]
+fn read_event(shared: &Shared, pass: &mut Pass, local: &mut Local) -> u64
+    requires follows { Follows shared.now pass.old local.old }
+    requires reading { IsTaking local.old.activity }
+    ensures makes { Makes shared.now pass.old Choice.Go result pass.new }
+    ensures line { local.new ≡ unpaired local.old (next_of product shared.now.opening.rows Choice.Go
+        local.old result) }
+{
+    match local.activity {
+        Activity::ListFrom => load_next(shared, pass, local),
+        Activity::ListKey => load_listed_key(shared, pass, local),
+        Activity::ListVer => load_listed_version(shared, pass, local),
+        Activity::ListVal => load_listed_value(shared, pass, local),
+        Activity::RestKey => load_rest_key(shared, pass, local),
+        Activity::RestVal => load_rest_value(shared, pass, local),
+        _ => unreachable!(),
+    }
+}
+
+/// Makes the next event of a reader that goes along its row's list, and passes the end of the row, which has no event of its own. The
+/// answer is what the event was told.
+///
+/// Takes no memory: the pairs of a scan are for the caller to take from `gathered`, and `seat` says what they are.
+#[inline(always)]
+pub fn go_read(shared: &Shared, pass: &mut Pass, local: &mut Local) -> u64
+    requires follows { Follows shared.now pass.old local.old }
+    requires reading { IsTaking local.old.activity }
+    ensures goes { GoesTo shared.now pass.old pass.new }
+    ensures follows { Follows shared.now pass.new local.new }
+    ensures seat { local_in (view pass.new)
+        ≡ (next_of product (view pass.old).opening.rows Choice.Go (local_in (view pass.old))
+        result).local }
+    ensures met { MetAs pass.old pass.new local.old Choice.Go result }
+    ensures calls { Keeps pass.old pass.new }
+{
+    read_event(shared, pass, local)
+}
+
+// What follows from the events.
+
+// The reader was told the link at which it stands.
+#[inline(always)]
+fn met_link(local: &mut Local, found: u64)
+    requires { local.old.walked ≤ CELLS }
+    ensures { local.new ≡ unpaired local.old (list_met product (cell_of_link_word found) local.old)
+        }
+{
+    match unpack_cell_link(found) {
+        Some(cell) => {
+            meet(local, cell);
+            local.activity = Activity::ListKey;
+        }
+        None => go_to_rest(local),
+    }
+}
+
+// It was told the key of the cell that it met.
+#[inline(always)]
+fn met_key(local: &mut Local, found: u64)
+    ensures { local.new ≡ unpaired local.old (list_key (key_of_word found) local.old) }
+{
+    let key = unpack_key(found);
+    if key < first_key(local.call) {
+        go_on_past(local);
+    } else if key <= last_key(local.call) {
+        local.place_key = key;
+        local.activity = Activity::ListVer;
+    } else {
+        go_to_rest(local);
+    }
+}
+
+// It was told the version of that cell.
+#[inline(always)]
+fn met_version(local: &mut Local, found: u64)
+    ensures { local.new ≡ unpaired local.old (list_version (version_of_word found) local.old) }
+{
+    hold_version(local, found);
+    local.activity = Activity::ListVal;
+}
+
+// It was told the value of that cell.
+#[inline(always)]
+fn met_value(local: &mut Local, found: u64)
+    ensures { local.new ≡ unpaired local.old
+        (list_past (gathering product (value_of_word found) local.old)) }
+{
+    gather(local, found);
+    go_on_past(local);
+}
+
+// The walk passes the cell that it met.
+#[inline(always)]
+fn go_on_past(local: &mut Local)
+    ensures { local.new ≡ unpaired local.old (list_past local.old) }
+{
+    pass_cell(local);
+    local.activity = Activity::ListFrom;
+}
+
+// It was told the key of a remembered cell.
+fn left_key(local: &mut Local, found: u64)
+    ensures { local.new ≡ unpaired local.old (rest_key (key_of_word found) local.old) }
+{
+    let key = unpack_key(found);
+    if is_in_range(local.call, key) {
+        local.place_key = key;
+        local.activity = Activity::RestVal;
+    } else {
+        go_to_rest(local);
+    }
+}
+
+// It was told the value of that cell.
+fn left_value(local: &mut Local, found: u64)
+    ensures { local.new ≡ unpaired local.old
+        (to_rest (gathering product (value_of_word found) local.old)) }
+{
+    gather(local, found);
+    go_to_rest(local);
+}
+
+// It goes on to a remembered cell that it did not meet, or the row is read.
+fn go_to_rest(local: &mut Local)
+    ensures { local.new ≡ unpaired local.old (to_rest local.old) }
+{
+    if take_remembered(local) {
+        local.activity = Activity::RestKey;
+    } else {
+        end_row(local);
+    }
+}
+
+// The row has been read to its end.
+fn end_row(local: &mut Local)
+    ensures { local.new ≡ unpaired local.old (row_read local.old.call local.old) }
+{
+    match local.call {
+        Some(Call::Scan(_, upto)) => go_on(local, upto),
+        _ => {
+            let key = first_key(local.call);
+            answer(local, key);
+        }
+    }
+}
+
+// A get has its answer: what the newest cell of its key shows.
+fn answer(local: &mut Local, key: u32)
+    ensures { local.new ≡ unpaired local.old (get_answered key local.old) }
+{
+    let shown = match first_fit(local.gathered.as_slice(), key, NEWEST) {
+        Some(cell) => cell.value,
+        None => None,
+    };
+    local.forget_rows();
+    local.activity = Activity::Leave(Answer::found(shown));
+}
+
+// A scan goes on with the next row, or is at its end, where there is none or its keys are all above the range.
+fn go_on(local: &mut Local, upto: u32)
+    ensures { local.new ≡ unpaired local.old (row_scanned upto local.old) }
+{
+    local.has_read = true;
+    match local.next {
+        Some(row) if local.upper <= upto => {
+            local.row = row;
+            local.lower = local.upper;
+            local.want = local.upper;
+            local.next = None;
+            local.upper = 0;
+            local.activity = Activity::Walk;
+        }
+        _ => local.activity = Activity::ClearScan(Answer::Pairs),
+    }
+}

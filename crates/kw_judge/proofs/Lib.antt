@@ -1,0 +1,14 @@
+pub mod Marks
+pub mod Calls
+pub mod Grows
+pub mod Indexes
+pub mod Firsts
+pub mod Standing
+pub mod Lates
+pub mod Rights
+pub mod Verdicts
+pub mod Readers
+pub mod Lines
+pub mod LineTexts
+pub mod Prefixes
+pub mod Readings

@@ -1,0 +1,68 @@
+//! From words to calls.
+//!
+//! Each reader takes what it reads off the front of the words that are left, and its contract says the same both ways: which
+//! words it takes for what, and that no other words would have been that.
+ghost use Rattle.std.specs.Prelude.{◌≡◌, ◌≢◌, ◌++◌, ℕ, List, map, decimal, MatchOption};
+ghost use Rattle.kw_model.specs.declared.call.Call.{Call as AnyCall};
+ghost use Rattle.kw_line.specs.Line.{FitsCall, arguments};
+ghost use Rattle.kw_judge.specs.declared.parse.CallVerb.{CallVerb as AnyCallVerb};
+ghost use Rattle.kw_judge.specs.Texts.{call_words, call_verb_of, call_verb_word};
+
+use kw_line::words::Words;
+use kw_model::call::Call;
+
+/// The first word of a call.
+#[derive(Clone, Copy, Debug, PartialEq, Eq)]
+pub enum CallVerb {
+    Put,
+    Del,
+    Get,
+    Scan,
+}
+
+/// The call whose words are the next ones, or none.
+pub fn call(words: &mut Words) -> Option<Call>
+    ensures { MatchOption result
+        ((call : AnyCall) (left : List (List ℕ)) → FitsCall call → words.old ≢ call_words call ++ left)
+        (λ call. FitsCall call × (words.old ≡ call_words call ++ words.new)) }
+{
+    let verb = call_verb_named(words.next()?)?;
+    call_of(verb, words)
+}
+
+/// What a call does that begins with this word, or none.
+fn call_verb_named(word: &[u8]) -> Option<CallVerb>
+    ensures { MatchOption result
+        ((verb : AnyCallVerb) → word.now ≢ call_verb_word verb)
+        (λ verb. word.now ≡ call_verb_word verb) }
+{
+    match word {
+        b"put" => Some(CallVerb::Put),
+        b"del" => Some(CallVerb::Del),
+        b"get" => Some(CallVerb::Get),
+        b"scan" => Some(CallVerb::Scan),
+        _ => None,
+    }
+}
+
+/// The call that does this and whose numbers are the next words, or none.
+fn call_of(verb: CallVerb, words: &mut Words) -> Option<Call>
+    ensures { MatchOption result
+        ((call : AnyCall) (left : List (List ℕ)) → call_verb_of call ≡ verb → FitsCall call
+        → words.old ≢ map decimal (arguments call) ++ left)
+        (λ call. (call_verb_of call ≡ verb) × FitsCall call
+        × (words.old ≡ map decimal (arguments call) ++ words.new)) }
+{
+    match verb {
+        CallVerb::Put => {
+            let key = words.key()?;
+            Some(Call::Put(key, words.value()?))
+        }
+        CallVerb::Del => Some(Call::Del(words.key()?)),
+        CallVerb::Get => Some(Call::Get(words.key()?)),
+        CallVerb::Scan => {
+            let from = words.key()?;
+            Some(Call::Scan(from, words.key()?))
+        }
+    }
+}

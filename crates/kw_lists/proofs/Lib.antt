@@ -1,0 +1,13 @@
+pub mod Orders
+pub mod Places
+pub mod Counting
+pub mod Same
+pub mod Inserting
+pub mod Agreeing
+pub mod Leaving
+pub mod ReadOff
+pub mod Putting
+pub mod Walking
+pub mod Reading
+pub mod Meeting
+pub mod Building

@@ -1,8 +1,0 @@
-use Rattle.kw_live.proofs.CellEvent.{IsReadingOn, cells_ahead}
-use Rattle.kw_live.proofs.reading.read_cells.Given as goal
-
-abbrev pub invariant-loop-pass : goal.invariant-loop-pass
-invariant-loop-pass l = IsReadingOn l.shared l.initial.pass l.initial.local l.pass l.local
-
-abbrev pub decreases-loop-pass : goal.decreases-loop-pass
-decreases-loop-pass l = cells_ahead l.local

@@ -1,0 +1,331 @@
+-- What a put knows of the list of its row, after its own events and after those of others.
+use Rattle.std.proofs.Common.{ℕ, ◌≡◌, ◌≢◌, ◌⊎◌, inl, inr, ◌+◌, ◌<◌, ◌≤◌, ◌==◌, ◌&&◌, ◌||◌, nat_lt, true, false, Option, Some, None, arith, refl, sym, ◌∙◌, ap, subst}
+use Rattle.std.proofs.lemmas.Bool.Decides.{nat_tests}
+use Rattle.kw_words.specs.declared.layout.Name.{Name}
+use Rattle.kw_words.specs.declared.layout.Name.TheVariants as name
+use Rattle.kw_words.specs.Plain.{key_of_word, cell_link_word, cell_of_link_word}
+use Rattle.kw_lists.specs.Rows.{Row, Stands, IsOn, IsSound}
+use Rattle.kw_lists.specs.Changes.{IsAhead, Leaves}
+use Rattle.kw_lists.specs.Puts.{IsFrom, IsAt, IsSet, LeavesCell, LeavesOwn}
+use Rattle.kw_lists.specs.Words.{link_in}
+use Rattle.kw_lists.proofs.Counting.{count_most}
+use Rattle.kw_lists.proofs.Inserting.{at_next}
+use Rattle.kw_lists.proofs.Putting.{put_begins, put_loads, put_passes, put_stops, put_loses, from_stays, at_stays, ahead_stays, set_stays}
+use Rattle.kw_lists.proofs.Same.{behind_same}
+use Rattle.kw_lists.proofs.Walking.{walk_begins, walk_goes_on, walk_stays, walked_fewer}
+use Rattle.kw_world.specs.declared.activity.Activity.{Activity}
+use Rattle.kw_world.specs.declared.activity.Activity.TheVariants.{PutVersion, InsFrom, InsKey, InsVer, InsSet, Insert}
+use Rattle.kw_world.specs.declared.local.Local.{Local}
+use Rattle.kw_world.specs.declared.event.Choice.{Choice}
+use Rattle.kw_world.specs.Calls.{first_key}
+use Rattle.kw_world.specs.ListTransitions.{link_name, one_more, is_newer}
+use Rattle.kw_world.specs.Sane.{IsCellBelow, IsKnown}
+use Rattle.kw_world.specs.Sizes.{Sizes}
+use Rattle.kw_world.specs.Step.{word}
+use Rattle.kw_core.specs.Run.{Run}
+use Rattle.kw_core.specs.Stages.{IsPublished, IsStamped, IsStored, IsInserting, IsUnlisted, IsAtRow}
+use Rattle.kw_core.proofs.Arrows.{Arrow, meets_stamped, meets_neither, is_passed, helps, finds_stamped, finds_other, list_ends, key_above, rest_passed, gathers_rest, stores_version, meets_cell, meets_none, key_before, key_same, key_after, version_before, version_after, stores_after, loses}
+use Rattle.kw_core.proofs.Frame.{key_kept, version_kept}
+use Rattle.kw_core.proofs.Happens.{Happens}
+use Rattle.kw_rows.specs.Rows.{WasLinked}
+use Rattle.kw_shape.proofs.RowsStay.{fresh_linked}
+use Rattle.kw_puts.specs.Puts.{OwnsAttempt}
+use Rattle.kw_puts.specs.Lists.{list_in, Inserts, WalksList}
+use Rattle.kw_puts.specs.Below.{Below}
+use Rattle.kw_puts.proofs.ListWords.{link_is, leads_there, leads_elsewhere}
+use Rattle.kw_puts.proofs.ListSteps.{leaves, list_step, lost_listed, is_set}
+use Rattle.kw_puts.proofs.OwnAttempts.{acting_own, inserting_puts, inserting_published, inserting_stamped, inserting_stored, look_puts, cell_puts}
+
+-- What events leave.
+
+-- what a put knows it still knows, where its own cell is left as it was
+pub inserts_stay : (n : ℕ) (row row' : Row) (b : Activity) (k : Local) → Leaves n row row' → (IsInserting b → LeavesOwn row row' k.cell) → Inserts n row b k → Inserts n row' b k
+inserts_stay n row row' InsFrom k w o x = from_stays n row row' k.cell w (o tt).cell k.lost k.link x
+inserts_stay n row row' InsKey k w o x = (at_stays n row row' k.cell w (o tt).cell k.lost k.link k.held x.0, x.1)
+inserts_stay n row row' InsVer k w o x =
+    let met : row.listed k.place ≡ true = subst (IsOn row) x.1 x.0.known in
+    (at_stays n row row' k.cell w (o tt).cell k.lost k.link k.held x.0, x.1, (w.cell k.place met).key ∙ x.2 ∙ sym (o tt).cell.cell.key)
+inserts_stay n row row' InsSet k w o x = (at_stays n row row' k.cell w (o tt).cell k.lost k.link k.held x.0, ahead_stays n row row' k.cell w (o tt).cell k.held x.0.known x.1)
+inserts_stay n row row' Insert k w o x = set_stays n row row' k.cell w (o tt) k.lost k.link k.held x
+inserts_stay n row row' _ k w o x = tt
+
+-- so is its walk
+pub walks_stay : (n : ℕ) (row row' : Row) (b : Activity) (k : Local) → Leaves n row row' → Inserts n row b k → WalksList n row b k → WalksList n row' b k
+walks_stay n row row' InsFrom k w x y = walk_stays n row row' k.link k.walked w y
+walks_stay n row row' InsKey k w x y = (behind_same row row' w.cell k.link k.place x.0.from.on (w.cell k.place y.1.on) y.0, walk_stays n row row' (Some k.place) k.walked w y.1)
+walks_stay n row row' InsVer k w x y = (behind_same row row' w.cell k.link k.place x.0.from.on (w.cell k.place y.1.on) y.0, walk_stays n row row' (Some k.place) k.walked w y.1)
+walks_stay n row row' _ k w x y = tt
+
+-- a put that inserts is at its row, and its cell is not listed
+pub inserting_at : (b : Activity) → IsInserting b → IsAtRow b
+inserting_at InsFrom m = tt
+inserting_at InsKey m = tt
+inserting_at InsVer m = tt
+inserting_at InsSet m = tt
+inserting_at Insert m = tt
+inserting_at _ m = absurd m
+
+pub inserting_unlisted : (b : Activity) → IsInserting b → IsUnlisted b
+inserting_unlisted InsFrom m = tt
+inserting_unlisted InsKey m = tt
+inserting_unlisted InsVer m = tt
+inserting_unlisted InsSet m = tt
+inserting_unlisted Insert m = tt
+inserting_unlisted _ m = absurd m
+
+-- a put that does not insert knows nothing of the list
+pub inserts_if : (n : ℕ) (row : Row) (b : Activity) (k : Local) → (IsInserting b → Inserts n row b k) → Inserts n row b k
+inserts_if n row InsFrom k f = f tt
+inserts_if n row InsKey k f = f tt
+inserts_if n row InsVer k f = f tt
+inserts_if n row InsSet k f = f tt
+inserts_if n row Insert k f = f tt
+inserts_if n row _ k f = tt
+
+pub walks_if : (n : ℕ) (row : Row) (b : Activity) (k : Local) → (IsInserting b → WalksList n row b k) → WalksList n row b k
+walks_if n row InsFrom k f = f tt
+walks_if n row InsKey k f = f tt
+walks_if n row InsVer k f = f tt
+walks_if n row _ k f = tt
+
+-- The tests of the order.
+
+-- a cell of the own key that is newer stands before the own one
+newer_before : (row : Row) (l : Local) → row.key l.place ≡ row.key l.cell → row.version l.cell ≡ l.version → is_newer (row.version l.place) l.place l ≡ true → Stands row l.place l.cell
+newer_before row l k v e = inr (k, which (newer (row.version l.place) l.version l.place l.cell e))
+  where
+    newer : (x own place cell : ℕ) → (nat_lt own x || x == own && nat_lt cell place) ≡ true → (own < x) ⊎ (own ≡ x) × (cell < place)
+    newer x own place cell e = grind (arith, nat_tests)
+
+    which : (l.version < row.version l.place) ⊎ (l.version ≡ row.version l.place) × (l.cell < l.place) → (row.version l.cell < row.version l.place) ⊎ (row.version l.cell ≡ row.version l.place) × (l.cell < l.place)
+    which (inl x) = inl (omega (arith, v, x))
+    which (inr x) = inr (v ∙ x.0, x.1)
+
+-- and one that is not does not
+not_newer : (row : Row) (l : Local) → row.key l.place ≡ row.key l.cell → row.version l.cell ≡ l.version → is_newer (row.version l.place) l.place l ≡ false → Stands row l.place l.cell → ⊥
+not_newer row l k v e (inl x) = omega (arith, k, x)
+not_newer row l k v e (inr (x, inl y)) = older (row.version l.place) l.version l.place l.cell e (omega (arith, v, y))
+  where
+    older : (x own place cell : ℕ) → (nat_lt own x || x == own && nat_lt cell place) ≡ false → own < x → ⊥
+    older x own place cell e h = grind (arith, nat_tests)
+not_newer row l k v e (inr (x, inr y)) = lower (row.version l.place) l.version l.place l.cell e (sym (sym v ∙ y.0)) y.1
+  where
+    lower : (x own place cell : ℕ) → (nat_lt own x || x == own && nat_lt cell place) ≡ false → x ≡ own → cell < place → ⊥
+    lower x own place cell e h o = grind (arith, nat_tests)
+
+-- nor does one of a greater key
+key_not_before : (row : Row) (c d own : ℕ) → row.key d ≡ own → own < row.key c → Stands row c d → ⊥
+key_not_before row c d own k o (inl x) = omega (arith, k, o, x)
+key_not_before row c d own k o (inr x) = omega (arith, k, o, x.0)
+
+-- what a link holds is at most as many as there are cells
+link_at_most : {z : Sizes} {r : Run} → Below z r → {q : ℕ} (at : Option ℕ) → IsCellBelow z.cells at → q < r.world.rows → word z r.world (link_name q at) ≤ z.cells
+link_at_most i {q} (Some c) o w = i.shape.sane.each (name.After q c) (w, o)
+link_at_most i {q} None o w = i.shape.sane.each (name.First q) w
+
+-- one more, where there is room for it
+one_more_is : (z : Sizes) (n : ℕ) → n + 1 ≤ z.cells → one_more z n ≡ n + 1
+one_more_is z n o = omega arith
+
+-- The put's own events.
+
+module _ (z : Sizes) (r r' : Run) (s : ℕ) (choice : Choice) (l : Local) (a : Activity) (l' : Local) (h : Happens z r r' s choice l l' a) (i : Below z r) where
+  -- the list of its row before the event
+  abbrev row : Row
+  row = list_in (word z r.world) r.listed l.row
+
+  known : IsKnown z r.world.rows l
+  known = i.shape.sane.locals s l h.knows
+
+  linked : IsAtRow a → WasLinked r.ledger.rows l.row
+  linked p = fresh_linked r.ledger.rows s l.row ((i.shape.walks s l h.knows).at (subst IsAtRow (sym h.activity) p)).fresh
+
+  knows_list : Inserts z.cells row a l
+  knows_list = subst (λ q. Inserts z.cells row q l) h.activity (i.lists.inserts s l h.knows)
+
+  walks_list : WalksList z.cells row a l
+  walks_list = subst (λ q. WalksList z.cells row q l) h.activity (i.lists.walks s l h.knows)
+
+  its_unlisted : IsUnlisted a → r.listed l.row l.cell ≡ false
+  its_unlisted u = (i.lists.own s l h.knows).unlisted (subst IsUnlisted (sym h.activity) u)
+
+  -- its own key and version stand in its cell
+  module _ (m : IsInserting a) where
+    its_own : OwnsAttempt (word z r.world) r.history s l.activity l (r.seats s)
+    its_own = acting_own z r r' s choice l a l' h i (inserting_puts a m)
+
+    its_key : row.key l.cell ≡ first_key l.call
+    its_key = rw (its_own.row, its_own.cell) at ((i.puts.body (r.seats s).own its_own.within).key (its_own.announced (subst IsPublished (sym h.activity) (inserting_published a m)))) ∙ its_own.key
+
+    its_version : row.version l.cell ≡ l.version
+    its_version = its_own.stored (subst IsStored (sym h.activity) (inserting_stored a m)) ∙ its_own.version (subst IsStamped (sym h.activity) (inserting_stamped a m))
+
+  -- where the event writes no word, the list is what it was for the seat itself
+  loads_own : r'.listed ≡ r.listed → ((n : Name) → word z r'.world n ≡ word z r.world n) → IsUnlisted a → LeavesOwn row (list_in (word z r'.world) r'.listed l.row) l.cell
+  loads_own e f u = record {
+    cell = record { unlisted = ap (λ g. g l.row l.cell) e ∙ its_unlisted u; cell = record { key = ap key_of_word (f (name.Key l.row l.cell)); version = f (name.Version l.row l.cell) } };
+    after = ap cell_of_link_word (f (name.After l.row l.cell));
+  }
+
+  -- and what it learned of the list it knows of the list as it is now
+  learned : (b : Activity) (k : Local) → k.row ≡ l.row → k.cell ≡ l.cell → IsAtRow a → IsUnlisted a → r'.listed ≡ r.listed → ((n : Name) → word z r'.world n ≡ word z r.world n) → Inserts z.cells row b k → Inserts z.cells (list_in (word z r'.world) r'.listed k.row) b k
+  learned b k e f p u g w x = subst (λ q. Inserts z.cells (list_in (word z r'.world) r'.listed q) b k) (sym e) (inserts_stay z.cells row (list_in (word z r'.world) r'.listed l.row) b k (leaves z.cells _ _ (list_step z r r' s choice l a l' h i l.row (linked p))) (λ m. subst (LeavesOwn row (list_in (word z r'.world) r'.listed l.row)) (sym f) (loads_own g w u)) x)
+
+  walked : (b : Activity) (k : Local) → k.row ≡ l.row → IsAtRow a → Inserts z.cells row b k → WalksList z.cells row b k → WalksList z.cells (list_in (word z r'.world) r'.listed k.row) b k
+  walked b k e p x y = subst (λ q. WalksList z.cells (list_in (word z r'.world) r'.listed q) b k) (sym e) (walks_stay z.cells row (list_in (word z r'.world) r'.listed l.row) b k (leaves z.cells _ _ (list_step z r r' s choice l a l' h i l.row (linked p))) x y)
+
+  its_list : IsAtRow a → IsSound z.cells row
+  its_list p = i.lists.leads l.row (linked p)
+
+-- the put begins at the row's first link
+begins_insert : (z : Sizes) (r r' : Run) (s : ℕ) (choice : Choice) (l l' : Local) → Happens z r r' s choice l l' PutVersion → Below z r → IsFrom z.cells (list_in (word z r'.world) r'.listed l.row) l.cell 0 None
+begins_insert z r r' s choice l l' h i = put_begins z.cells (list_in (word z r'.world) r'.listed l.row) l.cell (ap (λ f. f l.row l.cell) h.listed ∙ its_unlisted z r r' s choice l PutVersion l' h i tt)
+
+-- it stores what the link held in its own link
+sets_insert : (z : Sizes) (r r' : Run) (s : ℕ) (choice : Choice) (l l' : Local) → Happens z r r' s choice l l' InsSet → Below z r → IsSet z.cells (list_in (word z r'.world) r'.listed l.row) l.cell l.lost l.link l.held
+sets_insert z r r' s choice l l' h i = record {
+  met = at_stays z.cells before after l.cell left cell l.lost l.link l.held x.0;
+  ahead = ahead_stays z.cells before after l.cell left cell l.held x.0.known x.1;
+  after = leads_there (word z r'.world) l.row (Some l.cell) l.held z.cells k.ranges.held i.shape.sane.sized.few_cells h.changed.same;
+}
+  where
+    before : Row
+    before = row z r r' s choice l InsSet l' h i
+
+    after : Row
+    after = list_in (word z r'.world) r'.listed l.row
+
+    k : IsKnown z r.world.rows l
+    k = known z r r' s choice l InsSet l' h i
+
+    x : Inserts z.cells before InsSet l
+    x = knows_list z r r' s choice l InsSet l' h i
+
+    left : Leaves z.cells before after
+    left = leaves z.cells before after (list_step z r r' s choice l InsSet l' h i l.row (linked z r r' s choice l InsSet l' h i tt))
+
+    cell : LeavesCell before after l.cell
+    cell = record {
+      unlisted = ap (λ f. f l.row l.cell) h.listed ∙ its_unlisted z r r' s choice l InsSet l' h i tt;
+      cell = record { key = ap key_of_word (key_kept InsSet h l.row l.cell k.below.row k.ranges.cell (λ y e f. y)); version = version_kept InsSet h l.row l.cell k.below.row k.ranges.cell (λ y e f. y) };
+    }
+
+-- it loses its exchange
+loses_insert : (z : Sizes) (r r' : Run) (s : ℕ) (choice : Choice) (l l' : Local) → word z r.world (link_name l.row l.link) ≢ cell_link_word l.held → Happens z r r' s choice l l' Insert → Below z r → IsFrom z.cells (list_in (word z r'.world) r'.listed l.row) l.cell (one_more z l.lost) None
+loses_insert z r r' s choice l l' n h i = rw (one_more_is z l.lost (omega (arith, lost.fewer, count_most z.cells before.listed))) (from_stays z.cells before after l.cell left cell (l.lost + 1) None lost)
+  where
+    before : Row
+    before = row z r r' s choice l Insert l' h i
+
+    after : Row
+    after = list_in (word z r'.world) r'.listed l.row
+
+    k : IsKnown z r.world.rows l
+    k = known z r r' s choice l Insert l' h i
+
+    lost : IsFrom z.cells before l.cell (l.lost + 1) None
+    lost = put_loses z.cells before l.cell l.lost l.link l.held (is_set z r r' s choice l l' h i).met
+        (leads_elsewhere (word z r.world) l.row l.link l.held z.cells (link_at_most i l.link k.ranges.link k.below.row) i.shape.sane.sized.few_cells n)
+
+    left : Leaves z.cells before after
+    left = leaves z.cells before after (list_step z r r' s choice l Insert l' h i l.row (linked z r r' s choice l Insert l' h i tt))
+
+    cell : LeavesCell before after l.cell
+    cell = record {
+      unlisted = ap (λ f. f l.row l.cell) (lost_listed z r r' s choice l l' h i n) ∙ its_unlisted z r r' s choice l Insert l' h i tt;
+      cell = record { key = ap key_of_word (key_kept Insert h l.row l.cell k.below.row k.ranges.cell (λ y e f. y)); version = version_kept Insert h l.row l.cell k.below.row k.ranges.cell (λ y e f. y) };
+    }
+
+-- what the acting seat knows of the list of its row
+pub inserts_own : (z : Sizes) (r r' : Run) (s : ℕ) (choice : Choice) (l : Local) (a : Activity) (l' : Local) → Arrow z (word z r.world) s choice l a l' → Happens z r r' s choice l l' a → Below z r → IsInserting l'.activity → Inserts z.cells (list_in (word z r'.world) r'.listed l'.row) l'.activity l'
+inserts_own z r r' s choice l a l' stores_version h i m = begins_insert z r r' s choice l l' h i
+inserts_own z r r' s choice l a l' (meets_cell c e) h i m =
+    let k = knows_list z r r' s choice l InsFrom l' h i in
+    let sound = its_list z r r' s choice l InsFrom l' h i tt in
+    let here : link_in (word z r.world) l.row l.link ≡ Some c = link_is (word z r.world) l.row l.link ∙ e in
+    let at = put_loads z.cells (row z r r' s choice l InsFrom l' h i) l.cell l.lost l.link sound.list k in
+    learned z r r' s choice l InsFrom l' h i InsKey l' refl refl tt tt h.listed (h.changed.loaded refl) (subst (IsAt z.cells (row z r r' s choice l InsFrom l' h i) l.cell l.lost l.link) here at, refl)
+inserts_own z r r' s choice l a l' (meets_none e) h i m =
+    let k = knows_list z r r' s choice l InsFrom l' h i in
+    let sound = its_list z r r' s choice l InsFrom l' h i tt in
+    let here : link_in (word z r.world) l.row l.link ≡ None = link_is (word z r.world) l.row l.link ∙ e in
+    let at = put_loads z.cells (row z r r' s choice l InsFrom l' h i) l.cell l.lost l.link sound.list k in
+    learned z r r' s choice l InsFrom l' h i InsSet l' refl refl tt tt h.listed (h.changed.loaded refl) (subst (IsAt z.cells (row z r r' s choice l InsFrom l' h i) l.cell l.lost l.link) here at, tt)
+inserts_own z r r' s choice l a l' (key_before e) h i m =
+    let x = knows_list z r r' s choice l InsKey l' h i in
+    let at = subst (IsAt z.cells (row z r r' s choice l InsKey l' h i) l.cell l.lost l.link) x.1 x.0 in
+    learned z r r' s choice l InsKey l' h i InsFrom l' refl refl tt tt h.listed (h.changed.loaded refl)
+    (put_passes z.cells (row z r r' s choice l InsKey l' h i) l.cell l.lost l.link l.place at (inl (omega (arith, e, its_key z r r' s choice l InsKey l' h i tt))))
+inserts_own z r r' s choice l a l' (key_same e) h i m =
+    let x = knows_list z r r' s choice l InsKey l' h i in
+    learned z r r' s choice l InsKey l' h i InsVer l' refl refl tt tt h.listed (h.changed.loaded refl) (x.0, x.1, e ∙ sym (its_key z r r' s choice l InsKey l' h i tt))
+inserts_own z r r' s choice l a l' (key_after e) h i m =
+    let before = row z r r' s choice l InsKey l' h i in
+    let x = knows_list z r r' s choice l InsKey l' h i in
+    let at = subst (IsAt z.cells before l.cell l.lost l.link) x.1 x.0 in
+    let greater : Stands before l.place l.cell → ⊥ = key_not_before before l.place l.cell (first_key l.call) (its_key z r r' s choice l InsKey l' h i tt) e in
+    learned z r r' s choice l InsKey l' h i InsSet l' refl refl tt tt h.listed (h.changed.loaded refl)
+    (x.0, subst (IsAhead before l.cell) (sym x.1) (put_stops z.cells before l.cell l.lost l.link l.place at greater))
+inserts_own z r r' s choice l a l' (version_before e) h i m =
+    let before = row z r r' s choice l InsVer l' h i in
+    let x = knows_list z r r' s choice l InsVer l' h i in
+    let at = subst (IsAt z.cells before l.cell l.lost l.link) x.1 x.0 in
+    learned z r r' s choice l InsVer l' h i InsFrom l' refl refl tt tt h.listed (h.changed.loaded refl)
+    (put_passes z.cells before l.cell l.lost l.link l.place at (newer_before before l x.2 (its_version z r r' s choice l InsVer l' h i tt) e))
+inserts_own z r r' s choice l a l' (version_after e) h i m =
+    let before = row z r r' s choice l InsVer l' h i in
+    let x = knows_list z r r' s choice l InsVer l' h i in
+    let at = subst (IsAt z.cells before l.cell l.lost l.link) x.1 x.0 in
+    learned z r r' s choice l InsVer l' h i InsSet l' refl refl tt tt h.listed (h.changed.loaded refl)
+    (x.0, subst (IsAhead before l.cell) (sym x.1) (put_stops z.cells before l.cell l.lost l.link l.place at (not_newer before l x.2 (its_version z r r' s choice l InsVer l' h i tt) e)))
+inserts_own z r r' s choice l a l' stores_after h i m = sets_insert z r r' s choice l l' h i
+inserts_own z r r' s choice l a l' (loses n) h i m = loses_insert z r r' s choice l l' n h i
+inserts_own z r r' s choice l a l' (meets_stamped j c version next e n) h i m = look_puts z _ next n (inserting_puts next m)
+inserts_own z r r' s choice l a l' (meets_neither j next e n) h i m = look_puts z _ next n (inserting_puts next m)
+inserts_own z r r' s choice l a l' (is_passed next e n) h i m = look_puts z _ next n (inserting_puts next m)
+inserts_own z r r' s choice l a l' (helps next e n) h i m = look_puts z _ next n (inserting_puts next m)
+inserts_own z r r' s choice l a l' (finds_stamped c version next e n) h i m = look_puts z _ next n (inserting_puts next m)
+inserts_own z r r' s choice l a l' (finds_other next e n) h i m = look_puts z _ next n (inserting_puts next m)
+inserts_own z r r' s choice l a l' (list_ends next e n) h i m = cell_puts _ next n (inserting_puts next.activity m)
+inserts_own z r r' s choice l a l' (key_above next e n) h i m = cell_puts _ next n (inserting_puts next.activity m)
+inserts_own z r r' s choice l a l' (rest_passed next e n) h i m = cell_puts _ next n (inserting_puts next.activity m)
+inserts_own z r r' s choice l a l' (gathers_rest next n) h i m = cell_puts _ next n (inserting_puts next.activity m)
+inserts_own z r r' s choice l a l' _ h i m = absurd m
+
+-- where the acting seat's walk is
+pub walks_own : (z : Sizes) (r r' : Run) (s : ℕ) (choice : Choice) (l : Local) (a : Activity) (l' : Local) → Arrow z (word z r.world) s choice l a l' → Happens z r r' s choice l l' a → Below z r → IsInserting l'.activity → WalksList z.cells (list_in (word z r'.world) r'.listed l'.row) l'.activity l'
+walks_own z r r' s choice l a l' stores_version h i m = walk_begins z.cells _
+walks_own z r r' s choice l a l' (meets_cell c e) h i m =
+    let before = row z r r' s choice l InsFrom l' h i in
+    let k = knows_list z r r' s choice l InsFrom l' h i in
+    let w = walks_list z r r' s choice l InsFrom l' h i in
+    let sound = its_list z r r' s choice l InsFrom l' h i tt in
+    let cell = (known z r r' s choice l InsFrom l' h i).ranges.cell in
+    let next = at_next before l.link (before.link l.link) c (sound.list l.link k.on) (link_is (word z r.world) l.row l.link ∙ e) in
+    let fewer = walked_fewer z.cells before l.link l.walked l.cell cell k.unlisted w in
+    let on = walk_goes_on z.cells before l.link l.walked c (sound.below c next.listed) next.listed next.behind w in
+    let left = leaves z.cells _ _ (list_step z r r' s choice l InsFrom l' h i l.row (linked z r r' s choice l InsFrom l' h i tt)) in
+    (behind_same before _ left.cell l.link c k.on (left.cell c next.listed) next.behind, rw (one_more_is z l.walked (omega (arith, fewer))) (walk_stays z.cells before _ (Some c) (l.walked + 1) left on))
+walks_own z r r' s choice l a l' (key_before e) h i m =
+    let left = leaves z.cells _ _ (list_step z r r' s choice l InsKey l' h i l.row (linked z r r' s choice l InsKey l' h i tt)) in
+    walk_stays z.cells _ _ (Some l.place) l.walked left (walks_list z r r' s choice l InsKey l' h i).1
+walks_own z r r' s choice l a l' (key_same e) h i m = walked z r r' s choice l InsKey l' h i InsKey l refl tt (knows_list z r r' s choice l InsKey l' h i) (walks_list z r r' s choice l InsKey l' h i)
+walks_own z r r' s choice l a l' (version_before e) h i m =
+    let left = leaves z.cells _ _ (list_step z r r' s choice l InsVer l' h i l.row (linked z r r' s choice l InsVer l' h i tt)) in
+    walk_stays z.cells _ _ (Some l.place) l.walked left (walks_list z r r' s choice l InsVer l' h i).1
+walks_own z r r' s choice l a l' (loses n) h i m = walk_begins z.cells _
+walks_own z r r' s choice l a l' (meets_stamped j c version next e n) h i m = look_puts z _ next n (inserting_puts next m)
+walks_own z r r' s choice l a l' (meets_neither j next e n) h i m = look_puts z _ next n (inserting_puts next m)
+walks_own z r r' s choice l a l' (is_passed next e n) h i m = look_puts z _ next n (inserting_puts next m)
+walks_own z r r' s choice l a l' (helps next e n) h i m = look_puts z _ next n (inserting_puts next m)
+walks_own z r r' s choice l a l' (finds_stamped c version next e n) h i m = look_puts z _ next n (inserting_puts next m)
+walks_own z r r' s choice l a l' (finds_other next e n) h i m = look_puts z _ next n (inserting_puts next m)
+walks_own z r r' s choice l a l' (list_ends next e n) h i m = cell_puts _ next n (inserting_puts next.activity m)
+walks_own z r r' s choice l a l' (key_above next e n) h i m = cell_puts _ next n (inserting_puts next.activity m)
+walks_own z r r' s choice l a l' (rest_passed next e n) h i m = cell_puts _ next n (inserting_puts next.activity m)
+walks_own z r r' s choice l a l' (gathers_rest next n) h i m = cell_puts _ next n (inserting_puts next.activity m)
+walks_own z r r' s choice l a l' (meets_none e) h i m = tt
+walks_own z r r' s choice l a l' (key_after e) h i m = tt
+walks_own z r r' s choice l a l' (version_after e) h i m = tt
+walks_own z r r' s choice l a l' stores_after h i m = tt
+walks_own z r r' s choice l a l' _ h i m = absurd m

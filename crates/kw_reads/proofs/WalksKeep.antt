@@ -1,0 +1,134 @@
+-- A reader walks along the list of its row: it meets a listed cell behind its link at each step, and so none twice.
+--
+-- All is said of the list after the event: what the reader knew of the list before holds of it still.
+use Rattle.std.proofs.Common.{ℕ, ◌≡◌, ◌+◌, Option, Some, None, arith, refl, sym, ◌∙◌, ap, subst}
+use Rattle.kw_words.specs.Plain.{cell_of_link_word}
+use Rattle.kw_lists.specs.Rows.{Row, IsNext, IsSound}
+use Rattle.kw_lists.specs.Changes.{Leaves}
+use Rattle.kw_lists.specs.Walks.{IsWalking}
+use Rattle.kw_lists.proofs.Inserting.{at_next}
+use Rattle.kw_lists.proofs.Walking.{walk_begins, walk_goes_on, walked_most}
+use Rattle.kw_world.specs.declared.activity.Activity.{Activity}
+use Rattle.kw_world.specs.declared.activity.Activity.TheVariants.{Look, LookKey, LookClock, LookHelp, ListFrom, ListKey, ListVer, ListVal, RestKey, RestVal}
+use Rattle.kw_world.specs.declared.local.Local.{Local}
+use Rattle.kw_world.specs.declared.event.Choice.{Choice}
+use Rattle.kw_world.specs.ListTransitions.{link_name, one_more}
+use Rattle.kw_world.specs.ReadTransitions.{remembering}
+use Rattle.kw_world.specs.Sizes.{Sizes}
+use Rattle.kw_world.specs.Step.{word}
+use Rattle.kw_core.specs.Run.{Run}
+use Rattle.kw_core.specs.Stages.{IsAtRead, IsAtRow, IsAtListed}
+use Rattle.kw_rows.specs.Rows.{WasLinked}
+use Rattle.kw_shape.proofs.RowsStay.{fresh_linked}
+use Rattle.kw_puts.specs.Lists.{list_in}
+use Rattle.kw_puts.proofs.ListSteps.{list_step, leaves, stays_sound}
+use Rattle.kw_puts.proofs.ListWords.{link_is}
+use Rattle.kw_reads.specs.Readers.{HasMetCell, ReadsList}
+use Rattle.kw_reads.specs.Inv.{Inv, lower}
+use Rattle.kw_core.proofs.Arrows.{NextLook, looks, lists, NextRest, rests, answers, ends_scan, scans_on, Arrow, reads_last, reads_before, meets_pending, meets_stamped, meets_neither, is_wanted, is_passed, loads_to_help, helps, finds_stamped, finds_other, list_leads, list_ends, key_below, key_within, key_above, loads_version, gathers_listed, rest_passed, gathers_rest}
+use Rattle.kw_core.proofs.Happens.{Happens}
+use Rattle.kw_reads.proofs.Ready.{walks_last}
+
+-- a reader at its row is at a row
+pub read_at_row : (a : Activity) → IsAtRead a → IsAtRow a
+read_at_row (Look i) x = tt
+read_at_row LookKey x = tt
+read_at_row LookClock x = tt
+read_at_row LookHelp x = tt
+read_at_row ListFrom x = tt
+read_at_row ListKey x = tt
+read_at_row ListVer x = tt
+read_at_row ListVal x = tt
+read_at_row RestKey x = tt
+read_at_row RestVal x = tt
+read_at_row _ x = absurd x
+
+-- a cell that was met, for another local that is at the same link with the same cell
+same_met : (n : ℕ) (row : Row) (l l' : Local) → l'.link ≡ l.link → l'.place ≡ l.place → l'.walked ≡ l.walked → HasMetCell n row l → HasMetCell n row l'
+same_met n row l l' e f g k = record { on = rw e k.on; behind = rw (e, f) k.behind; walks = rw (f, g) k.walks }
+
+-- the link at which a reader with a cell of the list in hand is
+pub has_met : (n : ℕ) (row : Row) (a : Activity) (l : Local) → IsAtListed a → ReadsList n row a l → HasMetCell n row l
+has_met n row ListKey l x k = k
+has_met n row ListVer l x k = k
+has_met n row ListVal l x k = k
+has_met n row _ l x k = absurd x
+
+-- a reader that begins with the list is at its first link
+begins_list : (n : ℕ) (row : Row) (l : Local) → (l.link ≡ None) × (l.walked ≡ 0) → IsWalking n row l.link l.walked
+begins_list n row l k = rw (k.0, k.1) (walk_begins n row)
+
+-- at the next look, or at the first link
+walks_look : (z : Sizes) (row : Row) (j : ℕ) (next : Activity) (l : Local) → NextLook z j next → (l.link ≡ None) × (l.walked ≡ 0) → ReadsList z.cells row next (record l { activity = next })
+walks_look z row j _ l (looks w) k = k
+walks_look z row j _ l (lists w) k = begins_list z.cells row l k
+
+-- past the list nothing is said
+walks_rest : (n : ℕ) (row : Row) (l next : Local) → NextRest l next → ReadsList n row next.activity next
+walks_rest n row l _ (rests m e) = tt
+walks_rest n row l _ (answers c e) = tt
+walks_rest n row l _ (ends_scan c e f) = tt
+walks_rest n row l _ (scans_on q c e f u) = tt
+
+-- a reader's event, with what it leaves of the list of its row
+module _ {z : Sizes} {r r' : Run} {s : ℕ} {choice : Choice} {l l' : Local} {a : Activity} (h : Happens z r r' s choice l l' a) (i : Inv z r) where
+  -- its row is linked, or was so
+  pub row_linked : IsAtRead a → WasLinked r.ledger.rows l.row
+  row_linked x = fresh_linked r.ledger.rows s l.row ((i.shape.walks s l h.knows).at (subst IsAtRow (sym h.activity) (read_at_row a x))).fresh
+
+  -- what the event leaves of it
+  pub row_left : IsAtRead a → Leaves z.cells (list_in (word z r.world) r.listed l.row) (list_in (word z r'.world) r'.listed l.row)
+  row_left x = leaves z.cells _ _ (list_step z r r' s choice l a l' h (lower i) l.row (row_linked x))
+
+  -- it is a list still
+  pub row_sound : IsAtRead a → IsSound z.cells (list_in (word z r'.world) r'.listed l.row)
+  row_sound x = stays_sound z.cells _ _ (list_step z r r' s choice l a l' h (lower i) l.row (row_linked x)) (i.lists.leads l.row (row_linked x))
+
+  -- where the reader was
+  pub walks_before : ReadsList z.cells (list_in (word z r.world) r.listed l.row) a l
+  walks_before = subst (λ c. ReadsList z.cells (list_in (word z r.world) r.listed l.row) c l) h.activity (i.readers.walks s l h.knows)
+
+  -- and is still
+  pub walks_after : IsAtRead a → ReadsList z.cells (list_in (word z r'.world) r'.listed l.row) a l
+  walks_after x = walks_last z.cells _ _ (row_left x) a l walks_before
+
+-- the reader loads its link
+module _ {z : Sizes} {r r' : Run} {s : ℕ} {choice : Choice} {l l' : Local} (h : Happens z r r' s choice l l' ListFrom) (i : Inv z r) where
+  -- what it holds
+  pub link_loaded : (x : Option ℕ) → cell_of_link_word (word z r.world (link_name l.row l.link)) ≡ x → (list_in (word z r'.world) r'.listed l.row).link l.link ≡ x
+  link_loaded x e = link_is (word z r'.world) l.row l.link ∙ ap cell_of_link_word (h.changed.loaded refl (link_name l.row l.link)) ∙ e
+
+  -- the cell that it leads to is the next listed one behind it
+  pub cell_next : (c : ℕ) → cell_of_link_word (word z r.world (link_name l.row l.link)) ≡ Some c → IsNext (list_in (word z r'.world) r'.listed l.row) l.link c
+  cell_next c e = at_next _ l.link _ c ((row_sound h i tt).list l.link (walks_after h i tt).on) (link_loaded (Some c) e)
+
+  -- it is met, and there are as many cells
+  pub walk_next : (c : ℕ) → cell_of_link_word (word z r.world (link_name l.row l.link)) ≡ Some c → IsWalking z.cells (list_in (word z r'.world) r'.listed l.row) (Some c) (l.walked + 1)
+  walk_next c e = let m = cell_next c e in walk_goes_on z.cells _ l.link l.walked c ((row_sound h i tt).below c m.listed) m.listed m.behind (walks_after h i tt)
+
+  pub counts_on : (c : ℕ) → cell_of_link_word (word z r.world (link_name l.row l.link)) ≡ Some c → one_more z l.walked ≡ l.walked + 1
+  counts_on c e = omega (arith, walked_most z.cells _ (Some c) (l.walked + 1) (walk_next c e))
+
+-- where the acting reader is in the list
+pub walks_by : (z : Sizes) (r r' : Run) (s : ℕ) (choice : Choice) (l : Local) (a : Activity) (l' : Local) → Arrow z (word z r.world) s choice l a l' → Happens z r r' s choice l l' a → Inv z r → ReadsList z.cells (list_in (word z r'.world) r'.listed l'.row) l'.activity l'
+walks_by z r r' s choice l _ _ (reads_last f n) h i = (refl, refl)
+walks_by z r r' s choice l _ _ (reads_before f w) h i = (refl, refl)
+walks_by z r r' s choice l _ _ (meets_pending j c e) h i = walks_after h i tt
+walks_by z r r' s choice l _ _ (meets_stamped j c version next e n) h i = walks_look z _ (j + 1) next (remembering c version l) n (walks_after h i tt)
+walks_by z r r' s choice l _ _ (meets_neither j next e n) h i = walks_look z _ (j + 1) next l n (walks_after h i tt)
+walks_by z r r' s choice l _ _ (is_wanted e) h i = walks_after h i tt
+walks_by z r r' s choice l _ _ (is_passed next e n) h i = walks_look z _ (l.looked + 1) next l n (walks_after h i tt)
+walks_by z r r' s choice l _ _ loads_to_help h i = walks_after h i tt
+walks_by z r r' s choice l _ _ (helps next e n) h i = walks_look z _ (l.looked + 1) next (remembering l.met l.helping l) n (walks_after h i tt)
+walks_by z r r' s choice l _ _ (finds_stamped c version next e n) h i = walks_look z _ (l.looked + 1) next (remembering c version l) n (walks_after h i tt)
+walks_by z r r' s choice l _ _ (finds_other next e n) h i = walks_look z _ (l.looked + 1) next l n (walks_after h i tt)
+walks_by z r r' s choice l _ _ (list_leads c e) h i = record { on = (walks_after h i tt).on; behind = (cell_next h i c e).behind; walks = rw (counts_on h i c e) (walk_next h i c e) }
+walks_by z r r' s choice l _ _ (list_ends next e n) h i = walks_rest z.cells _ _ next n
+walks_by z r r' s choice l _ _ (key_below e) h i = (walks_after h i tt).walks
+walks_by z r r' s choice l _ _ (key_within e w) h i = same_met z.cells _ l _ refl refl refl (walks_after h i tt)
+walks_by z r r' s choice l _ _ (key_above next e n) h i = walks_rest z.cells _ _ next n
+walks_by z r r' s choice l _ _ loads_version h i = same_met z.cells _ l _ refl refl refl (walks_after h i tt)
+walks_by z r r' s choice l _ _ gathers_listed h i = (walks_after h i tt).walks
+walks_by z r r' s choice l _ _ (rest_passed next e n) h i = walks_rest z.cells _ _ next n
+walks_by z r r' s choice l _ _ (gathers_rest next n) h i = walks_rest z.cells _ _ next n
+walks_by z r r' s choice l a l' b h i = tt

@@ -1,0 +1,129 @@
+-- Every event keeps what holds of the passes of seats and of the numbers: a seat stores the epoch of its call as it enters, and clears it
+-- as it leaves.
+use Rattle.std.proofs.Common.{ℕ, ◌≡◌, ◌≢◌, ◌<◌, Some, None, arith, refl, sym, ◌∙◌, ap, subst, length, slice_get}
+use Rattle.std.proofs.lemmas.Option.{same_Some, slice_get_within}
+use Rattle.kw_words.specs.declared.layout.Name.TheVariants as name
+use Rattle.kw_words.specs.Plain.{pass_word}
+use Rattle.kw_rows.specs.Ledger as kw_rows
+use Rattle.kw_world.specs.declared.activity.Activity.{Activity}
+use Rattle.kw_world.specs.declared.activity.Activity.TheVariants.{Idle, Enter}
+use Rattle.kw_world.specs.declared.event.Choice.{Choice}
+use Rattle.kw_world.specs.declared.local.Local.{Local}
+use Rattle.kw_world.specs.Sizes.{Sizes}
+use Rattle.kw_world.specs.Step.{word}
+use Rattle.kw_core.specs.Run.{Run}
+use Rattle.kw_core.specs.Stages.{IsBusy, IsPassing}
+use Rattle.kw_core.specs.Words.{Words}
+use Rattle.kw_core.proofs.Arrows.{Arrow, begins, enters, enters_scan, meets_stamped, meets_neither, is_passed, helps, finds_stamped, finds_other, list_ends, key_above, rest_passed, gathers_rest, leaves, NextLook, looks, lists, NextRest, rests, answers, ends_scan, scans_on}
+use Rattle.kw_core.proofs.Frame.{WritesPass, fixed, pass_kept}
+use Rattle.kw_core.proofs.Happens.{Happens}
+use Rattle.kw_shape.specs.Passes.{Numbers, Passes}
+use Rattle.kw_shape.specs.Shape.{Shape}
+use Rattle.kw_shape.proofs.RowsKeep.{numbered_kept, others_kept, pass_begins, pass_ends, rows_kept}
+
+-- What an arrow leaves of a pass.
+
+-- it goes on, with the epoch of the call
+abbrev StaysIn : Local → Local → Type 0
+StaysIn l k = IsPassing k.activity × IsBusy k.activity × (k.epoch ≡ l.epoch)
+
+look_passes : (z : Sizes) (j : ℕ) (next : Activity) → NextLook z j next → IsPassing next × IsBusy next
+look_passes z j next (looks o) = (tt, tt)
+look_passes z j next (lists o) = (tt, tt)
+
+rest_passes : (l k : Local) → NextRest l k → StaysIn l k
+rest_passes l k (rests m o) = (tt, tt, refl)
+rest_passes l k (answers o n) = (tt, tt, refl)
+rest_passes l k (ends_scan o y n) = (tt, tt, refl)
+rest_passes l k (scans_on q o y n u) = (tt, tt, refl)
+
+arrow_passes : (z : Sizes) (v : Words) (s : ℕ) (choice : Choice) (l : Local) (a : Activity) (k : Local) → Arrow z v s choice l a k → IsPassing a → (WritesPass a → ⊥) → StaysIn l k
+arrow_passes z v s choice l a k (begins call e b) p n = absurd p
+arrow_passes z v s choice l a k (enters e) p n = absurd p
+arrow_passes z v s choice l a k (enters_scan e) p n = absurd p
+arrow_passes z v s choice l a k (leaves answer) p n = absurd (n tt)
+arrow_passes z v s choice l a k (meets_stamped i c version next e y) p n = let x = look_passes z _ next y in (x.0, x.1, refl)
+arrow_passes z v s choice l a k (meets_neither i next e y) p n = let x = look_passes z _ next y in (x.0, x.1, refl)
+arrow_passes z v s choice l a k (is_passed next e y) p n = let x = look_passes z _ next y in (x.0, x.1, refl)
+arrow_passes z v s choice l a k (helps next e y) p n = let x = look_passes z _ next y in (x.0, x.1, refl)
+arrow_passes z v s choice l a k (finds_stamped c version next e y) p n = let x = look_passes z _ next y in (x.0, x.1, refl)
+arrow_passes z v s choice l a k (finds_other next e y) p n = let x = look_passes z _ next y in (x.0, x.1, refl)
+arrow_passes z v s choice l a k (list_ends next e y) p n = rest_passes _ next y
+arrow_passes z v s choice l a k (key_above next e y) p n = rest_passes _ next y
+arrow_passes z v s choice l a k (rest_passed next e y) p n = rest_passes _ next y
+arrow_passes z v s choice l a k (gathers_rest next y) p n = rest_passes _ next y
+arrow_passes z v s choice l a k _ p n = (tt, tt, refl)
+
+module _ (z : Sizes) (r r' : Run) (s : ℕ) (choice : Choice) (l : Local) (a : Activity) (l' : Local) (h : Happens z r r' s choice l l' a) (i : Shape z r) where
+  -- the epoch is as it was
+  epoch_kept : word z r'.world name.Epoch ≡ word z r.world name.Epoch
+  epoch_kept = fixed a h name.Epoch tt refl
+
+  -- the numbers are as they were
+  pub numbers_keep : Numbers (word z r'.world) r'.ledger.rows
+  numbers_keep = record {
+    below = λ m at e. omega (arith, i.numbers.below m at (sym (numbered_kept a h m) ∙ e), epoch_kept);
+    rises = λ m n x y e f. i.numbers.rises m n x y (sym (numbered_kept a h m) ∙ e) (sym (numbered_kept a h n) ∙ f);
+  }
+
+  -- another seat is in its pass, or in none
+  pub passes_other : (t : ℕ) (k : Local) → t ≢ s → slice_get r.world.locals t ≡ Some k → Passes (word z r'.world) r'.ledger.rows t k.activity k
+  passes_other t k d g =
+      let p = i.passes t k g in
+      let o : t < z.seats = omega (arith, slice_get_within r.world.locals t k g, i.sane.seats) in
+      let w = pass_kept a h t o (λ x e. d e) in
+      let e = others_kept a h t d in
+      record {
+        in_pass = λ x. let q = p.in_pass x in record { since = q.since; passes = e ∙ q.passes; word = w ∙ q.word };
+        in_none = λ x. let q = p.in_none x in record { passes = e ∙ q.passes; word = w ∙ q.word };
+        epoch = λ x. let q = p.epoch x in (q.0, omega (arith, q.1, epoch_kept));
+        before = λ m at since o u y. p.before m at since o (sym (numbered_kept a h m) ∙ u) (sym e ∙ y);
+      }
+
+  -- a seat that goes on in its pass
+  goes_on : Passes (word z r.world) r.ledger.rows s a l → IsPassing a → IsBusy a → (WritesPass a → ⊥) → StaysIn l l' → Passes (word z r'.world) r'.ledger.rows s l'.activity l'
+  goes_on p x b n g =
+      let w = pass_kept a h s h.seat (λ u e. n u) in
+      let e = ap (λ (q : kw_rows.Ledger). q.passes s) (rows_kept a h n) in
+      let q = p.in_pass x in
+      let c = p.epoch b in
+      record {
+        in_pass = λ u. record { since = q.since; passes = e ∙ q.passes; word = w ∙ q.word ∙ ap (λ n. pass_word (Some n)) (sym g.2) };
+        in_none = λ u. absurd (u g.0);
+        epoch = λ u. (omega (arith, c.0, g.2), omega (arith, c.1, g.2, epoch_kept));
+        before = λ m at since o u y. p.before m at since (omega (arith, o, g.2)) (sym (numbered_kept a h m) ∙ u) (sym e ∙ y);
+      }
+
+-- a seat that enters begins its pass: every number that is drawn was drawn before
+entered : (z : Sizes) (r r' : Run) (s : ℕ) (choice : Choice) (l l' : Local) → Happens z r r' s choice l l' Enter → Shape z r → StaysIn l l' → Passes (word z r'.world) r'.ledger.rows s l'.activity l'
+entered z r r' s choice l l' h i g =
+    let p = subst (λ q. Passes (word z r.world) r.ledger.rows s q l) h.activity (i.passes s l h.knows) in
+    let c = p.epoch tt in
+    record {
+      in_pass = λ x. record { since = length r.history.log; passes = pass_begins h; word = h.changed.same ∙ ap (λ n. pass_word (Some n)) (sym g.2) };
+      in_none = λ x. absurd (x g.0);
+      epoch = λ x. (omega (arith, c.0, g.2), omega (arith, c.1, g.2, epoch_kept z r r' s choice l Enter l' h i));
+      before = λ m at since o u y. omega (arith, i.rows.past.drawn m at (sym (numbered_kept Enter h m) ∙ u), same_Some (length r.history.log) since (sym (pass_begins h) ∙ y));
+    }
+
+-- the acting seat is in its pass, or in none
+pub passes_own : (z : Sizes) (r r' : Run) (s : ℕ) (choice : Choice) (l : Local) (a : Activity) (l' : Local) → Arrow z (word z r.world) s choice l a l' → Happens z r r' s choice l l' a → Shape z r → Passes (word z r'.world) r'.ledger.rows s l'.activity l'
+passes_own z r r' s choice l a l' (begins call e b) h i =
+    let p = subst (λ q. Passes (word z r.world) r.ledger.rows s q l) h.activity (i.passes s l h.knows) in
+    let q = p.in_none (λ x. x) in
+    let e = ap (λ (g : kw_rows.Ledger). g.passes s) (rows_kept Idle h (λ x. x)) in
+    record {
+      in_pass = λ x. absurd x;
+      in_none = λ x. record { passes = e ∙ q.passes; word = pass_kept Idle h s h.seat (λ x e. x) ∙ q.word };
+      epoch = λ x. ((i.sane.each name.Epoch tt).0, omega (arith, epoch_kept z r r' s choice l Idle l' h i));
+      before = λ m at since o u y. let x : None ≡ Some since = sym (e ∙ q.passes) ∙ y in absurd (cc);
+    }
+passes_own z r r' s choice l a l' (enters e) h i = entered z r r' s choice l l' h i (tt, tt, refl)
+passes_own z r r' s choice l a l' (enters_scan e) h i = entered z r r' s choice l l' h i (tt, tt, refl)
+passes_own z r r' s choice l a l' (leaves answer) h i = record {
+  in_pass = λ x. absurd x;
+  in_none = λ x. record { passes = pass_ends answer h; word = h.changed.same };
+  epoch = λ x. absurd x;
+  before = λ m at since o u y. let x : None ≡ Some since = sym (pass_ends answer h) ∙ y in absurd (cc);
+}
+passes_own z r r' s choice l a l' b h i = goes_on z r r' s choice l _ l' h i (subst (λ q. Passes (word z r.world) r.ledger.rows s q l) h.activity (i.passes s l h.knows)) tt tt (λ x. x) (arrow_passes z (word z r.world) s choice l _ l' b tt (λ x. x))
