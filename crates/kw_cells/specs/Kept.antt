@@ -1,6 +1,8 @@
 -- Which cells a rebuild of rows keeps, as a relation, and what the kept cells show.
-use Rattle.std.specs.Prelude.{ℕ, ◌≡◌, ◌≤◌, ◌==◌, ◌&&◌, ◌||◌, ◌⊎◌, ◌↔◌, nat_lt, Bool, true, false, List, None, IsSome, All, AllPairs, Any, Contains, count_by}
+use Rattle.std.specs.Prelude.{ℕ, ◌≡◌, ◌≤◌, ◌==◌, ◌&&◌, ◌||◌, ◌⊎◌, ◌↔◌, not, nat_lt, nat_le, Bool, true, false, if◌then◌else◌, List, [], ◌∷◌, None, IsSome, is_some, All, AllPairs, Any, Contains, filter, count_by}
+use Rattle.std.specs.List.{list_any}
 use Rattle.kw_cells.specs.Cells.{is_later, IsBest, best_of, shown_at}
+use Rattle.kw_cells.specs.Ordered.{is_before}
 use Rattle.kw_cells.specs.declared.cell.Cell.{Cell}
 
 -- by key, then version
@@ -36,3 +38,35 @@ ShowsTheSame cells kept key version = (best_of kept key version ≡ best_of cell
 -- no key has more than so many of the cells
 abbrev pub HasFew : ℕ → List Cell → Type 0
 HasFew most cells = (key : ℕ) → count_by (λ c. c.key == key) cells ≤ most
+
+-- The same list as a function of the cells.
+
+-- no cell of its key is later
+abbrev pub is_newest : List Cell → Cell → Bool
+is_newest cells c = not (list_any (λ d. d.key == c.key && is_later d c) cells)
+
+-- its version is at most this one, and no cell of its key that is so is later
+abbrev pub is_best : List Cell → ℕ → Cell → Bool
+is_best cells u c = nat_le c.version u && not (list_any (λ d. d.key == c.key && nat_le d.version u && is_later d c) cells)
+
+-- the newest of its key, or the best of its key at a needed version
+abbrev pub is_chosen : List Cell → List ℕ → Cell → Bool
+is_chosen cells needed c = is_newest cells c || list_any (λ u. is_best cells u c) needed
+
+-- chosen, and a chosen cell of its key that is not above it has a value
+abbrev pub is_kept : List Cell → List ℕ → Cell → Bool
+is_kept cells needed c = is_chosen cells needed c && list_any (λ d. d.key == c.key && nat_le d.version c.version && is_chosen cells needed d && is_some d.value) cells
+
+-- the cells with one more before the first that it is before
+abbrev pub with_rising : Cell → List Cell → List Cell
+with_rising c [] = c ∷ []
+with_rising c (d ∷ cells) = if is_before c d then c ∷ d ∷ cells else d ∷ with_rising c cells
+
+-- the same cells by rising key, version and place
+abbrev pub rising_of : List Cell → List Cell
+rising_of [] = []
+rising_of (c ∷ cells) = with_rising c (rising_of cells)
+
+-- the kept ones of the cells, by rising key and version
+unfoldable pub kept_of : List Cell → List ℕ → List Cell
+kept_of cells needed = filter (is_kept cells needed) (rising_of cells)
