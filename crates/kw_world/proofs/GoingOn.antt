@@ -2,7 +2,7 @@
 -- answers that the call goes on; and an event begins at most one call.
 --
 -- One walk over all lines says both. What needs one of them takes it from `goes_on`.
-use Rattle.std.proofs.Common.{ℕ, ◌≡◌, refl, sym, ◌∙◌, ◌+◌, Option, Some, None, Bool, true, false, nat_lt, nat_le, ◌==◌, if◌then◌else◌, unwrap_or, ◌≤◌, subst, arith}
+use Rattle.std.proofs.Common.{ℕ, ◌≡◌, refl, sym, ◌∙◌, ◌+◌, Option, Some, None, Bool, true, false, nat_lt, nat_le, ◌==◌, if◌then◌else◌, unwrap_or, ◌≤◌, subst, arith, length}
 use Rattle.kw_words.specs.declared.pend.Pend.{Pend}
 use Rattle.kw_words.specs.declared.pend.Pend.TheVariants as pend
 use Rattle.kw_words.specs.declared.state.State.{State}
@@ -21,12 +21,12 @@ use Rattle.kw_world.specs.Calls.{first_key, last_key, is_in_range, is_range_empt
 use Rattle.kw_model.specs.declared.call.Call.{Call}
 use Rattle.kw_model.specs.declared.call.Call.TheVariants.{Put, Del, Get, Scan}
 use Rattle.kw_world.specs.declared.activity.Activity.{Activity}
-use Rattle.kw_world.specs.declared.activity.Activity.TheVariants.{Idle, Enter, ScanClock, ScanWait, ScanDraw, ScanSettle, Start, Head, GuessMin, Walk, WalkMin, Look, LookKey, LookClock, LookHelp, ListFrom, ListKey, ListVer, ListVal, RestKey, RestVal, ClearScan, PutCount, PutAdd, PutKey, PutValue, Announce, PutClock, Stamp, PutVersion, InsFrom, InsKey, InsVer, InsSet, Insert, PutClear, Leave}
+use Rattle.kw_world.specs.declared.activity.Activity.TheVariants.{Idle, Enter, ScanClock, ScanWait, ScanDraw, ScanSettle, Start, Head, GuessMin, Walk, WalkMin, Look, LookKey, LookClock, LookHelp, ListFrom, ListKey, ListVer, ListVal, RestKey, RestVal, ClearScan, PutCount, PutAdd, PutKey, PutValue, Announce, PutClock, Stamp, PutVersion, InsFrom, InsKey, InsVer, InsSet, Insert, PutClear, Leave, Again, AgainEpoch, BalClock, BalEpoch, BalState, BalNormal, Engage, MarkLink, Decide, FreezeCount, FreezeLook, Freeze, ScanLook, HelpDraw, HelpSettle, TakeFrom, TakeKey, TakeVersion, TakeValue, TakeRestKey, TakeRestValue, SeekFirst, Seek, TakeRow, GiveBack, WriteCount, WriteMin, WriteNext, WriteFirst, WritePend, WriteKey, WriteValue, WriteVersion, WriteAfter, Before, BeforeGuess, BeforeHead, BeforeLink, BeforeMin, Replace, Normalise, Number, Retire}
 use Rattle.kw_world.specs.declared.local.Local.{Local}
 use Rattle.kw_world.specs.declared.event.Choice.{Choice}
 use Rattle.kw_world.specs.declared.event.Choice.TheVariants.{Begin, Go, Guess, Stop}
 use Rattle.kw_world.specs.Sizes.{Sizes}
-use Rattle.kw_world.specs.Transition.{Outcome, row_linked, to, leave}
+use Rattle.kw_world.specs.Transition.{Outcome, row_linked, row_or_first, to, leave}
 use Rattle.kw_world.specs.PutTransitions.{stamp_met, full, has_room, given_of}
 use Rattle.kw_world.specs.ListTransitions.{insert_from, insert_key, insert_past, insert_tried, is_newer}
 use Rattle.kw_world.specs.declared.marks.Mark.{Mark}
@@ -34,6 +34,18 @@ use Rattle.kw_world.specs.Marks.{least_mark}
 use Rattle.kw_world.specs.ReadTransitions.{to_look, look_met, help_met, scan_on, row_read, rest_of, to_rest, list_met, list_key, list_past, with_pairs, remembering, gathering}
 use Rattle.kw_world.specs.ScanTransitions.{begun, entered, settled, to_start, version_settled}
 use Rattle.kw_world.specs.WalkTransitions.{guess_met, start_transition, walk_transition, is_stopped, link_met, walk_min, arrive}
+use Rattle.kw_words.specs.declared.scan.ScanWord.{ScanWord}
+use Rattle.kw_words.specs.declared.scan.ScanWord.TheVariants as scan
+use Rattle.kw_words.specs.declared.link.Link.{Link}
+use Rattle.kw_words.specs.State.{state_word}
+use Rattle.kw_world.specs.declared.rebalance.Afterwards.{Afterwards}
+use Rattle.kw_world.specs.declared.rebalance.Afterwards.TheVariants.{TryAgain, Refuse, MoveLeft}
+use Rattle.kw_world.specs.EngageTransitions.{again, refuse, is_alone, state_met, engaged, followed_by, link_marked, decided}
+use Rattle.kw_world.specs.FreezeTransitions.{to_scans, to_freeze_look, marking, freeze_met, entry_tried, to_scan_look, needing, scan_met, scan_helped}
+use Rattle.kw_world.specs.TakeTransitions.{to_take, left_of, take_met, keeping}
+use Rattle.kw_world.specs.SeekTransitions.{given_back, give_back, gave_back, at_infant, has_more, row_behind, to_seek, seek_met, seeking, seek_first_transition, with_row, take_row}
+use Rattle.kw_world.specs.WriteTransitions.{infant_cells, row_written, to_write_cell, to_write_entry}
+use Rattle.kw_world.specs.ReplaceTransitions.{at_before, first_before, guess_before, before_transition, row_before, link_before, row_replaced, replaced}
 use Rattle.kw_world.specs.Table.{transition}
 use Rattle.kw_world.specs.Step.{is_skipped, IsMade}
 use Rattle.kw_world.specs.declared.event.StepDone.TheVariants.{Moved, Ended}
@@ -166,6 +178,149 @@ settle_goes version l = either (is_range_empty l.call) (to (ClearScan Pairs) (re
 walk_min_goes : (least : ℕ) (l : Local) → Goes l.number (walk_min least l)
 walk_min_goes least l = either (nat_le least l.want) (to Walk (record l { row = l.candidate; lower = least })) (arrive l.call (record l { next = Some l.candidate; upper = least })) (record { moved = refl; number = refl }) (arrive_goes l.call (record l { next = Some l.candidate; upper = least }))
 
+state_goes : (state : Option State) (l : Local) → Goes l.number (state_met state l)
+state_goes (Some Free) l = record { moved = refl; number = refl }
+state_goes (Some (Infant seat)) l = record { moved = refl; number = refl }
+state_goes (Some Normal) l = record { moved = refl; number = refl }
+state_goes (Some (Leader count)) l = either (is_alone count) (to (MarkLink count) l) (again l) (record { moved = refl; number = refl }) (record { moved = refl; number = refl })
+state_goes (Some (Follower leader)) l = record { moved = refl; number = refl }
+state_goes (Some (Retired number)) l = record { moved = refl; number = refl }
+state_goes None l = record { moved = refl; number = refl }
+
+engaged_goes : (b : Bool) (l : Local) → Goes l.number (engaged b l)
+engaged_goes true l = record { moved = refl; number = refl }
+engaged_goes false l = record { moved = refl; number = refl }
+
+marked_goes : (count : ℕ) (after : Option ℕ) (l : Local) → Goes l.number (link_marked count after l)
+marked_goes count after l = either (count == 0) (to (Decide 1) (followed_by after l)) (to FreezeCount (followed_by after l)) (record { moved = refl; number = refl }) (record { moved = refl; number = refl })
+
+decided_goes : (state : Option State) (l : Local) → Goes l.number (decided state l)
+decided_goes (Some Free) l = record { moved = refl; number = refl }
+decided_goes (Some (Infant seat)) l = record { moved = refl; number = refl }
+decided_goes (Some Normal) l = record { moved = refl; number = refl }
+decided_goes (Some (Leader count)) l = either (is_alone count) (to FreezeCount l) (again l) (record { moved = refl; number = refl }) (record { moved = refl; number = refl })
+decided_goes (Some (Follower leader)) l = record { moved = refl; number = refl }
+decided_goes (Some (Retired number)) l = record { moved = refl; number = refl }
+decided_goes None l = record { moved = refl; number = refl }
+
+freeze_looks : (z : Sizes) (i : ℕ) (l : Local) → Goes l.number (to_freeze_look z i l)
+freeze_looks z i l = either (nat_lt i z.seats) (to (FreezeLook i) l) (to_scans l) (record { moved = refl; number = refl }) (record { moved = refl; number = refl })
+
+freeze_goes : (z : Sizes) (i : ℕ) (e : Option Pend) (l : Local) → Goes l.number (freeze_met z i e l)
+freeze_goes z i (Some pend.Idle) l = record { moved = refl; number = refl }
+freeze_goes z i (Some (pend.Pending cell)) l = record { moved = refl; number = refl }
+freeze_goes z i (Some (pend.Stamped cell version)) l = freeze_looks z (i + 1) (marking cell version l)
+freeze_goes z i (Some pend.Frozen) l = freeze_looks z (i + 1) l
+freeze_goes z i None l = freeze_looks z (i + 1) l
+
+entry_goes : (z : Sizes) (i : ℕ) (b : Bool) (l : Local) → Goes l.number (entry_tried z i b l)
+entry_goes z i true l = freeze_looks z (i + 1) l
+entry_goes z i false l = record { moved = refl; number = refl }
+
+scan_looks_then : {n : ℕ} (z : Sizes) (i : ℕ) (l : Local) → l.number ≡ n → Goes n (to_scan_look z i l)
+scan_looks_then z i l e = either (nat_lt i z.seats) (to (ScanLook i) l) (to_take l) (record { moved = refl; number = e }) (record { moved = refl; number = e })
+
+scan_met_goes : (z : Sizes) (i : ℕ) (w : Option ScanWord) (l : Local) → Goes l.number (scan_met z i w l)
+scan_met_goes z i (Some scan.Quiet) l = scan_looks_then z (i + 1) l refl
+scan_met_goes z i (Some (scan.Waiting clock)) l = record { moved = refl; number = refl }
+scan_met_goes z i (Some (scan.Drawn version)) l = scan_looks_then z (i + 1) (needing version l) refl
+scan_met_goes z i None l = scan_looks_then z (i + 1) l refl
+
+-- what is needed changes no number
+needs : (b : Bool) (version : ℕ) (l : Local) → (if b then needing version l else l).number ≡ l.number
+needs true version l = refl
+needs false version l = refl
+
+helped_goes : (z : Sizes) (i : ℕ) (w : Option ScanWord) (l : Local) → Goes l.number (scan_helped z i w l)
+helped_goes z i (Some scan.Quiet) l = scan_looks_then z (i + 1) l refl
+helped_goes z i (Some (scan.Waiting clock)) l = scan_looks_then z (i + 1) (if clock == l.rebalance.waiting then needing l.rebalance.drawn l else l) (needs (clock == l.rebalance.waiting) l.rebalance.drawn l)
+helped_goes z i (Some (scan.Drawn version)) l = scan_looks_then z (i + 1) (needing version l) refl
+helped_goes z i None l = scan_looks_then z (i + 1) l refl
+
+left_goes : (z : Sizes) (m : Option Mark) (l : Local) → Goes l.number (left_of z m l)
+left_goes z (Some m) l = record { moved = refl; number = refl }
+left_goes z None l = record { moved = refl; number = refl }
+
+take_goes : (z : Sizes) (cell : Option ℕ) (l : Local) → Goes l.number (take_met z cell l)
+take_goes z (Some cell) l = record { moved = refl; number = refl }
+take_goes z None l = left_goes z (least_mark l.rebalance.marks) l
+
+given_back_goes : (a : Afterwards) (l : Local) → Goes l.number (given_back a l)
+given_back_goes TryAgain l = record { moved = refl; number = refl }
+given_back_goes Refuse l = record { moved = refl; number = refl }
+given_back_goes MoveLeft l = record { moved = refl; number = refl }
+
+give_back_goes : (a : Afterwards) (l : Local) → Goes l.number (give_back a l)
+give_back_goes a l = either (nat_lt 0 (length l.rebalance.taken)) (to GiveBack (record l { rebalance = record l.rebalance { at = 0; afterwards = a } })) (given_back a l) (record { moved = refl; number = refl }) (given_back_goes a l)
+
+gave_back_goes : (l : Local) → Goes l.number (gave_back l)
+gave_back_goes l = either (has_more l) (to GiveBack (at_infant (l.rebalance.at + 1) l)) (given_back l.rebalance.afterwards l) (record { moved = refl; number = refl }) (given_back_goes l.rebalance.afterwards l)
+
+seeks : (rows : ℕ) (l : Local) → Goes l.number (to_seek rows l)
+seeks rows l = either (nat_lt l.rebalance.asked rows) (to Seek (record l { rebalance = record l.rebalance { sought = row_behind rows l.rebalance.sought; asked = l.rebalance.asked + 1 } })) (give_back Refuse l) (record { moved = refl; number = refl }) (give_back_goes Refuse l)
+
+seek_goes : (rows : ℕ) (state : Option State) (l : Local) → Goes l.number (seek_met rows state l)
+seek_goes rows (Some Free) l = record { moved = refl; number = refl }
+seek_goes rows (Some (Infant seat)) l = seeks rows l
+seek_goes rows (Some Normal) l = seeks rows l
+seek_goes rows (Some (Leader count)) l = seeks rows l
+seek_goes rows (Some (Follower leader)) l = seeks rows l
+seek_goes rows (Some (Retired number)) l = seeks rows l
+seek_goes rows None l = seeks rows l
+
+seek_first_goes : (choice : Choice) (l : Local) (rows told : ℕ) → Goes l.number ((seek_first_transition choice l).next rows told)
+seek_first_goes (Begin call) l rows told = seek_goes rows (state_of told) (seeking l.rebalance.sought l)
+seek_first_goes Go l rows told = seek_goes rows (state_of told) (seeking l.rebalance.sought l)
+seek_first_goes (Guess r) l rows told = seek_goes rows (state_of told) (seeking r l)
+seek_first_goes Stop l rows told = seek_goes rows (state_of told) (seeking l.rebalance.sought l)
+
+take_row_goes : (rows : ℕ) (b : Bool) (l : Local) → Goes l.number (take_row rows b l)
+take_row_goes rows true l = either (nat_lt (length (with_row l).rebalance.taken) (length l.rebalance.starts)) (to_seek rows (with_row l)) (to WriteCount (at_infant 0 (with_row l))) (seeks rows (with_row l)) (record { moved = refl; number = refl })
+take_row_goes rows false l = seeks rows l
+
+row_written_goes : (l : Local) → Goes l.number (row_written l)
+row_written_goes l = either (has_more l) (to WriteCount (at_infant (l.rebalance.at + 1) l)) (to Before l) (record { moved = refl; number = refl }) (record { moved = refl; number = refl })
+
+write_cell_goes : (z : Sizes) (j : ℕ) (l : Local) → Goes l.number (to_write_cell z j l)
+write_cell_goes z j l = either (nat_lt j z.cells) (if nat_lt j (length (infant_cells l)) then to (WriteKey j) l else to (WriteVersion j) l) (row_written l) (either (nat_lt j (length (infant_cells l))) (to (WriteKey j) l) (to (WriteVersion j) l) (record { moved = refl; number = refl }) (record { moved = refl; number = refl })) (row_written_goes l)
+
+write_entry_goes : (z : Sizes) (i : ℕ) (l : Local) → Goes l.number (to_write_entry z i l)
+write_entry_goes z i l = either (nat_lt i z.seats) (to (WritePend i) l) (to_write_cell z 0 l) (record { moved = refl; number = refl }) (write_cell_goes z 0 l)
+
+first_before_goes : (r : ℕ) (l : Local) → Goes l.number (first_before r l)
+first_before_goes r l = either (r == l.row) (to Replace (at_before None 0 l)) (to BeforeLink (at_before (Some r) 0 l)) (record { moved = refl; number = refl }) (record { moved = refl; number = refl })
+
+guess_before_goes : (r : ℕ) (state : Option State) (l : Local) → Goes l.number (guess_before r state l)
+guess_before_goes r (Some Free) l = record { moved = refl; number = refl }
+guess_before_goes r (Some (Infant seat)) l = record { moved = refl; number = refl }
+guess_before_goes r (Some Normal) l = record { moved = refl; number = refl }
+guess_before_goes r (Some (Leader count)) l = record { moved = refl; number = refl }
+guess_before_goes r (Some (Follower leader)) l = record { moved = refl; number = refl }
+guess_before_goes r (Some (Retired number)) l = record { moved = refl; number = refl }
+guess_before_goes r None l = record { moved = refl; number = refl }
+
+before_goes : (choice : Choice) (l : Local) (rows told : ℕ) → Goes l.number ((before_transition choice l).next rows told)
+before_goes (Begin call) l rows told = first_before_goes (row_or_first (row_linked (link_of told))) l
+before_goes Go l rows told = first_before_goes (row_or_first (row_linked (link_of told))) l
+before_goes (Guess r) l rows told = guess_before_goes r (state_of told) l
+before_goes Stop l rows told = first_before_goes (row_or_first (row_linked (link_of told))) l
+
+row_before_goes : (r : Option ℕ) (marked : Bool) (l : Local) → Goes l.number (row_before r marked l)
+row_before_goes (Some r) marked l = either (r == l.row) (if marked then give_back MoveLeft l else to Replace l) (to BeforeMin (record l { candidate = r })) (either marked (give_back MoveLeft l) (to Replace l) (give_back_goes MoveLeft l) (record { moved = refl; number = refl })) (record { moved = refl; number = refl })
+row_before_goes None marked l = give_back_goes TryAgain l
+
+link_before_goes : (link : Option Link) (l : Local) → Goes l.number (link_before link l)
+link_before_goes (Some link) l = row_before_goes link.row link.marked l
+link_before_goes None l = give_back_goes TryAgain l
+
+row_replaced_goes : (r : Option ℕ) (marked : Bool) (l : Local) → Goes l.number (row_replaced r marked l)
+row_replaced_goes (Some r) marked l = either (r == l.row) (if marked then give_back MoveLeft l else to Normalise (at_infant 0 l)) (give_back TryAgain l) (either marked (give_back MoveLeft l) (to Normalise (at_infant 0 l)) (give_back_goes MoveLeft l) (record { moved = refl; number = refl })) (give_back_goes TryAgain l)
+row_replaced_goes None marked l = give_back_goes TryAgain l
+
+replaced_goes : (link : Option Link) (l : Local) → Goes l.number (replaced link l)
+replaced_goes (Some link) l = row_replaced_goes link.row link.marked l
+replaced_goes None l = give_back_goes TryAgain l
+
 -- the event is not the last of a call
 abbrev pub IsBeforeLast : Activity → Type 0
 IsBeforeLast (Leave answer) = ⊥
@@ -215,6 +370,49 @@ goes_on z InsSet s choice l rows told e n = record { moved = refl; number = refl
 goes_on z Insert s choice l rows told e n = insert_tried_goes z (told == cell_link_word l.held) l
 goes_on z PutClear s choice l rows told e n = record { moved = refl; number = refl }
 goes_on z (Leave answer) s choice l rows told e n = absurd n
+goes_on z Again s choice l rows told e n = record { moved = refl; number = refl }
+goes_on z AgainEpoch s choice l rows told e n = record { moved = refl; number = refl }
+goes_on z BalClock s choice l rows told e n = either (nat_le SPENT told) (refuse Spent l) (to BalEpoch l) (record { moved = refl; number = refl }) (record { moved = refl; number = refl })
+goes_on z BalEpoch s choice l rows told e n = either (nat_le SPENT told) (refuse Spent l) (to BalState l) (record { moved = refl; number = refl }) (record { moved = refl; number = refl })
+goes_on z BalState s choice l rows told e n = state_goes (state_of told) l
+goes_on z (BalNormal seat) s choice l rows told e n = record { moved = refl; number = refl }
+goes_on z Engage s choice l rows told e n = engaged_goes (told == state_word Normal) l
+goes_on z (MarkLink count) s choice l rows told e n = marked_goes count (row_linked (link_of told)) l
+goes_on z (Decide count) s choice l rows told e n = decided_goes (state_of told) l
+goes_on z FreezeCount s choice l rows told e n = record { moved = refl; number = refl }
+goes_on z (FreezeLook i) s choice l rows told e n = freeze_goes z i (pend_of told) l
+goes_on z (Freeze i) s choice l rows told e n = entry_goes z i (told == pend_word l.rebalance.entry) l
+goes_on z (ScanLook i) s choice l rows told e n = scan_met_goes z i (scan_of told) l
+goes_on z (HelpDraw i) s choice l rows told e n = record { moved = refl; number = refl }
+goes_on z (HelpSettle i) s choice l rows told e n = helped_goes z i (scan_of told) l
+goes_on z TakeFrom s choice l rows told e n = take_goes z (cell_of_link_word told) l
+goes_on z TakeKey s choice l rows told e n = record { moved = refl; number = refl }
+goes_on z TakeVersion s choice l rows told e n = record { moved = refl; number = refl }
+goes_on z TakeValue s choice l rows told e n = record { moved = refl; number = refl }
+goes_on z TakeRestKey s choice l rows told e n = record { moved = refl; number = refl }
+goes_on z TakeRestValue s choice l rows told e n = left_goes z (least_mark l.rebalance.marks) (keeping z (value_of_word told) l)
+goes_on z SeekFirst s choice l rows told e n = seek_first_goes choice l rows told
+goes_on z Seek s choice l rows told e n = seek_goes rows (state_of told) (seeking l.rebalance.sought l)
+goes_on z TakeRow s choice l rows told e n = take_row_goes rows (told == state_word Free) l
+goes_on z GiveBack s choice l rows told e n = gave_back_goes l
+goes_on z WriteCount s choice l rows told e n = record { moved = refl; number = refl }
+goes_on z WriteMin s choice l rows told e n = record { moved = refl; number = refl }
+goes_on z WriteNext s choice l rows told e n = record { moved = refl; number = refl }
+goes_on z WriteFirst s choice l rows told e n = write_entry_goes z 0 l
+goes_on z (WritePend i) s choice l rows told e n = write_entry_goes z (i + 1) l
+goes_on z (WriteKey j) s choice l rows told e n = record { moved = refl; number = refl }
+goes_on z (WriteValue j) s choice l rows told e n = record { moved = refl; number = refl }
+goes_on z (WriteVersion j) s choice l rows told e n = record { moved = refl; number = refl }
+goes_on z (WriteAfter j) s choice l rows told e n = write_cell_goes z (j + 1) l
+goes_on z Before s choice l rows told e n = before_goes choice l rows told
+goes_on z BeforeGuess s choice l rows told e n = either (nat_lt (key_of_word told) l.lower) (to BeforeLink (record l { rebalance = record l.rebalance { least = key_of_word told } })) (to BeforeHead (record l { rebalance = record l.rebalance { before = None } })) (record { moved = refl; number = refl }) (record { moved = refl; number = refl })
+goes_on z BeforeHead s choice l rows told e n = first_before_goes (row_or_first (row_linked (link_of told))) l
+goes_on z BeforeLink s choice l rows told e n = link_before_goes (link_of told) l
+goes_on z BeforeMin s choice l rows told e n = either (nat_lt (key_of_word told) l.lower) (to BeforeLink (at_before (Some l.candidate) (key_of_word told) l)) (give_back TryAgain l) (record { moved = refl; number = refl }) (give_back_goes TryAgain l)
+goes_on z Replace s choice l rows told e n = replaced_goes (link_of told) l
+goes_on z Normalise s choice l rows told e n = either (has_more l) (to Normalise (at_infant (l.rebalance.at + 1) l)) (to Number l) (record { moved = refl; number = refl }) (record { moved = refl; number = refl })
+goes_on z Number s choice l rows told e n = record { moved = refl; number = refl }
+goes_on z Retire s choice l rows told e n = record { moved = refl; number = refl }
 
 -- so an event that ends a call with this reply is one of a seat that was about to leave with an answer that makes it
 pub ends_leaving : (z : Sizes) (a : Activity) (s : ℕ) (choice : Choice) (l : Local) (rows told : ℕ) (reply : Reply) → is_skipped a choice ≡ false → ((transition z a s choice l).next rows told).done ≡ Ended reply → (answer : Answer) × (a ≡ Leave answer) × (reply ≡ reply_of answer l.pairs)

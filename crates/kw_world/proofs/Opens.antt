@@ -18,12 +18,37 @@ use Rattle.kw_world.specs.declared.opening.Opening.{Opening}
 use Rattle.kw_world.specs.Lending.{with_local}
 use Rattle.kw_world.specs.Sizes.{Sizes}
 use Rattle.kw_world.specs.WorldView.{WorldView}
-use Rattle.kw_world.specs.Local.{resting}
+use Rattle.kw_world.specs.Local.{resting, no_rebalance}
+use Rattle.kw_world.specs.declared.activity.Activity.{Activity}
+use Rattle.kw_world.specs.declared.activity.Activity.TheVariants.{Idle}
 use Rattle.kw_world.specs.Opening.{IsOpening, opened, opening_word, link_to}
-use Rattle.kw_world.specs.Sane.{IsSane, IsKnown, IsWord, IsLed, IsHead, IsStateBelow, IsLinkBelow, IsRowState, IsKnownWord, IsGiven, IsEntry, IsPair, IsMark, IsCopy}
+use Rattle.kw_world.specs.Sane.{IsSane, IsKnown, IsWord, IsLed, IsHead, IsStateBelow, IsLinkBelow, IsRowState, IsKnownWord, IsGiven, IsEntry, IsPair, IsMark, IsCopy, IsVersion, IsRebalance, IsRebalanceBelow, HasRebalanceRoom, IsTakingRows}
 use Rattle.kw_world.specs.Step.{word}
 use Rattle.kw_world.proofs.Begins.{opened-word, length-opened}
 use Rattle.kw_world.proofs.Lists.{get-set_same, get-set_other}
+
+-- nothing of a rebalance is out of range
+pub none_ranges : (z : Sizes) → IsRebalance z no_rebalance
+none_ranges z = record {
+  entry = tt;
+  marks = All-nil (IsMark z);
+  waiting = (omega arith, omega arith);
+  drawn = (omega arith, omega arith);
+  needed = All-nil IsVersion;
+  gathered = All-nil IsCopy;
+  kept = All-nil IsCopy;
+  few = omega arith;
+  at = omega arith;
+  least = omega arith;
+  number = (omega arith, omega arith);
+}
+
+pub none_below : (rows : ℕ) → 0 < rows → IsRebalanceBelow rows no_rebalance
+none_below rows some = record { after = tt; taken = All-nil (λ r. r < rows); sought = some; asked = omega arith; before = tt }
+
+-- and its lists have room, where the seat does not seek rows
+pub none_room : (z : Sizes) (a : Activity) → (IsTakingRows a → ⊥) → HasRebalanceRoom z a no_rebalance
+none_room z a never = record { marks = omega arith; needed = omega arith; gathered = omega arith; taken = λ t. absurd (never t) }
 
 -- a seat at rest knows nothing out of range
 pub rests_known : (z : Sizes) (rows n : ℕ) → IsSized z.seats z.cells rows → IsKnown z rows (resting n)
@@ -52,9 +77,10 @@ rests_known z rows n sized = record {
     held = tt;
     walked = omega arith;
     lost = omega arith;
+    rebalance = none_ranges z;
   };
-  below = record { row = omega (arith, sized.some_rows); candidate = omega (arith, sized.some_rows); next = tt };
-  room = record { remembered = omega arith; gathered = omega arith };
+  below = record { row = omega (arith, sized.some_rows); candidate = omega (arith, sized.some_rows); next = tt; rebalance = none_below rows sized.some_rows };
+  room = record { remembered = omega arith; gathered = omega arith; rebalance = none_room z Idle (λ t. t) };
 }
 
 -- what every seat knows

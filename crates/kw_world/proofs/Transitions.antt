@@ -1,11 +1,12 @@
 -- What every line of the table keeps to: its word is one of the table, its action can happen, and a store tells nothing.
-use Rattle.std.proofs.Common.{ℕ, ◌≡◌, ◌≢◌, ◌+◌, ◌<◌, ◌^◌, Option, Some, None, Bool, true, false, nat_lt, if◌then◌else◌, arith, refl, ap, length, slice_get}
+use Rattle.std.proofs.Common.{ℕ, ◌≡◌, ◌+◌, ◌<◌, ◌^◌, Option, Some, None, Bool, true, false, nat_lt, if◌then◌else◌, arith, refl, ap, length, slice_get, zero, suc, List, [], ◌∷◌, All, slice_index}
 use Rattle.std.proofs.lemmas.Bool.Decides.{nat_tests}
+use Rattle.std.proofs.lemmas.List.Elements.{All-head, All-tail}
 use Rattle.kw_words.specs.declared.count.Count.{Count as Counted}
 use Rattle.kw_words.specs.Layout.{IsWithin}
 use Rattle.kw_words.specs.Count.{count_of}
 use Rattle.kw_world.specs.declared.activity.Activity.{Activity}
-use Rattle.kw_world.specs.declared.activity.Activity.TheVariants.{Idle, Enter, ScanClock, ScanWait, ScanDraw, ScanSettle, Start, Head, GuessMin, Walk, WalkMin, Look, LookKey, LookClock, LookHelp, ListFrom, ListKey, ListVer, ListVal, RestKey, RestVal, ClearScan, PutCount, PutAdd, PutKey, PutValue, Announce, PutClock, Stamp, PutVersion, InsFrom, InsKey, InsVer, InsSet, Insert, PutClear, Leave}
+use Rattle.kw_world.specs.declared.activity.Activity.TheVariants.{Idle, Enter, ScanClock, ScanWait, ScanDraw, ScanSettle, Start, Head, GuessMin, Walk, WalkMin, Look, LookKey, LookClock, LookHelp, ListFrom, ListKey, ListVer, ListVal, RestKey, RestVal, ClearScan, PutCount, PutAdd, PutKey, PutValue, Announce, PutClock, Stamp, PutVersion, InsFrom, InsKey, InsVer, InsSet, Insert, PutClear, Leave, Again, AgainEpoch, BalClock, BalEpoch, BalState, BalNormal, Engage, MarkLink, Decide, FreezeCount, FreezeLook, Freeze, ScanLook, HelpDraw, HelpSettle, TakeFrom, TakeKey, TakeVersion, TakeValue, TakeRestKey, TakeRestValue, SeekFirst, Seek, TakeRow, GiveBack, WriteCount, WriteMin, WriteNext, WriteFirst, WritePend, WriteKey, WriteValue, WriteVersion, WriteAfter, Before, BeforeGuess, BeforeHead, BeforeLink, BeforeMin, Replace, Normalise, Number, Retire}
 use Rattle.kw_world.specs.declared.local.Local.{Local}
 use Rattle.kw_world.specs.declared.event.Event.{Event}
 use Rattle.kw_world.specs.declared.event.Choice.{Choice}
@@ -14,13 +15,14 @@ use Rattle.kw_world.specs.Sizes.{Sizes}
 use Rattle.kw_world.specs.WorldView.{WorldView}
 use Rattle.kw_world.specs.Operation.{CanHappen}
 use Rattle.kw_world.specs.WalkTransitions.{offered, start_transition, walk_transition, is_stopped}
-use Rattle.kw_world.specs.declared.part.Part.TheVariants as part
 use Rattle.kw_world.specs.Parts.{part_of, part_at}
+use Rattle.kw_world.specs.SeekTransitions.{seek_first_transition}
+use Rattle.kw_world.specs.ReplaceTransitions.{before_transition, replaced_link}
 use Rattle.kw_world.specs.Table.{transition}
-use Rattle.kw_world.specs.Transition.{Outcome}
+use Rattle.kw_world.specs.Transition.{Outcome, row_or_first}
 use Rattle.kw_world.specs.Step.{word, transition_of, transition_at, next_of}
 use Rattle.kw_world.specs.ListTransitions.{link_name}
-use Rattle.kw_world.specs.Sane.{IsLocal, IsLocalBelow, IsCellBelow, IsActivity, IsWord, IsGiven, IsSane, IsOffered, IsStore}
+use Rattle.kw_world.specs.Sane.{IsLocal, IsLocalBelow, IsCellBelow, IsRowBelow, IsActivity, IsWord, IsGiven, IsSane, IsOffered, IsStore}
 
 -- a guess that is offered is at a row of the table
 pub offered_below : (rows : ℕ) (choice : Choice) → IsOffered rows (offered rows choice)
@@ -48,26 +50,30 @@ part-offered rows (Guess r) l = met (nat_lt r rows)
         elsewhere _ = refl
 part-offered rows Stop l = refl
 
--- no event is one of a rebalance
-pub part-not_rebalance : (choice : Choice) (l : Local) → part_of choice l ≢ part.Rebalance
-part-not_rebalance choice l = which l.activity
-  where
-    walks : (b : Bool) → (if b then part.Put else part.Rows) ≢ part.Rebalance
-    walks true = λ e. cc
-    walks false = λ e. cc
-
-    which : (a : Activity) → part_at a choice l ≢ part.Rebalance
-    which Start = λ e. cc
-    which Head = λ e. cc
-    which GuessMin = λ e. cc
-    which Walk = walks (is_stopped choice l)
-    which WalkMin = λ e. cc
-    which _ = λ e. cc
-
 -- a link of a row's list is one of the table
 pub link_within : (z : Sizes) (rows r : ℕ) (link : Option ℕ) → IsCellBelow z.cells link → r < rows → IsWithin z.seats z.cells rows (link_name r link)
 link_within z rows r (Some cell) h b = (b, h)
 link_within z rows r None h b = b
+
+-- a seat's row is one of the table's, so that there is one
+first_row : (rows : ℕ) (l : Local) → IsLocalBelow rows l → 0 < rows
+first_row rows l b = omega (arith, b.row)
+
+-- a row that is one of the table's, if there is one, and else the first one
+pub row_within : (rows : ℕ) (r : Option ℕ) → 0 < rows → IsRowBelow rows r → row_or_first r < rows
+row_within rows (Some r) some h = h
+row_within rows None some h = some
+
+-- so is an element of a list of such rows, and row 0 where the list has none there
+pub taken_within : (rows : ℕ) (taken : List ℕ) (i : ℕ) → 0 < rows → All (λ r. r < rows) taken → slice_index taken i < rows
+taken_within rows [] i some h = some
+taken_within rows (r ∷ taken) zero some h = All-head (λ q. q < rows) r taken h
+taken_within rows (r ∷ taken) (suc i) some h = taken_within rows taken i some (All-tail (λ q. q < rows) r taken h)
+
+-- the link that leads to a full row is one of the table
+replaced_within : (z : Sizes) (rows : ℕ) (r : Option ℕ) → IsRowBelow rows r → IsWithin z.seats z.cells rows (replaced_link r)
+replaced_within z rows (Some r) h = h
+replaced_within z rows None h = tt
 
 -- the word of a line is one of the table
 pub within : (z : Sizes) (a : Activity) (rows s : ℕ) (choice : Choice) (l : Local) → IsLocal z l → IsLocalBelow rows l → s < z.seats → IsActivity z a → IsOffered rows choice → IsWithin z.seats z.cells rows (transition z a s choice l).operation.name
@@ -118,6 +124,61 @@ within z InsSet rows s choice l i b t o g = (b.row, i.cell)
 within z Insert rows s choice l i b t o g = link_within z rows l.row l.link i.link b.row
 within z PutClear rows s choice l i b t o g = (b.row, t)
 within z (Leave answer) rows s choice l i b t o g = t
+within z Again rows s choice l i b t o g = t
+within z AgainEpoch rows s choice l i b t o g = tt
+within z BalClock rows s choice l i b t o g = tt
+within z BalEpoch rows s choice l i b t o g = tt
+within z BalState rows s choice l i b t o g = b.row
+within z (BalNormal seat) rows s choice l i b t o g = b.row
+within z Engage rows s choice l i b t o g = b.row
+within z (MarkLink count) rows s choice l i b t o g = b.row
+within z (Decide count) rows s choice l i b t o g = b.row
+within z FreezeCount rows s choice l i b t o g = b.row
+within z (FreezeLook k) rows s choice l i b t o g = (b.row, o)
+within z (Freeze k) rows s choice l i b t o g = (b.row, o)
+within z (ScanLook k) rows s choice l i b t o g = o
+within z (HelpDraw k) rows s choice l i b t o g = tt
+within z (HelpSettle k) rows s choice l i b t o g = o
+within z TakeFrom rows s choice l i b t o g = link_within z rows l.row l.link i.link b.row
+within z TakeKey rows s choice l i b t o g = (b.row, i.place)
+within z TakeVersion rows s choice l i b t o g = (b.row, i.place)
+within z TakeValue rows s choice l i b t o g = (b.row, i.place)
+within z TakeRestKey rows s choice l i b t o g = (b.row, i.place)
+within z TakeRestValue rows s choice l i b t o g = (b.row, i.place)
+within z SeekFirst rows s choice l i b t o g = seeks choice g
+  where
+    seeks : (c : Choice) → IsOffered rows c → IsWithin z.seats z.cells rows (seek_first_transition c l).operation.name
+    seeks (Begin call) h = b.rebalance.sought
+    seeks Go h = b.rebalance.sought
+    seeks (Guess r) h = h
+    seeks Stop h = b.rebalance.sought
+within z Seek rows s choice l i b t o g = b.rebalance.sought
+within z TakeRow rows s choice l i b t o g = b.rebalance.sought
+within z GiveBack rows s choice l i b t o g = taken_within rows l.rebalance.taken l.rebalance.at (first_row rows l b) b.rebalance.taken
+within z WriteCount rows s choice l i b t o g = taken_within rows l.rebalance.taken l.rebalance.at (first_row rows l b) b.rebalance.taken
+within z WriteMin rows s choice l i b t o g = taken_within rows l.rebalance.taken l.rebalance.at (first_row rows l b) b.rebalance.taken
+within z WriteNext rows s choice l i b t o g = taken_within rows l.rebalance.taken l.rebalance.at (first_row rows l b) b.rebalance.taken
+within z WriteFirst rows s choice l i b t o g = taken_within rows l.rebalance.taken l.rebalance.at (first_row rows l b) b.rebalance.taken
+within z (WritePend k) rows s choice l i b t o g = (taken_within rows l.rebalance.taken l.rebalance.at (first_row rows l b) b.rebalance.taken, o)
+within z (WriteKey j) rows s choice l i b t o g = (taken_within rows l.rebalance.taken l.rebalance.at (first_row rows l b) b.rebalance.taken, o)
+within z (WriteValue j) rows s choice l i b t o g = (taken_within rows l.rebalance.taken l.rebalance.at (first_row rows l b) b.rebalance.taken, o)
+within z (WriteVersion j) rows s choice l i b t o g = (taken_within rows l.rebalance.taken l.rebalance.at (first_row rows l b) b.rebalance.taken, o)
+within z (WriteAfter j) rows s choice l i b t o g = (taken_within rows l.rebalance.taken l.rebalance.at (first_row rows l b) b.rebalance.taken, o)
+within z Before rows s choice l i b t o g = begins choice g
+  where
+    begins : (c : Choice) → IsOffered rows c → IsWithin z.seats z.cells rows (before_transition c l).operation.name
+    begins (Begin call) h = tt
+    begins Go h = tt
+    begins (Guess r) h = h
+    begins Stop h = tt
+within z BeforeGuess rows s choice l i b t o g = row_within rows l.rebalance.before (first_row rows l b) b.rebalance.before
+within z BeforeHead rows s choice l i b t o g = tt
+within z BeforeLink rows s choice l i b t o g = row_within rows l.rebalance.before (first_row rows l b) b.rebalance.before
+within z BeforeMin rows s choice l i b t o g = b.candidate
+within z Replace rows s choice l i b t o g = replaced_within z rows l.rebalance.before b.rebalance.before
+within z Normalise rows s choice l i b t o g = taken_within rows l.rebalance.taken l.rebalance.at (first_row rows l b) b.rebalance.taken
+within z Number rows s choice l i b t o g = tt
+within z Retire rows s choice l i b t o g = b.row
 
 -- a count in range lets one more be added
 added : (w : ℕ) (c : Option Counted) → count_of w ≡ c → IsGiven c → w + 1 < 2 ^ 64
@@ -129,6 +190,22 @@ added w None e h = absurd h
 pub can_happen : (z : Sizes) (a : Activity) (s : ℕ) (choice : Choice) (l : Local) (w : ℕ) → IsWord z (transition z a s choice l).operation.name w → CanHappen (transition z a s choice l).operation.action w
 can_happen z ScanDraw s choice l w o = omega (arith, o.1)
 can_happen z PutAdd s choice l w o = added w (count_of w) refl o
+can_happen z (HelpDraw i) s choice l w o = omega (arith, o.1)
+can_happen z Number s choice l w o = omega (arith, o.1)
+can_happen z SeekFirst s choice l w o = seeks choice
+  where
+    seeks : (c : Choice) → CanHappen (seek_first_transition c l).operation.action w
+    seeks (Begin call) = tt
+    seeks Go = tt
+    seeks (Guess r) = tt
+    seeks Stop = tt
+can_happen z Before s choice l w o = begins choice
+  where
+    begins : (c : Choice) → CanHappen (before_transition c l).operation.action w
+    begins (Begin call) = tt
+    begins Go = tt
+    begins (Guess r) = tt
+    begins Stop = tt
 can_happen z Start s choice l w o = starts choice
   where
     starts : (c : Choice) → CanHappen (start_transition c l).operation.action w
@@ -201,6 +278,61 @@ store_blind z InsSet s choice l v w h rows = refl
 store_blind z Insert s choice l v w h rows = absurd h
 store_blind z PutClear s choice l v w h rows = refl
 store_blind z (Leave answer) s choice l v w h rows = refl
+store_blind z Again s choice l v w h rows = refl
+store_blind z AgainEpoch s choice l v w h rows = absurd h
+store_blind z BalClock s choice l v w h rows = absurd h
+store_blind z BalEpoch s choice l v w h rows = absurd h
+store_blind z BalState s choice l v w h rows = absurd h
+store_blind z (BalNormal seat) s choice l v w h rows = absurd h
+store_blind z Engage s choice l v w h rows = absurd h
+store_blind z (MarkLink count) s choice l v w h rows = absurd h
+store_blind z (Decide count) s choice l v w h rows = absurd h
+store_blind z FreezeCount s choice l v w h rows = absurd h
+store_blind z (FreezeLook i) s choice l v w h rows = absurd h
+store_blind z (Freeze i) s choice l v w h rows = absurd h
+store_blind z (ScanLook i) s choice l v w h rows = absurd h
+store_blind z (HelpDraw i) s choice l v w h rows = absurd h
+store_blind z (HelpSettle i) s choice l v w h rows = absurd h
+store_blind z TakeFrom s choice l v w h rows = absurd h
+store_blind z TakeKey s choice l v w h rows = absurd h
+store_blind z TakeVersion s choice l v w h rows = absurd h
+store_blind z TakeValue s choice l v w h rows = absurd h
+store_blind z TakeRestKey s choice l v w h rows = absurd h
+store_blind z TakeRestValue s choice l v w h rows = absurd h
+store_blind z SeekFirst s choice l v w h rows = absurd (seeks choice h)
+  where
+    seeks : (c : Choice) → IsStore (seek_first_transition c l).operation.action → ⊥
+    seeks (Begin call) h = h
+    seeks Go h = h
+    seeks (Guess r) h = h
+    seeks Stop h = h
+store_blind z Seek s choice l v w h rows = absurd h
+store_blind z TakeRow s choice l v w h rows = absurd h
+store_blind z GiveBack s choice l v w h rows = refl
+store_blind z WriteCount s choice l v w h rows = refl
+store_blind z WriteMin s choice l v w h rows = refl
+store_blind z WriteNext s choice l v w h rows = refl
+store_blind z WriteFirst s choice l v w h rows = refl
+store_blind z (WritePend i) s choice l v w h rows = refl
+store_blind z (WriteKey j) s choice l v w h rows = refl
+store_blind z (WriteValue j) s choice l v w h rows = refl
+store_blind z (WriteVersion j) s choice l v w h rows = refl
+store_blind z (WriteAfter j) s choice l v w h rows = refl
+store_blind z Before s choice l v w h rows = absurd (begins choice h)
+  where
+    begins : (c : Choice) → IsStore (before_transition c l).operation.action → ⊥
+    begins (Begin call) h = h
+    begins Go h = h
+    begins (Guess r) h = h
+    begins Stop h = h
+store_blind z BeforeGuess s choice l v w h rows = absurd h
+store_blind z BeforeHead s choice l v w h rows = absurd h
+store_blind z BeforeLink s choice l v w h rows = absurd h
+store_blind z BeforeMin s choice l v w h rows = absurd h
+store_blind z Replace s choice l v w h rows = absurd h
+store_blind z Normalise s choice l v w h rows = absurd h
+store_blind z Number s choice l v w h rows = absurd h
+store_blind z Retire s choice l v w h rows = refl
 
 -- the word of an event is one of the table
 pub in_table : (z : Sizes) (w : WorldView) (e : Event) (l : Local) → IsSane z w → e.seat < length w.locals → slice_get w.locals e.seat ≡ Some l → IsWithin z.seats z.cells w.rows (transition_at z w e l).operation.name

@@ -18,3 +18,9 @@ pub mod Step
 pub mod Opening
 pub mod Sane
 pub mod RowEnd
+pub mod EngageTransitions
+pub mod FreezeTransitions
+pub mod TakeTransitions
+pub mod SeekTransitions
+pub mod WriteTransitions
+pub mod ReplaceTransitions

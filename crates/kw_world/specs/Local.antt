@@ -1,7 +1,32 @@
 -- What a seat knows when it begins, and what it forgets on its way.
 use Rattle.std.specs.Prelude.{ℕ, false, None, []}
 use Rattle.kw_world.specs.declared.local.Local.{Local}
+use Rattle.kw_words.specs.declared.pend.Pend.TheVariants as pend
 use Rattle.kw_world.specs.declared.activity.Activity.TheVariants.{Idle}
+use Rattle.kw_world.specs.declared.rebalance.Rebalance.{Rebalance}
+use Rattle.kw_world.specs.declared.rebalance.Afterwards.TheVariants.{TryAgain}
+
+-- nothing of a rebalance
+abbrev pub no_rebalance : Rebalance
+no_rebalance = record {
+  after = None;
+  entry = pend.Idle;
+  marks = [];
+  waiting = 1;
+  drawn = 1;
+  needed = [];
+  gathered = [];
+  kept = [];
+  starts = [];
+  taken = [];
+  at = 0;
+  sought = 0;
+  asked = 0;
+  before = None;
+  least = 0;
+  number = 1;
+  afterwards = TryAgain;
+}
 
 -- an idle seat that has begun this many calls
 abbrev pub resting : ℕ → Local
@@ -34,6 +59,7 @@ resting number = record {
   held = None;
   walked = 0;
   lost = 0;
+  rebalance = no_rebalance;
 }
 
 -- no row is known any more
@@ -43,3 +69,7 @@ without_rows l = record l { row = 0; lower = 0; candidate = 0; next = None; uppe
 -- nothing of a row is remembered or gathered, and no cell of its list is met
 abbrev pub before_row : Local → Local
 before_row l = record l { remembered = []; gathered = []; link = None; walked = 0 }
+
+-- nothing of the rebalance is known any more
+abbrev pub without_rebalance : Local → Local
+without_rebalance l = record l { rebalance = no_rebalance }

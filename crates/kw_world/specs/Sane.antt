@@ -8,7 +8,7 @@ use Rattle.kw_words.specs.declared.state.State.{State}
 use Rattle.kw_words.specs.declared.state.State.TheVariants.{Free, Infant, Normal, Leader, Follower, Retired}
 use Rattle.kw_words.specs.declared.count.Count as count
 use Rattle.kw_words.specs.declared.link.Link.{Link}
-use Rattle.kw_words.specs.declared.sizes.TheConstants.{KEY_END, VALUE_END, VERSION_END, NUMBER_END}
+use Rattle.kw_words.specs.declared.sizes.TheConstants.{KEY_END, VALUE_END, VERSION_END, NUMBER_END, MOST_GROUP}
 use Rattle.kw_words.specs.Layout.{IsSized, IsWithin, words_of}
 use Rattle.kw_words.specs.Pend.{pend_of}
 use Rattle.kw_words.specs.State.{state_of}
@@ -22,9 +22,10 @@ use Rattle.kw_model.specs.declared.call.Call.TheVariants.{Put, Del, Get, Scan}
 use Rattle.kw_world.specs.declared.answer.Answer.{Answer}
 use Rattle.kw_world.specs.declared.answer.Answer.TheVariants.{Value}
 use Rattle.kw_world.specs.declared.activity.Activity.{Activity}
-use Rattle.kw_world.specs.declared.activity.Activity.TheVariants.{Idle, Look, LookKey, LookClock, LookHelp, ClearScan, Leave}
+use Rattle.kw_world.specs.declared.activity.Activity.TheVariants.{Idle, Look, LookKey, LookClock, LookHelp, ClearScan, Leave, BalNormal, MarkLink, Decide, FreezeLook, Freeze, ScanLook, HelpDraw, HelpSettle, SeekFirst, Seek, TakeRow, WritePend, WriteKey, WriteValue, WriteVersion, WriteAfter}
 use Rattle.kw_world.specs.declared.local.Local.{Local}
 use Rattle.kw_world.specs.declared.marks.Mark.{Mark}
+use Rattle.kw_world.specs.declared.rebalance.Rebalance.{Rebalance}
 use Rattle.kw_world.specs.declared.event.Event.{Event}
 use Rattle.kw_world.specs.declared.event.Choice.{Choice}
 use Rattle.kw_world.specs.declared.event.Choice.TheVariants.{Begin, Go, Guess, Stop}
@@ -150,11 +151,24 @@ abbrev pub IsAnswer : Answer → Type 0
 IsAnswer (Value value) = value < VALUE_END
 IsAnswer _ = Unit {0}
 
--- the seat, the cell or the value that an activity names is in range
+-- the seat, the cell, the value or the number of rows that an activity names is in range
 abbrev pub IsActivity : Sizes → Activity → Type 0
 IsActivity z (Look i) = i < z.seats
 IsActivity z (ClearScan answer) = IsAnswer answer
 IsActivity z (Leave answer) = IsAnswer answer
+IsActivity z (BalNormal seat) = seat < z.seats
+IsActivity z (MarkLink count) = count ≤ MOST_GROUP
+IsActivity z (Decide count) = count ≤ MOST_GROUP
+IsActivity z (FreezeLook i) = i < z.seats
+IsActivity z (Freeze i) = i < z.seats
+IsActivity z (ScanLook i) = i < z.seats
+IsActivity z (HelpDraw i) = i < z.seats
+IsActivity z (HelpSettle i) = i < z.seats
+IsActivity z (WritePend i) = i < z.seats
+IsActivity z (WriteKey j) = j < z.cells
+IsActivity z (WriteValue j) = j < z.cells
+IsActivity z (WriteVersion j) = j < z.cells
+IsActivity z (WriteAfter j) = j < z.cells
 IsActivity z _ = Unit {0}
 
 -- the cell, if there is one, is one of the row's
@@ -169,6 +183,20 @@ IsMark z m = (m.cell < z.cells) × IsVersion m.version
 -- a gathered cell's key, version and value are in range
 abbrev pub IsCopy : kw_cell.Cell → Type 0
 IsCopy c = (c.key < KEY_END) × IsVersion c.version × IsValue c.value
+
+-- what a seat knows of its rebalance is in range; rows aside
+pub record IsRebalance (z : Sizes) (b : Rebalance) : Type 0 where
+  pub entry : IsEntry z (Some b.entry)
+  pub marks : All (IsMark z) b.marks
+  pub waiting : IsVersion b.waiting
+  pub drawn : IsVersion b.drawn
+  pub needed : All IsVersion b.needed
+  pub gathered : All IsCopy b.gathered
+  pub kept : All IsCopy b.kept
+  pub few : length b.kept ≤ z.cells
+  pub at : b.at ≤ length b.taken
+  pub least : b.least < KEY_END
+  pub number : IsNumber b.number
 
 -- all that a seat knows is in range; rows aside
 pub record IsLocal (z : Sizes) (l : Local) : Type 0 where
@@ -195,12 +223,22 @@ pub record IsLocal (z : Sizes) (l : Local) : Type 0 where
   pub held : IsCellBelow z.cells l.held
   pub walked : l.walked ≤ z.cells
   pub lost : l.lost ≤ z.cells
+  pub rebalance : IsRebalance z l.rebalance
+
+-- the rows that a seat knows of its rebalance are those of the table
+pub record IsRebalanceBelow (rows : ℕ) (b : Rebalance) : Type 0 where
+  pub after : IsRowBelow rows b.after
+  pub taken : All (λ r. r < rows) b.taken
+  pub sought : b.sought < rows
+  pub asked : b.asked ≤ rows
+  pub before : IsRowBelow rows b.before
 
 -- the rows that a seat knows are those of the table
 pub record IsLocalBelow (rows : ℕ) (l : Local) : Type 0 where
   pub row : l.row < rows
   pub candidate : l.candidate < rows
   pub next : IsRowBelow rows l.next
+  pub rebalance : IsRebalanceBelow rows l.rebalance
 
 -- as many cells may be remembered where a seat does this: one for each entry that it has looked at
 abbrev pub marks_by : Sizes → Activity → Local → ℕ
@@ -210,10 +248,38 @@ marks_by z LookClock l = l.looked
 marks_by z LookHelp l = l.looked
 marks_by z _ l = z.seats
 
+-- as many cells may be remembered of a full row where a seat does this: one for each entry that it has looked at
+abbrev pub frozen_by : Sizes → Activity → ℕ
+frozen_by z (FreezeLook i) = i
+frozen_by z (Freeze i) = i
+frozen_by z _ = z.seats
+
+-- as many versions may be needed where a seat does this: one for each scan that it has looked at
+abbrev pub needed_by : Sizes → Activity → ℕ
+needed_by z (ScanLook i) = i
+needed_by z (HelpDraw i) = i
+needed_by z (HelpSettle i) = i
+needed_by z _ = z.seats
+
+-- a seat that does this may take one more row
+abbrev pub IsTakingRows : Activity → Type 0
+IsTakingRows SeekFirst = Unit {0}
+IsTakingRows Seek = Unit {0}
+IsTakingRows TakeRow = Unit {0}
+IsTakingRows _ = ⊥
+
+-- the lists of a rebalance have room for what its next event adds, and no more cells are gathered than a row has
+pub record HasRebalanceRoom (z : Sizes) (a : Activity) (b : Rebalance) : Type 0 where
+  pub marks : length b.marks ≤ frozen_by z a
+  pub needed : length b.needed ≤ needed_by z a
+  pub gathered : length b.gathered ≤ z.cells
+  pub taken : IsTakingRows a → length b.taken < length b.starts
+
 -- a seat's list of remembered cells has room for what its next event adds, and no more cells are gathered than a row has
 pub record HasRoom (z : Sizes) (l : Local) : Type 0 where
   pub remembered : length l.remembered ≤ marks_by z l.activity l
   pub gathered : length l.gathered ≤ z.cells
+  pub rebalance : HasRebalanceRoom z l.activity l.rebalance
 
 -- all that a seat knows is in range
 pub record IsKnown (z : Sizes) (rows : ℕ) (l : Local) : Type 0 where

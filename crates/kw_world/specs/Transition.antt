@@ -32,6 +32,10 @@ pub record Transition : Type 0 where
 abbrev pub at : Kind → Name → Action → (ℕ → Outcome) → Transition
 at kind name action next = record { operation = record { kind = kind; name = name; action = action }; next = λ rows. next }
 
+-- the same, where what follows depends on how many rows there are
+abbrev pub at_rows : Kind → Name → Action → (ℕ → ℕ → Outcome) → Transition
+at_rows kind name action next = record { operation = record { kind = kind; name = name; action = action }; next = next }
+
 -- the seat goes on to an activity
 abbrev pub to : Activity → Local → Outcome
 to a l = outcome (record l { activity = a }) Moved

@@ -8,7 +8,7 @@
 //! definition.
 //!
 //! `world` has the worlds, `local`, `activity` and `answer` what a seat knows and what it is about to do and to answer, `marks` and `gathered` the
-//! lists that it keeps without taking memory, `event` the events, `operation` the operations on a word, `opening` the
+//! lists that it keeps without taking memory, `rebalance` and `rebuilt` what it knows of the rebalance that it makes, `event` the events, `operation` the operations on a word, `opening` the
 //! numbers that a run begins with, `part` the parts of the table, `limits` the numbers that no encoding names, and `laws` what every line of the table keeps to.
 #![tactic(auto)]
 
@@ -24,6 +24,8 @@ pub mod marks;
 pub mod opening;
 pub mod operation;
 pub mod part;
+pub mod rebalance;
+pub mod rebuilt;
 #[cfg(test)]
 mod tests;
 pub mod world;

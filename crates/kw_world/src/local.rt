@@ -15,6 +15,7 @@ use crate::event::Choice;
 use crate::gathered::Gathered;
 use crate::marks::Marks;
 use crate::part::Part;
+use crate::rebalance::Rebalance;
 use kw_model::call::Call;
 use kw_model::pair_list::PairList;
 use std::alloc::{AllocError, Global};
@@ -82,6 +83,9 @@ pub struct Local {
     pub walked: u32,
     /// How many exchanges the put has lost that were to insert its cell, at most the number of cells.
     pub lost: u32,
+
+    /// The rebalance that it makes.
+    pub rebalance: Rebalance,
 }
 
 impl Clone for Local {
@@ -120,6 +124,7 @@ impl Clone for Local {
             held: self.held,
             walked: self.walked,
             lost: self.lost,
+            rebalance: self.rebalance.clone()?,
         })
     }
 }
@@ -158,6 +163,7 @@ impl Local {
             held: None,
             walked: 0,
             lost: 0,
+            rebalance: Rebalance::none(),
         }
     }
 
@@ -192,6 +198,7 @@ impl Local {
         self.held = None;
         self.walked = 0;
         self.lost = 0;
+        self.rebalance.forget();
     }
 
     /// Forgets every row.
@@ -233,6 +240,49 @@ impl Local {
             | Activity::GuessMin
             | Activity::Walk
             | Activity::WalkMin => Part::Rows,
+            Activity::Again
+            | Activity::AgainEpoch
+            | Activity::BalClock
+            | Activity::BalEpoch
+            | Activity::BalState
+            | Activity::BalNormal(_)
+            | Activity::Engage
+            | Activity::MarkLink(_)
+            | Activity::Decide(_)
+            | Activity::FreezeCount
+            | Activity::FreezeLook(_)
+            | Activity::Freeze(_)
+            | Activity::ScanLook(_)
+            | Activity::HelpDraw(_)
+            | Activity::HelpSettle(_)
+            | Activity::TakeFrom
+            | Activity::TakeKey
+            | Activity::TakeVersion
+            | Activity::TakeValue
+            | Activity::TakeRestKey
+            | Activity::TakeRestValue
+            | Activity::SeekFirst
+            | Activity::Seek
+            | Activity::TakeRow
+            | Activity::GiveBack
+            | Activity::WriteCount
+            | Activity::WriteMin
+            | Activity::WriteNext
+            | Activity::WriteFirst
+            | Activity::WritePend(_)
+            | Activity::WriteKey(_)
+            | Activity::WriteValue(_)
+            | Activity::WriteVersion(_)
+            | Activity::WriteAfter(_)
+            | Activity::Before
+            | Activity::BeforeGuess
+            | Activity::BeforeHead
+            | Activity::BeforeLink
+            | Activity::BeforeMin
+            | Activity::Replace
+            | Activity::Normalise
+            | Activity::Number
+            | Activity::Retire => Part::Rebalance,
             _ => Part::Put,
         }
     }

@@ -1,0 +1,70 @@
+-- What follows from the events by which a rebalance begins: a full row gets a leader, its link is marked, and how many rows the
+-- rebalance replaces is decided. That is one, always, as long as no row is taken along; a row that somebody decided to replace
+-- together with another is left to others.
+use Rattle.std.specs.Prelude.{ℕ, Bool, true, false, nat_le, ◌==◌, if◌then◌else◌, Option, Some, None}
+use Rattle.kw_words.specs.declared.sizes.TheConstants.{SPENT}
+use Rattle.kw_words.specs.declared.state.State.{State}
+use Rattle.kw_words.specs.declared.state.State.TheVariants.{Free, Infant, Normal, Leader, Follower, Retired}
+use Rattle.kw_world.specs.declared.answer.Answer.{Answer}
+use Rattle.kw_world.specs.declared.answer.Answer.TheVariants.{Spent}
+use Rattle.kw_world.specs.declared.activity.Activity.TheVariants.{Again, BalClock, BalEpoch, BalState, BalNormal, Engage, MarkLink, Decide, FreezeCount}
+use Rattle.kw_world.specs.declared.local.Local.{Local}
+use Rattle.kw_world.specs.Local.{without_rows, without_rebalance}
+use Rattle.kw_world.specs.Transition.{Outcome, to, leave}
+
+-- the rebalance of the seat's row begins, and nothing is known of an earlier one
+abbrev pub to_rebalance : Local → Outcome
+to_rebalance l = to BalClock (without_rebalance l)
+
+-- the put tries again: it takes its announced epoch back first, and forgets every row
+abbrev pub again : Local → Outcome
+again l = to Again (without_rows (without_rebalance l))
+
+-- the put is refused with this answer
+abbrev pub refuse : Answer → Local → Outcome
+refuse answer l = leave answer (without_rebalance l)
+
+-- BalClock: from a certain clock on no rebalance begins
+abbrev pub balance_clock : ℕ → Local → Outcome
+balance_clock clock l = if nat_le SPENT clock then refuse Spent l else to BalEpoch l
+
+-- BalEpoch: nor from a certain epoch on
+abbrev pub balance_epoch : ℕ → Local → Outcome
+balance_epoch epoch l = if nat_le SPENT epoch then refuse Spent l else to BalState l
+
+-- the row is led alone, or that is not decided
+abbrev pub is_alone : ℕ → Bool
+is_alone count = nat_le count 1
+
+-- BalState: a normal row is engaged, a leader of one row is helped, and what its seat has built is made normal first
+abbrev pub state_met : Option State → Local → Outcome
+state_met (Some Free) l = again l
+state_met (Some (Infant seat)) l = to (BalNormal seat) l
+state_met (Some Normal) l = to Engage l
+state_met (Some (Leader count)) l = if is_alone count then to (MarkLink count) l else again l
+state_met (Some (Follower leader)) l = again l
+state_met (Some (Retired number)) l = again l
+state_met None l = again l
+
+-- Engage: the exchange was made, or the state is asked for once more
+abbrev pub engaged : Bool → Local → Outcome
+engaged true l = to (MarkLink 0) l
+engaged false l = to BalState l
+
+-- the row after the full one is known
+abbrev pub followed_by : Option ℕ → Local → Local
+followed_by after l = record l { rebalance = record l.rebalance { after = after } }
+
+-- MarkLink: the link does not change any more. It is decided that one row is replaced, unless it was decided before
+abbrev pub link_marked : ℕ → Option ℕ → Local → Outcome
+link_marked count after l = if count == 0 then to (Decide 1) (followed_by after l) else to FreezeCount (followed_by after l)
+
+-- Decide: the exchange was made, or somebody else decided the same; in any other state the row is not this seat's any more
+abbrev pub decided : Option State → Local → Outcome
+decided (Some Free) l = again l
+decided (Some (Infant seat)) l = again l
+decided (Some Normal) l = again l
+decided (Some (Leader count)) l = if is_alone count then to FreezeCount l else again l
+decided (Some (Follower leader)) l = again l
+decided (Some (Retired number)) l = again l
+decided None l = again l

@@ -1,0 +1,70 @@
+-- What follows from the events that freeze the full row, and from those that ask which versions scans may still ask for.
+--
+-- A frozen row gives no cell, and no put of it gets a version any more: each entry is frozen, or is stamped and remembered. A scan
+-- that waits is helped to a version, so that every scan has one that is needed, or begins later than all that the row holds.
+use Rattle.std.specs.Prelude.{ℕ, ◌+◌, Bool, true, false, nat_lt, ◌==◌, if◌then◌else◌, Option, Some, None, [], ◌∷◌, ◌++◌}
+use Rattle.kw_words.specs.declared.pend.Pend.{Pend}
+use Rattle.kw_words.specs.declared.pend.Pend.TheVariants.{Idle, Pending, Stamped, Frozen}
+use Rattle.kw_words.specs.declared.scan.ScanWord.{ScanWord}
+use Rattle.kw_words.specs.declared.scan.ScanWord.TheVariants.{Quiet, Waiting, Drawn}
+use Rattle.kw_world.specs.declared.activity.Activity.TheVariants.{FreezeLook, Freeze, ScanLook, HelpDraw}
+use Rattle.kw_world.specs.declared.local.Local.{Local}
+use Rattle.kw_world.specs.Sizes.{Sizes}
+use Rattle.kw_world.specs.Marks.{mark_of}
+use Rattle.kw_world.specs.Transition.{Outcome, to}
+use Rattle.kw_world.specs.TakeTransitions.{to_take}
+
+-- FreezeCount: the entries are looked at, and no cell is remembered
+abbrev pub count_frozen : Local → Outcome
+count_frozen l = to (FreezeLook 0) (record l { rebalance = record l.rebalance { marks = [] } })
+
+-- no version is needed as yet
+abbrev pub to_scans : Local → Outcome
+to_scans l = to (ScanLook 0) (record l { rebalance = record l.rebalance { needed = [] } })
+
+-- FreezeLook(i): the entry of seat i; once all entries are frozen, the scans
+abbrev pub to_freeze_look : Sizes → ℕ → Local → Outcome
+to_freeze_look z i l = if nat_lt i z.seats then to (FreezeLook i) l else to_scans l
+
+-- the cell is remembered with this version
+abbrev pub marking : ℕ → ℕ → Local → Local
+marking cell version l = record l { rebalance = record l.rebalance { marks = l.rebalance.marks ++ mark_of cell version ∷ [] } }
+
+-- the entry is about to be frozen
+abbrev pub freezing : ℕ → Pend → Local → Outcome
+freezing i entry l = to (Freeze i) (record l { rebalance = record l.rebalance { entry = entry } })
+
+-- FreezeLook(i): an idle or a pending entry is frozen, a stamped cell is remembered, and a frozen entry is passed over
+abbrev pub freeze_met : Sizes → ℕ → Option Pend → Local → Outcome
+freeze_met z i (Some Idle) l = freezing i Idle l
+freeze_met z i (Some (Pending cell)) l = freezing i (Pending cell) l
+freeze_met z i (Some (Stamped cell version)) l = to_freeze_look z (i + 1) (marking cell version l)
+freeze_met z i (Some Frozen) l = to_freeze_look z (i + 1) l
+freeze_met z i None l = to_freeze_look z (i + 1) l
+
+-- Freeze(i): the exchange was made, or the entry is looked at once more
+abbrev pub entry_tried : Sizes → ℕ → Bool → Local → Outcome
+entry_tried z i true l = to_freeze_look z (i + 1) l
+entry_tried z i false l = to (FreezeLook i) l
+
+-- ScanLook(i): the scan of seat i; once all scans are looked at, the cells of the row
+abbrev pub to_scan_look : Sizes → ℕ → Local → Outcome
+to_scan_look z i l = if nat_lt i z.seats then to (ScanLook i) l else to_take l
+
+-- the version is needed
+abbrev pub needing : ℕ → Local → Local
+needing version l = record l { rebalance = record l.rebalance { needed = l.rebalance.needed ++ version ∷ [] } }
+
+-- ScanLook(i): a scan that waits is helped, and the version of one that has drawn is needed
+abbrev pub scan_met : Sizes → ℕ → Option ScanWord → Local → Outcome
+scan_met z i (Some Quiet) l = to_scan_look z (i + 1) l
+scan_met z i (Some (Waiting clock)) l = to (HelpDraw i) (record l { rebalance = record l.rebalance { waiting = clock } })
+scan_met z i (Some (Drawn version)) l = to_scan_look z (i + 1) (needing version l)
+scan_met z i None l = to_scan_look z (i + 1) l
+
+-- HelpSettle(i): the version that the exchange gave the scan is needed, or the one that was found
+abbrev pub scan_helped : Sizes → ℕ → Option ScanWord → Local → Outcome
+scan_helped z i (Some Quiet) l = to_scan_look z (i + 1) l
+scan_helped z i (Some (Waiting clock)) l = to_scan_look z (i + 1) (if clock == l.rebalance.waiting then needing l.rebalance.drawn l else l)
+scan_helped z i (Some (Drawn version)) l = to_scan_look z (i + 1) (needing version l)
+scan_helped z i None l = to_scan_look z (i + 1) l

@@ -1,0 +1,63 @@
+-- What follows from the events that gather all cells of the full row, and which of them go into the new rows.
+--
+-- As a reader does, a rebalance walks along the row's list, and reads by themselves the stamped cells that it remembers and did not
+-- meet. It gathers every key.
+use Rattle.std.specs.Prelude.{ℕ, nat_lt, if◌then◌else◌, Option, Some, None, [], length, unwrap_or}
+use Rattle.kw_cells.specs.Kept.{kept_of}
+use Rattle.kw_cells.specs.Cuts.{starts_of}
+use Rattle.kw_cells.specs.InOrder.{with_cell}
+use Rattle.kw_world.specs.declared.activity.Activity.TheVariants.{TakeFrom, TakeKey, TakeValue, TakeRestKey, SeekFirst}
+use Rattle.kw_world.specs.declared.local.Local.{Local}
+use Rattle.kw_world.specs.declared.marks.Mark.{Mark}
+use Rattle.kw_world.specs.Sizes.{Sizes}
+use Rattle.kw_world.specs.Marks.{unmarked, least_mark}
+use Rattle.kw_world.specs.ListTransitions.{at_first, one_more, past_cell}
+use Rattle.kw_world.specs.ReadTransitions.{cell_in_hand}
+use Rattle.kw_world.specs.Transition.{Outcome, to}
+
+-- the walk begins at the row's first link, and no cell is gathered
+abbrev pub to_take : Local → Outcome
+to_take l = to TakeFrom (record (at_first l) { rebalance = record l.rebalance { gathered = [] } })
+
+-- which cells the new rows get, and where each row starts among them; no row is taken as yet, and row 0 is asked first
+abbrev pub planned : Sizes → Local → Local
+planned z l = record l { rebalance = record l.rebalance {
+  kept = kept_of l.rebalance.gathered l.rebalance.needed;
+  starts = starts_of z.built (kept_of l.rebalance.gathered l.rebalance.needed);
+  taken = [];
+  at = 0;
+  sought = 0;
+  asked = 1;
+} }
+
+-- a remembered cell of the least place is read, and remembered no more; where none is left, the search for new rows begins
+abbrev pub left_of : Sizes → Option Mark → Local → Outcome
+left_of z (Some m) l = to TakeRestKey (record l { place = m.cell; place_version = m.version; rebalance = record l.rebalance { marks = unmarked m.cell l.rebalance.marks } })
+left_of z None l = to SeekFirst (planned z l)
+
+-- the remembered cells that were not met are left
+abbrev pub to_left : Sizes → Local → Outcome
+to_left z l = left_of z (least_mark l.rebalance.marks) l
+
+-- the cell was met behind its link: it need not be remembered any more
+abbrev pub taking : Sizes → ℕ → Local → Local
+taking z cell l = record l { place = cell; walked = one_more z l.walked; rebalance = record l.rebalance { marks = unmarked cell l.rebalance.marks } }
+
+-- TakeFrom: the link leads to a cell, which is met, or the list is at its end
+abbrev pub take_met : Sizes → Option ℕ → Local → Outcome
+take_met z (Some cell) l = to TakeKey (taking z cell l)
+take_met z None l = to_left z l
+
+-- TakeVersion: a cell without a version, of which no list has one, counts as one of version 1
+abbrev pub take_version : Option ℕ → Local → Outcome
+take_version version l = to TakeValue (record l { place_version = unwrap_or version 1 })
+
+-- the cell is gathered: put among those that were, in the order of the list. A row has no more cells than are gathered
+abbrev pub keeping : Sizes → Option ℕ → Local → Local
+keeping z value l = record l { rebalance = record l.rebalance {
+  gathered = if nat_lt (length l.rebalance.gathered) z.cells then with_cell (cell_in_hand value l) l.rebalance.gathered else l.rebalance.gathered;
+} }
+
+-- the walk goes on past the cell that it met
+abbrev pub take_past : Local → Outcome
+take_past l = to TakeFrom (past_cell l)
