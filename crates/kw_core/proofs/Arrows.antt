@@ -26,7 +26,7 @@ use Rattle.kw_world.specs.declared.answer.Answer.{Answer}
 use Rattle.kw_world.specs.declared.answer.Answer.TheVariants.{Done, Pairs, Spent, Stopped}
 use Rattle.kw_world.specs.Answers.{answer_found}
 use Rattle.kw_world.specs.declared.activity.Activity.{Activity}
-use Rattle.kw_world.specs.declared.activity.Activity.TheVariants.{Idle, Enter, ScanClock, ScanWait, ScanDraw, ScanSettle, Start, Head, GuessMin, Walk, WalkMin, Look, LookKey, LookClock, LookHelp, ListFrom, ListKey, ListVer, ListVal, RestKey, RestVal, ClearScan, PutCount, PutAdd, PutKey, PutValue, Announce, PutClock, Stamp, PutVersion, InsFrom, InsKey, InsVer, InsSet, Insert, PutClear, Leave}
+use Rattle.kw_world.specs.declared.activity.Activity.TheVariants.{Idle, Enter, ScanClock, ScanWait, ScanDraw, ScanSettle, Start, Head, GuessMin, Walk, WalkMin, Look, LookKey, LookClock, LookHelp, ListFrom, ListKey, ListVer, ListVal, RestKey, RestVal, ClearScan, PutCount, PutAdd, PutKey, PutValue, Announce, PutClock, Stamp, PutVersion, InsFrom, InsKey, InsVer, InsSet, Insert, PutClear, Leave, Again, AgainEpoch, BalClock, BalEpoch, BalState, BalNormal, Engage, MarkLink, Decide, FreezeCount, FreezeLook, Freeze, ScanLook, HelpDraw, HelpSettle, TakeFrom, TakeKey, TakeVersion, TakeValue, TakeRestKey, TakeRestValue, SeekFirst, Seek, TakeRow, GiveBack, WriteCount, WriteMin, WriteNext, WriteFirst, WritePend, WriteKey, WriteValue, WriteVersion, WriteAfter, Before, BeforeGuess, BeforeHead, BeforeLink, BeforeMin, Replace, Normalise, Number, Retire}
 use Rattle.kw_world.specs.declared.local.Local.{Local}
 use Rattle.kw_world.specs.declared.limits.TheConstants.{NEWEST}
 use Rattle.kw_world.specs.declared.event.Choice.{Choice}
@@ -154,6 +154,50 @@ pub data Arrow (z : Sizes) (v : Words) (s : ℕ) (choice : Choice) (l : Local) :
   clears : Arrow z v s choice l PutClear (leave Done l).local
   -- the call ends
   leaves : (answer : Answer) → Arrow z v s choice l (Leave answer) (resting l.number)
+  -- a rebalance: one arrow for each line, as the table has it
+  retries : (rows : ℕ) → Arrow z v s choice l Again (followed rows (transition z Again s choice l) (v (transition z Again s choice l).operation.name)).local
+  loads_epoch_again : (rows : ℕ) → Arrow z v s choice l AgainEpoch (followed rows (transition z AgainEpoch s choice l) (v (transition z AgainEpoch s choice l).operation.name)).local
+  begins_rebalance : (rows : ℕ) → Arrow z v s choice l BalClock (followed rows (transition z BalClock s choice l) (v (transition z BalClock s choice l).operation.name)).local
+  checks_epoch : (rows : ℕ) → Arrow z v s choice l BalEpoch (followed rows (transition z BalEpoch s choice l) (v (transition z BalEpoch s choice l).operation.name)).local
+  meets_state : (rows : ℕ) → Arrow z v s choice l BalState (followed rows (transition z BalState s choice l) (v (transition z BalState s choice l).operation.name)).local
+  normalises_full : (seat : ℕ) (rows : ℕ) → Arrow z v s choice l (BalNormal seat) (followed rows (transition z (BalNormal seat) s choice l) (v (transition z (BalNormal seat) s choice l).operation.name)).local
+  engages : (rows : ℕ) → Arrow z v s choice l Engage (followed rows (transition z Engage s choice l) (v (transition z Engage s choice l).operation.name)).local
+  marks_link : (count : ℕ) (rows : ℕ) → Arrow z v s choice l (MarkLink count) (followed rows (transition z (MarkLink count) s choice l) (v (transition z (MarkLink count) s choice l).operation.name)).local
+  decides : (count : ℕ) (rows : ℕ) → Arrow z v s choice l (Decide count) (followed rows (transition z (Decide count) s choice l) (v (transition z (Decide count) s choice l).operation.name)).local
+  freezes_count : (rows : ℕ) → Arrow z v s choice l FreezeCount (followed rows (transition z FreezeCount s choice l) (v (transition z FreezeCount s choice l).operation.name)).local
+  meets_entry : (i : ℕ) (rows : ℕ) → Arrow z v s choice l (FreezeLook i) (followed rows (transition z (FreezeLook i) s choice l) (v (transition z (FreezeLook i) s choice l).operation.name)).local
+  freezes_entry : (i : ℕ) (rows : ℕ) → Arrow z v s choice l (Freeze i) (followed rows (transition z (Freeze i) s choice l) (v (transition z (Freeze i) s choice l).operation.name)).local
+  meets_scan : (i : ℕ) (rows : ℕ) → Arrow z v s choice l (ScanLook i) (followed rows (transition z (ScanLook i) s choice l) (v (transition z (ScanLook i) s choice l).operation.name)).local
+  draws_for_scan : (i : ℕ) (rows : ℕ) → Arrow z v s choice l (HelpDraw i) (followed rows (transition z (HelpDraw i) s choice l) (v (transition z (HelpDraw i) s choice l).operation.name)).local
+  settles_scan : (i : ℕ) (rows : ℕ) → Arrow z v s choice l (HelpSettle i) (followed rows (transition z (HelpSettle i) s choice l) (v (transition z (HelpSettle i) s choice l).operation.name)).local
+  takes_link : (rows : ℕ) → Arrow z v s choice l TakeFrom (followed rows (transition z TakeFrom s choice l) (v (transition z TakeFrom s choice l).operation.name)).local
+  takes_key : (rows : ℕ) → Arrow z v s choice l TakeKey (followed rows (transition z TakeKey s choice l) (v (transition z TakeKey s choice l).operation.name)).local
+  takes_version : (rows : ℕ) → Arrow z v s choice l TakeVersion (followed rows (transition z TakeVersion s choice l) (v (transition z TakeVersion s choice l).operation.name)).local
+  takes_value : (rows : ℕ) → Arrow z v s choice l TakeValue (followed rows (transition z TakeValue s choice l) (v (transition z TakeValue s choice l).operation.name)).local
+  takes_rest_key : (rows : ℕ) → Arrow z v s choice l TakeRestKey (followed rows (transition z TakeRestKey s choice l) (v (transition z TakeRestKey s choice l).operation.name)).local
+  takes_rest_value : (rows : ℕ) → Arrow z v s choice l TakeRestValue (followed rows (transition z TakeRestValue s choice l) (v (transition z TakeRestValue s choice l).operation.name)).local
+  seeks_first : (rows : ℕ) → Arrow z v s choice l SeekFirst (followed rows (transition z SeekFirst s choice l) (v (transition z SeekFirst s choice l).operation.name)).local
+  seeks : (rows : ℕ) → Arrow z v s choice l Seek (followed rows (transition z Seek s choice l) (v (transition z Seek s choice l).operation.name)).local
+  takes_row : (rows : ℕ) → Arrow z v s choice l TakeRow (followed rows (transition z TakeRow s choice l) (v (transition z TakeRow s choice l).operation.name)).local
+  gives_back : (rows : ℕ) → Arrow z v s choice l GiveBack (followed rows (transition z GiveBack s choice l) (v (transition z GiveBack s choice l).operation.name)).local
+  writes_count : (rows : ℕ) → Arrow z v s choice l WriteCount (followed rows (transition z WriteCount s choice l) (v (transition z WriteCount s choice l).operation.name)).local
+  writes_least : (rows : ℕ) → Arrow z v s choice l WriteMin (followed rows (transition z WriteMin s choice l) (v (transition z WriteMin s choice l).operation.name)).local
+  writes_next : (rows : ℕ) → Arrow z v s choice l WriteNext (followed rows (transition z WriteNext s choice l) (v (transition z WriteNext s choice l).operation.name)).local
+  writes_first : (rows : ℕ) → Arrow z v s choice l WriteFirst (followed rows (transition z WriteFirst s choice l) (v (transition z WriteFirst s choice l).operation.name)).local
+  writes_entry : (i : ℕ) (rows : ℕ) → Arrow z v s choice l (WritePend i) (followed rows (transition z (WritePend i) s choice l) (v (transition z (WritePend i) s choice l).operation.name)).local
+  writes_key : (j : ℕ) (rows : ℕ) → Arrow z v s choice l (WriteKey j) (followed rows (transition z (WriteKey j) s choice l) (v (transition z (WriteKey j) s choice l).operation.name)).local
+  writes_value : (j : ℕ) (rows : ℕ) → Arrow z v s choice l (WriteValue j) (followed rows (transition z (WriteValue j) s choice l) (v (transition z (WriteValue j) s choice l).operation.name)).local
+  writes_version : (j : ℕ) (rows : ℕ) → Arrow z v s choice l (WriteVersion j) (followed rows (transition z (WriteVersion j) s choice l) (v (transition z (WriteVersion j) s choice l).operation.name)).local
+  writes_after : (j : ℕ) (rows : ℕ) → Arrow z v s choice l (WriteAfter j) (followed rows (transition z (WriteAfter j) s choice l) (v (transition z (WriteAfter j) s choice l).operation.name)).local
+  looks_before : (rows : ℕ) → Arrow z v s choice l Before (followed rows (transition z Before s choice l) (v (transition z Before s choice l).operation.name)).local
+  guesses_before : (rows : ℕ) → Arrow z v s choice l BeforeGuess (followed rows (transition z BeforeGuess s choice l) (v (transition z BeforeGuess s choice l).operation.name)).local
+  meets_head : (rows : ℕ) → Arrow z v s choice l BeforeHead (followed rows (transition z BeforeHead s choice l) (v (transition z BeforeHead s choice l).operation.name)).local
+  links_before : (rows : ℕ) → Arrow z v s choice l BeforeLink (followed rows (transition z BeforeLink s choice l) (v (transition z BeforeLink s choice l).operation.name)).local
+  meets_least : (rows : ℕ) → Arrow z v s choice l BeforeMin (followed rows (transition z BeforeMin s choice l) (v (transition z BeforeMin s choice l).operation.name)).local
+  replaces : (rows : ℕ) → Arrow z v s choice l Replace (followed rows (transition z Replace s choice l) (v (transition z Replace s choice l).operation.name)).local
+  normalises : (rows : ℕ) → Arrow z v s choice l Normalise (followed rows (transition z Normalise s choice l) (v (transition z Normalise s choice l).operation.name)).local
+  numbers : (rows : ℕ) → Arrow z v s choice l Number (followed rows (transition z Number s choice l) (v (transition z Number s choice l).operation.name)).local
+  retires : (rows : ℕ) → Arrow z v s choice l Retire (followed rows (transition z Retire s choice l) (v (transition z Retire s choice l).operation.name)).local
 
 -- Tests of the table.
 
@@ -411,3 +455,46 @@ module _ (z : Sizes) (rows : ℕ) (v : Words) (s : ℕ) (choice : Choice) (l : L
       met false e = loses (eq_not _ _ e)
   arrow PutClear b m = clears
   arrow (Leave answer) b m = leaves answer
+  arrow Again b m = retries rows
+  arrow AgainEpoch b m = loads_epoch_again rows
+  arrow BalClock b m = begins_rebalance rows
+  arrow BalEpoch b m = checks_epoch rows
+  arrow BalState b m = meets_state rows
+  arrow (BalNormal seat) b m = normalises_full seat rows
+  arrow Engage b m = engages rows
+  arrow (MarkLink count) b m = marks_link count rows
+  arrow (Decide count) b m = decides count rows
+  arrow FreezeCount b m = freezes_count rows
+  arrow (FreezeLook i) b m = meets_entry i rows
+  arrow (Freeze i) b m = freezes_entry i rows
+  arrow (ScanLook i) b m = meets_scan i rows
+  arrow (HelpDraw i) b m = draws_for_scan i rows
+  arrow (HelpSettle i) b m = settles_scan i rows
+  arrow TakeFrom b m = takes_link rows
+  arrow TakeKey b m = takes_key rows
+  arrow TakeVersion b m = takes_version rows
+  arrow TakeValue b m = takes_value rows
+  arrow TakeRestKey b m = takes_rest_key rows
+  arrow TakeRestValue b m = takes_rest_value rows
+  arrow SeekFirst b m = seeks_first rows
+  arrow Seek b m = seeks rows
+  arrow TakeRow b m = takes_row rows
+  arrow GiveBack b m = gives_back rows
+  arrow WriteCount b m = writes_count rows
+  arrow WriteMin b m = writes_least rows
+  arrow WriteNext b m = writes_next rows
+  arrow WriteFirst b m = writes_first rows
+  arrow (WritePend i) b m = writes_entry i rows
+  arrow (WriteKey j) b m = writes_key j rows
+  arrow (WriteValue j) b m = writes_value j rows
+  arrow (WriteVersion j) b m = writes_version j rows
+  arrow (WriteAfter j) b m = writes_after j rows
+  arrow Before b m = looks_before rows
+  arrow BeforeGuess b m = guesses_before rows
+  arrow BeforeHead b m = meets_head rows
+  arrow BeforeLink b m = links_before rows
+  arrow BeforeMin b m = meets_least rows
+  arrow Replace b m = replaces rows
+  arrow Normalise b m = normalises rows
+  arrow Number b m = numbers rows
+  arrow Retire b m = retires rows
