@@ -82,7 +82,7 @@ pub fn put_resume(local: &mut Local, choice: Choice, told: u64) -> Result<StepDo
         Activity::Insert => Ok(insert(local, told)),
         Activity::PutClear => Ok(leave(local, Answer::Done)),
         Activity::Leave(answer) => Ok(end_call(local, answer)),
-        Activity::Start | Activity::Head | Activity::GuessMin | Activity::WalkMin => unreachable!(),
+        _ => unreachable!(),
     }
 }
 

@@ -61,8 +61,7 @@ pub(crate) fn look(local: &mut Local, entry: u32, found: u64) -> StepDone
 pub(crate) fn look_key(local: &mut Local, found: u64) -> StepDone
     requires { local.old.looked < SEATS }
     ensures { outcome local.new result ≡ (if is_in_range local.old.call (key_of_word found)
-        then to Activity.LookClock local.old else to_look product (local.old.looked + 1) local.old)
-        }
+        then to Activity.LookClock local.old else to_look product (local.old.looked + 1) local.old) }
 {
     if is_in_range(local.call, unpack_key(found)) {
         to(local, Activity::LookClock)

@@ -60,8 +60,11 @@ fn linked(found: u64) -> Option<u32>
 
 // The walk begins at the first row.
 fn first(local: &mut Local, found: u64) -> StepDone
-    ensures { outcome local.new result ≡ to Activity.Walk (record local.old { row = row_or_first
-        (row_linked (link_of found)); lower = 0 }) }
+    ensures { outcome local.new result ≡ to Activity.Walk (record local.old {
+      row = row_or_first
+          (row_linked (link_of found));
+      lower = 0;
+    }) }
 {
     local.row = linked(found).unwrap_or(0);
     local.lower = 0;
