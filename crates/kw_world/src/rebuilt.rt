@@ -1,7 +1,7 @@
 //! The lists of a rebalance: the versions that it needs, the cells that it keeps, where its new rows start, and the rows that it took.
 //!
 //! Each of them has its room from the sizes of the map, lies in place and takes no memory.
-ghost use Rattle.std.specs.Prelude.{◌≡◌, ◌<◌, ◌++◌, ◌∷◌, [], length};
+ghost use Rattle.std.specs.Prelude.{◌≡◌, ◌<◌, ◌≤◌, ◌++◌, ◌∷◌, [], length};
 ghost use Rattle.kw_cells.specs.declared.limits.TheConstants.{MOST_NEEDED, MOST_STARTS};
 
 use arrayvec::ArrayVec;
@@ -182,7 +182,8 @@ impl Starts {
 
     /// The places, in order.
     pub fn as_slice(&self) -> &[usize]
-        ensures { result.now ≡ self.now }
+        ensures places { result.now ≡ self.now }
+        ensures few { length self.now ≤ MOST_STARTS }
     {
         self.places.as_slice()
     }
