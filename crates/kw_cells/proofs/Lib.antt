@@ -11,6 +11,8 @@ pub mod Passing
 pub mod Moved
 pub mod Few
 pub mod Starts
+pub mod StartsOf
+pub mod KeptOf
 pub mod Rooms
 pub mod Entries
 pub mod Tree

@@ -57,12 +57,13 @@ is_chosen cells needed c = is_newest cells c || list_any (λ u. is_best cells u 
 abbrev pub is_kept : List Cell → List ℕ → Cell → Bool
 is_kept cells needed c = is_chosen cells needed c && list_any (λ d. d.key == c.key && nat_le d.version c.version && is_chosen cells needed d && is_some d.value) cells
 
--- the cells with one more before the first that it is before
+-- the cells with one more behind those that are before it; one that agrees with a cell in key, version and place is not
+-- put beside it
 abbrev pub with_rising : Cell → List Cell → List Cell
 with_rising c [] = c ∷ []
-with_rising c (d ∷ cells) = if is_before c d then c ∷ d ∷ cells else d ∷ with_rising c cells
+with_rising c (d ∷ cells) = if is_before d c then d ∷ with_rising c cells else if is_before c d then c ∷ d ∷ cells else d ∷ cells
 
--- the same cells by rising key, version and place
+-- the same cells by strictly rising key, version and place
 abbrev pub rising_of : List Cell → List Cell
 rising_of [] = []
 rising_of (c ∷ cells) = with_rising c (rising_of cells)

@@ -6,7 +6,7 @@
 ghost use Rattle.std.specs.Prelude.{ℕ, ◌≡◌, ◌≤◌, ◌<◌, ◌+◌, ◌-◌, ◌^◌, ◌↔◌, IsTrue, All, Any, Contains, length};
 ghost use Rattle.std.specs.List.Sorted.{IsPermutation};
 ghost use Rattle.kw_cells.specs.Cells.{AreApart};
-ghost use Rattle.kw_cells.specs.Kept.{HasFew, IsKeptList, ShowsTheSame};
+ghost use Rattle.kw_cells.specs.Kept.{HasFew, IsKeptList, ShowsTheSame, kept_of};
 ghost use Rattle.kw_cells.specs.Ordered.{IsOrdered, IsPicked, MayStay};
 ghost use Rattle.kw_cells.specs.declared.limits.TheConstants.{MOST_GATHERED};
 
@@ -27,6 +27,7 @@ pub fn keep(cells: &[Cell], needed: &[u64]) -> Kept
     requires room { length cells.now ≤ MOST_GATHERED }
     requires apart { AreApart cells.now }
     ensures exactly { IsKeptList cells.now needed.now result.items }
+    ensures is { result.items ≡ kept_of cells.now needed.now }
     ensures given { All (Contains cells.now) result.items }
     ensures few { HasFew (length needed.now + 1) result.items }
     ensures shows { (key : ℕ) → All (ShowsTheSame cells.now result.items key) needed.now }

@@ -2,8 +2,8 @@
 //!
 //! The kept cells of a rebuild stand by rising key in one list, which is cut into rows here. All cells of a key go into
 //! one row, so that whoever looks for a key reads one row. Nothing here takes memory.
-ghost use Rattle.std.specs.Prelude.{◌+◌, ◌≤◌, ◌<◌, length};
-ghost use Rattle.kw_cells.specs.Cuts.{AreFilled, AreStarts, IsNextStart};
+ghost use Rattle.std.specs.Prelude.{◌≡◌, ◌+◌, ◌≤◌, ◌<◌, length};
+ghost use Rattle.kw_cells.specs.Cuts.{AreFilled, AreStarts, IsNextStart, starts_of};
 ghost use Rattle.kw_cells.specs.Kept.{AreRising, HasFew};
 ghost use Rattle.kw_cells.specs.declared.limits.TheConstants.{MOST_STARTS};
 ghost use Rattle.kw_words.specs.declared.sizes.TheConstants.{BUILT};
@@ -26,6 +26,7 @@ pub fn pack_rows(kept: &Kept) -> RowCuts
     requires rising { AreRising kept.now.items }
     requires few { HasFew BUILT kept.now.items }
     ensures starts { AreStarts BUILT kept.now.items result.items }
+    ensures is { result.items ≡ starts_of BUILT kept.now.items }
     ensures filled { AreFilled BUILT kept.now.items result.items }
     ensures rows { length result.items ≤ MOST_STARTS }
 {

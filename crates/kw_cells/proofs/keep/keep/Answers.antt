@@ -7,6 +7,7 @@ use Rattle.kw_cells.specs.declared.cell.Cell.{Cell}
 use Rattle.kw_cells.proofs.Moved.{apart_moved, list_moved}
 use Rattle.kw_cells.proofs.Few.{has_few}
 use Rattle.kw_cells.proofs.Shown.{shows_the_same, kept_given}
+use Rattle.kw_cells.proofs.KeptOf.{kept_list_is}
 use Rattle.kw_cells.proofs.keep.keep.Goals as goal
 
 pub select-requires-clause-apart : goal.select-requires-clause-apart
@@ -14,6 +15,9 @@ select-requires-clause-apart c = subst AreApart (sym c.as_slice.ensures.value) (
 
 pub returns-clause-exactly : goal.returns-clause-exactly
 returns-clause-exactly c = list_moved c.args.cells.now c.in_order-ordered.result.items c.args.needed.now c.select.result.items c.in_order-ordered.ensures.same (subst (λ (s : List Cell). IsKeptList s c.args.needed.now c.select.result.items) c.as_slice.ensures.value c.select.ensures)
+
+pub returns-clause-is : goal.returns-clause-is
+returns-clause-is c = kept_list_is c.args.cells.now c.args.needed.now c.select.result.items c.requires.apart (returns-clause-exactly c)
 
 pub returns-clause-given : goal.returns-clause-given
 returns-clause-given c = kept_given c.args.cells.now c.args.needed.now c.select.result.items (returns-clause-exactly c)

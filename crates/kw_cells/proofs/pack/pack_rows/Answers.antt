@@ -6,6 +6,7 @@ use Rattle.kw_cells.specs.Cuts.{AreStarts}
 use Rattle.kw_cells.specs.Kept.{AreRising, HasFew}
 use Rattle.kw_cells.proofs.Rooms.{room_here}
 use Rattle.kw_cells.proofs.Starts.{starts_more, starts_all, has_room, are_filled}
+use Rattle.kw_cells.proofs.StartsOf.{starts_are}
 use Rattle.kw_cells.proofs.pack.pack_rows.Goals as goal
 
 pub next_start-start-requires-clause-rising : goal.next_start-start-requires-clause-rising
@@ -25,6 +26,9 @@ loop-start-preserved c = rw c.push-in-loop-start.ensures.items (starts_more BUIL
 
 pub returns-clause-starts : goal.returns-clause-starts
 returns-clause-starts c = subst (λ cells. AreStarts BUILT cells c.loop-start.starts.items) c.as_slice-cells.ensures.value (starts_all BUILT MOST_STARTS c.as_slice-cells.result.now c.loop-start.starts.items c.loop-start.start c.loop-start.invariant (omega arith))
+
+pub returns-clause-is : goal.returns-clause-is
+returns-clause-is c = starts_are BUILT c.args.kept.now.items c.requires.rising c.loop-start.starts.items (returns-clause-starts c)
 
 pub returns-clause-filled : goal.returns-clause-filled
 returns-clause-filled c = are_filled BUILT c.args.kept.now.items c.loop-start.starts.items c.requires.rising (returns-clause-starts c)
