@@ -2,18 +2,18 @@
 //!
 //! The operation depends on what the seat knows and on its choice, and on no word. `operation_write` has those that store what a
 //! new row holds.
-ghost use Rattle.std.specs.Prelude.{◌≡◌, ◌<◌, Some};
+ghost use Rattle.std.specs.Prelude.{◌≡◌, Some};
 ghost use Rattle.kw_words.specs.Link.{link_word};
 ghost use Rattle.kw_words.specs.Pend.{IsPend, pend_word};
 ghost use Rattle.kw_words.specs.Scan.{scan_word};
 ghost use Rattle.kw_words.specs.State.{IsState, state_word};
-ghost use Rattle.kw_words.specs.declared.sizes.TheConstants.{MOST_ROWS, SEATS};
 ghost use Rattle.kw_world.specs.ListTransitions.{link_name};
 ghost use Rattle.kw_world.specs.Parts.{part_of};
-ghost use Rattle.kw_world.specs.ReplaceTransitions.{replaced_link};
-ghost use Rattle.kw_world.specs.Sane.{IsLocal, IsLocalBelow, IsVersion};
+ghost use Rattle.kw_world.specs.ReplaceTransitions.{first_infant, replaced_link};
+ghost use Rattle.kw_world.specs.Sane.{IsLocal, IsVersion};
 ghost use Rattle.kw_world.specs.Sizes.{product};
 ghost use Rattle.kw_world.specs.Step.{transition_of};
+ghost use Rattle.kw_world.specs.Transition.{row_or_first};
 ghost use Rattle.kw_world.specs.WriteTransitions.{unmarked_link};
 ghost use Rattle.kw_world.specs.declared.part.Part.{Part};
 
@@ -24,7 +24,6 @@ use crate::operation_write::{
 };
 use kw_words::kind::Kind;
 use kw_words::layout::Name;
-use kw_words::link::Link;
 use kw_words::pend::Pend;
 use kw_words::plain::pack_pass;
 use kw_words::scan::ScanWord;
@@ -38,9 +37,7 @@ use kw_world::operation::{Action, Operation};
 /// The operation of the event that a seat makes with this choice.
 #[tactic(auto, unfolding(kw_world::specs::Step::transition_of))]
 pub fn rebalance_operation(seat: u32, local: &Local, choice: Choice) -> Operation
-    requires seat { seat < SEATS }
     requires ranges { IsLocal product local.now }
-    requires below { IsLocalBelow MOST_ROWS local.now }
     requires part { part_of choice local.now ≡ Part.Rebalance }
     ensures { result ≡ (transition_of product seat choice local.now).operation }
 {
@@ -81,10 +78,7 @@ pub fn rebalance_operation(seat: u32, local: &Local, choice: Choice) -> Operatio
             _ => load(Kind::LoadState, Name::State(local.rebalance.sought)),
         },
         Activity::Seek => load(Kind::LoadState, Name::State(local.rebalance.sought)),
-        Activity::TakeRow => {
-            let state = Name::State(local.rebalance.sought);
-            change_state(Kind::TakeRow, state, State::Free, State::Infant(seat))
-        }
+        Activity::TakeRow => take_row(Name::State(local.rebalance.sought), seat),
         Activity::GiveBack => store_state(Kind::GiveBack, new_row, State::Free),
         Activity::WriteCount => write_count(local, new_row),
         Activity::WriteMin => write_least(local, new_row),
@@ -175,13 +169,37 @@ fn change_state(kind: Kind, name: Name, from: State, into: State) -> Operation
     }
 }
 
+// The word for the state of an infant of a seat, whatever number the seat has.
+fn infant_word(seat: u32) -> u64
+    ensures { result ≡ state_word (State.Infant seat) }
+{
+    1 + 8 * seat as u64
+}
+
 // The exchange that makes an infant of this seat normal.
 fn normalise(name: Name, seat: u32) -> Operation
-    requires { seat < SEATS }
     ensures { result ≡ record { kind = Kind.Normalise; name = name; action = Action.Exchange
         (state_word (State.Infant seat)) (state_word State.Normal) } }
 {
-    change_state(Kind::Normalise, name, State::Infant(seat), State::Normal)
+    let normal = State::Normal.pack();
+    Operation {
+        kind: Kind::Normalise,
+        name,
+        action: Action::Exchange(infant_word(seat), normal),
+    }
+}
+
+// The exchange that makes a free row an infant of this seat.
+fn take_row(name: Name, seat: u32) -> Operation
+    ensures { result ≡ record { kind = Kind.TakeRow; name = name; action = Action.Exchange
+        (state_word State.Free) (state_word (State.Infant seat)) } }
+{
+    let free = State::Free.pack();
+    Operation {
+        kind: Kind::TakeRow,
+        name,
+        action: Action::Exchange(free, infant_word(seat)),
+    }
 }
 
 // The exchange of an entry for a frozen one.
@@ -243,21 +261,18 @@ fn replaced_link(before: Option<u32>) -> Name
     }
 }
 
-// The word for an unmarked link to a row.
-fn link_to(row: u32) -> u64
-    requires { row < MOST_ROWS }
-    ensures { result ≡ link_word (unmarked_link (Some row)) }
+// The word for an unmarked link to this row, or to none, whatever number the row has.
+pub(crate) fn link_to(row: Option<u32>) -> u64
+    ensures { result ≡ link_word (unmarked_link row) }
 {
-    let link = Link {
-        row: Some(row),
-        marked: false,
-    };
-    link.pack()
+    match row {
+        Some(row) => row as u64 + 1,
+        None => 0,
+    }
 }
 
 // The exchange of the link to the full row for one to the first of the new rows.
 fn replace(local: &Local) -> Operation
-    requires { IsLocalBelow MOST_ROWS local.now }
     ensures { result ≡ record { kind = Kind.Replace; name = replaced_link
         local.now.rebalance.before; action = Action.Exchange
         (link_word (unmarked_link (Some local.now.row)))
@@ -267,8 +282,8 @@ fn replace(local: &Local) -> Operation
         Some(row) => *row,
         None => 0,
     };
-    let old = link_to(local.row);
-    let new = link_to(first);
+    let old = link_to(Some(local.row));
+    let new = link_to(Some(first));
     Operation {
         kind: Kind::Replace,
         name: replaced_link(local.rebalance.before),

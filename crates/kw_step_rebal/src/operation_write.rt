@@ -4,20 +4,19 @@ ghost use Rattle.kw_cells.specs.Cells.{value_in};
 ghost use Rattle.kw_words.specs.Count.{count_word};
 ghost use Rattle.kw_words.specs.Link.{link_word};
 ghost use Rattle.kw_words.specs.Plain.{cell_link_word, key_word, value_word, version_word};
-ghost use Rattle.kw_words.specs.declared.sizes.TheConstants.{MOST_ROWS};
-ghost use Rattle.kw_world.specs.Sane.{IsLocal, IsLocalBelow};
+ghost use Rattle.kw_world.specs.Sane.{IsLocal};
 ghost use Rattle.kw_world.specs.Sizes.{product};
 ghost use Rattle.kw_world.specs.WriteTransitions.{infant_cells, infant_count, infant_least, infant_link, first_listed, listed_after, key_in, version_in};
 
 use crate::infant::{
-    first_listed, infant_cells, infant_count, infant_least, infant_link, listed_after,
+    first_listed, infant_cells, infant_count, infant_least, infant_next, listed_after,
 };
-use crate::operation::store;
+use crate::operation::{link_to, store};
 use kw_words::kind::Kind;
 use kw_words::layout::Name;
 use kw_words::plain::{pack_cell_link, pack_key, pack_value, pack_version};
 use kw_world::local::Local;
-use kw_world::operation::Operation;
+use kw_world::operation::{Action, Operation};
 
 // Its count.
 pub(crate) fn write_count(local: &Local, row: u32) -> Operation
@@ -31,6 +30,7 @@ pub(crate) fn write_count(local: &Local, row: u32) -> Operation
 
 // Its least key.
 pub(crate) fn write_least(local: &Local, row: u32) -> Operation
+    requires { IsLocal product local.now }
     ensures { result ≡ record { kind = Kind.StoreInfant; name = Name.Min row; action = Action.Store
         (key_word (infant_least local.now)) } }
 {
@@ -40,11 +40,11 @@ pub(crate) fn write_least(local: &Local, row: u32) -> Operation
 
 // The link after it.
 pub(crate) fn write_link(local: &Local, row: u32) -> Operation
-    requires { IsLocalBelow MOST_ROWS local.now }
+    requires { IsLocal product local.now }
     ensures { result ≡ record { kind = Kind.StoreInfant; name = Name.Next row; action = Action.Store
         (link_word (infant_link local.now)) } }
 {
-    let link = infant_link(local).pack();
+    let link = link_to(infant_next(local));
     store(Kind::StoreInfant, Name::Next(row), link)
 }
 
@@ -60,6 +60,7 @@ pub(crate) fn write_first(local: &Local, row: u32) -> Operation
 
 // The key of a cell of it.
 pub(crate) fn write_key(local: &Local, row: u32, cell: u32) -> Operation
+    requires { IsLocal product local.now }
     ensures { result ≡ record { kind = Kind.StoreInfant; name = Name.Key row cell; action =
         Action.Store (key_word (key_in (slice_get (infant_cells local.now) cell))) } }
 {
@@ -93,9 +94,10 @@ pub(crate) fn write_version(local: &Local, row: u32, cell: u32) -> Operation
     ensures { result ≡ record { kind = Kind.StoreInfant; name = Name.Version row cell; action =
         Action.Store (version_word (version_in (slice_get (infant_cells local.now) cell))) } }
 {
-    let version = infant_cells(local)
-        .get(cell as usize)
-        .map(|kept| kept.version);
+    let version = match infant_cells(local).get(cell as usize) {
+        Some(kept) => Some(kept.version),
+        None => None,
+    };
     store(
         Kind::StoreInfant,
         Name::Version(row, cell),

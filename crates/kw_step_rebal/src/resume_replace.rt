@@ -1,11 +1,12 @@
 //! What a seat knows after the events that find the row before the full one, and link the new rows in place of the full one.
-ghost use Rattle.std.specs.Prelude.{◌≡◌, ◌≤◌, length};
+ghost use Rattle.std.specs.Prelude.{◌≡◌, ◌≤◌, Some, length, ℕ};
 ghost use Rattle.kw_words.specs.Link.{link_of};
 ghost use Rattle.kw_words.specs.Plain.{key_of_word};
 ghost use Rattle.kw_words.specs.State.{state_of};
 ghost use Rattle.kw_world.specs.ReplaceTransitions.{at_before, before_transition, first_before, guess_before, guess_least, least_before, link_before, normalised, replaced, row_before, row_replaced};
 ghost use Rattle.kw_world.specs.Transition.{outcome, row_linked, row_or_first};
 
+use crate::infant::next_at;
 use crate::resume::to;
 use crate::resume_seek::{give_back, has_more};
 use kw_words::link::Link;
@@ -142,7 +143,7 @@ pub(crate) fn normalised(local: &mut Local) -> StepDone
     ensures { outcome local.new result ≡ normalised local.old }
 {
     if has_more(local) {
-        local.rebalance.at += 1;
+        local.rebalance.at = next_at(local);
         to(local, Activity::Normalise)
     } else {
         to(local, Activity::Number)

@@ -6,6 +6,7 @@ ghost use Rattle.kw_world.specs.SeekTransitions.{at_infant, gave_back, give_back
 ghost use Rattle.kw_world.specs.Transition.{outcome};
 ghost use Rattle.kw_world.specs.declared.rebalance.Afterwards.{Afterwards};
 
+use crate::infant::next_at;
 use crate::resume::to;
 use crate::resume_engage::{again, refuse, to_rebalance};
 use kw_words::state::State;
@@ -20,7 +21,7 @@ pub(crate) fn has_more(local: &Local) -> bool
     requires { local.now.rebalance.at ≤ length local.now.rebalance.taken }
     ensures { result ≡ has_more local.now }
 {
-    local.rebalance.at + 1 < local.rebalance.taken.as_slice().len()
+    next_at(local) < local.rebalance.taken.as_slice().len()
 }
 
 // No taken row is left, and this follows.
@@ -56,7 +57,7 @@ pub(crate) fn gave_back(local: &mut Local) -> StepDone
     ensures { outcome local.new result ≡ gave_back local.old }
 {
     if has_more(local) {
-        local.rebalance.at += 1;
+        local.rebalance.at = next_at(local);
         return to(local, Activity::GiveBack);
     }
     let afterwards = local.rebalance.afterwards;

@@ -1,10 +1,11 @@
 //! What a seat knows after the events that write a new row: which word it writes next.
 ghost use Rattle.std.specs.Prelude.{◌≡◌, ◌≤◌, length};
+ghost use Rattle.kw_world.specs.Sane.{IsLocal};
 ghost use Rattle.kw_world.specs.Sizes.{product};
 ghost use Rattle.kw_world.specs.Transition.{outcome};
 ghost use Rattle.kw_world.specs.WriteTransitions.{row_written, to_write_cell, to_write_entry};
 
-use crate::infant::infant_cells;
+use crate::infant::{infant_cells, next_at};
 use crate::resume::to;
 use crate::resume_seek::has_more;
 use kw_words::sizes::{CELL_COUNT, SEAT_COUNT};
@@ -18,7 +19,7 @@ fn row_written(local: &mut Local) -> StepDone
     ensures { outcome local.new result ≡ row_written local.old }
 {
     if has_more(local) {
-        local.rebalance.at += 1;
+        local.rebalance.at = next_at(local);
         to(local, Activity::WriteCount)
     } else {
         to(local, Activity::Before)
@@ -28,7 +29,7 @@ fn row_written(local: &mut Local) -> StepDone
 // The seat goes on to this cell: to its key, or to its version alone where the row has no cell for it. After the last cell the
 // row is written.
 pub(crate) fn to_write_cell(local: &mut Local, cell: u32) -> StepDone
-    requires { local.old.rebalance.at ≤ length local.old.rebalance.taken }
+    requires { IsLocal product local.old }
     ensures { outcome local.new result ≡ to_write_cell product cell local.old }
 {
     if cell >= CELL_COUNT {
@@ -42,7 +43,7 @@ pub(crate) fn to_write_cell(local: &mut Local, cell: u32) -> StepDone
 
 // The seat goes on to the entry of this seat, or to the first cell after the last entry.
 pub(crate) fn to_write_entry(local: &mut Local, entry: u32) -> StepDone
-    requires { local.old.rebalance.at ≤ length local.old.rebalance.taken }
+    requires { IsLocal product local.old }
     ensures { outcome local.new result ≡ to_write_entry product entry local.old }
 {
     if entry < SEAT_COUNT {

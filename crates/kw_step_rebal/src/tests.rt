@@ -1,12 +1,11 @@
 //! One event of each topic of a rebalance: what a seat knows after it, or what it stores.
 ghost use Rattle.std.specs.Prelude.{◌≡◌, ◌<◌, length, IfOk, None};
-ghost use Rattle.kw_world.specs.Sane.{HasRoom, IsActivity, IsLocal, IsLocalBelow, IsOfPart, IsSane};
+ghost use Rattle.kw_world.specs.Sane.{HasRoom, IsActivity, IsLocal, IsOfPart, IsSane};
 ghost use Rattle.kw_world.specs.Parts.{part_of};
 ghost use Rattle.kw_world.specs.Sizes.{product};
 ghost use Rattle.kw_world.specs.declared.activity.Activity.{Activity};
 ghost use Rattle.kw_world.specs.declared.event.Choice.{Choice};
 ghost use Rattle.kw_world.specs.declared.part.Part.{Part};
-ghost use Rattle.kw_words.specs.declared.sizes.TheConstants.{MOST_ROWS};
 
 use crate::operation::rebalance_operation;
 use crate::resume::rebalance_resume;
@@ -210,7 +209,7 @@ fn tombstone(key: u32, version: u64) -> Cell
 fn with_new_rows(alloc: Global, activity: Activity) -> Local
     requires { IsActivity product activity }
     ensures ranges { IsLocal product result }
-    ensures below { IsLocalBelow MOST_ROWS result }
+    ensures room { HasRoom product result }
     ensures at { result.activity ≡ activity }
 {
     let mut kept = Kept::new();
@@ -236,7 +235,6 @@ fn with_new_rows(alloc: Global, activity: Activity) -> Local
 // What a seat stores by its event.
 fn stored(local: &Local) -> Option<(Name, u64)>
     requires ranges { IsLocal product local.now }
-    requires below { IsLocalBelow MOST_ROWS local.now }
     requires part { part_of Choice.Go local.now ≡ Part.Rebalance }
 {
     match rebalance_operation(1, local, Choice::Go) {

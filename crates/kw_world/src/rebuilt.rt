@@ -242,7 +242,8 @@ impl Taken {
 
     /// The rows, in order.
     pub fn as_slice(&self) -> &[u32]
-        ensures { result.now ≡ self.now }
+        ensures rows { result.now ≡ self.now }
+        ensures few { length self.now ≤ MOST_STARTS }
     {
         self.rows.as_slice()
     }
