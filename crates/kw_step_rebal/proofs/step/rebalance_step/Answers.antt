@@ -8,11 +8,11 @@ use Rattle.kw_world.proofs.Steps.{made_in_turn}
 use Rattle.kw_step_rebal.proofs.Balancing.{balance_not_skipped}
 use Rattle.kw_step_rebal.proofs.step.rebalance_step.Goals as goal
 
-pub rebalance_operation-operation-requires-clause-part : goal.rebalance_operation-operation-requires
+pub rebalance_operation-operation-requires-clause-part : goal.rebalance_operation-operation-requires-clause-part
 rebalance_operation-operation-requires-clause-part c =
     rw (c.offered-choice.ensures.value) (part-offered c.rows-rows.result c.args.event.choice c.local-local.result.now ∙ c.requires.part c.local-local.result.now c.local-local.ensures)
 
-pub rebalance_resume-done-requires-clause-part : goal.rebalance_resume-done-requires
+pub rebalance_resume-done-requires-clause-part : goal.rebalance_resume-done-requires-clause-part
 rebalance_resume-done-requires-clause-part c =
     rw (c.offered-choice.ensures.value) (part-offered c.rows-rows.result c.args.event.choice c.local_mut.result.now ∙ c.requires.part c.local_mut.result.now c.local_mut.ensures.value)
 
