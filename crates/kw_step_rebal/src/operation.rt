@@ -1,0 +1,292 @@
+//! Which operation a seat makes in its rebalance.
+//!
+//! The operation depends on what the seat knows and on its choice, and on no word. `operation_write` has those that store what a
+//! new row holds.
+ghost use Rattle.std.specs.Prelude.{◌≡◌, Some};
+ghost use Rattle.kw_words.specs.Link.{link_word};
+ghost use Rattle.kw_words.specs.Pend.{IsPend, pend_word};
+ghost use Rattle.kw_words.specs.Scan.{scan_word};
+ghost use Rattle.kw_words.specs.State.{IsState, state_word};
+ghost use Rattle.kw_world.specs.ListTransitions.{link_name};
+ghost use Rattle.kw_world.specs.Parts.{part_of};
+ghost use Rattle.kw_world.specs.ReplaceTransitions.{first_infant, replaced_link};
+ghost use Rattle.kw_world.specs.Sane.{IsLocal, IsVersion};
+ghost use Rattle.kw_world.specs.Sizes.{product};
+ghost use Rattle.kw_world.specs.Step.{transition_of};
+ghost use Rattle.kw_world.specs.Transition.{row_or_first};
+ghost use Rattle.kw_world.specs.WriteTransitions.{unmarked_link};
+ghost use Rattle.kw_world.specs.declared.part.Part.{Part};
+
+use crate::infant::infant;
+use crate::operation_write::{
+    write_after, write_count, write_first, write_key, write_least, write_link, write_value,
+    write_version,
+};
+use kw_words::kind::Kind;
+use kw_words::layout::Name;
+use kw_words::pend::Pend;
+use kw_words::plain::pack_pass;
+use kw_words::scan::ScanWord;
+use kw_words::sizes::{FROZEN_BIT, MARK_BIT};
+use kw_words::state::State;
+use kw_world::activity::Activity;
+use kw_world::event::Choice;
+use kw_world::local::Local;
+use kw_world::operation::{Action, Operation};
+
+/// The operation of the event that a seat makes with this choice.
+#[tactic(auto, unfolding(kw_world::specs::Step::transition_of))]
+pub fn rebalance_operation(seat: u32, local: &Local, choice: Choice) -> Operation
+    requires ranges { IsLocal product local.now }
+    requires part { part_of choice local.now ≡ Part.Rebalance }
+    ensures { result ≡ (transition_of product seat choice local.now).operation }
+{
+    let row = local.row;
+    let new_row = infant(local);
+    match local.activity {
+        Activity::Again => store(Kind::ClearPass, Name::Pass(seat), pack_pass(None)),
+        Activity::AgainEpoch => load(Kind::LoadEpoch, Name::Epoch),
+        Activity::BalClock => load(Kind::LoadClock, Name::Clock),
+        Activity::BalEpoch => load(Kind::LoadEpoch, Name::Epoch),
+        Activity::BalState => load(Kind::LoadState, Name::State(row)),
+        Activity::BalNormal(owner) => normalise(Name::State(row), owner),
+        Activity::Engage => {
+            let state = Name::State(row);
+            change_state(Kind::Engage, state, State::Normal, State::Leader(0))
+        }
+        Activity::MarkLink(_) => set_bits(Kind::MarkLink, Name::Next(row), MARK_BIT),
+        Activity::Decide(count) => {
+            let state = Name::State(row);
+            change_state(Kind::Decide, state, State::Leader(0), State::Leader(count))
+        }
+        Activity::FreezeCount => set_bits(Kind::FreezeCount, Name::Count(row), FROZEN_BIT),
+        Activity::FreezeLook(entry) => load(Kind::LoadPend, Name::Pend(row, entry)),
+        Activity::Freeze(entry) => freeze(Name::Pend(row, entry), local.rebalance.entry),
+        Activity::ScanLook(scan) => load(Kind::LoadScan, Name::Scan(scan)),
+        Activity::HelpDraw(_) => add_one(Kind::HelpDraw, Name::Clock),
+        Activity::HelpSettle(scan) => {
+            settle(scan, local.rebalance.waiting, local.rebalance.drawn)
+        }
+        Activity::TakeFrom => load(Kind::LoadAfter, link_name(row, local.link)),
+        Activity::TakeKey => load(Kind::LoadKey, Name::Key(row, local.place)),
+        Activity::TakeVersion => load(Kind::LoadVersion, Name::Version(row, local.place)),
+        Activity::TakeValue => load(Kind::LoadValue, Name::Value(row, local.place)),
+        Activity::TakeRestKey => load(Kind::LoadKey, Name::Key(row, local.place)),
+        Activity::TakeRestValue => load(Kind::LoadValue, Name::Value(row, local.place)),
+        Activity::SeekFirst => match choice {
+            Choice::Guess(guess) => load(Kind::LoadState, Name::State(guess)),
+            _ => load(Kind::LoadState, Name::State(local.rebalance.sought)),
+        },
+        Activity::Seek => load(Kind::LoadState, Name::State(local.rebalance.sought)),
+        Activity::TakeRow => take_row(Name::State(local.rebalance.sought), seat),
+        Activity::GiveBack => store_state(Kind::GiveBack, new_row, State::Free),
+        Activity::WriteCount => write_count(local, new_row),
+        Activity::WriteMin => write_least(local, new_row),
+        Activity::WriteNext => write_link(local, new_row),
+        Activity::WriteFirst => write_first(local, new_row),
+        Activity::WritePend(entry) => {
+            let idle = Pend::Idle.pack();
+            store(Kind::StoreInfant, Name::Pend(new_row, entry), idle)
+        }
+        Activity::WriteKey(cell) => write_key(local, new_row, cell),
+        Activity::WriteValue(cell) => write_value(local, new_row, cell),
+        Activity::WriteVersion(cell) => write_version(local, new_row, cell),
+        Activity::WriteAfter(cell) => write_after(local, new_row, cell),
+        Activity::Before => match choice {
+            Choice::Guess(guess) => load(Kind::LoadState, Name::State(guess)),
+            _ => load(Kind::LoadHead, Name::Head),
+        },
+        Activity::BeforeGuess => load(Kind::LoadMin, Name::Min(row_before(local))),
+        Activity::BeforeHead => load(Kind::LoadHead, Name::Head),
+        Activity::BeforeLink => load(Kind::LoadLink, Name::Next(row_before(local))),
+        Activity::BeforeMin => load(Kind::LoadMin, Name::Min(local.candidate)),
+        Activity::Replace => replace(local),
+        Activity::Normalise => normalise(Name::State(new_row), seat),
+        Activity::Number => add_one(Kind::Number, Name::Epoch),
+        Activity::Retire => {
+            let retired = State::Retired(local.rebalance.number);
+            store_state(Kind::StoreRetired, row, retired)
+        }
+        _ => unreachable!(),
+    }
+}
+
+// A load of a word.
+fn load(kind: Kind, name: Name) -> Operation
+    ensures { result ≡ record { kind = kind; name = name; action = Action.Load } }
+{
+    let action = Action::Load;
+    Operation { kind, name, action }
+}
+
+// A store into a word.
+pub(crate) fn store(kind: Kind, name: Name, word: u64) -> Operation
+    ensures { result ≡ record { kind = kind; name = name; action = Action.Store word } }
+{
+    let action = Action::Store(word);
+    Operation { kind, name, action }
+}
+
+// An addition of one to a word.
+fn add_one(kind: Kind, name: Name) -> Operation
+    ensures { result ≡ record { kind = kind; name = name; action = Action.Add 1 } }
+{
+    let action = Action::Add(1);
+    Operation { kind, name, action }
+}
+
+// A union of a word and these bits.
+fn set_bits(kind: Kind, name: Name, bits: u64) -> Operation
+    ensures { result ≡ record { kind = kind; name = name; action = Action.Or bits } }
+{
+    let action = Action::Or(bits);
+    Operation { kind, name, action }
+}
+
+// The store of a row's state.
+fn store_state(kind: Kind, row: u32, state: State) -> Operation
+    requires { IsState state }
+    ensures { result ≡ record { kind = kind; name = Name.State row; action = Action.Store
+        (state_word state) } }
+{
+    let word = state.pack();
+    store(kind, Name::State(row), word)
+}
+
+// The exchange of one state of a row for another.
+fn change_state(kind: Kind, name: Name, from: State, into: State) -> Operation
+    requires from { IsState from }
+    requires into { IsState into }
+    ensures { result ≡ record { kind = kind; name = name; action = Action.Exchange
+        (state_word from) (state_word into) } }
+{
+    let from = from.pack();
+    let into = into.pack();
+    Operation {
+        kind,
+        name,
+        action: Action::Exchange(from, into),
+    }
+}
+
+// The word for the state of an infant of a seat, whatever number the seat has.
+fn infant_word(seat: u32) -> u64
+    ensures { result ≡ state_word (State.Infant seat) }
+{
+    1 + 8 * seat as u64
+}
+
+// The exchange that makes an infant of this seat normal.
+fn normalise(name: Name, seat: u32) -> Operation
+    ensures { result ≡ record { kind = Kind.Normalise; name = name; action = Action.Exchange
+        (state_word (State.Infant seat)) (state_word State.Normal) } }
+{
+    let normal = State::Normal.pack();
+    Operation {
+        kind: Kind::Normalise,
+        name,
+        action: Action::Exchange(infant_word(seat), normal),
+    }
+}
+
+// The exchange that makes a free row an infant of this seat.
+fn take_row(name: Name, seat: u32) -> Operation
+    ensures { result ≡ record { kind = Kind.TakeRow; name = name; action = Action.Exchange
+        (state_word State.Free) (state_word (State.Infant seat)) } }
+{
+    let free = State::Free.pack();
+    Operation {
+        kind: Kind::TakeRow,
+        name,
+        action: Action::Exchange(free, infant_word(seat)),
+    }
+}
+
+// The exchange of an entry for a frozen one.
+fn freeze(name: Name, entry: Pend) -> Operation
+    requires { IsPend entry }
+    ensures { result ≡ record { kind = Kind.FreezePend; name = name; action = Action.Exchange
+        (pend_word entry) (pend_word Pend.Frozen) } }
+{
+    let found = entry.pack();
+    let frozen = Pend::Frozen.pack();
+    Operation {
+        kind: Kind::FreezePend,
+        name,
+        action: Action::Exchange(found, frozen),
+    }
+}
+
+// The exchange that gives the waiting scan of a seat its version.
+fn settle(seat: u32, waiting: u64, drawn: u64) -> Operation
+    requires waiting { IsVersion waiting }
+    requires drawn { IsVersion drawn }
+    ensures { result ≡ record { kind = Kind.HelpSettle; name = Name.Scan seat; action =
+        Action.Exchange (scan_word (ScanWord.Waiting waiting)) (scan_word (ScanWord.Drawn drawn)) }
+        }
+{
+    let waiting = ScanWord::Waiting(waiting).pack();
+    let drawn = ScanWord::Drawn(drawn).pack();
+    Operation {
+        kind: Kind::HelpSettle,
+        name: Name::Scan(seat),
+        action: Action::Exchange(waiting, drawn),
+    }
+}
+
+// The word of a link between the cells of a row: that after a cell, or the row's first.
+fn link_name(row: u32, link: Option<u32>) -> Name
+    ensures { result ≡ link_name row link }
+{
+    match link {
+        Some(cell) => Name::After(row, cell),
+        None => Name::First(row),
+    }
+}
+
+// The row at which the walk to the row before the full one is, and row 0 where it is at none.
+fn row_before(local: &Local) -> u32
+    ensures { result ≡ row_or_first local.now.rebalance.before }
+{
+    local.rebalance.before.unwrap_or(0)
+}
+
+// The link that leads to the full row: that after the row before it, or the one to the first row.
+fn replaced_link(before: Option<u32>) -> Name
+    ensures { result ≡ replaced_link before }
+{
+    match before {
+        Some(row) => Name::Next(row),
+        None => Name::Head,
+    }
+}
+
+// The word for an unmarked link to this row, or to none, whatever number the row has.
+pub(crate) fn link_to(row: Option<u32>) -> u64
+    ensures { result ≡ link_word (unmarked_link row) }
+{
+    match row {
+        Some(row) => row as u64 + 1,
+        None => 0,
+    }
+}
+
+// The exchange of the link to the full row for one to the first of the new rows.
+fn replace(local: &Local) -> Operation
+    ensures { result ≡ record { kind = Kind.Replace; name = replaced_link
+        local.now.rebalance.before; action = Action.Exchange
+        (link_word (unmarked_link (Some local.now.row)))
+        (link_word (unmarked_link (Some (first_infant local.now)))) } }
+{
+    let first = match local.rebalance.taken.as_slice().first() {
+        Some(row) => *row,
+        None => 0,
+    };
+    let old = link_to(Some(local.row));
+    let new = link_to(Some(first));
+    Operation {
+        kind: Kind::Replace,
+        name: replaced_link(local.rebalance.before),
+        action: Action::Exchange(old, new),
+    }
+}

@@ -1,0 +1,119 @@
+//! What a seat knows after the events by which a rebalance begins, and how it leaves one.
+ghost use Rattle.std.specs.Prelude.{◌≡◌, ◌==◌};
+ghost use Rattle.kw_words.specs.Link.{link_of};
+ghost use Rattle.kw_words.specs.State.{state_of, state_word};
+ghost use Rattle.kw_words.specs.declared.state.State.{State};
+ghost use Rattle.kw_world.specs.EngageTransitions.{to_rebalance, again, refuse, balance_clock, balance_epoch, is_alone, state_met, engaged, link_marked, decided};
+ghost use Rattle.kw_world.specs.Transition.{outcome, row_linked};
+
+use crate::resume::to;
+use kw_words::link::Link;
+use kw_words::sizes::SPENT;
+use kw_words::state::State;
+use kw_world::activity::Activity;
+use kw_world::answer::Answer;
+use kw_world::event::StepDone;
+use kw_world::local::Local;
+
+// The rebalance of the seat's row begins, and nothing is known of an earlier one.
+pub(crate) fn to_rebalance(local: &mut Local) -> StepDone
+    ensures { outcome local.new result ≡ to_rebalance local.old }
+{
+    local.rebalance.forget();
+    to(local, Activity::BalClock)
+}
+
+// The put tries again: it takes its announced epoch back first, and forgets every row.
+pub(crate) fn again(local: &mut Local) -> StepDone
+    ensures { outcome local.new result ≡ again local.old }
+{
+    local.rebalance.forget();
+    local.forget_rows();
+    to(local, Activity::Again)
+}
+
+// The put is refused with this answer.
+pub(crate) fn refuse(local: &mut Local, answer: Answer) -> StepDone
+    ensures { outcome local.new result ≡ refuse answer local.old }
+{
+    local.rebalance.forget();
+    local.forget_rows();
+    to(local, Activity::Leave(answer))
+}
+
+// The seat was told the clock.
+pub(crate) fn clock(local: &mut Local, clock: u64) -> StepDone
+    ensures { outcome local.new result ≡ balance_clock clock local.old }
+{
+    if clock >= SPENT {
+        refuse(local, Answer::Spent)
+    } else {
+        to(local, Activity::BalEpoch)
+    }
+}
+
+// The seat was told the epoch.
+pub(crate) fn epoch(local: &mut Local, epoch: u64) -> StepDone
+    ensures { outcome local.new result ≡ balance_epoch epoch local.old }
+{
+    if epoch >= SPENT {
+        refuse(local, Answer::Spent)
+    } else {
+        to(local, Activity::BalState)
+    }
+}
+
+// Whether a leader of so many rows is led alone, or that is not decided.
+fn is_alone(count: u32) -> bool
+    ensures { result ≡ is_alone count }
+{
+    count <= 1
+}
+
+// The seat was told the state of the full row.
+pub(crate) fn state(local: &mut Local, found: u64) -> StepDone
+    ensures { outcome local.new result ≡ state_met (state_of found) local.old }
+{
+    match State::unpack(found) {
+        Some(State::Infant(seat)) => to(local, Activity::BalNormal(seat)),
+        Some(State::Normal) => to(local, Activity::Engage),
+        Some(State::Leader(count)) if is_alone(count) => to(local, Activity::MarkLink(count)),
+        _ => again(local),
+    }
+}
+
+// The seat has tried to engage the full row, and was told the state found.
+pub(crate) fn engage(local: &mut Local, found: u64) -> StepDone
+    ensures { outcome local.new result ≡ engaged (found == state_word State.Normal) local.old }
+{
+    if found == State::Normal.pack() {
+        to(local, Activity::MarkLink(0))
+    } else {
+        to(local, Activity::BalState)
+    }
+}
+
+// The seat has marked the link of the full row, which leads so many rows, and was told the link found.
+pub(crate) fn link_marked(local: &mut Local, count: u32, found: u64) -> StepDone
+    ensures { outcome local.new result ≡ link_marked count (row_linked (link_of found)) local.old }
+{
+    local.rebalance.after = match Link::unpack(found) {
+        Some(link) => link.row,
+        None => None,
+    };
+    if count == 0 {
+        to(local, Activity::Decide(1))
+    } else {
+        to(local, Activity::FreezeCount)
+    }
+}
+
+// The seat has tried to decide how many rows are replaced, and was told the state found.
+pub(crate) fn decide(local: &mut Local, found: u64) -> StepDone
+    ensures { outcome local.new result ≡ decided (state_of found) local.old }
+{
+    match State::unpack(found) {
+        Some(State::Leader(count)) if is_alone(count) => to(local, Activity::FreezeCount),
+        _ => again(local),
+    }
+}

@@ -1,0 +1,145 @@
+//! What a seat knows after the events that freeze the full row, and after its looks at the scans.
+ghost use Rattle.std.specs.Prelude.{◌≡◌, ◌==◌, ◌<◌, Some, length};
+ghost use Rattle.kw_cells.specs.declared.limits.TheConstants.{MOST_NEEDED};
+ghost use Rattle.kw_words.specs.Pend.{pend_of, pend_word};
+ghost use Rattle.kw_words.specs.Scan.{scan_of};
+ghost use Rattle.kw_words.specs.declared.sizes.TheConstants.{SEATS};
+ghost use Rattle.kw_world.specs.FreezeTransitions.{count_frozen, to_scans, to_freeze_look, marking, freezing, freeze_met, entry_tried, to_scan_look, needing, scan_met, scan_helped};
+ghost use Rattle.kw_world.specs.Sane.{IsEntry};
+ghost use Rattle.kw_world.specs.Sizes.{product};
+ghost use Rattle.kw_world.specs.Transition.{outcome};
+
+use crate::resume::to;
+use crate::resume_take::to_take;
+use kw_words::pend::Pend;
+use kw_words::scan::ScanWord;
+use kw_words::sizes::SEAT_COUNT;
+use kw_world::activity::Activity;
+use kw_world::event::StepDone;
+use kw_world::local::Local;
+use kw_world::marks::Mark;
+
+// The seat has frozen the count of the full row.
+pub(crate) fn count_frozen(local: &mut Local) -> StepDone
+    ensures { outcome local.new result ≡ count_frozen local.old }
+{
+    local.rebalance.marks.clear();
+    to(local, Activity::FreezeLook(0))
+}
+
+// The seat goes on to the entry of this seat, or to the scans after the last entry.
+fn to_look(local: &mut Local, entry: u32) -> StepDone
+    ensures { outcome local.new result ≡ to_freeze_look product entry local.old }
+{
+    if entry < SEAT_COUNT {
+        to(local, Activity::FreezeLook(entry))
+    } else {
+        local.rebalance.needed.clear();
+        to(local, Activity::ScanLook(0))
+    }
+}
+
+// The seat remembers a stamped cell.
+fn remember(local: &mut Local, cell: u32, version: u64)
+    requires { length local.old.rebalance.marks < SEATS }
+    ensures { local.new ≡ marking cell version local.old }
+{
+    local.rebalance.marks.push(Mark { cell, version });
+}
+
+// The seat is about to freeze the entry that it found.
+fn freeze(local: &mut Local, entry: u32, found: Pend) -> StepDone
+    ensures { outcome local.new result ≡ freezing entry found local.old }
+{
+    local.rebalance.entry = found;
+    to(local, Activity::Freeze(entry))
+}
+
+// The seat was told the entry of this seat in the full row.
+pub(crate) fn look(local: &mut Local, entry: u32, found: u64) -> StepDone
+    requires entry { entry < SEATS }
+    requires room { length local.old.rebalance.marks < SEATS }
+    ensures { outcome local.new result ≡ freeze_met product entry (pend_of found) local.old }
+{
+    match Pend::unpack(found) {
+        Some(Pend::Idle) => freeze(local, entry, Pend::Idle),
+        Some(Pend::Pending(cell)) => freeze(local, entry, Pend::Pending(cell)),
+        Some(Pend::Stamped(cell, version)) => {
+            remember(local, cell, version);
+            to_look(local, entry + 1)
+        }
+        _ => to_look(local, entry + 1),
+    }
+}
+
+// The seat has tried to freeze the entry, and was told the entry found.
+pub(crate) fn entry_tried(local: &mut Local, entry: u32, found: u64) -> StepDone
+    requires entry { entry < SEATS }
+    requires held { IsEntry product (Some local.old.rebalance.entry) }
+    ensures { outcome local.new result ≡ entry_tried product entry
+        (found == pend_word local.old.rebalance.entry) local.old }
+{
+    if found == local.rebalance.entry.pack() {
+        to_look(local, entry + 1)
+    } else {
+        to(local, Activity::FreezeLook(entry))
+    }
+}
+
+// The seat goes on to the scan of this seat, or to the cells of the row after the last scan.
+fn to_scan(local: &mut Local, seat: u32) -> StepDone
+    ensures { outcome local.new result ≡ to_scan_look product seat local.old }
+{
+    if seat < SEAT_COUNT {
+        to(local, Activity::ScanLook(seat))
+    } else {
+        to_take(local)
+    }
+}
+
+// A scan may still ask for the version.
+fn need(local: &mut Local, version: u64)
+    requires { length local.old.rebalance.needed < MOST_NEEDED }
+    ensures { local.new ≡ needing version local.old }
+{
+    local.rebalance.needed.push(version);
+}
+
+// The seat was told the scan of this seat.
+pub(crate) fn scan(local: &mut Local, seat: u32, found: u64) -> StepDone
+    requires seat { seat < SEATS }
+    requires room { length local.old.rebalance.needed < MOST_NEEDED }
+    ensures { outcome local.new result ≡ scan_met product seat (scan_of found) local.old }
+{
+    match ScanWord::unpack(found) {
+        Some(ScanWord::Waiting(clock)) => {
+            local.rebalance.waiting = clock;
+            to(local, Activity::HelpDraw(seat))
+        }
+        Some(ScanWord::Drawn(version)) => {
+            need(local, version);
+            to_scan(local, seat + 1)
+        }
+        _ => to_scan(local, seat + 1),
+    }
+}
+
+// The seat has tried to give the waiting scan its version, and was told the scan found.
+pub(crate) fn scan_helped(local: &mut Local, seat: u32, found: u64) -> StepDone
+    requires seat { seat < SEATS }
+    requires room { length local.old.rebalance.needed < MOST_NEEDED }
+    ensures { outcome local.new result ≡ scan_helped product seat (scan_of found) local.old }
+{
+    let drawn = local.rebalance.drawn;
+    match ScanWord::unpack(found) {
+        Some(ScanWord::Waiting(clock)) if clock == local.rebalance.waiting => {
+            need(local, drawn);
+            to_scan(local, seat + 1)
+        }
+        Some(ScanWord::Drawn(version)) => {
+            need(local, version);
+            to_scan(local, seat + 1)
+        }
+        _ => to_scan(local, seat + 1),
+    }
+}

@@ -1,0 +1,126 @@
+//! What a seat knows after the events of its search for free rows, and after it gave rows back.
+ghost use Rattle.std.specs.Prelude.{◌≡◌, ◌==◌, ◌<◌, ◌≤◌, length};
+ghost use Rattle.kw_words.specs.State.{state_of, state_word};
+ghost use Rattle.kw_words.specs.declared.state.State.{State};
+ghost use Rattle.kw_world.specs.SeekTransitions.{at_infant, gave_back, give_back, given_back, has_more, moved_left, row_behind, row_taken, seek_first_transition, seek_met, seeking, take_row, to_seek, with_row};
+ghost use Rattle.kw_world.specs.Transition.{outcome};
+ghost use Rattle.kw_world.specs.declared.rebalance.Afterwards.{Afterwards};
+
+use crate::infant::next_at;
+use crate::resume::to;
+use crate::resume_engage::{again, refuse, to_rebalance};
+use kw_words::state::State;
+use kw_world::activity::Activity;
+use kw_world::answer::Answer;
+use kw_world::event::{Choice, StepDone};
+use kw_world::local::Local;
+use kw_world::rebalance::Afterwards;
+
+// Whether another row was taken after the one at hand.
+pub(crate) fn has_more(local: &Local) -> bool
+    requires { local.now.rebalance.at ≤ length local.now.rebalance.taken }
+    ensures { result ≡ has_more local.now }
+{
+    next_at(local) < local.rebalance.taken.as_slice().len()
+}
+
+// No taken row is left, and this follows.
+fn given_back(local: &mut Local, afterwards: Afterwards) -> StepDone
+    ensures { outcome local.new result ≡ given_back afterwards local.old }
+{
+    match afterwards {
+        Afterwards::TryAgain => again(local),
+        Afterwards::Refuse => refuse(local, Answer::NoRows),
+        Afterwards::MoveLeft => {
+            local.row = local.rebalance.before.unwrap_or(0);
+            local.lower = local.rebalance.least;
+            to_rebalance(local)
+        }
+    }
+}
+
+// The taken rows are given back, one by one, and then this follows.
+pub(crate) fn give_back(local: &mut Local, afterwards: Afterwards) -> StepDone
+    ensures { outcome local.new result ≡ give_back afterwards local.old }
+{
+    if local.rebalance.taken.as_slice().is_empty() {
+        return given_back(local, afterwards);
+    }
+    local.rebalance.at = 0;
+    local.rebalance.afterwards = afterwards;
+    to(local, Activity::GiveBack)
+}
+
+// The seat has given a row back.
+pub(crate) fn gave_back(local: &mut Local) -> StepDone
+    requires { local.old.rebalance.at ≤ length local.old.rebalance.taken }
+    ensures { outcome local.new result ≡ gave_back local.old }
+{
+    if has_more(local) {
+        local.rebalance.at = next_at(local);
+        return to(local, Activity::GiveBack);
+    }
+    let afterwards = local.rebalance.afterwards;
+    given_back(local, afterwards)
+}
+
+// The row after a row, round a table of so many.
+fn row_behind(rows: u32, row: u32) -> u32
+    ensures { result ≡ row_behind rows row }
+{
+    match row.checked_add(1) {
+        Some(next) if next < rows => next,
+        _ => 0,
+    }
+}
+
+// The seat asks the next row, or gives up once it has asked all.
+fn to_seek(local: &mut Local, rows: u32) -> StepDone
+    ensures { outcome local.new result ≡ to_seek rows local.old }
+{
+    if local.rebalance.asked >= rows {
+        return give_back(local, Afterwards::Refuse);
+    }
+    local.rebalance.sought = row_behind(rows, local.rebalance.sought);
+    local.rebalance.asked += 1;
+    to(local, Activity::Seek)
+}
+
+// The seat was told the state of the row that it asks.
+pub(crate) fn seek(local: &mut Local, rows: u32, found: u64) -> StepDone
+    ensures { outcome local.new result ≡ seek_met rows (state_of found)
+        (seeking local.old.rebalance.sought local.old) }
+{
+    match State::unpack(found) {
+        Some(State::Free) => to(local, Activity::TakeRow),
+        _ => to_seek(local, rows),
+    }
+}
+
+// The seat was told the state of the first row that it asks.
+pub(crate) fn seek_first(local: &mut Local, rows: u32, choice: Choice, found: u64) -> StepDone
+    ensures { outcome local.new result ≡ (seek_first_transition choice local.old).next rows found }
+{
+    if let Choice::Guess(row) = choice {
+        local.rebalance.sought = row;
+    }
+    seek(local, rows, found)
+}
+
+// The seat has tried to take the row, and was told the state found.
+pub(crate) fn take_row(local: &mut Local, rows: u32, found: u64) -> StepDone
+    requires { length local.old.rebalance.taken < length local.old.rebalance.starts }
+    ensures { outcome local.new result ≡ take_row rows (found == state_word State.Free) local.old }
+{
+    if found != State::Free.pack() {
+        return to_seek(local, rows);
+    }
+    let wanted = local.rebalance.starts.as_slice().len();
+    let row = local.rebalance.sought;
+    local.rebalance.taken.push(row);
+    if local.rebalance.taken.as_slice().len() < wanted {
+        return to_seek(local, rows);
+    }
+    local.rebalance.at = 0;
+    to(local, Activity::WriteCount)
+}

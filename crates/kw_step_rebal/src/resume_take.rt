@@ -1,0 +1,156 @@
+//! What a seat knows after the events that gather the cells of the full row, and after the last of them.
+//!
+//! The end of the row's cells has no event of its own: it follows from the event that ends the walk, or from that on the last
+//! remembered cell that was not met. The seat plans the new rows then, which takes no memory.
+ghost use Rattle.std.specs.Prelude.{◌≡◌, ◌≤◌, length};
+ghost use Rattle.kw_words.specs.Plain.{cell_of_link_word, key_of_word, value_of_word, version_of_word};
+ghost use Rattle.kw_words.specs.declared.sizes.TheConstants.{CELLS, SEATS};
+ghost use Rattle.kw_world.specs.ListTransitions.{at_first};
+ghost use Rattle.kw_world.specs.Sizes.{product};
+ghost use Rattle.kw_world.specs.TakeTransitions.{keeping, planned, take_met, take_past, take_version, taking, to_left, to_take};
+ghost use Rattle.kw_world.specs.Transition.{outcome, to};
+
+use crate::resume::to;
+use kw_cells::cell::Cell;
+use kw_cells::keep::keep;
+use kw_cells::pack::pack_rows;
+use kw_words::plain::{unpack_cell_link, unpack_key, unpack_value, unpack_version};
+use kw_words::sizes::CELL_COUNT;
+use kw_world::activity::Activity;
+use kw_world::event::StepDone;
+use kw_world::local::Local;
+use kw_world::rebuilt::{KeptCells, Starts};
+
+// The seat begins to walk along the full row's list, and no cell is gathered.
+pub(crate) fn to_take(local: &mut Local) -> StepDone
+    ensures { outcome local.new result ≡ to_take local.old }
+{
+    local.link = None;
+    local.walked = 0;
+    local.rebalance.gathered.clear();
+    to(local, Activity::TakeFrom)
+}
+
+// The seat has met this cell behind its link, and need not remember it any more.
+fn meet(local: &mut Local, cell: u32)
+    requires { local.old.walked ≤ CELLS }
+    ensures { local.new ≡ taking product cell local.old }
+{
+    local.place = cell;
+    local.walked = (local.walked + 1).min(CELL_COUNT);
+    local.rebalance.marks.forget(cell);
+}
+
+// The seat was told the link at which it stands.
+pub(crate) fn take_from(local: &mut Local, found: u64) -> StepDone
+    requires walked { local.old.walked ≤ CELLS }
+    requires gathered { length local.old.rebalance.gathered ≤ CELLS }
+    requires needed { length local.old.rebalance.needed ≤ SEATS }
+    ensures { outcome local.new result ≡ take_met product (cell_of_link_word found) local.old }
+{
+    match unpack_cell_link(found) {
+        Some(cell) => {
+            meet(local, cell);
+            to(local, Activity::TakeKey)
+        }
+        None => to_left(local),
+    }
+}
+
+// The seat was told the key of the cell that it met.
+pub(crate) fn take_key(local: &mut Local, found: u64) -> StepDone
+    ensures { outcome local.new result ≡ to Activity.TakeVersion
+        (record local.old { place_key = key_of_word found }) }
+{
+    local.place_key = unpack_key(found);
+    to(local, Activity::TakeVersion)
+}
+
+// The seat was told the version of that cell. A cell without one counts as one of version 1; no list has such a cell.
+pub(crate) fn take_version(local: &mut Local, found: u64) -> StepDone
+    ensures { outcome local.new result ≡ take_version (version_of_word found) local.old }
+{
+    local.place_version = unpack_version(found).unwrap_or(1);
+    to(local, Activity::TakeValue)
+}
+
+// The seat was told the value of the cell in hand, and gathers the cell.
+fn gather(local: &mut Local, found: u64)
+    ensures { local.new ≡ keeping product (value_of_word found) local.old }
+{
+    local.rebalance.gathered.gather(Cell {
+        key: local.place_key,
+        place: local.place,
+        version: local.place_version,
+        value: unpack_value(found),
+    });
+}
+
+// The seat was told the value of the cell that it met, and goes on past it.
+pub(crate) fn take_value(local: &mut Local, found: u64) -> StepDone
+    ensures { outcome local.new result
+        ≡ take_past (keeping product (value_of_word found) local.old) }
+{
+    gather(local, found);
+    local.link = Some(local.place);
+    to(local, Activity::TakeFrom)
+}
+
+// The seat was told the key of a remembered cell that it did not meet.
+pub(crate) fn take_rest_key(local: &mut Local, found: u64) -> StepDone
+    ensures { outcome local.new result ≡ to Activity.TakeRestValue
+        (record local.old { place_key = key_of_word found }) }
+{
+    local.place_key = unpack_key(found);
+    to(local, Activity::TakeRestValue)
+}
+
+// The seat was told the value of that cell.
+pub(crate) fn rest_value(local: &mut Local, found: u64) -> StepDone
+    requires gathered { length local.old.rebalance.gathered ≤ CELLS }
+    requires needed { length local.old.rebalance.needed ≤ SEATS }
+    ensures { outcome local.new result
+        ≡ to_left product (keeping product (value_of_word found) local.old) }
+{
+    gather(local, found);
+    to_left(local)
+}
+
+// The seat goes on to a remembered cell that it did not meet, or plans the new rows and begins to seek free ones.
+fn to_left(local: &mut Local) -> StepDone
+    requires gathered { length local.old.rebalance.gathered ≤ CELLS }
+    requires needed { length local.old.rebalance.needed ≤ SEATS }
+    ensures { outcome local.new result ≡ to_left product local.old }
+{
+    match local.rebalance.marks.least() {
+        Some(mark) => {
+            local.place = mark.cell;
+            local.place_version = mark.version;
+            local.rebalance.marks.forget(mark.cell);
+            to(local, Activity::TakeRestKey)
+        }
+        None => {
+            plan(local);
+            to(local, Activity::SeekFirst)
+        }
+    }
+}
+
+// The seat chooses the cells that the new rows get, and where each of these starts among them. No row is taken as yet.
+fn plan(local: &mut Local)
+    requires gathered { length local.old.rebalance.gathered ≤ CELLS }
+    requires needed { length local.old.rebalance.needed ≤ SEATS }
+    ensures { local.new ≡ planned product local.old }
+{
+    let kept = keep(
+        local.rebalance.gathered.as_slice(),
+        local.rebalance.needed.as_slice(),
+    );
+    let starts = pack_rows(&kept);
+    local.rebalance.kept = KeptCells::of(kept);
+    local.rebalance.starts = Starts::of(starts);
+    local.rebalance.taken.clear();
+    local.rebalance.at = 0;
+    local.rebalance.sought = 0;
+    local.rebalance.asked = 1;
+}

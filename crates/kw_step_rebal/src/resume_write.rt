@@ -1,0 +1,54 @@
+//! What a seat knows after the events that write a new row: which word it writes next.
+ghost use Rattle.std.specs.Prelude.{◌≡◌, ◌≤◌, length};
+ghost use Rattle.kw_world.specs.Sane.{IsLocal};
+ghost use Rattle.kw_world.specs.Sizes.{product};
+ghost use Rattle.kw_world.specs.Transition.{outcome};
+ghost use Rattle.kw_world.specs.WriteTransitions.{row_written, to_write_cell, to_write_entry};
+
+use crate::infant::{infant_cells, next_at};
+use crate::resume::to;
+use crate::resume_seek::has_more;
+use kw_words::sizes::{CELL_COUNT, SEAT_COUNT};
+use kw_world::activity::Activity;
+use kw_world::event::StepDone;
+use kw_world::local::Local;
+
+// The seat goes on to the next new row, until all are written.
+fn row_written(local: &mut Local) -> StepDone
+    requires { local.old.rebalance.at ≤ length local.old.rebalance.taken }
+    ensures { outcome local.new result ≡ row_written local.old }
+{
+    if has_more(local) {
+        local.rebalance.at = next_at(local);
+        to(local, Activity::WriteCount)
+    } else {
+        to(local, Activity::Before)
+    }
+}
+
+// The seat goes on to this cell: to its key, or to its version alone where the row has no cell for it. After the last cell the
+// row is written.
+pub(crate) fn to_write_cell(local: &mut Local, cell: u32) -> StepDone
+    requires { IsLocal product local.old }
+    ensures { outcome local.new result ≡ to_write_cell product cell local.old }
+{
+    if cell >= CELL_COUNT {
+        row_written(local)
+    } else if (cell as usize) < infant_cells(local).len() {
+        to(local, Activity::WriteKey(cell))
+    } else {
+        to(local, Activity::WriteVersion(cell))
+    }
+}
+
+// The seat goes on to the entry of this seat, or to the first cell after the last entry.
+pub(crate) fn to_write_entry(local: &mut Local, entry: u32) -> StepDone
+    requires { IsLocal product local.old }
+    ensures { outcome local.new result ≡ to_write_entry product entry local.old }
+{
+    if entry < SEAT_COUNT {
+        to(local, Activity::WritePend(entry))
+    } else {
+        to_write_cell(local, 0)
+    }
+}

@@ -1,0 +1,296 @@
+//! One event of each topic of a rebalance: what a seat knows after it, or what it stores.
+ghost use Rattle.std.specs.Prelude.{◌≡◌, ◌<◌, length, IfOk, None};
+ghost use Rattle.kw_world.specs.Sane.{HasRoom, IsActivity, IsLocal, IsOfPart, IsSane};
+ghost use Rattle.kw_world.specs.Parts.{part_of};
+ghost use Rattle.kw_world.specs.Sizes.{product};
+ghost use Rattle.kw_world.specs.declared.activity.Activity.{Activity};
+ghost use Rattle.kw_world.specs.declared.event.Choice.{Choice};
+ghost use Rattle.kw_world.specs.declared.part.Part.{Part};
+
+use crate::operation::rebalance_operation;
+use crate::resume::rebalance_resume;
+use crate::step::rebalance_step;
+use kw_cells::cell::Cell;
+use kw_cells::keep::Kept;
+use kw_cells::pack::RowCuts;
+use kw_model::memory::Memory;
+use kw_words::kind::Kind;
+use kw_words::layout::Name;
+use kw_world::activity::Activity;
+use kw_world::event::{Choice, Event, StepDone};
+use kw_world::local::Local;
+use kw_world::marks::Mark;
+use kw_world::operation::{Action, Operation};
+use kw_world::rebalance::Afterwards;
+use kw_world::rebuilt::{KeptCells, Starts};
+use kw_world::world::World;
+use std::alloc::Global;
+use std::test::Fail;
+
+// Three rows and two seats; seat 1 is about to begin a rebalance, and the clock is 7.
+fn before_a_rebalance(alloc: Global) -> Result<World, Memory>
+    ensures sane { IfOk result (λ world. IsSane product world) }
+    ensures seat { IfOk result (λ world. 1 < length world.locals) }
+    ensures part { IfOk result (λ world. (choice : Choice) →
+        IsOfPart Part.Rebalance world (record { seat = 1; choice = choice })) }
+{
+    let mut world = World::open(alloc, 3, 2, 7, 9)?;
+    world.local_mut(1).activity = Activity::BalClock;
+    Ok(world)
+}
+
+#[test]
+fn a_rebalance_begins_with_the_clock(rt: HostRuntime) -> Result<(), Fail> {
+    let mut world = before_a_rebalance(rt.alloc())?;
+    let event = Event {
+        seat: 1,
+        choice: Choice::Go,
+    };
+    let done = rebalance_step(&mut world, event)?;
+    assert_eq!(rt; done, StepDone::Moved);
+    Ok(())
+}
+
+// A seat that has no rebalance in hand but that it looks at the state of row 2, whose least key is 40.
+fn at_a_state(alloc: Global) -> Local
+    ensures ranges { IsLocal product result }
+    ensures room { HasRoom product result }
+    ensures at { result.activity ≡ Activity.BalState }
+{
+    let mut local = Local::idle(alloc);
+    local.activity = Activity::BalState;
+    local.row = 2;
+    local.lower = 40;
+    local
+}
+
+// a leader of one row has the word 3 + 8, and one of two rows 3 + 16
+#[test]
+fn a_leader_of_one_row_is_helped(rt: HostRuntime) -> Result<(), Fail> {
+    let mut local = at_a_state(rt.alloc());
+    rebalance_resume(&mut local, 3, Choice::Go, 11);
+    assert_eq!(rt; local.activity, Activity::MarkLink(1));
+    let mut local = at_a_state(rt.alloc());
+    rebalance_resume(&mut local, 3, Choice::Go, 19);
+    assert_eq!(rt; local.activity, Activity::Again);
+    assert_eq!(rt; (local.row, local.lower), (0, 0));
+    Ok(())
+}
+
+// A seat looks at the entry of seat 3 in row 2.
+fn at_an_entry(alloc: Global) -> Local
+    ensures ranges { IsLocal product result }
+    ensures room { HasRoom product result }
+    ensures at { result.activity ≡ Activity.FreezeLook 3 }
+{
+    let mut local = Local::idle(alloc);
+    local.activity = Activity::FreezeLook(3);
+    local.row = 2;
+    local
+}
+
+// the cell 5 stamped with the version 3 has the word 2 + 4 * 5 + 2^15 * 3
+#[test]
+fn a_stamped_cell_is_remembered(rt: HostRuntime) -> Result<(), Fail> {
+    let mut local = at_an_entry(rt.alloc());
+    rebalance_resume(&mut local, 3, Choice::Go, 98_326);
+    assert_eq!(rt; local.activity, Activity::FreezeLook(4));
+    let marks = local.rebalance.marks.as_slice();
+    assert_eq!(rt;
+        marks,
+        [Mark {
+            cell: 5,
+            version: 3
+        }]
+        .as_slice()
+    );
+    Ok(())
+}
+
+// A seat has tried to give the version 6 to the scan of the last seat, which waited with the clock 4.
+fn at_a_scan(alloc: Global) -> Local
+    ensures ranges { IsLocal product result }
+    ensures room { HasRoom product result }
+    ensures at { result.activity ≡ Activity.HelpSettle 7 }
+{
+    let mut local = Local::idle(alloc);
+    local.activity = Activity::HelpSettle(7);
+    local.rebalance.waiting = 4;
+    local.rebalance.drawn = 6;
+    local
+}
+
+// a scan that waits with the clock 4 has the word 1 + 4 * 4
+#[test]
+fn the_version_of_a_helped_scan_is_needed(rt: HostRuntime) -> Result<(), Fail> {
+    let mut local = at_a_scan(rt.alloc());
+    rebalance_resume(&mut local, 3, Choice::Go, 17);
+    assert_eq!(rt; local.activity, Activity::TakeFrom);
+    assert_eq!(rt; local.rebalance.needed.as_slice(), [6].as_slice());
+    Ok(())
+}
+
+// A seat is about to read the value of the last cell of the full row, of key 45 and version 3, at the place 9.
+fn at_the_last_cell(alloc: Global) -> Local
+    ensures ranges { IsLocal product result }
+    ensures room { HasRoom product result }
+    ensures at { result.activity ≡ Activity.TakeRestValue }
+{
+    let mut local = Local::idle(alloc);
+    local.activity = Activity::TakeRestValue;
+    local.place = 9;
+    local.place_key = 45;
+    local.place_version = 3;
+    local
+}
+
+// the value 8 has the word 2^63 + 8
+#[test]
+fn the_last_cell_is_kept_in_one_new_row(rt: HostRuntime) -> Result<(), Fail> {
+    let mut local = at_the_last_cell(rt.alloc());
+    rebalance_resume(&mut local, 3, Choice::Go, 9_223_372_036_854_775_816);
+    assert_eq!(rt; local.activity, Activity::SeekFirst);
+    let kept = Cell {
+        key: 45,
+        place: 9,
+        version: 3,
+        value: Some(8),
+    };
+    assert_eq!(rt; local.rebalance.kept.as_slice(), [kept].as_slice());
+    assert_eq!(rt; local.rebalance.starts.as_slice(), [0].as_slice());
+    assert_eq!(rt; (local.rebalance.sought, local.rebalance.asked), (0, 1));
+    Ok(())
+}
+
+// A seat tries to take row 1, and needs one row.
+fn at_a_free_row(alloc: Global) -> Local
+    ensures ranges { IsLocal product result }
+    ensures room { HasRoom product result }
+    ensures at { result.activity ≡ Activity.TakeRow }
+{
+    let mut starts = RowCuts::new();
+    starts.push(0);
+    let mut local = Local::idle(alloc);
+    local.activity = Activity::TakeRow;
+    local.rebalance.starts = Starts::of(starts);
+    local.rebalance.sought = 1;
+    local.rebalance.asked = 2;
+    local
+}
+
+// a free row has the word 0, and a normal one the word 2
+#[test]
+fn a_row_is_taken_where_it_was_free(rt: HostRuntime) -> Result<(), Fail> {
+    let mut local = at_a_free_row(rt.alloc());
+    rebalance_resume(&mut local, 3, Choice::Go, 0);
+    assert_eq!(rt; local.activity, Activity::WriteCount);
+    assert_eq!(rt; local.rebalance.taken.as_slice(), [1].as_slice());
+    let mut local = at_a_free_row(rt.alloc());
+    rebalance_resume(&mut local, 3, Choice::Go, 2);
+    assert_eq!(rt; local.activity, Activity::Seek);
+    assert_eq!(rt; (local.rebalance.sought, local.rebalance.asked), (2, 3));
+    Ok(())
+}
+
+// A cell without a value.
+fn tombstone(key: u32, version: u64) -> Cell
+    ensures { result ≡ record { key = key; place = 0; version = version; value = None } }
+{
+    Cell {
+        key,
+        place: 0,
+        version,
+        value: None,
+    }
+}
+
+// A seat has two new rows, 3 and 5, of three kept cells and of one, and does this next with the first of them. The full row is row
+// 2, whose least key is 40, and after it stands row 7.
+fn with_new_rows(alloc: Global, activity: Activity) -> Local
+    requires { IsActivity product activity }
+    ensures ranges { IsLocal product result }
+    ensures room { HasRoom product result }
+    ensures at { result.activity ≡ activity }
+{
+    let mut kept = Kept::new();
+    kept.push(tombstone(45, 1));
+    kept.push(tombstone(45, 3));
+    kept.push(tombstone(47, 2));
+    kept.push(tombstone(48, 2));
+    let mut starts = RowCuts::new();
+    starts.push(0);
+    starts.push(3);
+    let mut local = Local::idle(alloc);
+    local.activity = activity;
+    local.row = 2;
+    local.lower = 40;
+    local.rebalance.after = Some(7);
+    local.rebalance.kept = KeptCells::of(kept);
+    local.rebalance.starts = Starts::of(starts);
+    local.rebalance.taken.push(3);
+    local.rebalance.taken.push(5);
+    local
+}
+
+// What a seat stores by its event.
+fn stored(local: &Local) -> Option<(Name, u64)>
+    requires ranges { IsLocal product local.now }
+    requires part { part_of Choice.Go local.now ≡ Part.Rebalance }
+{
+    match rebalance_operation(1, local, Choice::Go) {
+        Operation {
+            name,
+            action: Action::Store(word),
+            ..
+        } => Some((name, word)),
+        _ => None,
+    }
+}
+
+// the list of the first row is 45 at 3, 45 at 1, 47 at 2: the places 1, 0, 2, whose links have the words 2, 1, 3
+#[test]
+fn a_new_row_is_listed_by_falling_version(rt: HostRuntime) -> Result<(), Fail> {
+    let first = with_new_rows(rt.alloc(), Activity::WriteFirst);
+    assert_eq!(rt; stored(&first), Some((Name::First(3), 2)));
+    let after = with_new_rows(rt.alloc(), Activity::WriteAfter(1));
+    assert_eq!(rt; stored(&after), Some((Name::After(3, 1), 1)));
+    let after = with_new_rows(rt.alloc(), Activity::WriteAfter(0));
+    assert_eq!(rt; stored(&after), Some((Name::After(3, 0), 3)));
+    let after = with_new_rows(rt.alloc(), Activity::WriteAfter(2));
+    assert_eq!(rt; stored(&after), Some((Name::After(3, 2), 0)));
+    Ok(())
+}
+
+// the link to row 5 has the word 6, and that to row 7 the word 8
+#[test]
+fn new_rows_are_linked_before_the_row_after_the_full_one(rt: HostRuntime) -> Result<(), Fail> {
+    let count = with_new_rows(rt.alloc(), Activity::WriteCount);
+    assert_eq!(rt; stored(&count), Some((Name::Count(3), 3)));
+    let least = with_new_rows(rt.alloc(), Activity::WriteMin);
+    assert_eq!(rt; stored(&least), Some((Name::Min(3), 40)));
+    let link = with_new_rows(rt.alloc(), Activity::WriteNext);
+    assert_eq!(rt; stored(&link), Some((Name::Next(3), 6)));
+    let mut last = with_new_rows(rt.alloc(), Activity::WriteNext);
+    last.rebalance.at = 1;
+    assert_eq!(rt; stored(&last), Some((Name::Next(5), 8)));
+    last.activity = Activity::WriteMin;
+    assert_eq!(rt; stored(&last), Some((Name::Min(5), 48)));
+    Ok(())
+}
+
+// an unmarked link to the full row has the word 3, and a marked one 2^32 more
+#[test]
+fn new_rows_are_made_normal_once_they_are_linked(rt: HostRuntime) -> Result<(), Fail> {
+    let mut local = with_new_rows(rt.alloc(), Activity::Replace);
+    let operation = rebalance_operation(1, &local, Choice::Go);
+    assert_eq!(rt; operation.kind, Kind::Replace);
+    assert_eq!(rt; operation.name, Name::Head);
+    assert_eq!(rt; operation.action, Action::Exchange(3, 4));
+    rebalance_resume(&mut local, 9, Choice::Go, 3);
+    assert_eq!(rt; (local.activity, local.rebalance.at), (Activity::Normalise, 0));
+    let mut local = with_new_rows(rt.alloc(), Activity::Replace);
+    rebalance_resume(&mut local, 9, Choice::Go, 4_294_967_299);
+    assert_eq!(rt; local.activity, Activity::GiveBack);
+    assert_eq!(rt; local.rebalance.afterwards, Afterwards::MoveLeft);
+    Ok(())
+}
