@@ -12,7 +12,7 @@ use Rattle.kw_words.specs.Layout.{IsWithin}
 use Rattle.kw_words.specs.Count.{count_of}
 use Rattle.kw_words.proofs.CountWords.{count_of_next}
 use Rattle.kw_world.specs.declared.activity.Activity.{Activity}
-use Rattle.kw_world.specs.declared.activity.Activity.TheVariants.{Enter, ScanWait, ScanDraw, ScanSettle, Start, Walk, LookHelp, ClearScan, PutAdd, PutKey, PutValue, Announce, Stamp, PutVersion, InsSet, Insert, PutClear, Leave, Again, AgainEpoch, BalClock, BalEpoch, BalState, BalNormal, Engage, MarkLink, Decide, FreezeCount, FreezeLook, Freeze, ScanLook, HelpDraw, HelpSettle, TakeFrom, TakeKey, TakeVersion, TakeValue, TakeRestKey, TakeRestValue, SeekFirst, Seek, TakeRow, GiveBack, WriteCount, WriteMin, WriteNext, WriteFirst, WritePend, WriteKey, WriteValue, WriteVersion, WriteAfter, Before, BeforeGuess, BeforeHead, BeforeLink, BeforeMin, Replace, Normalise, Number, Retire}
+use Rattle.kw_world.specs.declared.activity.Activity.TheVariants.{Enter, ScanWait, ScanDraw, ScanSettle, Start, Walk, LookHelp, ClearScan, PutAdd, PutKey, PutValue, Announce, Stamp, PutVersion, InsSet, Insert, PutClear, Leave, Again, BalNormal, Engage, MarkLink, Decide, FreezeCount, Freeze, HelpDraw, HelpSettle, SeekFirst, TakeRow, GiveBack, WriteCount, WriteMin, WriteNext, WriteFirst, WritePend, WriteKey, WriteValue, WriteVersion, WriteAfter, Before, Replace, Normalise, Number, Retire}
 use Rattle.kw_world.specs.declared.local.Local.{Local}
 use Rattle.kw_world.specs.declared.event.Choice.{Choice}
 use Rattle.kw_world.specs.declared.operation.Action.{Action}
