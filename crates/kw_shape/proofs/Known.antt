@@ -36,7 +36,7 @@ use Rattle.kw_core.specs.Words.{Words}
 use Rattle.kw_core.proofs.Events.{IsBegun}
 use Rattle.kw_core.proofs.RoomBelow.{room_below}
 use Rattle.kw_core.proofs.InRange.{unmarked_in_range, unmarked_few, least_holds, version_in_hand, gathered_in_range, gathered_few, version_of_scan, answer_in_range, pairs_in_range, value_in_range, first_in_range, last_in_range, linked_in_range, stopped_in_range}
-use Rattle.kw_core.proofs.Arrows.{Arrow, begins, enters, is_spent, waits, draws, settles_empty, settles, starts_at_head, guesses, takes_head, guess_serves, stops, puts_in_last, reads_last, meets_next, walks_on, puts_before, reads_before, meets_pending, meets_stamped, meets_neither, is_passed, loads_to_help, helps, finds_stamped, finds_other, list_leads, list_ends, key_below, key_within, key_above, loads_version, gathers_listed, rest_wanted, rest_passed, gathers_rest, clears_scan, finds_none, takes_cell, takes_none, is_refused, loads_clock, is_stamped, is_not_own, stores_version, meets_cell, meets_none, key_before, version_before, loses, clears, leaves, NextLook, looks, lists, NextRest, rests, answers, ends_scan, scans_on, retries, loads_epoch_again, begins_rebalance, checks_epoch, meets_state, normalises_full, engages, marks_link, decides, freezes_count, meets_entry, freezes_entry, meets_scan, draws_for_scan, settles_scan, takes_link, takes_key, takes_version, takes_value, takes_rest_key, takes_rest_value, seeks_first, seeks, takes_row, gives_back, writes_count, writes_least, writes_next, writes_first, writes_entry, writes_key, writes_value, writes_version, writes_after, looks_before, guesses_before, meets_head, links_before, meets_least, replaces, normalises, numbers, retires}
+use Rattle.kw_core.proofs.Arrows.{Arrow, begins, enters, is_spent, waits, draws, settles_empty, settles, starts_at_head, guesses, takes_head, guess_serves, stops, puts_in_last, reads_last, meets_next, walks_on, puts_before, reads_before, meets_pending, meets_stamped, meets_neither, is_passed, loads_to_help, helps, finds_stamped, finds_other, list_leads, list_ends, key_below, key_within, key_above, loads_version, gathers_listed, rest_wanted, rest_passed, gathers_rest, clears_scan, finds_none, takes_cell, takes_none, is_refused, loads_clock, is_stamped, is_not_own, stores_version, meets_cell, meets_none, key_before, version_before, loses, clears, leaves, NextLook, looks, lists, NextRest, rests, answers, ends_scan, scans_on}
 
 -- all words of a table are in range
 pub record AreSane (z : Sizes) (rows : ℕ) (v : Words) : Type 0 where
@@ -234,12 +234,12 @@ known_by z rows v s choice l a l' (walks_on o) w c t b i k r = let u = key_of_wo
 known_by z rows v s choice l a l' (puts_before y o) w c t b i k r = let u = key_of_word-below (v (name.Min l.candidate)) in assumption (k, u)
 known_by z rows v s choice l a l' (reads_before y o) w c t b i k r = comes_before z rows l w.sized (key_of_word (v (name.Min l.candidate))) (key_of_word-below (v (name.Min l.candidate))) k
 known_by z rows v s choice l a l' (meets_pending j x y) w c t b i k r = let u : x < z.cells = entry z rows v l w j (pend.Pending x) k.below.row k.activity y in assumption (k, u)
-known_by z rows v s choice l a l' (meets_stamped j x version next y n) w c t b i k r = let u = entry z rows v l w j (pend.Stamped x version) k.below.row k.activity y in look_marks z rows l w.sized j x version next n k.ranges k.below k.remembered k.activity k.gathered u.0 u.1
+known_by z rows v s choice l a l' (meets_stamped j x version next y n) w c t b i k r = let u = entry z rows v l w j (pend.Stamped x version) k.below.row k.activity y in look_marks z rows l w.sized j x version next n k.ranges k.below k.remembered k.activity k.gathered (lists_of z _ l.rebalance r k.rebalance) u.0 u.1
 known_by z rows v s choice l a l' (meets_neither j next y n) w c t b i k r = next_look z rows l w.sized (j + 1) next n k.ranges k.below (omega (arith, k.remembered)) (omega (arith, k.remembered, k.activity)) k.gathered (lists_of z _ l.rebalance r k.rebalance)
 known_by z rows v s choice l a l' (is_passed next y n) w c t b i k r = next_look z rows l w.sized (l.looked + 1) next n k.ranges k.below (omega (arith, k.remembered)) (omega (arith, k.remembered, k.ranges.looked)) k.gathered (lists_of z _ l.rebalance r k.rebalance)
 known_by z rows v s choice l a l' loads_to_help w c t b i k r = let u = w.each name.Clock tt in assumption (k, u)
 known_by z rows v s choice l a l' (helps next y n) w c t b i k r = look_marks z rows l w.sized l.looked l.met l.helping next n k.ranges k.below k.remembered k.ranges.looked k.gathered (lists_of z _ l.rebalance r k.rebalance) k.ranges.met k.ranges.helping
-known_by z rows v s choice l a l' (finds_stamped x version next y n) w c t b i k r = let u = entry z rows v l w l.looked (pend.Stamped x version) k.below.row k.ranges.looked y in look_marks z rows l w.sized l.looked x version next n k.ranges k.below k.remembered k.ranges.looked k.gathered u.0 u.1
+known_by z rows v s choice l a l' (finds_stamped x version next y n) w c t b i k r = let u = entry z rows v l w l.looked (pend.Stamped x version) k.below.row k.ranges.looked y in look_marks z rows l w.sized l.looked x version next n k.ranges k.below k.remembered k.ranges.looked k.gathered (lists_of z _ l.rebalance r k.rebalance) u.0 u.1
 known_by z rows v s choice l a l' (finds_other next y n) w c t b i k r = next_look z rows l w.sized (l.looked + 1) next n k.ranges k.below (omega (arith, k.remembered)) (omega (arith, k.remembered, k.ranges.looked)) k.gathered (lists_of z _ l.rebalance r k.rebalance)
 known_by z rows v s choice l a l' (list_leads x y) w c t b i k r =
     let u : x < z.cells = linked_below (v (link_name l.row l.link)) x z.cells y (link_below z rows v w l.row l.link k.ranges.link k.below.row) in
@@ -261,7 +261,7 @@ known_by z rows v s choice l a l' (rest_wanted y) w c t b i k r = let u = key_of
 known_by z rows v s choice l a l' (rest_passed next y n) w c t b i k r = next_cell z rows l w.sized next n k.ranges k.below k.remembered k.gathered (lists_of z _ l.rebalance r k.rebalance)
 known_by z rows v s choice l a l' (gathers_rest next n) w c t b i k r =
     let u = value_in_range (v (name.Value l.row l.place)) (w.each (name.Value l.row l.place) (k.below.row, k.ranges.place)) in
-    next_cell z rows (gathering z (value_of_word (v (name.Value l.row l.place))) l) w.sized next n (gathered_more z _ l u k.ranges) (assumption k) k.remembered (gathered_few z (value_of_word (v (name.Value l.row l.place))) l k.gathered)
+    next_cell z rows (gathering z (value_of_word (v (name.Value l.row l.place))) l) w.sized next n (gathered_more z _ l u k.ranges) (assumption k) k.remembered (gathered_few z (value_of_word (v (name.Value l.row l.place))) l k.gathered) (lists_of z _ l.rebalance r k.rebalance)
 known_by z rows v s choice l a l' (clears_scan answer) w c t b i k r = is_leaving z rows l w.sized _ (stopped_in_range answer choice k.activity) k.ranges k.below k.remembered k.gathered (lists_of z _ l.rebalance r k.rebalance)
 known_by z rows v s choice l a l' (finds_none y) w c t b i k r = is_leaving z rows l w.sized _ tt k.ranges k.below k.remembered k.gathered (lists_of z _ l.rebalance r k.rebalance)
 known_by z rows v s choice l a l' (takes_cell y) w c t b i k r = let u = room_below z (count_of (v (name.Count l.row))) y in assumption (k, u)
@@ -281,47 +281,4 @@ known_by z rows v s choice l a l' (version_before y) w c t b i k r = assumption 
 known_by z rows v s choice l a l' (loses y) w c t b i k r = let o = min-le_right (l.lost + 1) z.cells in let p : 0 ≤ z.cells = omega arith in assumption (k, o, p)
 known_by z rows v s choice l a l' clears w c t b i k r = is_leaving z rows l w.sized _ tt k.ranges k.below k.remembered k.gathered (lists_of z _ l.rebalance r k.rebalance)
 known_by z rows v s choice l a l' (leaves answer) w c t b i k r = rests_known z rows l.number w.sized
-known_by z rows v s choice l a l' (retries m) w c t b i k r = absurd r
-known_by z rows v s choice l a l' (loads_epoch_again m) w c t b i k r = absurd r
-known_by z rows v s choice l a l' (begins_rebalance m) w c t b i k r = absurd r
-known_by z rows v s choice l a l' (checks_epoch m) w c t b i k r = absurd r
-known_by z rows v s choice l a l' (meets_state m) w c t b i k r = absurd r
-known_by z rows v s choice l a l' (normalises_full seat m) w c t b i k r = absurd r
-known_by z rows v s choice l a l' (engages m) w c t b i k r = absurd r
-known_by z rows v s choice l a l' (marks_link count m) w c t b i k r = absurd r
-known_by z rows v s choice l a l' (decides count m) w c t b i k r = absurd r
-known_by z rows v s choice l a l' (freezes_count m) w c t b i k r = absurd r
-known_by z rows v s choice l a l' (meets_entry x m) w c t b i k r = absurd r
-known_by z rows v s choice l a l' (freezes_entry x m) w c t b i k r = absurd r
-known_by z rows v s choice l a l' (meets_scan x m) w c t b i k r = absurd r
-known_by z rows v s choice l a l' (draws_for_scan x m) w c t b i k r = absurd r
-known_by z rows v s choice l a l' (settles_scan x m) w c t b i k r = absurd r
-known_by z rows v s choice l a l' (takes_link m) w c t b i k r = absurd r
-known_by z rows v s choice l a l' (takes_key m) w c t b i k r = absurd r
-known_by z rows v s choice l a l' (takes_version m) w c t b i k r = absurd r
-known_by z rows v s choice l a l' (takes_value m) w c t b i k r = absurd r
-known_by z rows v s choice l a l' (takes_rest_key m) w c t b i k r = absurd r
-known_by z rows v s choice l a l' (takes_rest_value m) w c t b i k r = absurd r
-known_by z rows v s choice l a l' (seeks_first m) w c t b i k r = absurd r
-known_by z rows v s choice l a l' (seeks m) w c t b i k r = absurd r
-known_by z rows v s choice l a l' (takes_row m) w c t b i k r = absurd r
-known_by z rows v s choice l a l' (gives_back m) w c t b i k r = absurd r
-known_by z rows v s choice l a l' (writes_count m) w c t b i k r = absurd r
-known_by z rows v s choice l a l' (writes_least m) w c t b i k r = absurd r
-known_by z rows v s choice l a l' (writes_next m) w c t b i k r = absurd r
-known_by z rows v s choice l a l' (writes_first m) w c t b i k r = absurd r
-known_by z rows v s choice l a l' (writes_entry x m) w c t b i k r = absurd r
-known_by z rows v s choice l a l' (writes_key j m) w c t b i k r = absurd r
-known_by z rows v s choice l a l' (writes_value j m) w c t b i k r = absurd r
-known_by z rows v s choice l a l' (writes_version j m) w c t b i k r = absurd r
-known_by z rows v s choice l a l' (writes_after j m) w c t b i k r = absurd r
-known_by z rows v s choice l a l' (looks_before m) w c t b i k r = absurd r
-known_by z rows v s choice l a l' (guesses_before m) w c t b i k r = absurd r
-known_by z rows v s choice l a l' (meets_head m) w c t b i k r = absurd r
-known_by z rows v s choice l a l' (links_before m) w c t b i k r = absurd r
-known_by z rows v s choice l a l' (meets_least m) w c t b i k r = absurd r
-known_by z rows v s choice l a l' (replaces m) w c t b i k r = absurd r
-known_by z rows v s choice l a l' (normalises m) w c t b i k r = absurd r
-known_by z rows v s choice l a l' (numbers m) w c t b i k r = absurd r
-known_by z rows v s choice l a l' (retires m) w c t b i k r = absurd r
 known_by z rows v s choice l a l' _ w c t b i k r = assumption k
