@@ -8,7 +8,7 @@ use Rattle.kw_words.proofs.ScanWords.{scan_of-Waiting}
 use Rattle.kw_model.specs.declared.call.Call.{Call}
 use Rattle.kw_model.specs.declared.call.Call.TheVariants.{Put, Del, Get, Scan}
 use Rattle.kw_world.specs.declared.activity.Activity.{Activity}
-use Rattle.kw_world.specs.declared.activity.Activity.TheVariants.{Idle, ScanWait, ScanDraw, ScanSettle, Start, Head, GuessMin, Walk, WalkMin, Look, LookKey, LookClock, LookHelp, ListFrom, ListKey, ListVer, ListVal, RestKey, RestVal, ClearScan, PutClock, Stamp, Insert, Leave}
+use Rattle.kw_world.specs.declared.activity.Activity.TheVariants.{Idle, ScanWait, ScanDraw, ScanSettle, Start, Head, GuessMin, Walk, WalkMin, Look, LookKey, LookClock, LookHelp, ListFrom, ListKey, ListVer, ListVal, RestKey, RestVal, ClearScan, PutClock, Stamp, Insert, Leave, HelpSettle, Replace}
 use Rattle.kw_world.specs.declared.local.Local.{Local}
 use Rattle.kw_world.specs.declared.event.Choice.{Choice}
 use Rattle.kw_world.specs.Sizes.{Sizes}
@@ -275,6 +275,8 @@ module _ {z : Sizes} {r r' : Run} {s : ℕ} {choice : Choice} {l l' : Local} whe
   word_settled ScanSettle h c x = absurd c
   word_settled (ClearScan answer) h c x = absurd c
   word_settled Insert h c x = absurd c
+  word_settled (HelpSettle i) h c x = absurd c
+  word_settled Replace h c x = absurd c
   word_settled a h c x = unwritten a h (name.Scan s) h.seat (λ e. cc)
 
   -- the word is set where a scan begins to wait and where it settles; every other event keeps it or clears it
@@ -288,6 +290,8 @@ module _ {z : Sizes} {r r' : Run} {s : ℕ} {choice : Choice} {l l' : Local} whe
   word_next ScanSettle h n w f = absurd (n tt)
   word_next (ClearScan answer) h n w f = inr h.changed.same
   word_next Insert h n w f = inl (unwritten Insert h (name.Scan s) h.seat (λ e. no_link l.row l.link (name.Scan s) refl e))
+  word_next (HelpSettle i) h n w f = absurd h.reached
+  word_next Replace h n w f = absurd h.reached
   word_next a h n w f = inl (unwritten a h (name.Scan s) h.seat (λ e. cc))
 
 -- Whether the word is set.

@@ -2,7 +2,7 @@
 use Rattle.std.proofs.Common.{ℕ, ◌≡◌, ◌⊎◌, inl, inr, ◌+◌, ◌<◌, ◌≤◌, Bool, true, false, Some, None, [], ◌∷◌, arith, refl, sym, ◌∙◌, ap, subst, length}
 use Rattle.kw_words.specs.declared.layout.Name.TheVariants as name
 use Rattle.kw_world.specs.declared.activity.Activity.{Activity}
-use Rattle.kw_world.specs.declared.activity.Activity.TheVariants.{Idle, ScanDraw, ScanSettle, Start, Walk, Look, ListFrom, ListKey, RestKey, RestVal, PutAdd, PutClock, Stamp}
+use Rattle.kw_world.specs.declared.activity.Activity.TheVariants.{Idle, ScanDraw, ScanSettle, Start, Walk, Look, ListFrom, ListKey, RestKey, RestVal, PutAdd, PutClock, Stamp, HelpDraw, SeekFirst, Before}
 use Rattle.kw_world.specs.declared.local.Local.{Local}
 use Rattle.kw_world.specs.declared.event.Choice.{Choice}
 use Rattle.kw_world.specs.Sizes.{Sizes}
@@ -33,6 +33,8 @@ use Rattle.kw_core.proofs.Arrows.{Arrow}
 use Rattle.std.proofs.Common.{length-append, length-set}
 use Rattle.kw_words.specs.declared.kind.Kind.{Kind}
 use Rattle.kw_world.specs.WalkTransitions.{start_transition, walk_transition, is_stopped}
+use Rattle.kw_world.specs.SeekTransitions.{seek_first_transition}
+use Rattle.kw_world.specs.ReplaceTransitions.{before_transition}
 use Rattle.kw_world.specs.Table.{transition}
 use Rattle.kw_core.specs.declared.history.Logged.{Logged}
 use Rattle.kw_core.specs.declared.history.CallLog.{CallLog}
@@ -150,6 +152,21 @@ draw_raises z r r' s choice l l' Walk h d = absurd (walks (is_stopped choice l) 
     walks : (b : Bool) → IsDraw (walk_transition b s l).operation.kind → ⊥
     walks true x = x
     walks false x = x
+draw_raises z r r' s choice l l' (HelpDraw i) h d = omega (arith, h.changed.same)
+draw_raises z r r' s choice l l' SeekFirst h d = absurd (seeks choice d)
+  where
+    seeks : (c : Choice) → IsDraw (seek_first_transition c l).operation.kind → ⊥
+    seeks (Begin call) x = x
+    seeks Go x = x
+    seeks (Guess q) x = x
+    seeks Stop x = x
+draw_raises z r r' s choice l l' Before h d = absurd (begins choice d)
+  where
+    begins : (c : Choice) → IsDraw (before_transition c l).operation.kind → ⊥
+    begins (Begin call) x = x
+    begins Go x = x
+    begins (Guess q) x = x
+    begins Stop x = x
 draw_raises z r r' s choice l l' a h d = absurd d
 
 -- the clock over the log
