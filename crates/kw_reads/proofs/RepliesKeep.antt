@@ -4,7 +4,7 @@ use Rattle.kw_world.specs.declared.answer.Answer.{Answer}
 use Rattle.kw_world.specs.Calls.{first_key, last_key}
 use Rattle.kw_world.specs.Answers.{reply_of}
 use Rattle.kw_world.specs.declared.activity.Activity.{Activity}
-use Rattle.kw_world.specs.declared.activity.Activity.TheVariants.{Idle, Enter, ScanClock, ScanWait, ScanDraw, ScanSettle, Look, LookKey, LookClock, LookHelp, ListFrom, ListKey, ListVer, ListVal, RestKey, RestVal, ClearScan, Leave}
+use Rattle.kw_world.specs.declared.activity.Activity.TheVariants.{Idle, Enter, ScanClock, ScanWait, ScanDraw, ScanSettle, Look, LookKey, LookClock, LookHelp, ListFrom, ListKey, ListVer, ListVal, RestKey, RestVal, ClearScan, Leave, AgainEpoch}
 use Rattle.kw_world.specs.declared.local.Local.{Local}
 use Rattle.kw_world.specs.declared.event.Choice.{Choice}
 use Rattle.kw_world.specs.Sizes.{Sizes}
@@ -111,6 +111,7 @@ kind_of z r r' s choice l l' h i = subst (λ q. IsKind q l) h.activity (i.shape.
 early_not_read : (c : Activity) → IsEarly c → IsAfterRead c → ⊥
 early_not_read Idle x y = y
 early_not_read Enter x y = y
+early_not_read AgainEpoch x y = y
 early_not_read ScanClock x y = y
 early_not_read ScanWait x y = y
 early_not_read ScanDraw x y = y
