@@ -12,7 +12,7 @@ use Rattle.kw_model.specs.declared.call.Reply.{Reply}
 use Rattle.kw_world.specs.declared.answer.Answer.{Answer}
 use Rattle.kw_world.specs.Answers.{reply_of}
 use Rattle.kw_world.specs.declared.activity.Activity.{Activity}
-use Rattle.kw_world.specs.declared.activity.Activity.TheVariants.{Idle, ScanDraw, Start, Walk, PutAdd, Leave}
+use Rattle.kw_world.specs.declared.activity.Activity.TheVariants.{Idle, ScanDraw, Start, Walk, PutAdd, Leave, HelpDraw, SeekFirst, Before}
 use Rattle.kw_world.specs.declared.local.Local.{Local}
 use Rattle.kw_world.specs.declared.event.Choice.{Choice}
 use Rattle.kw_world.specs.declared.event.Choice.TheVariants.{Begin, Go, Guess, Stop}
@@ -26,6 +26,8 @@ use Rattle.kw_world.specs.WorldView.{WorldView}
 use Rattle.kw_world.specs.Transition.{Transition}
 use Rattle.kw_world.specs.PutTransitions.{has_room}
 use Rattle.kw_world.specs.WalkTransitions.{offered, start_transition, walk_transition, is_stopped}
+use Rattle.kw_world.specs.SeekTransitions.{seek_first_transition}
+use Rattle.kw_world.specs.ReplaceTransitions.{before_transition}
 use Rattle.kw_world.specs.Table.{transition}
 use Rattle.kw_world.specs.Step.{word, step, transition_at}
 use Rattle.kw_world.proofs.Steps.{transition_of-transition}
@@ -57,8 +59,8 @@ use Rattle.kw_laws.proofs.MirrorSeats.{number_begun}
 
 -- Draws.
 
--- a line whose kind is that of a draw adds one to the clock
-draw_line : (z : Sizes) (a : Activity) (s : ℕ) (choice : Choice) (l : Local) → IsDraw (transition z a s choice l).operation.kind → (transition z a s choice l).operation ≡ operation kind.Draw name.Clock (Add 1)
+-- a line whose kind is that of a draw, for its own scan or for another's, adds one to the clock
+draw_line : (z : Sizes) (a : Activity) (s : ℕ) (choice : Choice) (l : Local) → IsDraw (transition z a s choice l).operation.kind → (transition z a s choice l).operation ≡ operation (transition z a s choice l).operation.kind name.Clock (Add 1)
 draw_line z ScanDraw s choice l d = refl
 draw_line z Start s choice l d = absurd (starts choice d)
   where
@@ -72,6 +74,21 @@ draw_line z Walk s choice l d = absurd (walks (is_stopped choice l) d)
     walks : (b : Bool) → IsDraw (walk_transition b s l).operation.kind → ⊥
     walks true x = x
     walks false x = x
+draw_line z (HelpDraw i) s choice l d = refl
+draw_line z SeekFirst s choice l d = absurd (seeks choice d)
+  where
+    seeks : (c : Choice) → IsDraw (seek_first_transition c l).operation.kind → ⊥
+    seeks (Begin call) x = x
+    seeks Go x = x
+    seeks (Guess q) x = x
+    seeks Stop x = x
+draw_line z Before s choice l d = absurd (begins choice d)
+  where
+    begins : (c : Choice) → IsDraw (before_transition c l).operation.kind → ⊥
+    begins (Begin call) x = x
+    begins Go x = x
+    begins (Guess q) x = x
+    begins Stop x = x
 draw_line z a s choice l d = absurd d
 
 -- a version that the log says was drawn was drawn by the event there
@@ -79,8 +96,8 @@ drawn_there : (z : Sizes) (o : Opening) (es : List Event) (h : History) → ((x 
 drawn_there z o es h log d t = record {
   seat = t.stands.seat;
   activity = it.activity;
-  kind = kind.Draw;
-  is_draw = tt;
+  kind = t.kind;
+  is_draw = t.is_draw;
   acts = record {
     before = it.acts.before;
     choice = it.acts.choice;
@@ -88,7 +105,7 @@ drawn_there z o es h log d t = record {
     occurs = it.acts.occurs;
     knows = it.acts.knows;
     activity = it.acts.activity;
-    operates = line ∙ draw_line z it.acts.local.activity t.stands.seat (offered it.acts.before.rows it.acts.choice) it.acts.local (subst IsDraw (sym (ap (λ (p : Operation). p.kind) (sym line ∙ it.acts.operates) ∙ it.kind)) t.is_draw);
+    operates = line ∙ draw_line z it.acts.local.activity t.stands.seat (offered it.acts.before.rows it.acts.choice) it.acts.local (subst IsDraw (sym its_kind) t.is_draw) ∙ ap (λ k. operation k name.Clock (Add 1)) its_kind;
     finds = it.clock;
   };
 }
@@ -98,6 +115,9 @@ drawn_there z o es h log d t = record {
 
     line : (transition_at z it.acts.before (event t.stands.seat it.acts.choice) it.acts.local).operation ≡ (transition z it.acts.local.activity t.stands.seat (offered it.acts.before.rows it.acts.choice) it.acts.local).operation
     line = ap (λ (x : Transition). x.operation) (transition_of-transition z t.stands.seat (offered it.acts.before.rows it.acts.choice) it.acts.local)
+
+    its_kind : (transition z it.acts.local.activity t.stands.seat (offered it.acts.before.rows it.acts.choice) it.acts.local).operation.kind ≡ t.kind
+    its_kind = ap (λ (p : Operation). p.kind) (sym line ∙ it.acts.operates) ∙ it.kind
 
 -- a seat that asks for a cell asks the row that it is at
 add_line : (z : Sizes) (w : WorldView) (s : ℕ) (choice : Choice) (l : Local) (q : ℕ) → l.activity ≡ PutAdd → (transition_at z w (event s choice) l).operation ≡ operation kind.AddCount (name.Count q) (Add 1) → l.row ≡ q

@@ -8,7 +8,7 @@ use Rattle.kw_words.specs.declared.layout.Name.TheVariants as name
 use Rattle.kw_model.specs.declared.call.Call.{Call}
 use Rattle.kw_world.specs.Answers.{reply_of}
 use Rattle.kw_world.specs.declared.activity.Activity.{Activity}
-use Rattle.kw_world.specs.declared.activity.Activity.TheVariants.{Idle, ScanClock, Start, Walk, Look, LookClock, ListFrom, ListKey, RestKey, RestVal, PutAdd, PutClock, Leave}
+use Rattle.kw_world.specs.declared.activity.Activity.TheVariants.{Idle, ScanClock, Start, Walk, Look, LookClock, ListFrom, ListKey, RestKey, RestVal, PutAdd, PutClock, Leave, BalClock, SeekFirst, Before}
 use Rattle.kw_world.specs.declared.local.Local.{Local}
 use Rattle.kw_world.specs.declared.event.Choice.{Choice}
 use Rattle.kw_world.specs.declared.event.Choice.TheVariants.{Begin, Go, Guess, Stop}
@@ -27,7 +27,7 @@ use Rattle.kw_core.specs.History.{History, called}
 use Rattle.kw_core.specs.declared.history.CallLog.{CallLog}
 use Rattle.kw_core.specs.Run.{Run, Origins, seat_after, log_begun, log_gathered, place_gathered, is_at_cell}
 use Rattle.kw_core.specs.declared.seat_log.SeatLog.{SeatLog}
-use Rattle.kw_core.specs.Stages.{IsBusy, IsStamp, IsHelp, IsUnderway, IsStaying}
+use Rattle.kw_core.specs.Stages.{IsBusy, IsStamp, IsHelp, IsUnderway, IsStaying, IsReached}
 use Rattle.kw_core.specs.Words.{Words}
 use Rattle.kw_laws.specs.Mirror.{Occurs, Acts, NoLoad, operation, is_begun, begins_by, begun_from, begun}
 use Rattle.kw_core.proofs.Happens.{Happens, each_seat, found_at, knows_next, knows_other}
@@ -162,36 +162,39 @@ arrow_help z v s choice l a k _ u = absurd u
 abbrev LoadedOver : Sizes → ℕ → Choice → Local → ℕ → Activity → SeatLog → Origins → History → Activity → Type 0
 LoadedOver z s choice l found next g o h a = ((seat_after z a choice l found next g o h).loaded ≡ g.loaded) × ((transition z a s choice l).operation.kind ≢ kind.LoadClock) ⊎ ((seat_after z a choice l found next g o h).loaded ≡ length h.log)
 
-loaded_over : (z : Sizes) (s : ℕ) (choice : Choice) (l : Local) (found : ℕ) (next : Activity) (g : SeatLog) (o : Origins) (h : History) (a : Activity) → LoadedOver z s choice l found next g o h a
-loaded_over z s choice l found next g o h Idle = inl (begun choice, λ e. cc)
+loaded_over : (z : Sizes) (s : ℕ) (choice : Choice) (l : Local) (found : ℕ) (next : Activity) (g : SeatLog) (o : Origins) (h : History) (a : Activity) → IsReached a → LoadedOver z s choice l found next g o h a
+loaded_over z s choice l found next g o h Idle w = inl (begun choice, λ e. cc)
   where
     begun : (c : Choice) → (log_begun c (length h.calls) g).loaded ≡ g.loaded
     begun (Begin call) = refl
     begun Go = refl
     begun (Guess q) = refl
     begun Stop = refl
-loaded_over z s choice l found next g o h ScanClock = inr refl
-loaded_over z s choice l found next g o h LookClock = inr refl
-loaded_over z s choice l found next g o h PutClock = inr refl
-loaded_over z s choice l found next g o h Start = inl (refl, starts choice)
+loaded_over z s choice l found next g o h ScanClock w = inr refl
+loaded_over z s choice l found next g o h LookClock w = inr refl
+loaded_over z s choice l found next g o h PutClock w = inr refl
+loaded_over z s choice l found next g o h Start w = inl (refl, starts choice)
   where
     starts : (c : Choice) → (start_transition c l).operation.kind ≢ kind.LoadClock
     starts (Begin call) e = cc
     starts Go e = cc
     starts (Guess q) e = cc
     starts Stop e = cc
-loaded_over z s choice l found next g o h Walk = inl (refl, walks (is_stopped choice l))
+loaded_over z s choice l found next g o h Walk w = inl (refl, walks (is_stopped choice l))
   where
     walks : (b : Bool) → (walk_transition b s l).operation.kind ≢ kind.LoadClock
     walks true e = cc
     walks false e = cc
-loaded_over z s choice l found next g o h (Look i) = inl (either (λ (q : SeatLog). q.loaded) (i == 0) (record g { looked = length h.log; ids = []; read = None }) g g.loaded refl refl, λ e. cc)
-loaded_over z s choice l found next g o h ListFrom = inl (either (λ (q : SeatLog). q.loaded) (is_at_cell next) g (record g { read = Some l.row }) g.loaded refl refl, λ e. cc)
-loaded_over z s choice l found next g o h ListKey = inl (either (λ (q : SeatLog). q.loaded) (is_at_cell next) g (record g { read = Some l.row }) g.loaded refl refl, λ e. cc)
-loaded_over z s choice l found next g o h RestKey = inl (either (λ (q : SeatLog). q.loaded) (is_at_cell next) g (record g { read = Some l.row }) g.loaded refl refl, λ e. cc)
-loaded_over z s choice l found next g o h RestVal = let k = log_gathered (o l.row l.place) (place_gathered l found) g in inl (either (λ (q : SeatLog). q.loaded) (is_at_cell next) k (record k { read = Some l.row }) g.loaded refl refl, λ e. cc)
-loaded_over z s choice l found next g o h PutAdd = inl (either (λ (q : SeatLog). q.loaded) (has_room z (count_of found)) (record g { own = length h.attempts }) g g.loaded refl refl, λ e. cc)
-loaded_over z s choice l found next g o h a = inl (refl, λ e. cc)
+loaded_over z s choice l found next g o h (Look i) w = inl (either (λ (q : SeatLog). q.loaded) (i == 0) (record g { looked = length h.log; ids = []; read = None }) g g.loaded refl refl, λ e. cc)
+loaded_over z s choice l found next g o h ListFrom w = inl (either (λ (q : SeatLog). q.loaded) (is_at_cell next) g (record g { read = Some l.row }) g.loaded refl refl, λ e. cc)
+loaded_over z s choice l found next g o h ListKey w = inl (either (λ (q : SeatLog). q.loaded) (is_at_cell next) g (record g { read = Some l.row }) g.loaded refl refl, λ e. cc)
+loaded_over z s choice l found next g o h RestKey w = inl (either (λ (q : SeatLog). q.loaded) (is_at_cell next) g (record g { read = Some l.row }) g.loaded refl refl, λ e. cc)
+loaded_over z s choice l found next g o h RestVal w = let k = log_gathered (o l.row l.place) (place_gathered l found) g in inl (either (λ (q : SeatLog). q.loaded) (is_at_cell next) k (record k { read = Some l.row }) g.loaded refl refl, λ e. cc)
+loaded_over z s choice l found next g o h PutAdd w = inl (either (λ (q : SeatLog). q.loaded) (has_room z (count_of found)) (record g { own = length h.attempts }) g g.loaded refl refl, λ e. cc)
+loaded_over z s choice l found next g o h BalClock w = absurd w
+loaded_over z s choice l found next g o h SeekFirst w = absurd w
+loaded_over z s choice l found next g o h Before w = absurd w
+loaded_over z s choice l found next g o h a w = inl (refl, λ e. cc)
 
 -- One more event.
 
@@ -227,7 +230,7 @@ module _ (z : Sizes) (o : Opening) (es : List Event) (e : Event) (r r' : Run) (l
 
   -- the acting seat's last load
   loads_own : NoLoad z o (es ++ e ∷ []) e.seat (r'.seats e.seat).loaded (length (es ++ e ∷ []))
-  loads_own u w choice f g t c = which (loaded_over z e.seat (offered r.world.rows e.choice) l (found_at z (word z r.world) a e.seat (offered r.world.rows e.choice) l) l'.activity (r.seats e.seat) r.origin r.history a)
+  loads_own u w choice f g t c = which (loaded_over z e.seat (offered r.world.rows e.choice) l (found_at z (word z r.world) a e.seat (offered r.world.rows e.choice) l) l'.activity (r.seats e.seat) r.origin r.history a h.reached)
     where
       which : LoadedOver z e.seat (offered r.world.rows e.choice) l (found_at z (word z r.world) a e.seat (offered r.world.rows e.choice) l) l'.activity (r.seats e.seat) r.origin r.history a → ⊥
       which (inl x) = was (occurs_was z o es e u w (event e.seat choice) t)

@@ -6,7 +6,7 @@ use Rattle.kw_words.specs.declared.pend.Pend.TheVariants as pend
 use Rattle.kw_words.specs.Pend.{pend_word}
 use Rattle.kw_world.specs.declared.activity.Activity.{Activity}
 use Rattle.kw_core.proofs.Frame.{no_link}
-use Rattle.kw_world.specs.declared.activity.Activity.TheVariants.{ScanSettle, Start, Walk, LookHelp, Announce, Stamp, Insert}
+use Rattle.kw_world.specs.declared.activity.Activity.TheVariants.{ScanSettle, Start, Walk, LookHelp, Announce, Stamp, Insert, BalNormal, Engage, Decide, Freeze, HelpSettle, TakeRow, SeekFirst, Before, Replace, Normalise}
 use Rattle.kw_world.specs.declared.local.Local.{Local}
 use Rattle.kw_world.specs.declared.event.Choice.{Choice}
 use Rattle.kw_world.specs.declared.event.Choice.TheVariants.{Begin, Go, Guess, Stop}
@@ -27,7 +27,7 @@ use Rattle.kw_core.specs.declared.history.Attempt.{Attempt}
 use Rattle.kw_core.specs.declared.history.Change.TheVariants.{Nothing, Announces, Stamps}
 use Rattle.kw_core.specs.Noted.{noted}
 use Rattle.kw_core.specs.Run.{Run, change_of, helping, logged}
-use Rattle.kw_core.specs.Stages.{IsPutting, HasMet}
+use Rattle.kw_core.specs.Stages.{IsPutting, HasMet, IsReached}
 use Rattle.kw_core.specs.Words.{Words}
 use Rattle.kw_reads.specs.Inv.{Inv}
 use Rattle.kw_laws.specs.Mirror.{Occurs, Acts, IsAnnouncementOf, IsStampOf, announcing, stamping}
@@ -49,48 +49,68 @@ pending_apart : (c : ℕ) → pend_word pend.Idle ≡ pend_word (pend.Pending c)
 pending_apart c e = omega (arith, e)
 
 -- only a put that stamps its cell, or a reader that helps, exchanges a pending entry
-stamp_line : (z : Sizes) (v : Words) (s : ℕ) (choice : Choice) (l : Local) (a : Activity) (q t c w : ℕ) → (transition z a s choice l).operation.name ≡ name.Pend q t → (transition z a s choice l).operation.action ≡ Exchange (pend_word (pend.Pending c)) w → v (name.Pend q t) ≡ pend_word (pend.Pending c) →
+stamp_line : (z : Sizes) (v : Words) (s : ℕ) (choice : Choice) (l : Local) (a : Activity) (q t c w : ℕ) → IsReached a → (transition z a s choice l).operation.name ≡ name.Pend q t → (transition z a s choice l).operation.action ≡ Exchange (pend_word (pend.Pending c)) w → v (name.Pend q t) ≡ pend_word (pend.Pending c) →
     (a ≡ Stamp) × (v (name.Pend l.row s) ≡ pend_word (pend.Pending l.cell)) ⊎ (a ≡ LookHelp) × (v (name.Pend l.row l.looked) ≡ pend_word (pend.Pending l.met))
-stamp_line z v s choice l Stamp q t c w n x f = inl (refl, ap v n ∙ f ∙ sym (same_exchange _ _ _ _ x))
-stamp_line z v s choice l LookHelp q t c w n x f = inr (refl, ap v n ∙ f ∙ sym (same_exchange _ _ _ _ x))
-stamp_line z v s choice l Announce q t c w n x f = absurd (pending_apart c (same_exchange _ _ _ _ x))
-stamp_line z v s choice l ScanSettle q t c w n x f = let y : name.Scan s ≡ name.Pend q t = n in absurd (cc)
-stamp_line z v s choice l Start q t c w n x f = absurd (starts choice x)
+stamp_line z v s choice l Stamp q t c w k n x f = inl (refl, ap v n ∙ f ∙ sym (same_exchange _ _ _ _ x))
+stamp_line z v s choice l LookHelp q t c w k n x f = inr (refl, ap v n ∙ f ∙ sym (same_exchange _ _ _ _ x))
+stamp_line z v s choice l Announce q t c w k n x f = absurd (pending_apart c (same_exchange _ _ _ _ x))
+stamp_line z v s choice l ScanSettle q t c w k n x f = let y : name.Scan s ≡ name.Pend q t = n in absurd (cc)
+stamp_line z v s choice l Start q t c w k n x f = absurd (starts choice x)
   where
     starts : (d : Choice) → (start_transition d l).operation.action ≡ Exchange (pend_word (pend.Pending c)) w → ⊥
     starts (Begin call) y = cc
     starts Go y = cc
     starts (Guess u) y = cc
     starts Stop y = cc
-stamp_line z v s choice l Walk q t c w n x f = absurd (walks (is_stopped choice l) x)
+stamp_line z v s choice l Walk q t c w k n x f = absurd (walks (is_stopped choice l) x)
   where
     walks : (b : Bool) → (walk_transition b s l).operation.action ≡ Exchange (pend_word (pend.Pending c)) w → ⊥
     walks true y = cc
     walks false y = cc
-stamp_line z v s choice l Insert q t c w n x f = no_link l.row l.link (name.Pend q t) refl (ap Some n)
-stamp_line z v s choice l a q t c w n x f = absurd (cc)
+stamp_line z v s choice l Insert q t c w k n x f = no_link l.row l.link (name.Pend q t) refl (ap Some n)
+stamp_line z v s choice l (BalNormal seat) q t c w k n x f = absurd k
+stamp_line z v s choice l Engage q t c w k n x f = absurd k
+stamp_line z v s choice l (Decide count) q t c w k n x f = absurd k
+stamp_line z v s choice l (Freeze i) q t c w k n x f = absurd k
+stamp_line z v s choice l (HelpSettle i) q t c w k n x f = absurd k
+stamp_line z v s choice l TakeRow q t c w k n x f = absurd k
+stamp_line z v s choice l SeekFirst q t c w k n x f = absurd k
+stamp_line z v s choice l Before q t c w k n x f = absurd k
+stamp_line z v s choice l Replace q t c w k n x f = absurd k
+stamp_line z v s choice l Normalise q t c w k n x f = absurd k
+stamp_line z v s choice l a q t c w k n x f = absurd (cc)
 
 -- only a put that announces its cell exchanges an idle entry
-announce_line : (z : Sizes) (v : Words) (s : ℕ) (choice : Choice) (l : Local) (a : Activity) (q t w : ℕ) → (transition z a s choice l).operation.name ≡ name.Pend q t → (transition z a s choice l).operation.action ≡ Exchange (pend_word pend.Idle) w → v (name.Pend q t) ≡ pend_word pend.Idle →
+announce_line : (z : Sizes) (v : Words) (s : ℕ) (choice : Choice) (l : Local) (a : Activity) (q t w : ℕ) → IsReached a → (transition z a s choice l).operation.name ≡ name.Pend q t → (transition z a s choice l).operation.action ≡ Exchange (pend_word pend.Idle) w → v (name.Pend q t) ≡ pend_word pend.Idle →
     (a ≡ Announce) × (v (name.Pend l.row s) ≡ pend_word pend.Idle)
-announce_line z v s choice l Announce q t w n x f = (refl, ap v n ∙ f)
-announce_line z v s choice l Stamp q t w n x f = absurd (pending_apart l.cell (sym (same_exchange _ _ _ _ x)))
-announce_line z v s choice l LookHelp q t w n x f = absurd (pending_apart l.met (sym (same_exchange _ _ _ _ x)))
-announce_line z v s choice l ScanSettle q t w n x f = let y : name.Scan s ≡ name.Pend q t = n in absurd (cc)
-announce_line z v s choice l Start q t w n x f = absurd (starts choice x)
+announce_line z v s choice l Announce q t w k n x f = (refl, ap v n ∙ f)
+announce_line z v s choice l Stamp q t w k n x f = absurd (pending_apart l.cell (sym (same_exchange _ _ _ _ x)))
+announce_line z v s choice l LookHelp q t w k n x f = absurd (pending_apart l.met (sym (same_exchange _ _ _ _ x)))
+announce_line z v s choice l ScanSettle q t w k n x f = let y : name.Scan s ≡ name.Pend q t = n in absurd (cc)
+announce_line z v s choice l Start q t w k n x f = absurd (starts choice x)
   where
     starts : (d : Choice) → (start_transition d l).operation.action ≡ Exchange (pend_word pend.Idle) w → ⊥
     starts (Begin call) y = cc
     starts Go y = cc
     starts (Guess u) y = cc
     starts Stop y = cc
-announce_line z v s choice l Walk q t w n x f = absurd (walks (is_stopped choice l) x)
+announce_line z v s choice l Walk q t w k n x f = absurd (walks (is_stopped choice l) x)
   where
     walks : (b : Bool) → (walk_transition b s l).operation.action ≡ Exchange (pend_word pend.Idle) w → ⊥
     walks true y = cc
     walks false y = cc
-announce_line z v s choice l Insert q t w n x f = no_link l.row l.link (name.Pend q t) refl (ap Some n)
-announce_line z v s choice l a q t w n x f = absurd (cc)
+announce_line z v s choice l Insert q t w k n x f = no_link l.row l.link (name.Pend q t) refl (ap Some n)
+announce_line z v s choice l (BalNormal seat) q t w k n x f = absurd k
+announce_line z v s choice l Engage q t w k n x f = absurd k
+announce_line z v s choice l (Decide count) q t w k n x f = absurd k
+announce_line z v s choice l (Freeze i) q t w k n x f = absurd k
+announce_line z v s choice l (HelpSettle i) q t w k n x f = absurd k
+announce_line z v s choice l TakeRow q t w k n x f = absurd k
+announce_line z v s choice l SeekFirst q t w k n x f = absurd k
+announce_line z v s choice l Before q t w k n x f = absurd k
+announce_line z v s choice l Replace q t w k n x f = absurd k
+announce_line z v s choice l Normalise q t w k n x f = absurd k
+announce_line z v s choice l a q t w k n x f = absurd (cc)
 
 -- One more event.
 
@@ -163,7 +183,7 @@ module _ (z : Sizes) (o : Opening) (es : List Event) (e : Event) (r r' : Run) (l
           record { place = y.place; within = omega (arith, y.within, goes.more_attempts); is_announced = g.0; announced = g.1 ∙ y.announced }
       which (inr f) =
           let u = line_here s b (announcing q s cell) (pend_word pend.Idle) (record { before = t.before; choice = t.choice; local = t.local; occurs = subst (λ y. Occurs z o (es ++ e ∷ []) y t.before (event s t.choice)) f.0 t.occurs; knows = t.knows; activity = t.activity; operates = t.operates; finds = t.finds }) f.1 f.2 in
-          let v = announce_line z (word z r.world) e.seat (offered r.world.rows e.choice) l a q s _ (ap (λ (p : Operation). p.name) u.0) (ap (λ (p : Operation). p.action) u.0) u.1 in
+          let v = announce_line z (word z r.world) e.seat (offered r.world.rows e.choice) l a q s _ h.reached (ap (λ (p : Operation). p.name) u.0) (ap (λ (p : Operation). p.action) u.0) u.1 in
           announced_now x (f.0 ∙ sym k.mirrors.events) v.0 v.1
 
   pub all_stamped_keep : (x s q seat cell version : ℕ) (b : Activity) (kd : Kind) → Acts z o (es ++ e ∷ []) x s b (stamping kd q seat cell version) (pend_word (pend.Pending cell)) → IsStampOf r'.history x
@@ -176,5 +196,5 @@ module _ (z : Sizes) (o : Opening) (es : List Event) (e : Event) (r r' : Run) (l
           record { place = y.place; within = omega (arith, y.within, goes.more_attempts); is_put = g.0; at = g.3 ∙ y.at }
       which (inr f) =
           let u = line_here s b (stamping kd q seat cell version) (pend_word (pend.Pending cell)) (record { before = t.before; choice = t.choice; local = t.local; occurs = subst (λ y. Occurs z o (es ++ e ∷ []) y t.before (event s t.choice)) f.0 t.occurs; knows = t.knows; activity = t.activity; operates = t.operates; finds = t.finds }) f.1 f.2 in
-          let v = stamp_line z (word z r.world) e.seat (offered r.world.rows e.choice) l a q seat cell _ (ap (λ (p : Operation). p.name) u.0) (ap (λ (p : Operation). p.action) u.0) u.1 in
+          let v = stamp_line z (word z r.world) e.seat (offered r.world.rows e.choice) l a q seat cell _ h.reached (ap (λ (p : Operation). p.name) u.0) (ap (λ (p : Operation). p.action) u.0) u.1 in
           stamps_now x (f.0 ∙ sym k.mirrors.events) v
