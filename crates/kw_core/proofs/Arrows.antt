@@ -1,6 +1,6 @@
 -- The arrows of the table: from an activity, with the words that are there, to what the seat knows next.
 --
--- There is one constructor for each arrow. It carries what the event found, so that a law by cases on the arrow splits no test of
+-- There is one constructor for each arrow, from activities to which a seat may come. It carries what the event found, so that a law by cases on the arrow splits no test of
 -- the table again; where a law does not matter for most arrows, one catch-all serves them. The words are a function of names.
 -- What follows where the end of the looks, or of a row's cells, has no event of its own is an arrow of its own type, `NextLook` and
 -- `NextRest`.
@@ -26,7 +26,7 @@ use Rattle.kw_world.specs.declared.answer.Answer.{Answer}
 use Rattle.kw_world.specs.declared.answer.Answer.TheVariants.{Done, Pairs, Spent, Stopped}
 use Rattle.kw_world.specs.Answers.{answer_found}
 use Rattle.kw_world.specs.declared.activity.Activity.{Activity}
-use Rattle.kw_world.specs.declared.activity.Activity.TheVariants.{Idle, Enter, ScanClock, ScanWait, ScanDraw, ScanSettle, Start, Head, GuessMin, Walk, WalkMin, Look, LookKey, LookClock, LookHelp, ListFrom, ListKey, ListVer, ListVal, RestKey, RestVal, ClearScan, PutCount, PutAdd, PutKey, PutValue, Announce, PutClock, Stamp, PutVersion, InsFrom, InsKey, InsVer, InsSet, Insert, PutClear, Leave}
+use Rattle.kw_world.specs.declared.activity.Activity.TheVariants.{Idle, Enter, ScanClock, ScanWait, ScanDraw, ScanSettle, Start, Head, GuessMin, Walk, WalkMin, Look, LookKey, LookClock, LookHelp, ListFrom, ListKey, ListVer, ListVal, RestKey, RestVal, ClearScan, PutCount, PutAdd, PutKey, PutValue, Announce, PutClock, Stamp, PutVersion, InsFrom, InsKey, InsVer, InsSet, Insert, PutClear, Leave, Again, AgainEpoch, BalClock, BalEpoch, BalState, BalNormal, Engage, MarkLink, Decide, FreezeCount, FreezeLook, Freeze, ScanLook, HelpDraw, HelpSettle, TakeFrom, TakeKey, TakeVersion, TakeValue, TakeRestKey, TakeRestValue, SeekFirst, Seek, TakeRow, GiveBack, WriteCount, WriteMin, WriteNext, WriteFirst, WritePend, WriteKey, WriteValue, WriteVersion, WriteAfter, Before, BeforeGuess, BeforeHead, BeforeLink, BeforeMin, Replace, Normalise, Number, Retire}
 use Rattle.kw_world.specs.declared.local.Local.{Local}
 use Rattle.kw_world.specs.declared.limits.TheConstants.{NEWEST}
 use Rattle.kw_world.specs.declared.event.Choice.{Choice}
@@ -45,7 +45,7 @@ use Rattle.kw_world.specs.ListTransitions.{link_name, meeting, losing, to_insert
 use Rattle.kw_world.specs.Table.{transition}
 use Rattle.kw_world.specs.Step.{followed, is_skipped}
 use Rattle.kw_core.specs.Words.{Words, next_in, least_in}
-use Rattle.kw_core.specs.Stages.{is_put}
+use Rattle.kw_core.specs.Stages.{is_put, IsReached}
 use Rattle.kw_core.proofs.Events.{IsBegun}
 
 -- what a reader does after the entries below j: the next look, or the row's list
@@ -320,94 +320,137 @@ module _ (z : Sizes) (rows : ℕ) (v : Words) (s : ℕ) (choice : Choice) (l : L
   insert_arrow (Some c) e = meets_cell c e
   insert_arrow None e = meets_none e
 
-  -- every event that is not skipped takes an arrow
-  pub arrow : (a : Activity) → IsBegun a choice → is_skipped a choice ≡ false → Arrow z v s choice l a (followed rows (transition z a s choice l) (v (transition z a s choice l).operation.name)).local
-  arrow Idle b m = begin_arrow choice refl b m
-  arrow Enter b m = enter_arrow l.call refl
-  arrow ScanClock b m = met (nat_le SPENT (v name.Clock)) refl
+  -- every event that is not skipped, of a seat that may come to its activity, takes an arrow
+  pub arrow : (a : Activity) → IsReached a → IsBegun a choice → is_skipped a choice ≡ false → Arrow z v s choice l a (followed rows (transition z a s choice l) (v (transition z a s choice l).operation.name)).local
+  arrow Idle o b m = begin_arrow choice refl b m
+  arrow Enter o b m = enter_arrow l.call refl
+  arrow ScanClock o b m = met (nat_le SPENT (v name.Clock)) refl
     where
       met : (b : Bool) → nat_le SPENT (v name.Clock) ≡ b → Arrow z v s choice l ScanClock (let x : Outcome = if b then leave Spent l else to ScanWait (record l { waiting = v name.Clock }) in x).local
       met true e = is_spent (at_most _ _ e)
       met false e = waits (above _ _ e)
-  arrow ScanWait b m = stores_waiting
-  arrow ScanDraw b m = draws
-  arrow ScanSettle b m = met (is_range_empty l.call) refl
+  arrow ScanWait o b m = stores_waiting
+  arrow ScanDraw o b m = draws
+  arrow ScanSettle o b m = met (is_range_empty l.call) refl
     where
       met : (b : Bool) → is_range_empty l.call ≡ b → Arrow z v s choice l ScanSettle (let x : Outcome = if b then to (ClearScan Pairs) (record l { version = version_settled (scan_of (v (name.Scan s))) l.drawn }) else to Start (record l { version = version_settled (scan_of (v (name.Scan s))) l.drawn; want = first_key l.call }) in x).local
       met true e = settles_empty e
       met false e = settles e
-  arrow Start b m = start_arrow choice refl
-  arrow Head b m = takes_head
-  arrow GuessMin b m = met (nat_le (least_in v l.row) l.want) refl
+  arrow Start o b m = start_arrow choice refl
+  arrow Head o b m = takes_head
+  arrow GuessMin o b m = met (nat_le (least_in v l.row) l.want) refl
     where
       met : (b : Bool) → nat_le (least_in v l.row) l.want ≡ b → Arrow z v s choice l GuessMin (let x : Outcome = if b then to Walk (record l { lower = least_in v l.row }) else to Head l in x).local
       met true e = guess_serves (at_most _ _ e)
       met false e = guess_is_above (above _ _ e)
-  arrow Walk b m = walk_arrow (is_stopped choice l) refl
-  arrow WalkMin b m = min_arrow (nat_le (least_in v l.candidate) l.want) refl
-  arrow (Look i) b m = look_arrow i (pend_of (v (name.Pend l.row i))) refl
-  arrow LookKey b m = met (is_in_range l.call (key_of_word (v (name.Key l.row l.met)))) refl
+  arrow Walk o b m = walk_arrow (is_stopped choice l) refl
+  arrow WalkMin o b m = min_arrow (nat_le (least_in v l.candidate) l.want) refl
+  arrow (Look i) o b m = look_arrow i (pend_of (v (name.Pend l.row i))) refl
+  arrow LookKey o b m = met (is_in_range l.call (key_of_word (v (name.Key l.row l.met)))) refl
     where
       met : (b : Bool) → is_in_range l.call (key_of_word (v (name.Key l.row l.met))) ≡ b → Arrow z v s choice l LookKey (let x : Outcome = if b then to LookClock l else to_look z (l.looked + 1) l in x).local
       met true e = is_wanted e
       met false e = next_look z (l.looked + 1) l (Arrow z v s choice l LookKey) (λ a n. is_passed a e n)
-  arrow LookClock b m = loads_to_help
-  arrow LookHelp b m = help_arrow (pend_of (v (name.Pend l.row l.looked))) refl
-  arrow ListFrom b m = list_arrow (cell_of_link_word (v (link_name l.row l.link))) refl
-  arrow ListKey b m = met (nat_lt (key_of_word (v (name.Key l.row l.place))) (first_key l.call)) (nat_le (key_of_word (v (name.Key l.row l.place))) (last_key l.call)) refl refl
+  arrow LookClock o b m = loads_to_help
+  arrow LookHelp o b m = help_arrow (pend_of (v (name.Pend l.row l.looked))) refl
+  arrow ListFrom o b m = list_arrow (cell_of_link_word (v (link_name l.row l.link))) refl
+  arrow ListKey o b m = met (nat_lt (key_of_word (v (name.Key l.row l.place))) (first_key l.call)) (nat_le (key_of_word (v (name.Key l.row l.place))) (last_key l.call)) refl refl
     where
       met : (b c : Bool) → nat_lt (key_of_word (v (name.Key l.row l.place))) (first_key l.call) ≡ b → nat_le (key_of_word (v (name.Key l.row l.place))) (last_key l.call) ≡ c →
           Arrow z v s choice l ListKey (let x : Outcome = if b then list_past l else if c then to ListVer (record l { place_key = key_of_word (v (name.Key l.row l.place)) }) else to_rest l in x).local
       met true c e f = key_below (below _ _ e)
       met false true e f = key_within (not_below _ _ e) (at_most _ _ f)
       met false false e f = key_above _ (above _ _ f) (next_rest l)
-  arrow ListVer b m = loads_version
-  arrow ListVal b m = gathers_listed
-  arrow RestKey b m = met (is_in_range l.call (key_of_word (v (name.Key l.row l.place)))) refl
+  arrow ListVer o b m = loads_version
+  arrow ListVal o b m = gathers_listed
+  arrow RestKey o b m = met (is_in_range l.call (key_of_word (v (name.Key l.row l.place)))) refl
     where
       met : (b : Bool) → is_in_range l.call (key_of_word (v (name.Key l.row l.place))) ≡ b → Arrow z v s choice l RestKey (let x : Outcome = if b then to RestVal (record l { place_key = key_of_word (v (name.Key l.row l.place)) }) else to_rest l in x).local
       met true e = rest_wanted e
       met false e = rest_passed _ e (next_rest l)
-  arrow RestVal b m = gathers_rest _ (next_rest (gathering z (value_of_word (v (name.Value l.row l.place))) l))
-  arrow (ClearScan answer) b m = clears_scan answer
-  arrow PutCount b m = met (has_room z (count_of (v (name.Count l.row)))) refl
+  arrow RestVal o b m = gathers_rest _ (next_rest (gathering z (value_of_word (v (name.Value l.row l.place))) l))
+  arrow (ClearScan answer) o b m = clears_scan answer
+  arrow PutCount o b m = met (has_room z (count_of (v (name.Count l.row)))) refl
     where
       met : (b : Bool) → has_room z (count_of (v (name.Count l.row))) ≡ b → Arrow z v s choice l PutCount (let x : Outcome = if b then to PutAdd l else full l in x).local
       met true e = finds_room e
       met false e = finds_none e
-  arrow PutAdd b m = met (has_room z (count_of (v (name.Count l.row)))) refl
+  arrow PutAdd o b m = met (has_room z (count_of (v (name.Count l.row)))) refl
     where
       met : (b : Bool) → has_room z (count_of (v (name.Count l.row))) ≡ b → Arrow z v s choice l PutAdd (let x : Outcome = if b then to PutKey (record l { cell = given_of (count_of (v (name.Count l.row))) }) else full l in x).local
       met true e = takes_cell e
       met false e = takes_none e
-  arrow PutKey b m = stores_key
-  arrow PutValue b m = stores_value
-  arrow Announce b m = met (v (name.Pend l.row s) == pend_word pend.Idle) refl
+  arrow PutKey o b m = stores_key
+  arrow PutValue o b m = stores_value
+  arrow Announce o b m = met (v (name.Pend l.row s) == pend_word pend.Idle) refl
     where
       met : (b : Bool) → (v (name.Pend l.row s) == pend_word pend.Idle) ≡ b → Arrow z v s choice l Announce (let x : Outcome = if b then to PutClock l else full l in x).local
       met true e = announces (eq_from _ _ e)
       met false e = is_refused (eq_not _ _ e)
-  arrow PutClock b m = loads_clock
-  arrow Stamp b m = stamp_arrow (pend_of (v (name.Pend l.row s))) refl
-  arrow PutVersion b m = stores_version
-  arrow InsFrom b m = insert_arrow (cell_of_link_word (v (link_name l.row l.link))) refl
-  arrow InsKey b m = met (nat_lt (key_of_word (v (name.Key l.row l.place))) (first_key l.call)) (key_of_word (v (name.Key l.row l.place)) == first_key l.call) refl refl
+  arrow PutClock o b m = loads_clock
+  arrow Stamp o b m = stamp_arrow (pend_of (v (name.Pend l.row s))) refl
+  arrow PutVersion o b m = stores_version
+  arrow InsFrom o b m = insert_arrow (cell_of_link_word (v (link_name l.row l.link))) refl
+  arrow InsKey o b m = met (nat_lt (key_of_word (v (name.Key l.row l.place))) (first_key l.call)) (key_of_word (v (name.Key l.row l.place)) == first_key l.call) refl refl
     where
       met : (b c : Bool) → nat_lt (key_of_word (v (name.Key l.row l.place))) (first_key l.call) ≡ b → (key_of_word (v (name.Key l.row l.place)) == first_key l.call) ≡ c →
           Arrow z v s choice l InsKey (let x : Outcome = if b then insert_past l else if c then to InsVer l else to InsSet l in x).local
       met true c e f = key_before (below _ _ e)
       met false true e f = key_same (eq_from _ _ f)
       met false false e f = key_after (apart_above _ _ e f)
-  arrow InsVer b m = rw (unwrap_or-version_of_word (v (name.Version l.row l.place))) (met (is_newer (v (name.Version l.row l.place)) l.place l) refl)
+  arrow InsVer o b m = rw (unwrap_or-version_of_word (v (name.Version l.row l.place))) (met (is_newer (v (name.Version l.row l.place)) l.place l) refl)
     where
       met : (b : Bool) → is_newer (v (name.Version l.row l.place)) l.place l ≡ b → Arrow z v s choice l InsVer (let x : Outcome = if b then insert_past l else to InsSet l in x).local
       met true e = version_before e
       met false e = version_after e
-  arrow InsSet b m = stores_after
-  arrow Insert b m = met (v (link_name l.row l.link) == cell_link_word l.held) refl
+  arrow InsSet o b m = stores_after
+  arrow Insert o b m = met (v (link_name l.row l.link) == cell_link_word l.held) refl
     where
       met : (b : Bool) → (v (link_name l.row l.link) == cell_link_word l.held) ≡ b → Arrow z v s choice l Insert (insert_tried z b l).local
       met true e = inserts (eq_from _ _ e)
       met false e = loses (eq_not _ _ e)
-  arrow PutClear b m = clears
-  arrow (Leave answer) b m = leaves answer
+  arrow PutClear o b m = clears
+  arrow (Leave answer) o b m = leaves answer
+  arrow Again o b m = absurd o
+  arrow AgainEpoch o b m = absurd o
+  arrow BalClock o b m = absurd o
+  arrow BalEpoch o b m = absurd o
+  arrow BalState o b m = absurd o
+  arrow (BalNormal seat) o b m = absurd o
+  arrow Engage o b m = absurd o
+  arrow (MarkLink count) o b m = absurd o
+  arrow (Decide count) o b m = absurd o
+  arrow FreezeCount o b m = absurd o
+  arrow (FreezeLook i) o b m = absurd o
+  arrow (Freeze i) o b m = absurd o
+  arrow (ScanLook i) o b m = absurd o
+  arrow (HelpDraw i) o b m = absurd o
+  arrow (HelpSettle i) o b m = absurd o
+  arrow TakeFrom o b m = absurd o
+  arrow TakeKey o b m = absurd o
+  arrow TakeVersion o b m = absurd o
+  arrow TakeValue o b m = absurd o
+  arrow TakeRestKey o b m = absurd o
+  arrow TakeRestValue o b m = absurd o
+  arrow SeekFirst o b m = absurd o
+  arrow Seek o b m = absurd o
+  arrow TakeRow o b m = absurd o
+  arrow GiveBack o b m = absurd o
+  arrow WriteCount o b m = absurd o
+  arrow WriteMin o b m = absurd o
+  arrow WriteNext o b m = absurd o
+  arrow WriteFirst o b m = absurd o
+  arrow (WritePend i) o b m = absurd o
+  arrow (WriteKey j) o b m = absurd o
+  arrow (WriteValue j) o b m = absurd o
+  arrow (WriteVersion j) o b m = absurd o
+  arrow (WriteAfter j) o b m = absurd o
+  arrow Before o b m = absurd o
+  arrow BeforeGuess o b m = absurd o
+  arrow BeforeHead o b m = absurd o
+  arrow BeforeLink o b m = absurd o
+  arrow BeforeMin o b m = absurd o
+  arrow Replace o b m = absurd o
+  arrow Normalise o b m = absurd o
+  arrow Number o b m = absurd o
+  arrow Retire o b m = absurd o

@@ -12,7 +12,7 @@ use Rattle.kw_words.specs.Layout.{IsWithin}
 use Rattle.kw_words.specs.Count.{count_of}
 use Rattle.kw_words.proofs.CountWords.{count_of_next}
 use Rattle.kw_world.specs.declared.activity.Activity.{Activity}
-use Rattle.kw_world.specs.declared.activity.Activity.TheVariants.{Enter, ScanWait, ScanDraw, ScanSettle, Start, Walk, LookHelp, ClearScan, PutAdd, PutKey, PutValue, Announce, Stamp, PutVersion, InsSet, Insert, PutClear, Leave}
+use Rattle.kw_world.specs.declared.activity.Activity.TheVariants.{Enter, ScanWait, ScanDraw, ScanSettle, Start, Walk, LookHelp, ClearScan, PutAdd, PutKey, PutValue, Announce, Stamp, PutVersion, InsSet, Insert, PutClear, Leave, Again, BalNormal, Engage, MarkLink, Decide, FreezeCount, Freeze, HelpDraw, HelpSettle, SeekFirst, TakeRow, GiveBack, WriteCount, WriteMin, WriteNext, WriteFirst, WritePend, WriteKey, WriteValue, WriteVersion, WriteAfter, Before, Replace, Normalise, Number, Retire}
 use Rattle.kw_world.specs.declared.local.Local.{Local}
 use Rattle.kw_world.specs.declared.event.Choice.{Choice}
 use Rattle.kw_world.specs.declared.operation.Action.{Action}
@@ -23,11 +23,13 @@ use Rattle.kw_world.specs.Sizes.{Sizes}
 use Rattle.kw_world.specs.PutTransitions.{given_of}
 use Rattle.kw_world.specs.ListTransitions.{link_name}
 use Rattle.kw_world.specs.WalkTransitions.{start_transition, walk_transition, is_stopped}
+use Rattle.kw_world.specs.SeekTransitions.{infant, seek_first_transition}
+use Rattle.kw_world.specs.ReplaceTransitions.{before_transition, replaced_link}
 use Rattle.kw_world.specs.Sane.{IsGiven, IsCellBelow}
 use Rattle.kw_world.proofs.Transitions.{link_within}
 use Rattle.kw_world.specs.Step.{word}
 use Rattle.kw_core.specs.Run.{Run}
-use Rattle.kw_core.specs.Stages.{IsHelp, IsPutVersion, IsInsSet, IsInsert}
+use Rattle.kw_core.specs.Stages.{IsReached, IsHelp, IsPutVersion, IsInsSet, IsInsert}
 use Rattle.kw_core.specs.Words.{Words, given_in}
 use Rattle.kw_core.proofs.Happens.{Happens}
 
@@ -58,6 +60,30 @@ writes InsSet s b l = Some (name.After l.row l.cell)
 writes Insert s b l = Some (link_name l.row l.link)
 writes PutClear s b l = Some (name.Pend l.row s)
 writes (Leave answer) s b l = Some (name.Pass s)
+writes Again s b l = Some (name.Pass s)
+writes (BalNormal seat) s b l = Some (name.State l.row)
+writes Engage s b l = Some (name.State l.row)
+writes (MarkLink count) s b l = Some (name.Next l.row)
+writes (Decide count) s b l = Some (name.State l.row)
+writes FreezeCount s b l = Some (name.Count l.row)
+writes (Freeze i) s b l = Some (name.Pend l.row i)
+writes (HelpDraw i) s b l = Some name.Clock
+writes (HelpSettle i) s b l = Some (name.Scan i)
+writes TakeRow s b l = Some (name.State l.rebalance.sought)
+writes GiveBack s b l = Some (name.State (infant l))
+writes WriteCount s b l = Some (name.Count (infant l))
+writes WriteMin s b l = Some (name.Min (infant l))
+writes WriteNext s b l = Some (name.Next (infant l))
+writes WriteFirst s b l = Some (name.First (infant l))
+writes (WritePend i) s b l = Some (name.Pend (infant l) i)
+writes (WriteKey j) s b l = Some (name.Key (infant l) j)
+writes (WriteValue j) s b l = Some (name.Value (infant l) j)
+writes (WriteVersion j) s b l = Some (name.Version (infant l) j)
+writes (WriteAfter j) s b l = Some (name.After (infant l) j)
+writes Replace s b l = Some (replaced_link l.rebalance.before)
+writes Normalise s b l = Some (name.State (infant l))
+writes Number s b l = Some name.Epoch
+writes Retire s b l = Some (name.State l.row)
 writes _ s b l = None
 
 -- the word that an action on this word writes; none where it loads
@@ -79,6 +105,20 @@ written_is z Walk s choice l = walks (is_stopped choice l)
     walks : (b : Bool) → written_by (walk_transition b s l).operation.action (walk_transition b s l).operation.name ≡ walk_writes b s
     walks true = refl
     walks false = refl
+written_is z SeekFirst s choice l = seeks choice
+  where
+    seeks : (c : Choice) → written_by (seek_first_transition c l).operation.action (seek_first_transition c l).operation.name ≡ None
+    seeks (Begin call) = refl
+    seeks Go = refl
+    seeks (Guess q) = refl
+    seeks Stop = refl
+written_is z Before s choice l = begins choice
+  where
+    begins : (c : Choice) → written_by (before_transition c l).operation.action (before_transition c l).operation.name ≡ None
+    begins (Begin call) = refl
+    begins Go = refl
+    begins (Guess q) = refl
+    begins Stop = refl
 written_is z _ s choice l = refl
 
 -- whatever the action, a word that it does not write is kept
@@ -93,7 +133,7 @@ module _ {z : Sizes} {r r' : Run} {s : ℕ} {choice : Choice} {l l' : Local} whe
       let it = transition z a s choice l in
       kept_by it.operation.action it.operation.name n (word z r.world) (word z r'.world) h.changed.loaded (h.changed.other n i) (λ e. d (sym (written_is z a s choice l) ∙ e))
 
--- The rows: no event writes a state, a minimum, a link or the head.
+-- The rows: no event of a seat that may come to its activity writes a state, a minimum, a link, the head or the epoch.
 
 -- some event writes a word of this family
 abbrev pub is_written : Name → Bool
@@ -113,23 +153,47 @@ may_write : Option Name → Bool
 may_write (Some n) = is_written n
 may_write None = true
 
-written : (a : Activity) (s : ℕ) (b : Bool) (l : Local) → may_write (writes a s b l) ≡ true
+written : (a : Activity) (s : ℕ) (b : Bool) (l : Local) → IsReached a → may_write (writes a s b l) ≡ true
 unfolding may_write
-written Insert s b l = links l.link
+written Again s b l o = absurd o
+written (BalNormal seat) s b l o = absurd o
+written Engage s b l o = absurd o
+written (MarkLink count) s b l o = absurd o
+written (Decide count) s b l o = absurd o
+written FreezeCount s b l o = absurd o
+written (Freeze i) s b l o = absurd o
+written (HelpDraw i) s b l o = absurd o
+written (HelpSettle i) s b l o = absurd o
+written TakeRow s b l o = absurd o
+written GiveBack s b l o = absurd o
+written WriteCount s b l o = absurd o
+written WriteMin s b l o = absurd o
+written WriteNext s b l o = absurd o
+written WriteFirst s b l o = absurd o
+written (WritePend i) s b l o = absurd o
+written (WriteKey j) s b l o = absurd o
+written (WriteValue j) s b l o = absurd o
+written (WriteVersion j) s b l o = absurd o
+written (WriteAfter j) s b l o = absurd o
+written Replace s b l o = absurd o
+written Normalise s b l o = absurd o
+written Number s b l o = absurd o
+written Retire s b l o = absurd o
+written Insert s b l o = links l.link
   where
     links : (link : Option ℕ) → may_write (Some (link_name l.row link)) ≡ true
     links (Some c) = refl
     links None = refl
-written Walk s true l = refl
-written Walk s false l = refl
-written _ s b l = refl
+written Walk s true l o = refl
+written Walk s false l o = refl
+written _ s b l o = refl
 
-never_writes : (a : Activity) (s : ℕ) (b : Bool) (l : Local) (n : Name) → is_written n ≡ false → writes a s b l ≢ Some n
+never_writes : (a : Activity) (s : ℕ) (b : Bool) (l : Local) (n : Name) → IsReached a → is_written n ≡ false → writes a s b l ≢ Some n
 unfolding may_write
-never_writes a s b l n f e = let x : true ≡ false = sym (written a s b l) ∙ ap may_write e ∙ f in cc
+never_writes a s b l n o f e = let x : true ≡ false = sym (written a s b l o) ∙ ap may_write e ∙ f in cc
 
 pub fixed : {z : Sizes} {r r' : Run} {s : ℕ} {choice : Choice} {l l' : Local} (a : Activity) → Happens z r r' s choice l l' a → (n : Name) → IsWithin z.seats z.cells r.world.rows n → is_written n ≡ false → word z r'.world n ≡ word z r.world n
-fixed {z} {r} {r'} {s} {choice} {l} {l'} a h n i f = unwritten a h n i (never_writes a s (is_stopped choice l) l n f)
+fixed {z} {r} {r'} {s} {choice} {l} {l'} a h n i f = unwritten a h n i (never_writes a s (is_stopped choice l) l n h.reached f)
 
 -- The families of words that events write.
 
@@ -209,75 +273,96 @@ same_link q p (Some c) None e = let f : name.After q c ≡ name.First p = e in a
 same_link q p None (Some d) e = let f : name.First q ≡ name.After p d = e in absurd (cc)
 same_link q p None None e = (cc, refl)
 
-not_pend : (a : Activity) (s : ℕ) (b : Bool) (l : Local) (q t : ℕ) → (WritesOwnEntry a → q ≡ l.row → t ≡ s → ⊥) → (IsHelp a → q ≡ l.row → t ≡ l.looked → ⊥) → writes a s b l ≢ Some (name.Pend q t)
-not_pend Announce s b l q t f g e = let x = same_pend l.row s q t e in f tt (sym x.0) (sym x.1)
-not_pend Stamp s b l q t f g e = let x = same_pend l.row s q t e in f tt (sym x.0) (sym x.1)
-not_pend PutClear s b l q t f g e = let x = same_pend l.row s q t e in f tt (sym x.0) (sym x.1)
-not_pend LookHelp s b l q t f g e = let x = same_pend l.row l.looked q t e in g tt (sym x.0) (sym x.1)
-not_pend Insert s b l q t f g e = no_link l.row l.link (name.Pend q t) refl e
-not_pend Walk s true l q t f g e = let x : Some (name.Scan s) ≡ Some (name.Pend q t) = e in cc
-not_pend Walk s false l q t f g e = let x : None ≡ Some (name.Pend q t) = e in cc
-not_pend _ s b l q t f g e = cc
+not_pend : (a : Activity) (s : ℕ) (b : Bool) (l : Local) (q t : ℕ) → IsReached a → (WritesOwnEntry a → q ≡ l.row → t ≡ s → ⊥) → (IsHelp a → q ≡ l.row → t ≡ l.looked → ⊥) → writes a s b l ≢ Some (name.Pend q t)
+not_pend (Freeze i) s b l q t o f g e = absurd o
+not_pend (WritePend i) s b l q t o f g e = absurd o
+not_pend Replace s b l q t o f g e = absurd o
+not_pend Announce s b l q t o f g e = let x = same_pend l.row s q t e in f tt (sym x.0) (sym x.1)
+not_pend Stamp s b l q t o f g e = let x = same_pend l.row s q t e in f tt (sym x.0) (sym x.1)
+not_pend PutClear s b l q t o f g e = let x = same_pend l.row s q t e in f tt (sym x.0) (sym x.1)
+not_pend LookHelp s b l q t o f g e = let x = same_pend l.row l.looked q t e in g tt (sym x.0) (sym x.1)
+not_pend Insert s b l q t o f g e = no_link l.row l.link (name.Pend q t) refl e
+not_pend Walk s true l q t o f g e = let x : Some (name.Scan s) ≡ Some (name.Pend q t) = e in cc
+not_pend Walk s false l q t o f g e = let x : None ≡ Some (name.Pend q t) = e in cc
+not_pend _ s b l q t o f g e = cc
 
-not_count : (a : Activity) (s : ℕ) (b : Bool) (l : Local) (q : ℕ) → (WritesCount a → q ≡ l.row → ⊥) → writes a s b l ≢ Some (name.Count q)
-not_count PutAdd s b l q f e = f tt (sym (same_count l.row q e))
-not_count Insert s b l q f e = no_link l.row l.link (name.Count q) refl e
-not_count Walk s true l q f e = let x : Some (name.Scan s) ≡ Some (name.Count q) = e in cc
-not_count Walk s false l q f e = let x : None ≡ Some (name.Count q) = e in cc
-not_count _ s b l q f e = cc
+not_count : (a : Activity) (s : ℕ) (b : Bool) (l : Local) (q : ℕ) → IsReached a → (WritesCount a → q ≡ l.row → ⊥) → writes a s b l ≢ Some (name.Count q)
+not_count FreezeCount s b l q o f e = absurd o
+not_count WriteCount s b l q o f e = absurd o
+not_count Replace s b l q o f e = absurd o
+not_count PutAdd s b l q o f e = f tt (sym (same_count l.row q e))
+not_count Insert s b l q o f e = no_link l.row l.link (name.Count q) refl e
+not_count Walk s true l q o f e = let x : Some (name.Scan s) ≡ Some (name.Count q) = e in cc
+not_count Walk s false l q o f e = let x : None ≡ Some (name.Count q) = e in cc
+not_count _ s b l q o f e = cc
 
-not_clock : (a : Activity) (s : ℕ) (b : Bool) (l : Local) → (WritesClock a → ⊥) → writes a s b l ≢ Some name.Clock
-not_clock ScanDraw s b l f e = f tt
-not_clock Insert s b l f e = no_link l.row l.link (name.Clock) refl e
-not_clock Walk s true l f e = let x : Some (name.Scan s) ≡ Some name.Clock = e in cc
-not_clock Walk s false l f e = let x : None ≡ Some name.Clock = e in cc
-not_clock _ s b l f e = cc
+not_clock : (a : Activity) (s : ℕ) (b : Bool) (l : Local) → IsReached a → (WritesClock a → ⊥) → writes a s b l ≢ Some name.Clock
+not_clock (HelpDraw i) s b l o f e = absurd o
+not_clock Replace s b l o f e = absurd o
+not_clock ScanDraw s b l o f e = f tt
+not_clock Insert s b l o f e = no_link l.row l.link (name.Clock) refl e
+not_clock Walk s true l o f e = let x : Some (name.Scan s) ≡ Some name.Clock = e in cc
+not_clock Walk s false l o f e = let x : None ≡ Some name.Clock = e in cc
+not_clock _ s b l o f e = cc
 
-not_scan : (a : Activity) (s : ℕ) (b : Bool) (l : Local) (t : ℕ) → t ≢ s → writes a s b l ≢ Some (name.Scan t)
-not_scan ScanWait s b l t d e = d (sym (same_scan s t e))
-not_scan ScanSettle s b l t d e = d (sym (same_scan s t e))
-not_scan (ClearScan answer) s b l t d e = d (sym (same_scan s t e))
-not_scan Insert s b l t d e = no_link l.row l.link (name.Scan t) refl e
-not_scan Walk s true l t d e = d (sym (same_scan s t e))
-not_scan Walk s false l t d e = let x : None ≡ Some (name.Scan t) = e in cc
-not_scan _ s b l t d e = cc
+not_scan : (a : Activity) (s : ℕ) (b : Bool) (l : Local) (t : ℕ) → IsReached a → t ≢ s → writes a s b l ≢ Some (name.Scan t)
+not_scan (HelpSettle i) s b l t o d e = absurd o
+not_scan Replace s b l t o d e = absurd o
+not_scan ScanWait s b l t o d e = d (sym (same_scan s t e))
+not_scan ScanSettle s b l t o d e = d (sym (same_scan s t e))
+not_scan (ClearScan answer) s b l t o d e = d (sym (same_scan s t e))
+not_scan Insert s b l t o d e = no_link l.row l.link (name.Scan t) refl e
+not_scan Walk s true l t o d e = d (sym (same_scan s t e))
+not_scan Walk s false l t o d e = let x : None ≡ Some (name.Scan t) = e in cc
+not_scan _ s b l t o d e = cc
 
-not_pass : (a : Activity) (s : ℕ) (b : Bool) (l : Local) (t : ℕ) → (WritesPass a → t ≡ s → ⊥) → writes a s b l ≢ Some (name.Pass t)
-not_pass Enter s b l t f e = f tt (sym (same_pass s t e))
-not_pass (Leave answer) s b l t f e = f tt (sym (same_pass s t e))
-not_pass Insert s b l t f e = no_link l.row l.link (name.Pass t) refl e
-not_pass Walk s true l t f e = let x : Some (name.Scan s) ≡ Some (name.Pass t) = e in cc
-not_pass Walk s false l t f e = let x : None ≡ Some (name.Pass t) = e in cc
-not_pass _ s b l t f e = cc
+not_pass : (a : Activity) (s : ℕ) (b : Bool) (l : Local) (t : ℕ) → IsReached a → (WritesPass a → t ≡ s → ⊥) → writes a s b l ≢ Some (name.Pass t)
+not_pass Again s b l t o f e = absurd o
+not_pass Replace s b l t o f e = absurd o
+not_pass Enter s b l t o f e = f tt (sym (same_pass s t e))
+not_pass (Leave answer) s b l t o f e = f tt (sym (same_pass s t e))
+not_pass Insert s b l t o f e = no_link l.row l.link (name.Pass t) refl e
+not_pass Walk s true l t o f e = let x : Some (name.Scan s) ≡ Some (name.Pass t) = e in cc
+not_pass Walk s false l t o f e = let x : None ≡ Some (name.Pass t) = e in cc
+not_pass _ s b l t o f e = cc
 
-not_key : (a : Activity) (s : ℕ) (b : Bool) (l : Local) (q c : ℕ) → (WritesKey a → q ≡ l.row → c ≡ l.cell → ⊥) → writes a s b l ≢ Some (name.Key q c)
-not_key PutKey s b l q c f e = let x = same_key l.row l.cell q c e in f tt (sym x.0) (sym x.1)
-not_key Insert s b l q c f e = no_link l.row l.link (name.Key q c) refl e
-not_key Walk s true l q c f e = let x : Some (name.Scan s) ≡ Some (name.Key q c) = e in cc
-not_key Walk s false l q c f e = let x : None ≡ Some (name.Key q c) = e in cc
-not_key _ s b l q c f e = cc
+not_key : (a : Activity) (s : ℕ) (b : Bool) (l : Local) (q c : ℕ) → IsReached a → (WritesKey a → q ≡ l.row → c ≡ l.cell → ⊥) → writes a s b l ≢ Some (name.Key q c)
+not_key (WriteKey j) s b l q c o f e = absurd o
+not_key Replace s b l q c o f e = absurd o
+not_key PutKey s b l q c o f e = let x = same_key l.row l.cell q c e in f tt (sym x.0) (sym x.1)
+not_key Insert s b l q c o f e = no_link l.row l.link (name.Key q c) refl e
+not_key Walk s true l q c o f e = let x : Some (name.Scan s) ≡ Some (name.Key q c) = e in cc
+not_key Walk s false l q c o f e = let x : None ≡ Some (name.Key q c) = e in cc
+not_key _ s b l q c o f e = cc
 
-not_value : (a : Activity) (s : ℕ) (b : Bool) (l : Local) (q c : ℕ) → (WritesValue a → q ≡ l.row → c ≡ l.cell → ⊥) → writes a s b l ≢ Some (name.Value q c)
-not_value PutValue s b l q c f e = let x = same_value l.row l.cell q c e in f tt (sym x.0) (sym x.1)
-not_value Insert s b l q c f e = no_link l.row l.link (name.Value q c) refl e
-not_value Walk s true l q c f e = let x : Some (name.Scan s) ≡ Some (name.Value q c) = e in cc
-not_value Walk s false l q c f e = let x : None ≡ Some (name.Value q c) = e in cc
-not_value _ s b l q c f e = cc
+not_value : (a : Activity) (s : ℕ) (b : Bool) (l : Local) (q c : ℕ) → IsReached a → (WritesValue a → q ≡ l.row → c ≡ l.cell → ⊥) → writes a s b l ≢ Some (name.Value q c)
+not_value (WriteValue j) s b l q c o f e = absurd o
+not_value Replace s b l q c o f e = absurd o
+not_value PutValue s b l q c o f e = let x = same_value l.row l.cell q c e in f tt (sym x.0) (sym x.1)
+not_value Insert s b l q c o f e = no_link l.row l.link (name.Value q c) refl e
+not_value Walk s true l q c o f e = let x : Some (name.Scan s) ≡ Some (name.Value q c) = e in cc
+not_value Walk s false l q c o f e = let x : None ≡ Some (name.Value q c) = e in cc
+not_value _ s b l q c o f e = cc
 
-not_version : (a : Activity) (s : ℕ) (b : Bool) (l : Local) (q c : ℕ) → (IsPutVersion a → q ≡ l.row → c ≡ l.cell → ⊥) → writes a s b l ≢ Some (name.Version q c)
-not_version PutVersion s b l q c f e = let x = same_version l.row l.cell q c e in f tt (sym x.0) (sym x.1)
-not_version Insert s b l q c f e = no_link l.row l.link (name.Version q c) refl e
-not_version Walk s true l q c f e = let x : Some (name.Scan s) ≡ Some (name.Version q c) = e in cc
-not_version Walk s false l q c f e = let x : None ≡ Some (name.Version q c) = e in cc
-not_version _ s b l q c f e = cc
+not_version : (a : Activity) (s : ℕ) (b : Bool) (l : Local) (q c : ℕ) → IsReached a → (IsPutVersion a → q ≡ l.row → c ≡ l.cell → ⊥) → writes a s b l ≢ Some (name.Version q c)
+not_version (WriteVersion j) s b l q c o f e = absurd o
+not_version Replace s b l q c o f e = absurd o
+not_version PutVersion s b l q c o f e = let x = same_version l.row l.cell q c e in f tt (sym x.0) (sym x.1)
+not_version Insert s b l q c o f e = no_link l.row l.link (name.Version q c) refl e
+not_version Walk s true l q c o f e = let x : Some (name.Scan s) ≡ Some (name.Version q c) = e in cc
+not_version Walk s false l q c o f e = let x : None ≡ Some (name.Version q c) = e in cc
+not_version _ s b l q c o f e = cc
 
 -- a link between cells is kept, unless the seat stores it or exchanges it
-not_link : (a : Activity) (s : ℕ) (b : Bool) (l : Local) (q : ℕ) (at : Option ℕ) → (IsInsSet a → q ≡ l.row → at ≡ Some l.cell → ⊥) → (IsInsert a → q ≡ l.row → at ≡ l.link → ⊥) → writes a s b l ≢ Some (link_name q at)
-not_link InsSet s b l q at f g e = let x = same_link l.row q (Some l.cell) at (same_Some (name.After l.row l.cell) (link_name q at) e) in f tt (sym x.0) (sym x.1)
-not_link Insert s b l q at f g e = let x = same_link l.row q l.link at (same_Some (link_name l.row l.link) (link_name q at) e) in g tt (sym x.0) (sym x.1)
-not_link Walk s true l q at f g e = not_linked q at _ e refl
-not_link Walk s false l q at f g e = not_linked q at _ e refl
-not_link _ s b l q at f g e = not_linked q at _ e refl
+not_link : (a : Activity) (s : ℕ) (b : Bool) (l : Local) (q : ℕ) (at : Option ℕ) → IsReached a → (IsInsSet a → q ≡ l.row → at ≡ Some l.cell → ⊥) → (IsInsert a → q ≡ l.row → at ≡ l.link → ⊥) → writes a s b l ≢ Some (link_name q at)
+not_link WriteFirst s b l q at o f g e = absurd o
+not_link (WriteAfter j) s b l q at o f g e = absurd o
+not_link Replace s b l q at o f g e = absurd o
+not_link InsSet s b l q at o f g e = let x = same_link l.row q (Some l.cell) at (same_Some (name.After l.row l.cell) (link_name q at) e) in f tt (sym x.0) (sym x.1)
+not_link Insert s b l q at o f g e = let x = same_link l.row q l.link at (same_Some (link_name l.row l.link) (link_name q at) e) in g tt (sym x.0) (sym x.1)
+not_link Walk s true l q at o f g e = not_linked q at _ e refl
+not_link Walk s false l q at o f g e = not_linked q at _ e refl
+not_link _ s b l q at o f g e = not_linked q at _ e refl
 
 -- one more cell is asked for
 pub given-next : (w : ℕ) (c : Option Counted) → count_of w ≡ c → IsGiven c → given_of (count_of (w + 1)) ≡ given_of (count_of w) + 1
@@ -287,37 +372,37 @@ given-next w None e g = absurd g
 module _ {z : Sizes} {r r' : Run} {s : ℕ} {choice : Choice} {l l' : Local} where
   -- an entry is kept, unless the seat writes its own there or helps
   pub pend_kept : (a : Activity) → Happens z r r' s choice l l' a → (q t : ℕ) → q < r.world.rows → t < z.seats → (WritesOwnEntry a → q ≡ l.row → t ≡ s → ⊥) → (IsHelp a → q ≡ l.row → t ≡ l.looked → ⊥) → word z r'.world (name.Pend q t) ≡ word z r.world (name.Pend q t)
-  pend_kept a h q t i o f g = unwritten a h (name.Pend q t) (i, o) (not_pend a s (is_stopped choice l) l q t f g)
+  pend_kept a h q t i o f g = unwritten a h (name.Pend q t) (i, o) (not_pend a s (is_stopped choice l) l q t h.reached f g)
 
   -- a count is kept, unless the seat adds to it
   pub count_kept : (a : Activity) → Happens z r r' s choice l l' a → (q : ℕ) → q < r.world.rows → (WritesCount a → q ≡ l.row → ⊥) → word z r'.world (name.Count q) ≡ word z r.world (name.Count q)
-  count_kept a h q i f = unwritten a h (name.Count q) i (not_count a s (is_stopped choice l) l q f)
+  count_kept a h q i f = unwritten a h (name.Count q) i (not_count a s (is_stopped choice l) l q h.reached f)
 
   -- the clock is kept, unless the seat draws
   pub clock_kept : (a : Activity) → Happens z r r' s choice l l' a → (WritesClock a → ⊥) → word z r'.world name.Clock ≡ word z r.world name.Clock
-  clock_kept a h f = unwritten a h name.Clock tt (not_clock a s (is_stopped choice l) l f)
+  clock_kept a h f = unwritten a h name.Clock tt (not_clock a s (is_stopped choice l) l h.reached f)
 
   -- the scan of another seat is kept
   pub scan_kept : (a : Activity) → Happens z r r' s choice l l' a → (t : ℕ) → t < z.seats → t ≢ s → word z r'.world (name.Scan t) ≡ word z r.world (name.Scan t)
-  scan_kept a h t o d = unwritten a h (name.Scan t) o (not_scan a s (is_stopped choice l) l t d)
+  scan_kept a h t o d = unwritten a h (name.Scan t) o (not_scan a s (is_stopped choice l) l t h.reached d)
 
   -- a pass is kept, unless its seat enters or leaves
   pub pass_kept : (a : Activity) → Happens z r r' s choice l l' a → (t : ℕ) → t < z.seats → (WritesPass a → t ≡ s → ⊥) → word z r'.world (name.Pass t) ≡ word z r.world (name.Pass t)
-  pass_kept a h t o f = unwritten a h (name.Pass t) o (not_pass a s (is_stopped choice l) l t f)
+  pass_kept a h t o f = unwritten a h (name.Pass t) o (not_pass a s (is_stopped choice l) l t h.reached f)
 
   -- a key, a value, a version is kept, unless the seat stores it there
   pub key_kept : (a : Activity) → Happens z r r' s choice l l' a → (q c : ℕ) → q < r.world.rows → c < z.cells → (WritesKey a → q ≡ l.row → c ≡ l.cell → ⊥) → word z r'.world (name.Key q c) ≡ word z r.world (name.Key q c)
-  key_kept a h q c i o f = unwritten a h (name.Key q c) (i, o) (not_key a s (is_stopped choice l) l q c f)
+  key_kept a h q c i o f = unwritten a h (name.Key q c) (i, o) (not_key a s (is_stopped choice l) l q c h.reached f)
 
   pub value_kept : (a : Activity) → Happens z r r' s choice l l' a → (q c : ℕ) → q < r.world.rows → c < z.cells → (WritesValue a → q ≡ l.row → c ≡ l.cell → ⊥) → word z r'.world (name.Value q c) ≡ word z r.world (name.Value q c)
-  value_kept a h q c i o f = unwritten a h (name.Value q c) (i, o) (not_value a s (is_stopped choice l) l q c f)
+  value_kept a h q c i o f = unwritten a h (name.Value q c) (i, o) (not_value a s (is_stopped choice l) l q c h.reached f)
 
   pub version_kept : (a : Activity) → Happens z r r' s choice l l' a → (q c : ℕ) → q < r.world.rows → c < z.cells → (IsPutVersion a → q ≡ l.row → c ≡ l.cell → ⊥) → word z r'.world (name.Version q c) ≡ word z r.world (name.Version q c)
-  version_kept a h q c i o f = unwritten a h (name.Version q c) (i, o) (not_version a s (is_stopped choice l) l q c f)
+  version_kept a h q c i o f = unwritten a h (name.Version q c) (i, o) (not_version a s (is_stopped choice l) l q c h.reached f)
 
   -- a link between cells is kept, unless the seat stores it or exchanges it
   pub link_kept : (a : Activity) → Happens z r r' s choice l l' a → (q : ℕ) (at : Option ℕ) → q < r.world.rows → IsCellBelow z.cells at → (IsInsSet a → q ≡ l.row → at ≡ Some l.cell → ⊥) → (IsInsert a → q ≡ l.row → at ≡ l.link → ⊥) → word z r'.world (link_name q at) ≡ word z r.world (link_name q at)
-  link_kept a h q at i o f g = unwritten a h (link_name q at) (link_within z r.world.rows q at o i) (not_link a s (is_stopped choice l) l q at f g)
+  link_kept a h q at i o f g = unwritten a h (link_name q at) (link_within z r.world.rows q at o i) (not_link a s (is_stopped choice l) l q at h.reached f g)
 
   -- the clock does not fall
   pub clock_grows : (a : Activity) → Happens z r r' s choice l l' a → word z r.world name.Clock ≤ word z r'.world name.Clock

@@ -119,7 +119,7 @@ happens z r e l sane reached begins knows moves =
         other = λ n i d. word-other z r.world e.seat it n i within d;
         loaded = λ q n. word-loaded z r.world e.seat it n q;
       };
-      arrow = arrow z r.world.rows (word z r.world) e.seat (offered r.world.rows e.choice) l l.activity (begun_offered l.activity r.world.rows e.choice begins) (skipped_offered l.activity r.world.rows e.choice moves);
+      arrow = arrow z r.world.rows (word z r.world) e.seat (offered r.world.rows e.choice) l l.activity reached (begun_offered l.activity r.world.rows e.choice begins) (skipped_offered l.activity r.world.rows e.choice moves);
       next = refl;
       history = refl;
       log = rw (eq-eqb e.seat e.seat refl) refl;

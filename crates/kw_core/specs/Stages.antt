@@ -7,8 +7,8 @@ use Rattle.kw_model.specs.declared.call.Call.TheVariants.{Put, Del, Get, Scan}
 use Rattle.kw_world.specs.declared.answer.Answer.TheVariants.{Done, Pairs}
 use Rattle.kw_world.specs.declared.activity.Activity.{Activity}
 use Rattle.kw_core.specs.declared.stage.Stage.{Stage}
-use Rattle.kw_core.specs.declared.stage.Stage.TheVariants.{Resting, Entering, Drawing, Walking, Looking, Taking, Clearing, Putting, Leaving}
-use Rattle.kw_world.specs.declared.activity.Activity.TheVariants.{Idle, Enter, ScanClock, ScanWait, ScanDraw, ScanSettle, Start, Head, GuessMin, Walk, WalkMin, Look, LookKey, LookClock, LookHelp, ListFrom, ListKey, ListVer, ListVal, RestKey, RestVal, ClearScan, PutCount, PutAdd, PutKey, PutValue, Announce, PutClock, Stamp, PutVersion, InsFrom, InsKey, InsVer, InsSet, Insert, PutClear, Leave}
+use Rattle.kw_core.specs.declared.stage.Stage.TheVariants.{Resting, Entering, Drawing, Walking, Looking, Taking, Clearing, Putting, Rebalancing, Leaving}
+use Rattle.kw_world.specs.declared.activity.Activity.TheVariants.{Idle, Enter, ScanClock, ScanWait, ScanDraw, ScanSettle, Start, Head, GuessMin, Walk, WalkMin, Look, LookKey, LookClock, LookHelp, ListFrom, ListKey, ListVer, ListVal, RestKey, RestVal, ClearScan, PutCount, PutAdd, PutKey, PutValue, Announce, PutClock, Stamp, PutVersion, InsFrom, InsKey, InsVer, InsSet, Insert, PutClear, Leave, Again, AgainEpoch, BalClock, BalEpoch, BalState, BalNormal, Engage, MarkLink, Decide, FreezeCount, FreezeLook, Freeze, ScanLook, HelpDraw, HelpSettle, TakeFrom, TakeKey, TakeVersion, TakeValue, TakeRestKey, TakeRestValue, SeekFirst, Seek, TakeRow, GiveBack, WriteCount, WriteMin, WriteNext, WriteFirst, WritePend, WriteKey, WriteValue, WriteVersion, WriteAfter, Before, BeforeGuess, BeforeHead, BeforeLink, BeforeMin, Replace, Normalise, Number, Retire}
 
 -- Calls.
 
@@ -61,6 +61,49 @@ stage_of InsSet = Putting
 stage_of Insert = Putting
 stage_of PutClear = Putting
 stage_of (Leave answer) = Leaving
+stage_of Again = Rebalancing
+stage_of AgainEpoch = Entering
+stage_of BalClock = Rebalancing
+stage_of BalEpoch = Rebalancing
+stage_of BalState = Rebalancing
+stage_of (BalNormal seat) = Rebalancing
+stage_of Engage = Rebalancing
+stage_of (MarkLink count) = Rebalancing
+stage_of (Decide count) = Rebalancing
+stage_of FreezeCount = Rebalancing
+stage_of (FreezeLook i) = Rebalancing
+stage_of (Freeze i) = Rebalancing
+stage_of (ScanLook i) = Rebalancing
+stage_of (HelpDraw i) = Rebalancing
+stage_of (HelpSettle i) = Rebalancing
+stage_of TakeFrom = Rebalancing
+stage_of TakeKey = Rebalancing
+stage_of TakeVersion = Rebalancing
+stage_of TakeValue = Rebalancing
+stage_of TakeRestKey = Rebalancing
+stage_of TakeRestValue = Rebalancing
+stage_of SeekFirst = Rebalancing
+stage_of Seek = Rebalancing
+stage_of TakeRow = Rebalancing
+stage_of GiveBack = Rebalancing
+stage_of WriteCount = Rebalancing
+stage_of WriteMin = Rebalancing
+stage_of WriteNext = Rebalancing
+stage_of WriteFirst = Rebalancing
+stage_of (WritePend i) = Rebalancing
+stage_of (WriteKey j) = Rebalancing
+stage_of (WriteValue j) = Rebalancing
+stage_of (WriteVersion j) = Rebalancing
+stage_of (WriteAfter j) = Rebalancing
+stage_of Before = Rebalancing
+stage_of BeforeGuess = Rebalancing
+stage_of BeforeHead = Rebalancing
+stage_of BeforeLink = Rebalancing
+stage_of BeforeMin = Rebalancing
+stage_of Replace = Rebalancing
+stage_of Normalise = Rebalancing
+stage_of Number = Rebalancing
+stage_of Retire = Rebalancing
 
 -- the call walks to the row of the wanted key, for code that goes on as long as it does
 abbrev pub is_walking_stage : Stage → Bool
@@ -78,8 +121,51 @@ is_putting_stage _ = false
 abbrev pub is_putting : Activity → Bool
 is_putting a = is_putting_stage (stage_of a)
 
--- a seat may come to this activity
+-- a seat may come to this activity: a full row refuses its puts, so that no seat rebalances
 abbrev pub IsReached : Activity → Type 0
+IsReached Again = ⊥
+IsReached AgainEpoch = ⊥
+IsReached BalClock = ⊥
+IsReached BalEpoch = ⊥
+IsReached BalState = ⊥
+IsReached (BalNormal seat) = ⊥
+IsReached Engage = ⊥
+IsReached (MarkLink count) = ⊥
+IsReached (Decide count) = ⊥
+IsReached FreezeCount = ⊥
+IsReached (FreezeLook i) = ⊥
+IsReached (Freeze i) = ⊥
+IsReached (ScanLook i) = ⊥
+IsReached (HelpDraw i) = ⊥
+IsReached (HelpSettle i) = ⊥
+IsReached TakeFrom = ⊥
+IsReached TakeKey = ⊥
+IsReached TakeVersion = ⊥
+IsReached TakeValue = ⊥
+IsReached TakeRestKey = ⊥
+IsReached TakeRestValue = ⊥
+IsReached SeekFirst = ⊥
+IsReached Seek = ⊥
+IsReached TakeRow = ⊥
+IsReached GiveBack = ⊥
+IsReached WriteCount = ⊥
+IsReached WriteMin = ⊥
+IsReached WriteNext = ⊥
+IsReached WriteFirst = ⊥
+IsReached (WritePend i) = ⊥
+IsReached (WriteKey j) = ⊥
+IsReached (WriteValue j) = ⊥
+IsReached (WriteVersion j) = ⊥
+IsReached (WriteAfter j) = ⊥
+IsReached Before = ⊥
+IsReached BeforeGuess = ⊥
+IsReached BeforeHead = ⊥
+IsReached BeforeLink = ⊥
+IsReached BeforeMin = ⊥
+IsReached Replace = ⊥
+IsReached Normalise = ⊥
+IsReached Number = ⊥
+IsReached Retire = ⊥
 IsReached _ = Unit {0}
 
 abbrev IsBusyStage : Stage → Type 0

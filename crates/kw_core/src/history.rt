@@ -269,8 +269,12 @@ fn write_change(
     change: Change,
 )
     requires some { 1 ≤ length log.now }
-    requires within { IsWithin (record { log = log.now; attempts = attempts.old.items; calls =
-        calls.old.items }) change }
+    requires within { IsWithin (record {
+      log = log.now;
+      attempts = attempts.old.items;
+      calls =
+          calls.old.items;
+    }) change }
     ensures attempts { attempts.new.items ≡ attempts_set (length log.now - 1)
         (record { log = log.now; attempts = attempts.old.items; calls = calls.old.items }) change }
     ensures calls { calls.new.items ≡ calls_set (length log.now - 1)

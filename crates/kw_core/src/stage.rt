@@ -34,6 +34,9 @@ pub enum Stage {
     /// A put or a delete is at its row.
     Putting,
 
+    /// It rebalances its row, which is full.
+    Rebalancing,
+
     /// The call ends.
     Leaving,
 }
@@ -45,7 +48,7 @@ impl Stage {
     {
         match activity {
             Activity::Idle => Stage::Resting,
-            Activity::Enter => Stage::Entering,
+            Activity::Enter | Activity::AgainEpoch => Stage::Entering,
             Activity::ScanClock | Activity::ScanWait | Activity::ScanDraw | Activity::ScanSettle =>
                 Stage::Drawing,
             Activity::Start
@@ -76,6 +79,48 @@ impl Stage {
             | Activity::InsSet
             | Activity::Insert
             | Activity::PutClear => Stage::Putting,
+            Activity::Again
+            | Activity::BalClock
+            | Activity::BalEpoch
+            | Activity::BalState
+            | Activity::BalNormal(_)
+            | Activity::Engage
+            | Activity::MarkLink(_)
+            | Activity::Decide(_)
+            | Activity::FreezeCount
+            | Activity::FreezeLook(_)
+            | Activity::Freeze(_)
+            | Activity::ScanLook(_)
+            | Activity::HelpDraw(_)
+            | Activity::HelpSettle(_)
+            | Activity::TakeFrom
+            | Activity::TakeKey
+            | Activity::TakeVersion
+            | Activity::TakeValue
+            | Activity::TakeRestKey
+            | Activity::TakeRestValue
+            | Activity::SeekFirst
+            | Activity::Seek
+            | Activity::TakeRow
+            | Activity::GiveBack
+            | Activity::WriteCount
+            | Activity::WriteMin
+            | Activity::WriteNext
+            | Activity::WriteFirst
+            | Activity::WritePend(_)
+            | Activity::WriteKey(_)
+            | Activity::WriteValue(_)
+            | Activity::WriteVersion(_)
+            | Activity::WriteAfter(_)
+            | Activity::Before
+            | Activity::BeforeGuess
+            | Activity::BeforeHead
+            | Activity::BeforeLink
+            | Activity::BeforeMin
+            | Activity::Replace
+            | Activity::Normalise
+            | Activity::Number
+            | Activity::Retire => Stage::Rebalancing,
             Activity::Leave(_) => Stage::Leaving,
         }
     }

@@ -16,6 +16,9 @@ use kw_step_put::operation::put_operation;
 pub use kw_step_put::reading::{gather, hold_version, meet, pass_cell, take_remembered};
 use kw_step_put::resume::put_resume;
 use kw_step_put::step::put_step;
+use kw_step_rebal::operation::rebalance_operation;
+use kw_step_rebal::resume::rebalance_resume;
+use kw_step_rebal::step::rebalance_step;
 use kw_step_rows::operation::rows_operation;
 use kw_step_rows::resume::rows_resume;
 use kw_step_rows::step::rows_step;
@@ -45,7 +48,7 @@ pub fn step(world: &mut World, event: Event) -> Result<StepDone, Memory>
     match world.local(event.seat).part(event.choice) {
         Part::Put => put_step(world, event),
         Part::Rows => rows_step(world, event),
-        Part::Rebalance => unreachable!(),
+        Part::Rebalance => rebalance_step(world, event),
     }
 }
 
@@ -79,7 +82,7 @@ pub fn operation(seat: u32, local: &Local, choice: Choice) -> Operation
     match local.part(choice) {
         Part::Put => put_operation(seat, local, choice),
         Part::Rows => rows_operation(seat, local, choice),
-        Part::Rebalance => unreachable!(),
+        Part::Rebalance => rebalance_operation(seat, local, choice),
     }
 }
 
@@ -100,6 +103,6 @@ pub fn resume(local: &mut Local, rows: u32, choice: Choice, told: u64) -> Result
     match local.part(choice) {
         Part::Put => put_resume(local, choice, told),
         Part::Rows => Ok(rows_resume(local, rows, choice, told)),
-        Part::Rebalance => unreachable!(),
+        Part::Rebalance => Ok(rebalance_resume(local, rows, choice, told)),
     }
 }

@@ -19,7 +19,7 @@ use Rattle.kw_model.specs.declared.call.Call.{Call}
 use Rattle.kw_model.specs.declared.call.Call.TheVariants.{Put, Del, Get, Scan}
 use Rattle.kw_world.specs.declared.answer.Answer.{Answer}
 use Rattle.kw_world.specs.declared.activity.Activity.{Activity}
-use Rattle.kw_world.specs.declared.activity.Activity.TheVariants.{Idle, Enter, ScanClock, ScanWait, ScanDraw, ScanSettle, Start, Head, GuessMin, Walk, WalkMin, Look, LookKey, LookClock, LookHelp, ListFrom, ListKey, ListVer, ListVal, RestKey, RestVal, ClearScan, PutCount, PutAdd, PutKey, PutValue, Announce, PutClock, Stamp, PutVersion, InsFrom, InsKey, InsVer, InsSet, Insert, PutClear, Leave}
+use Rattle.kw_world.specs.declared.activity.Activity.TheVariants.{Idle, Enter, ScanClock, ScanWait, ScanDraw, ScanSettle, Start, Head, GuessMin, Walk, WalkMin, Look, LookKey, LookClock, LookHelp, ListFrom, ListKey, ListVer, ListVal, RestKey, RestVal, ClearScan, PutCount, PutAdd, PutKey, PutValue, Announce, PutClock, Stamp, PutVersion, InsFrom, InsKey, InsVer, InsSet, Insert, PutClear, Leave, Again, AgainEpoch, BalClock, BalEpoch, BalState, BalNormal, Engage, MarkLink, Decide, FreezeCount, FreezeLook, Freeze, ScanLook, HelpDraw, HelpSettle, TakeFrom, TakeKey, TakeVersion, TakeValue, TakeRestKey, TakeRestValue, SeekFirst, Seek, TakeRow, GiveBack, WriteCount, WriteMin, WriteNext, WriteFirst, WritePend, WriteKey, WriteValue, WriteVersion, WriteAfter, Before, BeforeGuess, BeforeHead, BeforeLink, BeforeMin, Replace, Normalise, Number, Retire}
 use Rattle.kw_world.specs.declared.event.Choice.{Choice}
 use Rattle.kw_world.specs.declared.event.Choice.TheVariants.{Begin, Go, Guess, Stop}
 use Rattle.kw_world.specs.declared.event.StepDone.TheVariants.{Moved}
@@ -31,23 +31,15 @@ use Rattle.kw_world.specs.PutTransitions.{has_room, stamp_met}
 use Rattle.kw_world.specs.ReadTransitions.{to_look, look_met, help_met, remembering}
 use Rattle.kw_world.specs.ScanTransitions.{entered, answer_or_stopped, settled, version_settled}
 use Rattle.kw_world.specs.WalkTransitions.{arrive, guess_met, is_stop, is_stopped, link_met, start_transition, walk_min, walk_transition}
+use Rattle.kw_world.specs.SeekTransitions.{seek_first_transition}
+use Rattle.kw_world.specs.ReplaceTransitions.{before_transition}
 use Rattle.kw_world.specs.Sizes.{Sizes}
 use Rattle.kw_world.specs.Table.{transition}
 use Rattle.kw_follow.specs.Following.{carried}
-
--- p is what follows for code where o follows for the seat: it carries what the seat then knows, and the call goes on. The seat's pairs
--- are then these, unless the choice is to stop
-pub record Carries (c : Choice) (pairs : List (ℕ × ℕ)) (o p : Outcome) : Type 0 where
-  pub local : p.local ≡ carried o.local
-  pub done : p.done ≡ Moved
-  pub held : is_stop c ≡ false → o.local.pairs ≡ pairs
+use Rattle.kw_follow.proofs.Carries.{Carries, either}
+use Rattle.kw_follow.proofs.CarryingRebalance.{rebalance_carries}
 
 module _ (c : Choice) where
-  -- both ways of a test
-  either : (b : Bool) (ps : List (ℕ × ℕ)) (o p o' p' : Outcome) → Carries c ps o p → Carries c ps o' p' → Carries c ps (if b then o else o') (if b then p else p')
-  either true ps o p o' p' g h = g
-  either false ps o p o' p' g h = h
-
   -- How a call begins.
 
   enters : (call : Option Call) (l : Local) → Carries c l.pairs (entered call l) (entered call (carried l))
@@ -58,7 +50,7 @@ module _ (c : Choice) where
   enters None l = record { local = refl; done = refl; held = λ g. refl }
 
   settles : (version : ℕ) (l : Local) → Carries c l.pairs (settled version l) (settled version (carried l))
-  settles version l = either (is_range_empty l.call) l.pairs _ _ _ _ (record { local = refl; done = refl; held = λ g. refl }) (record { local = refl; done = refl; held = λ g. refl })
+  settles version l = either c (is_range_empty l.call) l.pairs _ _ _ _ (record { local = refl; done = refl; held = λ g. refl }) (record { local = refl; done = refl; held = λ g. refl })
 
   -- The walk.
 
@@ -93,12 +85,12 @@ module _ (c : Choice) where
   walks false s l rows told n = links (row_linked (link_of told)) l
 
   walks_on : (least : ℕ) (l : Local) → Carries c l.pairs (walk_min least l) (walk_min least (carried l))
-  walks_on least l = either (nat_le least l.want) l.pairs _ _ _ _ (record { local = refl; done = refl; held = λ g. refl }) (arrives l.call (record l { next = Some l.candidate; upper = least }))
+  walks_on least l = either c (nat_le least l.want) l.pairs _ _ _ _ (record { local = refl; done = refl; held = λ g. refl }) (arrives l.call (record l { next = Some l.candidate; upper = least }))
 
   -- A reader looks at the entries.
 
   looks : (z : Sizes) (i : ℕ) (l : Local) → Carries c l.pairs (to_look z i l) (to_look z i (carried l))
-  looks z i l = either (nat_lt i z.seats) l.pairs _ _ _ _ (record { local = refl; done = refl; held = λ g. refl }) (record { local = refl; done = refl; held = λ g. refl })
+  looks z i l = either c (nat_lt i z.seats) l.pairs _ _ _ _ (record { local = refl; done = refl; held = λ g. refl }) (record { local = refl; done = refl; held = λ g. refl })
 
   meets : (z : Sizes) (i : ℕ) (e : Option Pend) (l : Local) → Carries c l.pairs (look_met z i e l) (look_met z i e (carried l))
   meets z i (Some pend.Idle) l = looks z (i + 1) l
@@ -122,8 +114,8 @@ module _ (c : Choice) where
 
   stamps : (e : Option Pend) (l : Local) → Carries c l.pairs (stamp_met e l) (stamp_met e (carried l))
   stamps (Some pend.Idle) l = record { local = refl; done = refl; held = λ g. refl }
-  stamps (Some (pend.Pending cell)) l = either (cell == l.cell) l.pairs _ _ _ _ (record { local = refl; done = refl; held = λ g. refl }) (record { local = refl; done = refl; held = λ g. refl })
-  stamps (Some (pend.Stamped cell version)) l = either (cell == l.cell) l.pairs _ _ _ _ (record { local = refl; done = refl; held = λ g. refl }) (record { local = refl; done = refl; held = λ g. refl })
+  stamps (Some (pend.Pending cell)) l = either c (cell == l.cell) l.pairs _ _ _ _ (record { local = refl; done = refl; held = λ g. refl }) (record { local = refl; done = refl; held = λ g. refl })
+  stamps (Some (pend.Stamped cell version)) l = either c (cell == l.cell) l.pairs _ _ _ _ (record { local = refl; done = refl; held = λ g. refl }) (record { local = refl; done = refl; held = λ g. refl })
   stamps (Some pend.Frozen) l = record { local = refl; done = refl; held = λ g. refl }
   stamps None l = record { local = refl; done = refl; held = λ g. refl }
 
@@ -198,6 +190,49 @@ carries z InsSet s c l rows told u = record { local = refl; done = refl; held = 
 carries z Insert s c l rows told u = inserts_tried c z (told == cell_link_word l.held) l
 carries z PutClear s c l rows told u = record { local = refl; done = refl; held = λ g. refl }
 carries z (Leave answer) s c l rows told u = absurd u
+carries z Again s c l rows told u = rebalance_carries c z Again s l rows told tt
+carries z AgainEpoch s c l rows told u = rebalance_carries c z AgainEpoch s l rows told tt
+carries z BalClock s c l rows told u = rebalance_carries c z BalClock s l rows told tt
+carries z BalEpoch s c l rows told u = rebalance_carries c z BalEpoch s l rows told tt
+carries z BalState s c l rows told u = rebalance_carries c z BalState s l rows told tt
+carries z (BalNormal seat) s c l rows told u = rebalance_carries c z (BalNormal seat) s l rows told tt
+carries z Engage s c l rows told u = rebalance_carries c z Engage s l rows told tt
+carries z (MarkLink count) s c l rows told u = rebalance_carries c z (MarkLink count) s l rows told tt
+carries z (Decide count) s c l rows told u = rebalance_carries c z (Decide count) s l rows told tt
+carries z FreezeCount s c l rows told u = rebalance_carries c z FreezeCount s l rows told tt
+carries z (FreezeLook i) s c l rows told u = rebalance_carries c z (FreezeLook i) s l rows told tt
+carries z (Freeze i) s c l rows told u = rebalance_carries c z (Freeze i) s l rows told tt
+carries z (ScanLook i) s c l rows told u = rebalance_carries c z (ScanLook i) s l rows told tt
+carries z (HelpDraw i) s c l rows told u = rebalance_carries c z (HelpDraw i) s l rows told tt
+carries z (HelpSettle i) s c l rows told u = rebalance_carries c z (HelpSettle i) s l rows told tt
+carries z TakeFrom s c l rows told u = rebalance_carries c z TakeFrom s l rows told tt
+carries z TakeKey s c l rows told u = rebalance_carries c z TakeKey s l rows told tt
+carries z TakeVersion s c l rows told u = rebalance_carries c z TakeVersion s l rows told tt
+carries z TakeValue s c l rows told u = rebalance_carries c z TakeValue s l rows told tt
+carries z TakeRestKey s c l rows told u = rebalance_carries c z TakeRestKey s l rows told tt
+carries z TakeRestValue s c l rows told u = rebalance_carries c z TakeRestValue s l rows told tt
+carries z SeekFirst s c l rows told u = rebalance_carries c z SeekFirst s l rows told tt
+carries z Seek s c l rows told u = rebalance_carries c z Seek s l rows told tt
+carries z TakeRow s c l rows told u = rebalance_carries c z TakeRow s l rows told tt
+carries z GiveBack s c l rows told u = rebalance_carries c z GiveBack s l rows told tt
+carries z WriteCount s c l rows told u = rebalance_carries c z WriteCount s l rows told tt
+carries z WriteMin s c l rows told u = rebalance_carries c z WriteMin s l rows told tt
+carries z WriteNext s c l rows told u = rebalance_carries c z WriteNext s l rows told tt
+carries z WriteFirst s c l rows told u = rebalance_carries c z WriteFirst s l rows told tt
+carries z (WritePend i) s c l rows told u = rebalance_carries c z (WritePend i) s l rows told tt
+carries z (WriteKey j) s c l rows told u = rebalance_carries c z (WriteKey j) s l rows told tt
+carries z (WriteValue j) s c l rows told u = rebalance_carries c z (WriteValue j) s l rows told tt
+carries z (WriteVersion j) s c l rows told u = rebalance_carries c z (WriteVersion j) s l rows told tt
+carries z (WriteAfter j) s c l rows told u = rebalance_carries c z (WriteAfter j) s l rows told tt
+carries z Before s c l rows told u = rebalance_carries c z Before s l rows told tt
+carries z BeforeGuess s c l rows told u = rebalance_carries c z BeforeGuess s l rows told tt
+carries z BeforeHead s c l rows told u = rebalance_carries c z BeforeHead s l rows told tt
+carries z BeforeLink s c l rows told u = rebalance_carries c z BeforeLink s l rows told tt
+carries z BeforeMin s c l rows told u = rebalance_carries c z BeforeMin s l rows told tt
+carries z Replace s c l rows told u = rebalance_carries c z Replace s l rows told tt
+carries z Normalise s c l rows told u = rebalance_carries c z Normalise s l rows told tt
+carries z Number s c l rows told u = rebalance_carries c z Number s l rows told tt
+carries z Retire s c l rows told u = rebalance_carries c z Retire s l rows told tt
 
 -- the operation is the same for code as for the seat, at every activity
 pub operates : (z : Sizes) (a : Activity) (s : ℕ) (c : Choice) (l : Local) → (transition z a s c (carried l)).operation ≡ (transition z a s c l).operation
@@ -213,4 +248,18 @@ operates z Walk s c l = walking (is_stopped c l)
     walking : (b : Bool) → (walk_transition b s (carried l)).operation ≡ (walk_transition b s l).operation
     walking true = refl
     walking false = refl
+operates z SeekFirst s c l = seeking c
+  where
+    seeking : (x : Choice) → (seek_first_transition x (carried l)).operation ≡ (seek_first_transition x l).operation
+    seeking (Begin call) = refl
+    seeking Go = refl
+    seeking (Guess r) = refl
+    seeking Stop = refl
+operates z Before s c l = begins c
+  where
+    begins : (x : Choice) → (before_transition x (carried l)).operation ≡ (before_transition x l).operation
+    begins (Begin call) = refl
+    begins Go = refl
+    begins (Guess r) = refl
+    begins Stop = refl
 operates z _ s c l = refl

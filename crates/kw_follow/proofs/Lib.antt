@@ -1,3 +1,5 @@
+pub mod Carries
+pub mod CarryingRebalance
 pub mod Carrying
 pub mod Growing
 pub mod Resting

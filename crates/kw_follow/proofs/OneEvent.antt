@@ -29,7 +29,8 @@ use Rattle.kw_table.proofs.Prefixes.{prefix_self}
 use Rattle.kw_follow.specs.Following.{Follows, activity_in, carried, held, known}
 use Rattle.kw_follow.specs.OwnEvents.{MetAs}
 use Rattle.kw_follow.specs.Within.{IsWithinCall}
-use Rattle.kw_follow.proofs.Carrying.{Carries, IsGoingOn, carries, operates}
+use Rattle.kw_follow.proofs.Carries.{Carries}
+use Rattle.kw_follow.proofs.Carrying.{IsGoingOn, carries, operates}
 use Rattle.kw_follow.proofs.Growing.{IsStaying, first_own}
 
 -- What code carries.
@@ -69,6 +70,7 @@ carried_in_range z l k = record {
   held = k.held;
   walked = k.walked;
   lost = k.lost;
+  rebalance = k.rebalance;
 }
 
 -- how much room a seat has does not depend on what code leaves out
@@ -82,6 +84,7 @@ carried_room : (z : Sizes) (l : Local) → HasRoom z l → HasRoom z (carried l)
 carried_room z l k = record {
   remembered = subst (λ n. length l.remembered ≤ n) (carried_marks z l.activity l) k.remembered;
   gathered = k.gathered;
+  rebalance = k.rebalance;
 }
 
 -- all that a local which follows a pass holds is in range

@@ -19,7 +19,7 @@ use Rattle.kw_words.proofs.PendWords.{pend_of-pend_word}
 use Rattle.kw_words.proofs.ScanWords.{scan_of-scan_word}
 use Rattle.kw_words.proofs.Places.{same_name}
 use Rattle.kw_world.specs.declared.activity.Activity.{Activity}
-use Rattle.kw_world.specs.declared.activity.Activity.TheVariants.{Enter, ScanWait, ScanDraw, ScanSettle, Start, Walk, LookHelp, ClearScan, PutAdd, PutKey, PutValue, Announce, Stamp, PutVersion, InsSet, Insert, PutClear, Leave}
+use Rattle.kw_world.specs.declared.activity.Activity.TheVariants.{Enter, ScanWait, ScanDraw, ScanSettle, Start, Walk, LookHelp, ClearScan, PutAdd, PutKey, PutValue, Announce, Stamp, PutVersion, InsSet, Insert, PutClear, Leave, Again, BalNormal, Engage, MarkLink, Decide, FreezeCount, Freeze, HelpDraw, HelpSettle, SeekFirst, TakeRow, GiveBack, WriteCount, WriteMin, WriteNext, WriteFirst, WritePend, WriteKey, WriteValue, WriteVersion, WriteAfter, Before, Replace, Normalise, Number, Retire}
 use Rattle.kw_world.specs.declared.limits.TheConstants.{GIVEN_END}
 use Rattle.kw_world.specs.declared.local.Local.{Local}
 use Rattle.kw_world.specs.declared.event.Choice.{Choice}
@@ -37,6 +37,7 @@ use Rattle.kw_world.specs.Sane.{IsCellBelow, IsGiven, IsEntry, IsKnownWord, IsVa
 use Rattle.kw_core.specs.Words.{Words, given_in}
 use Rattle.kw_core.proofs.Happens.{Changed}
 use Rattle.kw_core.proofs.InRange.{first_in_range, put_in_range}
+use Rattle.kw_core.specs.Stages.{IsReached}
 use Rattle.kw_shape.proofs.Known.{AreSane, IsKnownAt}
 
 -- the word after an exchange
@@ -89,23 +90,23 @@ module _ (z : Sizes) (rows : ℕ) (v : Words) (s : ℕ) (choice : Choice) (l : L
   walks true n = (scan_known Quiet tt, tt)
   walks false n = loaded (name.Next l.row) n
 
-  written : (a : Activity) → IsKnownAt z rows a l → IsWithin z.seats z.cells rows (transition z a s choice l).operation.name → v name.Clock + 1 < VERSION_END → ((q : ℕ) → q < rows → given_in v q + 1 < GIVEN_END) → Writes (transition z a s choice l)
-  written Enter k n c g = (k.ranges.epoch.1, tt)
-  written ScanWait k n c g = (scan_known (Waiting l.waiting) k.ranges.waiting, tt)
-  written ScanDraw k n c g = ((omega arith, c), tt)
-  written ScanSettle k n c g = (exchanges (λ x. IsKnownWord (scan_of x)) (v (name.Scan s)) _ _ (w.each (name.Scan s) n) (scan_known (Drawn l.drawn) k.ranges.drawn), tt)
-  written Start k n c g = starts choice n
-  written Walk k n c g = walks (is_stopped choice l) n
-  written LookHelp k n c g = (exchanges (λ x. IsEntry z (pend_of x)) (v (name.Pend l.row l.looked)) _ _ (w.each (name.Pend l.row l.looked) n) (entry_known z (pend.Stamped l.met l.helping) (omega (arith, k.ranges.met, w.sized.few_cells), k.ranges.helping.0, k.ranges.helping.1) (k.ranges.met, k.ranges.helping)), tt)
-  written (ClearScan answer) k n c g = (scan_known Quiet tt, tt)
-  written PutAdd k n c g = (given_known (v (name.Count l.row)) _ refl (w.each (name.Count l.row) n) (g l.row n), tt)
-  written PutKey k n c g = (first_in_range l.call k.ranges.call, tt)
-  written PutValue k n c g = (value_known (put_value l.call) (put_in_range l.call k.ranges.call), tt)
-  written Announce k n c g = (exchanges (λ x. IsEntry z (pend_of x)) (v (name.Pend l.row s)) _ _ (w.each (name.Pend l.row s) n) (entry_known z (pend.Pending l.cell) (omega (arith, k.ranges.cell, w.sized.few_cells)) k.ranges.cell), tt)
-  written Stamp k n c g = (exchanges (λ x. IsEntry z (pend_of x)) (v (name.Pend l.row s)) _ _ (w.each (name.Pend l.row s) n) (entry_known z (pend.Stamped l.cell l.version) (omega (arith, k.ranges.cell, w.sized.few_cells), k.ranges.version.0, k.ranges.version.1) (k.ranges.cell, k.ranges.version)), tt)
-  written PutVersion k n c g = (k.ranges.version.1, tt)
-  written InsSet k n c g = (held_below l.held k.ranges.held, tt)
-  written Insert k n c g = (linked l.link (v (link_name l.row l.link)) (w.each (link_name l.row l.link) n) k.ranges.cell, led l.link _)
+  written : (a : Activity) → IsReached a → IsKnownAt z rows a l → IsWithin z.seats z.cells rows (transition z a s choice l).operation.name → v name.Clock + 1 < VERSION_END → ((q : ℕ) → q < rows → given_in v q + 1 < GIVEN_END) → Writes (transition z a s choice l)
+  written Enter o k n c g = (k.ranges.epoch.1, tt)
+  written ScanWait o k n c g = (scan_known (Waiting l.waiting) k.ranges.waiting, tt)
+  written ScanDraw o k n c g = ((omega arith, c), tt)
+  written ScanSettle o k n c g = (exchanges (λ x. IsKnownWord (scan_of x)) (v (name.Scan s)) _ _ (w.each (name.Scan s) n) (scan_known (Drawn l.drawn) k.ranges.drawn), tt)
+  written Start o k n c g = starts choice n
+  written Walk o k n c g = walks (is_stopped choice l) n
+  written LookHelp o k n c g = (exchanges (λ x. IsEntry z (pend_of x)) (v (name.Pend l.row l.looked)) _ _ (w.each (name.Pend l.row l.looked) n) (entry_known z (pend.Stamped l.met l.helping) (omega (arith, k.ranges.met, w.sized.few_cells), k.ranges.helping.0, k.ranges.helping.1) (k.ranges.met, k.ranges.helping)), tt)
+  written (ClearScan answer) o k n c g = (scan_known Quiet tt, tt)
+  written PutAdd o k n c g = (given_known (v (name.Count l.row)) _ refl (w.each (name.Count l.row) n) (g l.row n), tt)
+  written PutKey o k n c g = (first_in_range l.call k.ranges.call, tt)
+  written PutValue o k n c g = (value_known (put_value l.call) (put_in_range l.call k.ranges.call), tt)
+  written Announce o k n c g = (exchanges (λ x. IsEntry z (pend_of x)) (v (name.Pend l.row s)) _ _ (w.each (name.Pend l.row s) n) (entry_known z (pend.Pending l.cell) (omega (arith, k.ranges.cell, w.sized.few_cells)) k.ranges.cell), tt)
+  written Stamp o k n c g = (exchanges (λ x. IsEntry z (pend_of x)) (v (name.Pend l.row s)) _ _ (w.each (name.Pend l.row s) n) (entry_known z (pend.Stamped l.cell l.version) (omega (arith, k.ranges.cell, w.sized.few_cells), k.ranges.version.0, k.ranges.version.1) (k.ranges.cell, k.ranges.version)), tt)
+  written PutVersion o k n c g = (k.ranges.version.1, tt)
+  written InsSet o k n c g = (held_below l.held k.ranges.held, tt)
+  written Insert o k n c g = (linked l.link (v (link_name l.row l.link)) (w.each (link_name l.row l.link) n) k.ranges.cell, led l.link _)
     where
       linked : (link : Option ℕ) (found : ℕ) → IsWord z (link_name l.row link) found → l.cell < z.cells → IsWord z (link_name l.row link) (word_after (Exchange (cell_link_word l.held) (cell_link_word (Some l.cell))) found)
       linked (Some c) found f o = exchanges (λ x. x ≤ z.cells) found _ _ f (omega (arith, o))
@@ -114,9 +115,35 @@ module _ (z : Sizes) (rows : ℕ) (v : Words) (s : ℕ) (choice : Choice) (l : L
       led : (link : Option ℕ) (x : ℕ) → IsLed rows (link_name l.row link) x
       led (Some c) x = tt
       led None x = tt
-  written PutClear k n c g = (entry_known z pend.Idle tt tt, tt)
-  written (Leave answer) k n c g = (omega arith, tt)
-  written a k n c g = loaded (transition z a s choice l).operation.name n
+  written PutClear o k n c g = (entry_known z pend.Idle tt tt, tt)
+  written (Leave answer) o k n c g = (omega arith, tt)
+  written Again o k n c g = absurd o
+  written (BalNormal seat) o k n c g = absurd o
+  written Engage o k n c g = absurd o
+  written (MarkLink count) o k n c g = absurd o
+  written (Decide count) o k n c g = absurd o
+  written FreezeCount o k n c g = absurd o
+  written (Freeze i) o k n c g = absurd o
+  written (HelpDraw i) o k n c g = absurd o
+  written (HelpSettle i) o k n c g = absurd o
+  written SeekFirst o k n c g = absurd o
+  written TakeRow o k n c g = absurd o
+  written GiveBack o k n c g = absurd o
+  written WriteCount o k n c g = absurd o
+  written WriteMin o k n c g = absurd o
+  written WriteNext o k n c g = absurd o
+  written WriteFirst o k n c g = absurd o
+  written (WritePend i) o k n c g = absurd o
+  written (WriteKey j) o k n c g = absurd o
+  written (WriteValue j) o k n c g = absurd o
+  written (WriteVersion j) o k n c g = absurd o
+  written (WriteAfter j) o k n c g = absurd o
+  written Before o k n c g = absurd o
+  written Replace o k n c g = absurd o
+  written Normalise o k n c g = absurd o
+  written Number o k n c g = absurd o
+  written Retire o k n c g = absurd o
+  written a o k n c g = loaded (transition z a s choice l).operation.name n
 
   -- a word after the event: the one that was written, or another
   each_word : (v' : Words) (it : Transition) → Writes it → IsWithin z.seats z.cells rows it.operation.name → Changed z rows v v' it → (m : Name) → IsWithin z.seats z.cells rows m → IsWord z m (v' m) × IsLed rows m (v' m)
@@ -130,7 +157,7 @@ module _ (z : Sizes) (rows : ℕ) (v : Words) (s : ℕ) (choice : Choice) (l : L
       which (inr d) = let f : v' m ≡ v m = h.other m i (λ e. d (ap (place_of z.seats z.cells) e)) in (subst (IsWord z m) (sym f) (w.each m i), subst (IsLed rows m) (sym f) (w.led m i))
 
   -- all words after the event
-  pub words_sane : (a : Activity) (v' : Words) → IsKnownAt z rows a l → IsWithin z.seats z.cells rows (transition z a s choice l).operation.name → v name.Clock + 1 < VERSION_END → ((q : ℕ) → q < rows → given_in v q + 1 < GIVEN_END) → Changed z rows v v' (transition z a s choice l) → AreSane z rows v'
-  words_sane a v' k n c g h =
-      let each = each_word v' (transition z a s choice l) (written a k n c g) n h in
+  pub words_sane : (a : Activity) (v' : Words) → IsReached a → IsKnownAt z rows a l → IsWithin z.seats z.cells rows (transition z a s choice l).operation.name → v name.Clock + 1 < VERSION_END → ((q : ℕ) → q < rows → given_in v q + 1 < GIVEN_END) → Changed z rows v v' (transition z a s choice l) → AreSane z rows v'
+  words_sane a v' o k n c g h =
+      let each = each_word v' (transition z a s choice l) (written a o k n c g) n h in
       record { sized = w.sized; each = λ m i. (each m i).0; led = λ m i. (each m i).1 }

@@ -3,7 +3,7 @@
 use Rattle.std.proofs.Common.{ℕ, ◌≡◌, ◌⊎◌, inl, inr, true, Some, arith, sym, ◌∙◌, ap}
 use Rattle.kw_rows.specs.Ledger.{Ledger, IsFresh}
 use Rattle.kw_world.specs.declared.activity.Activity.{Activity}
-use Rattle.kw_world.specs.declared.activity.Activity.TheVariants.{Idle, Enter, GuessMin, Walk, WalkMin}
+use Rattle.kw_world.specs.declared.activity.Activity.TheVariants.{Idle, Enter, GuessMin, Walk, WalkMin, AgainEpoch}
 use Rattle.kw_world.specs.declared.local.Local.{Local}
 use Rattle.kw_world.specs.Calls.{first_key, is_scan}
 use Rattle.kw_core.specs.Stages.{IsPassing, IsPastStart}
@@ -27,12 +27,14 @@ fresh_past v g t _ l w x = (w.at x).fresh
 pub is_passing : (a : Activity) → IsPassing a ⊎ (IsPassing a → ⊥)
 is_passing Idle = inr (λ x. x)
 is_passing Enter = inr (λ x. x)
+is_passing AgainEpoch = inr (λ x. x)
 is_passing _ = inl tt
 
 -- a seat that is in no pass is nowhere along the rows
 pub walks_outside : (v : Words) (g : Ledger) (t : ℕ) (a : Activity) (l : Local) → (IsPassing a → ⊥) → Walks v g t a l
 walks_outside v g t Idle l n = record { on = tt; lower = λ x. absurd x; at = λ x. absurd x; begins = λ x. absurd x; wants = λ x. absurd x }
 walks_outside v g t Enter l n = record { on = tt; lower = λ x. absurd x; at = λ x. absurd x; begins = λ x. absurd x; wants = λ x. absurd x }
+walks_outside v g t AgainEpoch l n = record { on = tt; lower = λ x. absurd x; at = λ x. absurd x; begins = λ x. absurd x; wants = λ x. absurd x }
 walks_outside v g t _ l n = absurd (n tt)
 
 module _ (v v' : Words) (g g' : Ledger) (t : ℕ) (y : RelyRows v v' g g' t) where

@@ -64,12 +64,12 @@ head_below rows None h = absurd h
 
 -- what the acting seat knows is in range
 known_own : (z : Sizes) (r r' : Run) (s : ℕ) (choice : Choice) (l : Local) (a : Activity) (l' : Local) → Arrow z (word z r.world) s choice l a l' → Happens z r r' s choice l l' a → Shape z r → IsKnown z r.world.rows l'
-known_own z r r' s choice l a l' b h i = known_by z r.world.rows (word z r.world) s choice l a l' b (words_of_sane z r.world i.sane) (head_below r.world.rows _ (i.sane.led name.Head tt)) h.seat h.begins h.offers (at_activity z r.world.rows a l h.activity (i.sane.locals s l h.knows))
+known_own z r r' s choice l a l' b h i = known_by z r.world.rows (word z r.world) s choice l a l' b (words_of_sane z r.world i.sane) (head_below r.world.rows _ (i.sane.led name.Head tt)) h.seat h.begins h.offers (at_activity z r.world.rows a l h.activity (i.sane.locals s l h.knows)) h.reached
 
 -- the words are in range
 words_keep : (z : Sizes) (r r' : Run) (s : ℕ) (choice : Choice) (l : Local) (a : Activity) (l' : Local) → Happens z r r' s choice l l' a → Shape z r → AreSane z r.world.rows (word z r'.world)
 words_keep z r r' s choice l a l' h i =
-    words_sane z r.world.rows (word z r.world) s choice l (words_of_sane z r.world i.sane) a (word z r'.world) (at_activity z r.world.rows a l h.activity (i.sane.locals s l h.knows)) h.named
+    words_sane z r.world.rows (word z r.world) s choice l (words_of_sane z r.world i.sane) a (word z r'.world) h.reached (at_activity z r.world.rows a l h.activity (i.sane.locals s l h.knows)) h.named
     (omega (arith, i.clock, i.sane.sized.few_seats)) (λ q o. omega (arith, i.room q o, i.sane.sized.few_seats, i.sane.sized.few_cells)) h.changed
 
 -- the world is sane

@@ -11,10 +11,10 @@ pub mod operation;
 pub mod reading;
 pub mod resume;
 mod resume_cells;
-mod resume_entries;
+pub mod resume_entries;
 pub mod resume_insert;
 pub mod resume_put;
-mod resume_scan;
+pub mod resume_scan;
 pub mod step;
 #[cfg(test)]
 mod tests;

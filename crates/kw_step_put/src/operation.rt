@@ -97,7 +97,7 @@ pub fn put_operation(seat: u32, local: &Local, choice: Choice) -> Operation
             let pass = pack_pass(None);
             store(Kind::ClearPass, Name::Pass(seat), pass)
         }
-        Activity::Start | Activity::Head | Activity::GuessMin | Activity::WalkMin => unreachable!(),
+        _ => unreachable!(),
     }
 }
 
@@ -129,8 +129,12 @@ fn add_one(kind: Kind, name: Name) -> Operation
 fn settle(seat: u32, waiting: u64, drawn: u64) -> Operation
     requires waiting { IsVersion waiting }
     requires drawn { IsVersion drawn }
-    ensures { result ≡ record { kind = Kind.Settle; name = Name.Scan seat; action = Action.Exchange
-        (scan_word (ScanWord.Waiting waiting)) (scan_word (ScanWord.Drawn drawn)) } }
+    ensures { result ≡ record {
+      kind = Kind.Settle;
+      name = Name.Scan seat;
+      action = Action.Exchange
+          (scan_word (ScanWord.Waiting waiting)) (scan_word (ScanWord.Drawn drawn));
+    } }
 {
     let waiting = ScanWord::Waiting(waiting).pack();
     let drawn = ScanWord::Drawn(drawn).pack();
@@ -143,8 +147,12 @@ fn settle(seat: u32, waiting: u64, drawn: u64) -> Operation
 
 // The store that ends a scan.
 fn clear_scan(seat: u32) -> Operation
-    ensures { result ≡ record { kind = Kind.ClearScan; name = Name.Scan seat; action = Action.Store
-        (scan_word ScanWord.Quiet) } }
+    ensures { result ≡ record {
+      kind = Kind.ClearScan;
+      name = Name.Scan seat;
+      action = Action.Store
+          (scan_word ScanWord.Quiet);
+    } }
 {
     let quiet = ScanWord::Quiet.pack();
     store(Kind::ClearScan, Name::Scan(seat), quiet)
@@ -153,8 +161,12 @@ fn clear_scan(seat: u32) -> Operation
 // The exchange that announces a cell.
 fn announce(name: Name, cell: u32) -> Operation
     requires { cell < CELLS }
-    ensures { result ≡ record { kind = Kind.Announce; name = name; action = Action.Exchange
-        (pend_word Pend.Idle) (pend_word (Pend.Pending cell)) } }
+    ensures { result ≡ record {
+      kind = Kind.Announce;
+      name = name;
+      action = Action.Exchange
+          (pend_word Pend.Idle) (pend_word (Pend.Pending cell));
+    } }
 {
     let idle = Pend::Idle.pack();
     let pending = Pend::Pending(cell).pack();
@@ -169,8 +181,12 @@ fn announce(name: Name, cell: u32) -> Operation
 fn stamp(kind: Kind, name: Name, cell: u32, version: u64) -> Operation
     requires cell { cell < CELLS }
     requires version { IsVersion version }
-    ensures { result ≡ record { kind = kind; name = name; action = Action.Exchange
-        (pend_word (Pend.Pending cell)) (pend_word (Pend.Stamped cell version)) } }
+    ensures { result ≡ record {
+      kind = kind;
+      name = name;
+      action = Action.Exchange
+          (pend_word (Pend.Pending cell)) (pend_word (Pend.Stamped cell version));
+    } }
 {
     let pending = Pend::Pending(cell).pack();
     let stamped = Pend::Stamped(cell, version).pack();
@@ -195,8 +211,12 @@ pub fn link_name(row: u32, link: Option<u32>) -> Name
 fn insert(name: Name, held: Option<u32>, cell: u32) -> Operation
     requires held { IsCellBelow CELLS held }
     requires cell { cell < CELLS }
-    ensures { result ≡ record { kind = Kind.Insert; name = name; action = Action.Exchange
-        (cell_link_word held) (cell_link_word (Some cell)) } }
+    ensures { result ≡ record {
+      kind = Kind.Insert;
+      name = name;
+      action = Action.Exchange
+          (cell_link_word held) (cell_link_word (Some cell));
+    } }
 {
     let held = pack_cell_link(held);
     let own = pack_cell_link(Some(cell));

@@ -82,11 +82,12 @@ pub fn put_resume(local: &mut Local, choice: Choice, told: u64) -> Result<StepDo
         Activity::Insert => Ok(insert(local, told)),
         Activity::PutClear => Ok(leave(local, Answer::Done)),
         Activity::Leave(answer) => Ok(end_call(local, answer)),
-        Activity::Start | Activity::Head | Activity::GuessMin | Activity::WalkMin => unreachable!(),
+        _ => unreachable!(),
     }
 }
 
 /// The seat goes on to an activity.
+#[inline(always)]
 pub fn to(local: &mut Local, activity: Activity) -> StepDone
     ensures { outcome local.new result ≡ to activity local.old }
 {
@@ -113,8 +114,8 @@ fn end_scan(local: &mut Local, answer: Answer, choice: Choice) -> StepDone
     }
 }
 
-// The call has ended, with the pairs that it has.
-fn end_call(local: &mut Local, answer: Answer) -> StepDone
+/// The call has ended, with the pairs that it has. The answer has its reply.
+pub fn end_call(local: &mut Local, answer: Answer) -> StepDone
     ensures { outcome local.new result ≡ ended answer local.old }
 {
     let pairs = local.pairs.take();

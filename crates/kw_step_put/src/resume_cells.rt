@@ -125,8 +125,10 @@ pub(crate) fn rest_value(local: &mut Local, found: u64) -> Result<StepDone, Memo
 // The cell that was gathered at this place, if there is one, is not gathered any more.
 fn take_back(local: &mut Local, put: Option<usize>)
     requires { IfSome put (λ at. at < length local.old.gathered) }
-    ensures taken { IfSome put (λ at. local.new ≡ record local.old { gathered = remove
-        local.old.gathered at }) }
+    ensures taken { IfSome put (λ at. local.new ≡ record local.old {
+      gathered = remove
+          local.old.gathered at;
+    }) }
     ensures none { IfNone put (local.new ≡ local.old) }
 {
     if let Some(at) = put {

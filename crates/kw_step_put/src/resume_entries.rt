@@ -1,4 +1,6 @@
 //! What a reader knows after its looks at the entries of a row.
+//!
+//! The running map makes a look by a step of its own, and calls `look` for what follows; a pending entry that it meets is rare.
 ghost use Rattle.std.specs.Prelude.{◌≡◌, ◌+◌, ◌<◌, length, if◌then◌else◌};
 ghost use Rattle.kw_words.specs.Pend.{pend_of};
 ghost use Rattle.kw_words.specs.Plain.{key_of_word};
@@ -19,6 +21,7 @@ use kw_world::local::Local;
 use kw_world::marks::Mark;
 
 // The seat goes on to the entry of this seat, or to the row's list after the last entry.
+#[inline(always)]
 fn to_look(local: &mut Local, entry: u32) -> StepDone
     ensures { outcome local.new result ≡ to_look product entry local.old }
 {
@@ -37,8 +40,9 @@ fn remember(local: &mut Local, cell: u32, version: u64)
     local.remembered.push(Mark { cell, version });
 }
 
-// The seat was told the entry of this seat.
-pub(crate) fn look(local: &mut Local, entry: u32, found: u64) -> StepDone
+/// The seat was told the entry of this seat.
+#[inline(always)]
+pub fn look(local: &mut Local, entry: u32, found: u64) -> StepDone
     requires entry { entry < SEATS }
     requires room { length local.old.remembered < SEATS }
     ensures { outcome local.new result ≡ look_met product entry (pend_of found) local.old }
@@ -61,8 +65,7 @@ pub(crate) fn look(local: &mut Local, entry: u32, found: u64) -> StepDone
 pub(crate) fn look_key(local: &mut Local, found: u64) -> StepDone
     requires { local.old.looked < SEATS }
     ensures { outcome local.new result ≡ (if is_in_range local.old.call (key_of_word found)
-        then to Activity.LookClock local.old else to_look product (local.old.looked + 1) local.old)
-        }
+        then to Activity.LookClock local.old else to_look product (local.old.looked + 1) local.old) }
 {
     if is_in_range(local.call, unpack_key(found)) {
         to(local, Activity::LookClock)

@@ -1,4 +1,6 @@
 //! What a seat knows after the events by which a call begins and a scan gets its version.
+//!
+//! The running map makes the first two events of a call by steps of their own, and calls `begin` and `enter` for what follows.
 ghost use Rattle.std.specs.Prelude.{◌≡◌};
 ghost use Rattle.kw_words.specs.Scan.{scan_of};
 ghost use Rattle.kw_world.specs.Transition.{outcome};
@@ -15,8 +17,8 @@ use kw_world::calls::{first_key, is_range_empty};
 use kw_world::event::{Choice, StepDone};
 use kw_world::local::Local;
 
-// An idle seat begins a call, and was told the epoch.
-pub(crate) fn begin(local: &mut Local, choice: Choice, epoch: u64) -> StepDone
+/// An idle seat begins a call, and was told the epoch. With another choice it begins none, and nothing changes.
+pub fn begin(local: &mut Local, choice: Choice, epoch: u64) -> StepDone
     requires { CanBeginAt Activity.Idle choice local.old }
     ensures { outcome local.new result ≡ begun choice epoch local.old }
 {
@@ -31,8 +33,8 @@ pub(crate) fn begin(local: &mut Local, choice: Choice, epoch: u64) -> StepDone
     }
 }
 
-// The seat has announced its epoch.
-pub(crate) fn enter(local: &mut Local) -> StepDone
+/// The seat has announced its epoch: a scan is to load the clock, and every other call to begin its walk.
+pub fn enter(local: &mut Local) -> StepDone
     ensures { outcome local.new result ≡ entered local.old.call local.old }
 {
     match local.call {

@@ -1,4 +1,7 @@
 //! What a seat knows after an event of its walk.
+//!
+//! The running map makes the events of a walk from the first row on by steps of their own, and calls `first`, `link` and `walk_min` for
+//! what follows.
 ghost use Rattle.std.specs.Prelude.{◌≡◌, if◌then◌else◌};
 ghost use Rattle.kw_words.specs.Link.{link_of};
 ghost use Rattle.kw_words.specs.State.{state_of};
@@ -58,10 +61,13 @@ fn linked(found: u64) -> Option<u32>
     }
 }
 
-// The walk begins at the first row.
-fn first(local: &mut Local, found: u64) -> StepDone
-    ensures { outcome local.new result ≡ to Activity.Walk (record local.old { row = row_or_first
-        (row_linked (link_of found)); lower = 0 }) }
+/// The walk begins at the first row, to which the link from the head leads.
+pub fn first(local: &mut Local, found: u64) -> StepDone
+    ensures { outcome local.new result ≡ to Activity.Walk (record local.old {
+      row = row_or_first
+          (row_linked (link_of found));
+      lower = 0;
+    }) }
 {
     local.row = linked(found).unwrap_or(0);
     local.lower = 0;
@@ -93,8 +99,8 @@ fn guess_min(local: &mut Local, found: u64) -> StepDone
     to(local, Activity::Walk)
 }
 
-// The seat was told the link after its row.
-fn link(local: &mut Local, found: u64) -> StepDone
+/// The seat was told the link after its row.
+pub fn link(local: &mut Local, found: u64) -> StepDone
     ensures { outcome local.new result ≡ link_met (row_linked (link_of found)) local.old }
 {
     match linked(found) {
@@ -110,8 +116,8 @@ fn link(local: &mut Local, found: u64) -> StepDone
     }
 }
 
-// The seat was told the least key of the row after its row.
-fn walk_min(local: &mut Local, found: u64) -> StepDone
+/// The seat was told the least key of the row after its row.
+pub fn walk_min(local: &mut Local, found: u64) -> StepDone
     ensures { outcome local.new result ≡ walk_min (key_of_word found) local.old }
 {
     let least = unpack_key(found);

@@ -47,7 +47,6 @@ use Rattle.kw_world.specs.WalkTransitions.{start_transition, head_transition, gu
 use Rattle.kw_world.specs.ReadTransitions.{to_look, look_met, help_met, list_met, list_key, list_version, list_past, gathering, rest_key, to_rest}
 use Rattle.kw_world.specs.PutTransitions.{full, has_room, given_of, stamp_met}
 use Rattle.kw_world.specs.ListTransitions.{link_name, to_insert, insert_from, insert_key, insert_version, insert_tried}
-
 use Rattle.kw_world.specs.EngageTransitions.{again, balance_clock, balance_epoch, state_met, engaged, link_marked, decided}
 use Rattle.kw_world.specs.FreezeTransitions.{count_frozen, freeze_met, entry_tried, scan_met, scan_helped}
 use Rattle.kw_world.specs.TakeTransitions.{take_met, take_version, keeping, take_past, to_left}

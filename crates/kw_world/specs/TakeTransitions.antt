@@ -21,14 +21,16 @@ to_take l = to TakeFrom (record (at_first l) { rebalance = record l.rebalance { 
 
 -- which cells the new rows get, and where each row starts among them; no row is taken as yet, and row 0 is asked first
 abbrev pub planned : Sizes → Local → Local
-planned z l = record l { rebalance = record l.rebalance {
-  kept = kept_of l.rebalance.gathered l.rebalance.needed;
-  starts = starts_of z.built (kept_of l.rebalance.gathered l.rebalance.needed);
-  taken = [];
-  at = 0;
-  sought = 0;
-  asked = 1;
-} }
+planned z l = record l {
+  rebalance = record l.rebalance {
+    kept = kept_of l.rebalance.gathered l.rebalance.needed;
+    starts = starts_of z.built (kept_of l.rebalance.gathered l.rebalance.needed);
+    taken = [];
+    at = 0;
+    sought = 0;
+    asked = 1;
+  };
+}
 
 -- a remembered cell of the least place is read, and remembered no more; where none is left, the search for new rows begins
 abbrev pub left_of : Sizes → Option Mark → Local → Outcome
@@ -54,9 +56,11 @@ take_version version l = to TakeValue (record l { place_version = unwrap_or vers
 
 -- the cell is gathered: put among those that were, in the order of the list. A row has no more cells than are gathered
 abbrev pub keeping : Sizes → Option ℕ → Local → Local
-keeping z value l = record l { rebalance = record l.rebalance {
-  gathered = if nat_lt (length l.rebalance.gathered) z.cells then with_cell (cell_in_hand value l) l.rebalance.gathered else l.rebalance.gathered;
-} }
+keeping z value l = record l {
+  rebalance = record l.rebalance {
+    gathered = if nat_lt (length l.rebalance.gathered) z.cells then with_cell (cell_in_hand value l) l.rebalance.gathered else l.rebalance.gathered;
+  };
+}
 
 -- the walk goes on past the cell that it met
 abbrev pub take_past : Local → Outcome

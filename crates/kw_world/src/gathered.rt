@@ -69,8 +69,7 @@ impl Gathered {
     pub fn gather(&mut self, cell: Cell) -> Option<usize>
         ensures gathered { self.new ≡ (if nat_lt (length self.old) CELLS
             then with_cell cell self.old else self.old) }
-        ensures put { IfSome result (λ at. (at < length self.new) × (remove self.new at ≡ self.old))
-            }
+        ensures put { IfSome result (λ at. (at < length self.new) × (remove self.new at ≡ self.old)) }
         ensures kept { IfNone result (self.new ≡ self.old) }
     {
         if self.cells.is_full() {

@@ -16,8 +16,12 @@ use std::test::Fail;
 
 // Three rows and two seats; the clock begins with 7, the epoch with 9.
 fn small(alloc: Global) -> Result<World, Memory>
-    ensures { IfOk result (λ world. world ≡ opened product (record { rows = 3; seats = 2; clock = 7;
-        epoch = 9 })) }
+    ensures { IfOk result (λ world. world ≡ opened product (record {
+      rows = 3;
+      seats = 2;
+      clock = 7;
+      epoch = 9;
+    })) }
 {
     World::open(alloc, 3, 2, 7, 9)
 }

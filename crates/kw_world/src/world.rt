@@ -51,29 +51,52 @@ impl World {
         clock: u64,
         epoch: u64,
     ) -> Result<World, Memory>
-        requires { IsOpening product (record { rows = rows; seats = seats; clock = clock; epoch =
-            epoch }) }
+        requires { IsOpening product (record {
+          rows = rows;
+          seats = seats;
+          clock = clock;
+          epoch =
+              epoch;
+        }) }
         ensures world { IfOk result
-            (λ world. world ≡ opened product (record { rows = rows; seats = seats; clock = clock;
-            epoch = epoch })) }
+            (λ world. world ≡ opened product (record {
+              rows = rows;
+              seats = seats;
+              clock = clock;
+              epoch = epoch;
+            })) }
 
         ensures sane { IfOk result (λ world. IsSane product world) }
 
         // the words by name
         ensures named { IfOk result (λ world. (name : Name) → IsWithin SEATS CELLS rows name →
-            word product world name ≡ opening_word (record { rows = rows; seats = seats; clock =
-            clock; epoch = epoch }) name) }
+            word product world name ≡ opening_word (record {
+              rows = rows;
+              seats = seats;
+              clock =
+                  clock;
+              epoch = epoch;
+            }) name) }
     {
         Self::built(alloc, rows, seats, clock, epoch)
     }
 
     // `open` without the clause on words by name, which is one goal there.
     fn built(alloc: Global, rows: u32, seats: u32, clock: u64, epoch: u64) -> Result<World, Memory>
-        requires { IsOpening product (record { rows = rows; seats = seats; clock = clock; epoch =
-            epoch }) }
+        requires { IsOpening product (record {
+          rows = rows;
+          seats = seats;
+          clock = clock;
+          epoch =
+              epoch;
+        }) }
         ensures { IfOk result
-            (λ world. world ≡ opened product (record { rows = rows; seats = seats; clock = clock;
-            epoch = epoch })) }
+            (λ world. world ≡ opened product (record {
+              rows = rows;
+              seats = seats;
+              clock = clock;
+              epoch = epoch;
+            })) }
     {
         let head = Link {
             row: Some(0),

@@ -18,3 +18,10 @@ returns-in-Rows-clause-skipped_world c =
     (λ (done : StepDone). done ≡ Skipped → c.rows_step.new.world ≡ c.args.world.now)
     (λ done is_step. step-unchanged product c.args.world.now c.rows_step.new.world c.args.event done is_step)
     (where_ok c.rows_step.result _ c.rows_step.ensures.ok)
+
+pub returns-in-Rebalance-clause-skipped_world : goal.returns-in-Rebalance-clause-skipped_world
+returns-in-Rebalance-clause-skipped_world c =
+    IfOk-weaker c.rebalance_step.result (λ (done : StepDone). stepped c.rebalance_step.new.world done ≡ step product c.args.world.now c.args.event)
+    (λ (done : StepDone). done ≡ Skipped → c.rebalance_step.new.world ≡ c.args.world.now)
+    (λ done is_step. step-unchanged product c.args.world.now c.rebalance_step.new.world c.args.event done is_step)
+    (where_ok c.rebalance_step.result _ c.rebalance_step.ensures.ok)

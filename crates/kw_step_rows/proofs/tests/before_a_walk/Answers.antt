@@ -13,7 +13,7 @@ use Rattle.kw_world.specs.Sane.{IsKnown, IsSane}
 use Rattle.kw_world.specs.Sizes.{Sizes, product}
 use Rattle.kw_world.specs.WorldView.{WorldView}
 use Rattle.kw_world.proofs.Lists.{get-set_same}
-use Rattle.kw_world.proofs.Opens.{all_resting, rests_known, with_local-sane}
+use Rattle.kw_world.proofs.Opens.{all_resting, none_room, rests_known, with_local-sane}
 use Rattle.kw_step_rows.proofs.tests.before_a_walk.Goals as goal
 
 -- the world that was opened
@@ -52,9 +52,10 @@ starts_known z rows sized =
         held = k.ranges.held;
         walked = k.ranges.walked;
         lost = k.ranges.lost;
+        rebalance = k.ranges.rebalance;
       };
-      below = record { row = k.below.row; candidate = k.below.candidate; next = k.below.next };
-      room = record { remembered = k.room.remembered; gathered = k.room.gathered };
+      below = record { row = k.below.row; candidate = k.below.candidate; next = k.below.next; rebalance = k.below.rebalance };
+      room = record { remembered = k.room.remembered; gathered = k.room.gathered; rebalance = none_room z Start (λ t. t) };
     }
 
 -- what the seat knew at the opening

@@ -1,0 +1,273 @@
+-- The same of a rebalance: what follows from one of its events is again a local and what code carries for it.
+use Rattle.std.proofs.Common.{ℕ, ◌≡◌, ◌+◌, ◌==◌, Bool, true, false, nat_lt, nat_le, if◌then◌else◌, Option, Some, None, length, refl}
+use Rattle.kw_words.specs.declared.pend.Pend.{Pend}
+use Rattle.kw_words.specs.declared.pend.Pend.TheVariants as pend
+use Rattle.kw_words.specs.declared.state.State.{State}
+use Rattle.kw_words.specs.declared.state.State.TheVariants.{Free, Infant, Normal, Leader, Follower, Retired}
+use Rattle.kw_words.specs.declared.scan.ScanWord.{ScanWord}
+use Rattle.kw_words.specs.declared.scan.ScanWord.TheVariants as scan
+use Rattle.kw_words.specs.declared.link.Link.{Link}
+use Rattle.kw_words.specs.declared.sizes.TheConstants.{SPENT}
+use Rattle.kw_words.specs.Link.{link_of}
+use Rattle.kw_words.specs.Pend.{pend_of, pend_word}
+use Rattle.kw_words.specs.Plain.{key_of_word, value_of_word, cell_of_link_word}
+use Rattle.kw_words.specs.Scan.{scan_of}
+use Rattle.kw_words.specs.State.{state_of, state_word}
+use Rattle.kw_world.specs.declared.activity.Activity.{Activity}
+use Rattle.kw_world.specs.declared.activity.Activity.TheVariants.{Again, AgainEpoch, BalClock, BalEpoch, BalState, BalNormal, Engage, MarkLink, Decide, FreezeCount, FreezeLook, Freeze, ScanLook, HelpDraw, HelpSettle, TakeFrom, TakeKey, TakeVersion, TakeValue, TakeRestKey, TakeRestValue, SeekFirst, Seek, TakeRow, GiveBack, WriteCount, WriteMin, WriteNext, WriteFirst, WritePend, WriteKey, WriteValue, WriteVersion, WriteAfter, Before, BeforeGuess, BeforeHead, BeforeLink, BeforeMin, Replace, Normalise, Number, Retire}
+use Rattle.kw_world.specs.declared.event.Choice.{Choice}
+use Rattle.kw_world.specs.declared.event.Choice.TheVariants.{Begin, Go, Guess, Stop}
+use Rattle.kw_world.specs.declared.local.Local.{Local}
+use Rattle.kw_world.specs.declared.marks.Mark.{Mark}
+use Rattle.kw_world.specs.declared.rebalance.Afterwards.{Afterwards}
+use Rattle.kw_world.specs.declared.rebalance.Afterwards.TheVariants.{TryAgain, Refuse, MoveLeft}
+use Rattle.kw_world.specs.Marks.{least_mark}
+use Rattle.kw_world.specs.Sizes.{Sizes}
+use Rattle.kw_world.specs.Table.{transition}
+use Rattle.kw_world.specs.Transition.{Outcome, row_linked, row_or_first, to}
+use Rattle.kw_world.specs.EngageTransitions.{again, refuse, is_alone, state_met, engaged, followed_by, link_marked, decided}
+use Rattle.kw_world.specs.FreezeTransitions.{to_scans, to_freeze_look, marking, freeze_met, entry_tried, to_scan_look, needing, scan_met, scan_helped}
+use Rattle.kw_world.specs.TakeTransitions.{to_take, left_of, take_met, keeping}
+use Rattle.kw_world.specs.SeekTransitions.{given_back, give_back, gave_back, at_infant, has_more, row_behind, to_seek, seek_met, seeking, seek_first_transition, with_row, take_row}
+use Rattle.kw_world.specs.WriteTransitions.{infant_cells, row_written, to_write_cell, to_write_entry}
+use Rattle.kw_world.specs.ReplaceTransitions.{at_before, first_before, guess_before, before_transition, row_before, link_before, row_replaced, replaced}
+use Rattle.kw_follow.specs.Following.{carried}
+use Rattle.kw_follow.proofs.Carries.{Carries, either}
+
+-- one of the activities of a rebalance
+abbrev pub IsRebalancing : Activity → Type 0
+IsRebalancing Again = Unit {0}
+IsRebalancing AgainEpoch = Unit {0}
+IsRebalancing BalClock = Unit {0}
+IsRebalancing BalEpoch = Unit {0}
+IsRebalancing BalState = Unit {0}
+IsRebalancing (BalNormal seat) = Unit {0}
+IsRebalancing Engage = Unit {0}
+IsRebalancing (MarkLink count) = Unit {0}
+IsRebalancing (Decide count) = Unit {0}
+IsRebalancing FreezeCount = Unit {0}
+IsRebalancing (FreezeLook i) = Unit {0}
+IsRebalancing (Freeze i) = Unit {0}
+IsRebalancing (ScanLook i) = Unit {0}
+IsRebalancing (HelpDraw i) = Unit {0}
+IsRebalancing (HelpSettle i) = Unit {0}
+IsRebalancing TakeFrom = Unit {0}
+IsRebalancing TakeKey = Unit {0}
+IsRebalancing TakeVersion = Unit {0}
+IsRebalancing TakeValue = Unit {0}
+IsRebalancing TakeRestKey = Unit {0}
+IsRebalancing TakeRestValue = Unit {0}
+IsRebalancing SeekFirst = Unit {0}
+IsRebalancing Seek = Unit {0}
+IsRebalancing TakeRow = Unit {0}
+IsRebalancing GiveBack = Unit {0}
+IsRebalancing WriteCount = Unit {0}
+IsRebalancing WriteMin = Unit {0}
+IsRebalancing WriteNext = Unit {0}
+IsRebalancing WriteFirst = Unit {0}
+IsRebalancing (WritePend i) = Unit {0}
+IsRebalancing (WriteKey j) = Unit {0}
+IsRebalancing (WriteValue j) = Unit {0}
+IsRebalancing (WriteVersion j) = Unit {0}
+IsRebalancing (WriteAfter j) = Unit {0}
+IsRebalancing Before = Unit {0}
+IsRebalancing BeforeGuess = Unit {0}
+IsRebalancing BeforeHead = Unit {0}
+IsRebalancing BeforeLink = Unit {0}
+IsRebalancing BeforeMin = Unit {0}
+IsRebalancing Replace = Unit {0}
+IsRebalancing Normalise = Unit {0}
+IsRebalancing Number = Unit {0}
+IsRebalancing Retire = Unit {0}
+IsRebalancing _ = ⊥
+
+module _ (c : Choice) where
+  state_carries : (state : Option State) (l : Local) → Carries c l.pairs (state_met state l) (state_met state (carried l))
+  state_carries (Some Free) l = record { local = refl; done = refl; held = λ g. refl }
+  state_carries (Some (Infant seat)) l = record { local = refl; done = refl; held = λ g. refl }
+  state_carries (Some Normal) l = record { local = refl; done = refl; held = λ g. refl }
+  state_carries (Some (Leader count)) l = either c (is_alone count) l.pairs _ _ _ _ (record { local = refl; done = refl; held = λ g. refl }) (record { local = refl; done = refl; held = λ g. refl })
+  state_carries (Some (Follower leader)) l = record { local = refl; done = refl; held = λ g. refl }
+  state_carries (Some (Retired number)) l = record { local = refl; done = refl; held = λ g. refl }
+  state_carries None l = record { local = refl; done = refl; held = λ g. refl }
+
+  engaged_carries : (b : Bool) (l : Local) → Carries c l.pairs (engaged b l) (engaged b (carried l))
+  engaged_carries true l = record { local = refl; done = refl; held = λ g. refl }
+  engaged_carries false l = record { local = refl; done = refl; held = λ g. refl }
+
+  marked_carries : (count : ℕ) (after : Option ℕ) (l : Local) → Carries c l.pairs (link_marked count after l) (link_marked count after (carried l))
+  marked_carries count after l = either c (count == 0) l.pairs _ _ _ _ (record { local = refl; done = refl; held = λ g. refl }) (record { local = refl; done = refl; held = λ g. refl })
+
+  decided_carries : (state : Option State) (l : Local) → Carries c l.pairs (decided state l) (decided state (carried l))
+  decided_carries (Some Free) l = record { local = refl; done = refl; held = λ g. refl }
+  decided_carries (Some (Infant seat)) l = record { local = refl; done = refl; held = λ g. refl }
+  decided_carries (Some Normal) l = record { local = refl; done = refl; held = λ g. refl }
+  decided_carries (Some (Leader count)) l = either c (is_alone count) l.pairs _ _ _ _ (record { local = refl; done = refl; held = λ g. refl }) (record { local = refl; done = refl; held = λ g. refl })
+  decided_carries (Some (Follower leader)) l = record { local = refl; done = refl; held = λ g. refl }
+  decided_carries (Some (Retired number)) l = record { local = refl; done = refl; held = λ g. refl }
+  decided_carries None l = record { local = refl; done = refl; held = λ g. refl }
+
+  freeze_looks : (z : Sizes) (i : ℕ) (l : Local) → Carries c l.pairs (to_freeze_look z i l) (to_freeze_look z i (carried l))
+  freeze_looks z i l = either c (nat_lt i z.seats) l.pairs _ _ _ _ (record { local = refl; done = refl; held = λ g. refl }) (record { local = refl; done = refl; held = λ g. refl })
+
+  freeze_carries : (z : Sizes) (i : ℕ) (e : Option Pend) (l : Local) → Carries c l.pairs (freeze_met z i e l) (freeze_met z i e (carried l))
+  freeze_carries z i (Some pend.Idle) l = record { local = refl; done = refl; held = λ g. refl }
+  freeze_carries z i (Some (pend.Pending cell)) l = record { local = refl; done = refl; held = λ g. refl }
+  freeze_carries z i (Some (pend.Stamped cell version)) l = freeze_looks z (i + 1) (marking cell version l)
+  freeze_carries z i (Some pend.Frozen) l = freeze_looks z (i + 1) l
+  freeze_carries z i None l = freeze_looks z (i + 1) l
+
+  entry_carries : (z : Sizes) (i : ℕ) (b : Bool) (l : Local) → Carries c l.pairs (entry_tried z i b l) (entry_tried z i b (carried l))
+  entry_carries z i true l = freeze_looks z (i + 1) l
+  entry_carries z i false l = record { local = refl; done = refl; held = λ g. refl }
+
+  scan_looks : (z : Sizes) (i : ℕ) (l : Local) → Carries c l.pairs (to_scan_look z i l) (to_scan_look z i (carried l))
+  scan_looks z i l = either c (nat_lt i z.seats) l.pairs _ _ _ _ (record { local = refl; done = refl; held = λ g. refl }) (record { local = refl; done = refl; held = λ g. refl })
+
+  scan_met_carries : (z : Sizes) (i : ℕ) (w : Option ScanWord) (l : Local) → Carries c l.pairs (scan_met z i w l) (scan_met z i w (carried l))
+  scan_met_carries z i (Some scan.Quiet) l = scan_looks z (i + 1) l
+  scan_met_carries z i (Some (scan.Waiting clock)) l = record { local = refl; done = refl; held = λ g. refl }
+  scan_met_carries z i (Some (scan.Drawn version)) l = scan_looks z (i + 1) (needing version l)
+  scan_met_carries z i None l = scan_looks z (i + 1) l
+
+
+  helped_carries : (z : Sizes) (i : ℕ) (w : Option ScanWord) (l : Local) → Carries c l.pairs (scan_helped z i w l) (scan_helped z i w (carried l))
+  helped_carries z i (Some scan.Quiet) l = scan_looks z (i + 1) l
+  helped_carries z i (Some (scan.Waiting clock)) l = own (clock == l.rebalance.waiting)
+    where
+      own : (b : Bool) → Carries c l.pairs (to_scan_look z (i + 1) (if b then needing l.rebalance.drawn l else l)) (to_scan_look z (i + 1) (if b then needing l.rebalance.drawn (carried l) else carried l))
+      own true = scan_looks z (i + 1) (needing l.rebalance.drawn l)
+      own false = scan_looks z (i + 1) l
+  helped_carries z i (Some (scan.Drawn version)) l = scan_looks z (i + 1) (needing version l)
+  helped_carries z i None l = scan_looks z (i + 1) l
+
+  left_carries : (z : Sizes) (m : Option Mark) (l : Local) → Carries c l.pairs (left_of z m l) (left_of z m (carried l))
+  left_carries z (Some m) l = record { local = refl; done = refl; held = λ g. refl }
+  left_carries z None l = record { local = refl; done = refl; held = λ g. refl }
+
+  take_carries : (z : Sizes) (cell : Option ℕ) (l : Local) → Carries c l.pairs (take_met z cell l) (take_met z cell (carried l))
+  take_carries z (Some cell) l = record { local = refl; done = refl; held = λ g. refl }
+  take_carries z None l = left_carries z (least_mark l.rebalance.marks) l
+
+  given_back_carries : (a : Afterwards) (l : Local) → Carries c l.pairs (given_back a l) (given_back a (carried l))
+  given_back_carries TryAgain l = record { local = refl; done = refl; held = λ g. refl }
+  given_back_carries Refuse l = record { local = refl; done = refl; held = λ g. refl }
+  given_back_carries MoveLeft l = record { local = refl; done = refl; held = λ g. refl }
+
+  give_back_carries : (a : Afterwards) (l : Local) → Carries c l.pairs (give_back a l) (give_back a (carried l))
+  give_back_carries a l = either c (nat_lt 0 (length l.rebalance.taken)) l.pairs _ _ _ _ (record { local = refl; done = refl; held = λ g. refl }) (given_back_carries a l)
+
+  gave_back_carries : (l : Local) → Carries c l.pairs (gave_back l) (gave_back (carried l))
+  gave_back_carries l = either c (has_more l) l.pairs _ _ _ _ (record { local = refl; done = refl; held = λ g. refl }) (given_back_carries l.rebalance.afterwards l)
+
+  seeks : (rows : ℕ) (l : Local) → Carries c l.pairs (to_seek rows l) (to_seek rows (carried l))
+  seeks rows l = either c (nat_lt l.rebalance.asked rows) l.pairs _ _ _ _ (record { local = refl; done = refl; held = λ g. refl }) (give_back_carries Refuse l)
+
+  seek_carries : (rows : ℕ) (state : Option State) (l : Local) → Carries c l.pairs (seek_met rows state l) (seek_met rows state (carried l))
+  seek_carries rows (Some Free) l = record { local = refl; done = refl; held = λ g. refl }
+  seek_carries rows (Some (Infant seat)) l = seeks rows l
+  seek_carries rows (Some Normal) l = seeks rows l
+  seek_carries rows (Some (Leader count)) l = seeks rows l
+  seek_carries rows (Some (Follower leader)) l = seeks rows l
+  seek_carries rows (Some (Retired number)) l = seeks rows l
+  seek_carries rows None l = seeks rows l
+
+  seek_first_carries : (choice : Choice) (l : Local) (rows told : ℕ) → Carries c l.pairs ((seek_first_transition choice l).next rows told) ((seek_first_transition choice (carried l)).next rows told)
+  seek_first_carries (Begin call) l rows told = seek_carries rows (state_of told) (seeking l.rebalance.sought l)
+  seek_first_carries Go l rows told = seek_carries rows (state_of told) (seeking l.rebalance.sought l)
+  seek_first_carries (Guess r) l rows told = seek_carries rows (state_of told) (seeking r l)
+  seek_first_carries Stop l rows told = seek_carries rows (state_of told) (seeking l.rebalance.sought l)
+
+  take_row_carries : (rows : ℕ) (b : Bool) (l : Local) → Carries c l.pairs (take_row rows b l) (take_row rows b (carried l))
+  take_row_carries rows true l = either c (nat_lt (length (with_row l).rebalance.taken) (length l.rebalance.starts)) l.pairs _ _ _ _ (seeks rows (with_row l)) (record { local = refl; done = refl; held = λ g. refl })
+  take_row_carries rows false l = seeks rows l
+
+  row_written_carries : (l : Local) → Carries c l.pairs (row_written l) (row_written (carried l))
+  row_written_carries l = either c (has_more l) l.pairs _ _ _ _ (record { local = refl; done = refl; held = λ g. refl }) (record { local = refl; done = refl; held = λ g. refl })
+
+  write_cell_carries : (z : Sizes) (j : ℕ) (l : Local) → Carries c l.pairs (to_write_cell z j l) (to_write_cell z j (carried l))
+  write_cell_carries z j l = either c (nat_lt j z.cells) l.pairs _ _ _ _ (either c (nat_lt j (length (infant_cells l))) l.pairs _ _ _ _ (record { local = refl; done = refl; held = λ g. refl }) (record { local = refl; done = refl; held = λ g. refl })) (row_written_carries l)
+
+  write_entry_carries : (z : Sizes) (i : ℕ) (l : Local) → Carries c l.pairs (to_write_entry z i l) (to_write_entry z i (carried l))
+  write_entry_carries z i l = either c (nat_lt i z.seats) l.pairs _ _ _ _ (record { local = refl; done = refl; held = λ g. refl }) (write_cell_carries z 0 l)
+
+  first_before_carries : (r : ℕ) (l : Local) → Carries c l.pairs (first_before r l) (first_before r (carried l))
+  first_before_carries r l = either c (r == l.row) l.pairs _ _ _ _ (record { local = refl; done = refl; held = λ g. refl }) (record { local = refl; done = refl; held = λ g. refl })
+
+  guess_before_carries : (r : ℕ) (state : Option State) (l : Local) → Carries c l.pairs (guess_before r state l) (guess_before r state (carried l))
+  guess_before_carries r (Some Free) l = record { local = refl; done = refl; held = λ g. refl }
+  guess_before_carries r (Some (Infant seat)) l = record { local = refl; done = refl; held = λ g. refl }
+  guess_before_carries r (Some Normal) l = record { local = refl; done = refl; held = λ g. refl }
+  guess_before_carries r (Some (Leader count)) l = record { local = refl; done = refl; held = λ g. refl }
+  guess_before_carries r (Some (Follower leader)) l = record { local = refl; done = refl; held = λ g. refl }
+  guess_before_carries r (Some (Retired number)) l = record { local = refl; done = refl; held = λ g. refl }
+  guess_before_carries r None l = record { local = refl; done = refl; held = λ g. refl }
+
+  before_carries : (choice : Choice) (l : Local) (rows told : ℕ) → Carries c l.pairs ((before_transition choice l).next rows told) ((before_transition choice (carried l)).next rows told)
+  before_carries (Begin call) l rows told = first_before_carries (row_or_first (row_linked (link_of told))) l
+  before_carries Go l rows told = first_before_carries (row_or_first (row_linked (link_of told))) l
+  before_carries (Guess r) l rows told = guess_before_carries r (state_of told) l
+  before_carries Stop l rows told = first_before_carries (row_or_first (row_linked (link_of told))) l
+
+  row_before_carries : (r : Option ℕ) (marked : Bool) (l : Local) → Carries c l.pairs (row_before r marked l) (row_before r marked (carried l))
+  row_before_carries (Some r) marked l = either c (r == l.row) l.pairs _ _ _ _ (either c marked l.pairs _ _ _ _ (give_back_carries MoveLeft l) (record { local = refl; done = refl; held = λ g. refl })) (record { local = refl; done = refl; held = λ g. refl })
+  row_before_carries None marked l = give_back_carries TryAgain l
+
+  link_before_carries : (link : Option Link) (l : Local) → Carries c l.pairs (link_before link l) (link_before link (carried l))
+  link_before_carries (Some link) l = row_before_carries link.row link.marked l
+  link_before_carries None l = give_back_carries TryAgain l
+
+  row_replaced_carries : (r : Option ℕ) (marked : Bool) (l : Local) → Carries c l.pairs (row_replaced r marked l) (row_replaced r marked (carried l))
+  row_replaced_carries (Some r) marked l = either c (r == l.row) l.pairs _ _ _ _ (either c marked l.pairs _ _ _ _ (give_back_carries MoveLeft l) (record { local = refl; done = refl; held = λ g. refl })) (give_back_carries TryAgain l)
+  row_replaced_carries None marked l = give_back_carries TryAgain l
+
+  replaced_carries : (link : Option Link) (l : Local) → Carries c l.pairs (replaced link l) (replaced link (carried l))
+  replaced_carries (Some link) l = row_replaced_carries link.row link.marked l
+  replaced_carries None l = give_back_carries TryAgain l
+
+  -- what follows from an event of a rebalance
+  pub rebalance_carries : (z : Sizes) (a : Activity) (s : ℕ) (l : Local) (rows told : ℕ) → IsRebalancing a → Carries c l.pairs ((transition z a s c l).next rows told) ((transition z a s c (carried l)).next rows told)
+  rebalance_carries z Again s l rows told u = record { local = refl; done = refl; held = λ g. refl }
+  rebalance_carries z AgainEpoch s l rows told u = record { local = refl; done = refl; held = λ g. refl }
+  rebalance_carries z BalClock s l rows told u = either c (nat_le SPENT told) l.pairs _ _ _ _ (record { local = refl; done = refl; held = λ g. refl }) (record { local = refl; done = refl; held = λ g. refl })
+  rebalance_carries z BalEpoch s l rows told u = either c (nat_le SPENT told) l.pairs _ _ _ _ (record { local = refl; done = refl; held = λ g. refl }) (record { local = refl; done = refl; held = λ g. refl })
+  rebalance_carries z BalState s l rows told u = state_carries (state_of told) l
+  rebalance_carries z (BalNormal seat) s l rows told u = record { local = refl; done = refl; held = λ g. refl }
+  rebalance_carries z Engage s l rows told u = engaged_carries (told == state_word Normal) l
+  rebalance_carries z (MarkLink count) s l rows told u = marked_carries count (row_linked (link_of told)) l
+  rebalance_carries z (Decide count) s l rows told u = decided_carries (state_of told) l
+  rebalance_carries z FreezeCount s l rows told u = record { local = refl; done = refl; held = λ g. refl }
+  rebalance_carries z (FreezeLook i) s l rows told u = freeze_carries z i (pend_of told) l
+  rebalance_carries z (Freeze i) s l rows told u = entry_carries z i (told == pend_word l.rebalance.entry) l
+  rebalance_carries z (ScanLook i) s l rows told u = scan_met_carries z i (scan_of told) l
+  rebalance_carries z (HelpDraw i) s l rows told u = record { local = refl; done = refl; held = λ g. refl }
+  rebalance_carries z (HelpSettle i) s l rows told u = helped_carries z i (scan_of told) l
+  rebalance_carries z TakeFrom s l rows told u = take_carries z (cell_of_link_word told) l
+  rebalance_carries z TakeKey s l rows told u = record { local = refl; done = refl; held = λ g. refl }
+  rebalance_carries z TakeVersion s l rows told u = record { local = refl; done = refl; held = λ g. refl }
+  rebalance_carries z TakeValue s l rows told u = record { local = refl; done = refl; held = λ g. refl }
+  rebalance_carries z TakeRestKey s l rows told u = record { local = refl; done = refl; held = λ g. refl }
+  rebalance_carries z TakeRestValue s l rows told u = left_carries z (least_mark l.rebalance.marks) (keeping z (value_of_word told) l)
+  rebalance_carries z SeekFirst s l rows told u = seek_first_carries c l rows told
+  rebalance_carries z Seek s l rows told u = seek_carries rows (state_of told) (seeking l.rebalance.sought l)
+  rebalance_carries z TakeRow s l rows told u = take_row_carries rows (told == state_word Free) l
+  rebalance_carries z GiveBack s l rows told u = gave_back_carries l
+  rebalance_carries z WriteCount s l rows told u = record { local = refl; done = refl; held = λ g. refl }
+  rebalance_carries z WriteMin s l rows told u = record { local = refl; done = refl; held = λ g. refl }
+  rebalance_carries z WriteNext s l rows told u = record { local = refl; done = refl; held = λ g. refl }
+  rebalance_carries z WriteFirst s l rows told u = write_entry_carries z 0 l
+  rebalance_carries z (WritePend i) s l rows told u = write_entry_carries z (i + 1) l
+  rebalance_carries z (WriteKey j) s l rows told u = record { local = refl; done = refl; held = λ g. refl }
+  rebalance_carries z (WriteValue j) s l rows told u = record { local = refl; done = refl; held = λ g. refl }
+  rebalance_carries z (WriteVersion j) s l rows told u = record { local = refl; done = refl; held = λ g. refl }
+  rebalance_carries z (WriteAfter j) s l rows told u = write_cell_carries z (j + 1) l
+  rebalance_carries z Before s l rows told u = before_carries c l rows told
+  rebalance_carries z BeforeGuess s l rows told u = either c (nat_lt (key_of_word told) l.lower) l.pairs _ _ _ _ (record { local = refl; done = refl; held = λ g. refl }) (record { local = refl; done = refl; held = λ g. refl })
+  rebalance_carries z BeforeHead s l rows told u = first_before_carries (row_or_first (row_linked (link_of told))) l
+  rebalance_carries z BeforeLink s l rows told u = link_before_carries (link_of told) l
+  rebalance_carries z BeforeMin s l rows told u = either c (nat_lt (key_of_word told) l.lower) l.pairs _ _ _ _ (record { local = refl; done = refl; held = λ g. refl }) (give_back_carries TryAgain l)
+  rebalance_carries z Replace s l rows told u = replaced_carries (link_of told) l
+  rebalance_carries z Normalise s l rows told u = either c (has_more l) l.pairs _ _ _ _ (record { local = refl; done = refl; held = λ g. refl }) (record { local = refl; done = refl; held = λ g. refl })
+  rebalance_carries z Number s l rows told u = record { local = refl; done = refl; held = λ g. refl }
+  rebalance_carries z Retire s l rows told u = record { local = refl; done = refl; held = λ g. refl }
+  rebalance_carries z _ s l rows told u = absurd u
