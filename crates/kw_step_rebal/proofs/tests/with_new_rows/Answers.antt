@@ -1,4 +1,4 @@
-use Rattle.std.proofs.Common.{◌≡◌, [], length, arith, ap}
+use Rattle.std.proofs.Common.{◌≡◌, [], arith, ap}
 use Rattle.kw_world.specs.declared.local.Local.{Local}
 use Rattle.kw_step_rebal.proofs.tests.with_new_rows.Goals as goal
 
