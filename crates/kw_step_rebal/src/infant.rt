@@ -64,11 +64,7 @@ fn part_of(cells: &[Cell], start: usize, end: usize) -> &[Cell]
     ensures { result.now ≡ take (end - start) (drop start cells.now) }
 {
     let end = end.min(cells.len());
-    if start < end {
-        &cells[start..end]
-    } else {
-        &[]
-    }
+    if start < end { &cells[start..end] } else { &[] }
 }
 
 /// The count of that row, which has given its cells and is not frozen.
@@ -163,7 +159,7 @@ fn behind(cells: &[Cell], place: u32, key: u32) -> Option<u32>
     ensures cell { result ≡ (if nat_lt 0 place && has_key key (slice_get cells.now (place - 1))
         then Some (place - 1)
         else last_with cells.now (slice_get cells.now
-            (count_by (λ cell. nat_le cell.key key) cells.now))) }
+        (count_by (λ cell. nat_le cell.key key) cells.now))) }
     ensures within { IsCellBelow CELLS result }
 {
     if place > 0 && cells[place as usize - 1].key == key {

@@ -146,8 +146,12 @@ fn set_bits(kind: Kind, name: Name, bits: u64) -> Operation
 // The store of a row's state.
 fn store_state(kind: Kind, row: u32, state: State) -> Operation
     requires { IsState state }
-    ensures { result ≡ record { kind = kind; name = Name.State row; action = Action.Store
-        (state_word state) } }
+    ensures { result ≡ record {
+      kind = kind;
+      name = Name.State row;
+      action = Action.Store
+          (state_word state);
+    } }
 {
     let word = state.pack();
     store(kind, Name::State(row), word)
@@ -157,8 +161,12 @@ fn store_state(kind: Kind, row: u32, state: State) -> Operation
 fn change_state(kind: Kind, name: Name, from: State, into: State) -> Operation
     requires from { IsState from }
     requires into { IsState into }
-    ensures { result ≡ record { kind = kind; name = name; action = Action.Exchange
-        (state_word from) (state_word into) } }
+    ensures { result ≡ record {
+      kind = kind;
+      name = name;
+      action = Action.Exchange
+          (state_word from) (state_word into);
+    } }
 {
     let from = from.pack();
     let into = into.pack();
@@ -178,8 +186,12 @@ fn infant_word(seat: u32) -> u64
 
 // The exchange that makes an infant of this seat normal.
 fn normalise(name: Name, seat: u32) -> Operation
-    ensures { result ≡ record { kind = Kind.Normalise; name = name; action = Action.Exchange
-        (state_word (State.Infant seat)) (state_word State.Normal) } }
+    ensures { result ≡ record {
+      kind = Kind.Normalise;
+      name = name;
+      action = Action.Exchange
+          (state_word (State.Infant seat)) (state_word State.Normal);
+    } }
 {
     let normal = State::Normal.pack();
     Operation {
@@ -191,8 +203,12 @@ fn normalise(name: Name, seat: u32) -> Operation
 
 // The exchange that makes a free row an infant of this seat.
 fn take_row(name: Name, seat: u32) -> Operation
-    ensures { result ≡ record { kind = Kind.TakeRow; name = name; action = Action.Exchange
-        (state_word State.Free) (state_word (State.Infant seat)) } }
+    ensures { result ≡ record {
+      kind = Kind.TakeRow;
+      name = name;
+      action = Action.Exchange
+          (state_word State.Free) (state_word (State.Infant seat));
+    } }
 {
     let free = State::Free.pack();
     Operation {
@@ -205,8 +221,12 @@ fn take_row(name: Name, seat: u32) -> Operation
 // The exchange of an entry for a frozen one.
 fn freeze(name: Name, entry: Pend) -> Operation
     requires { IsPend entry }
-    ensures { result ≡ record { kind = Kind.FreezePend; name = name; action = Action.Exchange
-        (pend_word entry) (pend_word Pend.Frozen) } }
+    ensures { result ≡ record {
+      kind = Kind.FreezePend;
+      name = name;
+      action = Action.Exchange
+          (pend_word entry) (pend_word Pend.Frozen);
+    } }
 {
     let found = entry.pack();
     let frozen = Pend::Frozen.pack();
@@ -221,9 +241,12 @@ fn freeze(name: Name, entry: Pend) -> Operation
 fn settle(seat: u32, waiting: u64, drawn: u64) -> Operation
     requires waiting { IsVersion waiting }
     requires drawn { IsVersion drawn }
-    ensures { result ≡ record { kind = Kind.HelpSettle; name = Name.Scan seat; action =
-        Action.Exchange (scan_word (ScanWord.Waiting waiting)) (scan_word (ScanWord.Drawn drawn)) }
-        }
+    ensures { result ≡ record {
+      kind = Kind.HelpSettle;
+      name = Name.Scan seat;
+      action =
+          Action.Exchange (scan_word (ScanWord.Waiting waiting)) (scan_word (ScanWord.Drawn drawn));
+    } }
 {
     let waiting = ScanWord::Waiting(waiting).pack();
     let drawn = ScanWord::Drawn(drawn).pack();
@@ -273,10 +296,14 @@ pub(crate) fn link_to(row: Option<u32>) -> u64
 
 // The exchange of the link to the full row for one to the first of the new rows.
 fn replace(local: &Local) -> Operation
-    ensures { result ≡ record { kind = Kind.Replace; name = replaced_link
-        local.now.rebalance.before; action = Action.Exchange
-        (link_word (unmarked_link (Some local.now.row)))
-        (link_word (unmarked_link (Some (first_infant local.now)))) } }
+    ensures { result ≡ record {
+      kind = Kind.Replace;
+      name = replaced_link
+          local.now.rebalance.before;
+      action = Action.Exchange
+          (link_word (unmarked_link (Some local.now.row)))
+          (link_word (unmarked_link (Some (first_infant local.now))));
+    } }
 {
     let first = match local.rebalance.taken.as_slice().first() {
         Some(row) => *row,

@@ -21,8 +21,12 @@ use kw_world::operation::{Action, Operation};
 // Its count.
 pub(crate) fn write_count(local: &Local, row: u32) -> Operation
     requires { IsLocal product local.now }
-    ensures { result ≡ record { kind = Kind.StoreInfant; name = Name.Count row; action =
-        Action.Store (count_word (infant_count local.now)) } }
+    ensures { result ≡ record {
+      kind = Kind.StoreInfant;
+      name = Name.Count row;
+      action =
+          Action.Store (count_word (infant_count local.now));
+    } }
 {
     let count = infant_count(local).pack();
     store(Kind::StoreInfant, Name::Count(row), count)
@@ -31,8 +35,12 @@ pub(crate) fn write_count(local: &Local, row: u32) -> Operation
 // Its least key.
 pub(crate) fn write_least(local: &Local, row: u32) -> Operation
     requires { IsLocal product local.now }
-    ensures { result ≡ record { kind = Kind.StoreInfant; name = Name.Min row; action = Action.Store
-        (key_word (infant_least local.now)) } }
+    ensures { result ≡ record {
+      kind = Kind.StoreInfant;
+      name = Name.Min row;
+      action = Action.Store
+          (key_word (infant_least local.now));
+    } }
 {
     let least = pack_key(infant_least(local));
     store(Kind::StoreInfant, Name::Min(row), least)
@@ -41,8 +49,12 @@ pub(crate) fn write_least(local: &Local, row: u32) -> Operation
 // The link after it.
 pub(crate) fn write_link(local: &Local, row: u32) -> Operation
     requires { IsLocal product local.now }
-    ensures { result ≡ record { kind = Kind.StoreInfant; name = Name.Next row; action = Action.Store
-        (link_word (infant_link local.now)) } }
+    ensures { result ≡ record {
+      kind = Kind.StoreInfant;
+      name = Name.Next row;
+      action = Action.Store
+          (link_word (infant_link local.now));
+    } }
 {
     let link = link_to(infant_next(local));
     store(Kind::StoreInfant, Name::Next(row), link)
@@ -51,8 +63,12 @@ pub(crate) fn write_link(local: &Local, row: u32) -> Operation
 // The first link of its list.
 pub(crate) fn write_first(local: &Local, row: u32) -> Operation
     requires { IsLocal product local.now }
-    ensures { result ≡ record { kind = Kind.StoreInfant; name = Name.First row; action =
-        Action.Store (cell_link_word (first_listed (infant_cells local.now))) } }
+    ensures { result ≡ record {
+      kind = Kind.StoreInfant;
+      name = Name.First row;
+      action =
+          Action.Store (cell_link_word (first_listed (infant_cells local.now)));
+    } }
 {
     let first = pack_cell_link(first_listed(infant_cells(local)));
     store(Kind::StoreInfant, Name::First(row), first)
@@ -61,8 +77,12 @@ pub(crate) fn write_first(local: &Local, row: u32) -> Operation
 // The key of a cell of it.
 pub(crate) fn write_key(local: &Local, row: u32, cell: u32) -> Operation
     requires { IsLocal product local.now }
-    ensures { result ≡ record { kind = Kind.StoreInfant; name = Name.Key row cell; action =
-        Action.Store (key_word (key_in (slice_get (infant_cells local.now) cell))) } }
+    ensures { result ≡ record {
+      kind = Kind.StoreInfant;
+      name = Name.Key row cell;
+      action =
+          Action.Store (key_word (key_in (slice_get (infant_cells local.now) cell)));
+    } }
 {
     let key = match infant_cells(local).get(cell as usize) {
         Some(kept) => kept.key,
@@ -74,25 +94,29 @@ pub(crate) fn write_key(local: &Local, row: u32, cell: u32) -> Operation
 // The value of a cell of it.
 pub(crate) fn write_value(local: &Local, row: u32, cell: u32) -> Operation
     requires { IsLocal product local.now }
-    ensures { result ≡ record { kind = Kind.StoreInfant; name = Name.Value row cell; action =
-        Action.Store (value_word (value_in (slice_get (infant_cells local.now) cell))) } }
+    ensures { result ≡ record {
+      kind = Kind.StoreInfant;
+      name = Name.Value row cell;
+      action =
+          Action.Store (value_word (value_in (slice_get (infant_cells local.now) cell)));
+    } }
 {
     let value = match infant_cells(local).get(cell as usize) {
         Some(kept) => kept.value,
         None => None,
     };
-    store(
-        Kind::StoreInfant,
-        Name::Value(row, cell),
-        pack_value(value),
-    )
+    store(Kind::StoreInfant, Name::Value(row, cell), pack_value(value))
 }
 
 // The version of a cell of it, and none where the row has no cell for it.
 pub(crate) fn write_version(local: &Local, row: u32, cell: u32) -> Operation
     requires { IsLocal product local.now }
-    ensures { result ≡ record { kind = Kind.StoreInfant; name = Name.Version row cell; action =
-        Action.Store (version_word (version_in (slice_get (infant_cells local.now) cell))) } }
+    ensures { result ≡ record {
+      kind = Kind.StoreInfant;
+      name = Name.Version row cell;
+      action =
+          Action.Store (version_word (version_in (slice_get (infant_cells local.now) cell)));
+    } }
 {
     let version = match infant_cells(local).get(cell as usize) {
         Some(kept) => Some(kept.version),
@@ -108,8 +132,12 @@ pub(crate) fn write_version(local: &Local, row: u32, cell: u32) -> Operation
 // The link after a cell of it.
 pub(crate) fn write_after(local: &Local, row: u32, cell: u32) -> Operation
     requires { IsLocal product local.now }
-    ensures { result ≡ record { kind = Kind.StoreInfant; name = Name.After row cell; action =
-        Action.Store (cell_link_word (listed_after (infant_cells local.now) cell)) } }
+    ensures { result ≡ record {
+      kind = Kind.StoreInfant;
+      name = Name.After row cell;
+      action =
+          Action.Store (cell_link_word (listed_after (infant_cells local.now) cell));
+    } }
 {
     let behind = pack_cell_link(listed_after(infant_cells(local), cell));
     store(Kind::StoreInfant, Name::After(row, cell), behind)

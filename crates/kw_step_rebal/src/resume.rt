@@ -16,7 +16,9 @@ use crate::resume_replace::{
     before, before_head, before_least, before_link, guess_least, normalised, replaced,
 };
 use crate::resume_seek::{gave_back, seek, seek_first, take_row};
-use crate::resume_take::{rest_value, take_from, take_key, take_rest_key, take_value, take_version};
+use crate::resume_take::{
+    rest_value, take_from, take_key, take_rest_key, take_value, take_version,
+};
 use crate::resume_write::{to_write_cell, to_write_entry};
 use kw_world::activity::Activity;
 use kw_world::event::{Choice, StepDone};

@@ -136,8 +136,8 @@ pub(crate) fn scan_helped(local: &mut Local, seat: u32, found: u64) -> StepDone
             need(local, drawn);
             to_scan(local, seat + 1)
         }
-        Some(ScanWord::Drawn(version)) => {
-            need(local, version);
+        Some(ScanWord::Drawn(settled)) => {
+            need(local, settled);
             to_scan(local, seat + 1)
         }
         _ => to_scan(local, seat + 1),

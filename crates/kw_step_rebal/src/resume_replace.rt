@@ -86,10 +86,12 @@ pub(crate) fn before_link(local: &mut Local, found: u64) -> StepDone
     ensures { outcome local.new result ≡ link_before (link_of found) local.old }
 {
     match Link::unpack(found) {
-        Some(Link {
-            row: Some(row),
-            marked,
-        }) => row_before(local, row, marked),
+        Some(
+            Link {
+                row: Some(row),
+                marked,
+            },
+        ) => row_before(local, row, marked),
         _ => give_back(local, Afterwards::TryAgain),
     }
 }

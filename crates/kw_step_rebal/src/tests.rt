@@ -1,6 +1,6 @@
 //! One event of each topic of a rebalance: what a seat knows after it, or what it stores.
-ghost use Rattle.std.specs.Prelude.{◌≡◌, ◌<◌, length, IfOk, None};
-ghost use Rattle.kw_world.specs.Sane.{HasRoom, IsActivity, IsLocal, IsOfPart, IsSane};
+ghost use Rattle.std.specs.Prelude.{◌≡◌, ◌<◌, ◌≤◌, length, IfOk, None};
+ghost use Rattle.kw_world.specs.Sane.{HasRoom, IsActivity, IsLocal, IsOfPart, IsSane, IsTakingRows};
 ghost use Rattle.kw_world.specs.Parts.{part_of};
 ghost use Rattle.kw_world.specs.Sizes.{product};
 ghost use Rattle.kw_world.specs.declared.activity.Activity.{Activity};
@@ -39,15 +39,24 @@ fn before_a_rebalance(alloc: Global) -> Result<World, Memory>
     Ok(world)
 }
 
+// Seat 1 makes an event of its rebalance.
+fn go_on(world: &mut World) -> Result<StepDone, Memory>
+    requires sane { IsSane product world.old }
+    requires seat { 1 < length world.old.locals }
+    requires part { IsOfPart Part.Rebalance world.old (record { seat = 1; choice = Choice.Go }) }
+    ensures { IfOk result (λ _. 1 < length world.new.locals) }
+{
+    let choice = Choice::Go;
+    let done = rebalance_step(world, Event { seat: 1, choice })?;
+    Ok(done)
+}
+
 #[test]
 fn a_rebalance_begins_with_the_clock(rt: HostRuntime) -> Result<(), Fail> {
     let mut world = before_a_rebalance(rt.alloc())?;
-    let event = Event {
-        seat: 1,
-        choice: Choice::Go,
-    };
-    let done = rebalance_step(&mut world, event)?;
-    assert_eq!(rt; done, StepDone::Moved);
+    assert_eq!(rt; go_on(&mut world)?, StepDone::Moved);
+    assert_eq!(rt; world.local(1).activity, Activity::BalEpoch);
+    assert_eq!(rt; world.local(0).activity, Activity::Idle);
     Ok(())
 }
 
@@ -204,10 +213,12 @@ fn tombstone(key: u32, version: u64) -> Cell
     }
 }
 
-// A seat has two new rows, 3 and 5, of three kept cells and of one, and does this next with the first of them. The full row is row
-// 2, whose least key is 40, and after it stands row 7.
-fn with_new_rows(alloc: Global, activity: Activity) -> Local
-    requires { IsActivity product activity }
+// A seat has two new rows, 3 and 5, of three kept cells and of one, and does this next, with the first or the second at hand. The full
+// row is row 2, whose least key is 40, and after it stands row 7.
+fn with_new_rows(alloc: Global, activity: Activity, at: usize) -> Local
+    requires activity { IsActivity product activity }
+    requires done { IsTakingRows activity → ⊥ }
+    requires at { at ≤ 2 }
     ensures ranges { IsLocal product result }
     ensures room { HasRoom product result }
     ensures at { result.activity ≡ activity }
@@ -229,6 +240,7 @@ fn with_new_rows(alloc: Global, activity: Activity) -> Local
     local.rebalance.starts = Starts::of(starts);
     local.rebalance.taken.push(3);
     local.rebalance.taken.push(5);
+    local.rebalance.at = at;
     local
 }
 
@@ -250,13 +262,13 @@ fn stored(local: &Local) -> Option<(Name, u64)>
 // the list of the first row is 45 at 3, 45 at 1, 47 at 2: the places 1, 0, 2, whose links have the words 2, 1, 3
 #[test]
 fn a_new_row_is_listed_by_falling_version(rt: HostRuntime) -> Result<(), Fail> {
-    let first = with_new_rows(rt.alloc(), Activity::WriteFirst);
+    let first = with_new_rows(rt.alloc(), Activity::WriteFirst, 0);
     assert_eq!(rt; stored(&first), Some((Name::First(3), 2)));
-    let after = with_new_rows(rt.alloc(), Activity::WriteAfter(1));
+    let after = with_new_rows(rt.alloc(), Activity::WriteAfter(1), 0);
     assert_eq!(rt; stored(&after), Some((Name::After(3, 1), 1)));
-    let after = with_new_rows(rt.alloc(), Activity::WriteAfter(0));
+    let after = with_new_rows(rt.alloc(), Activity::WriteAfter(0), 0);
     assert_eq!(rt; stored(&after), Some((Name::After(3, 0), 3)));
-    let after = with_new_rows(rt.alloc(), Activity::WriteAfter(2));
+    let after = with_new_rows(rt.alloc(), Activity::WriteAfter(2), 0);
     assert_eq!(rt; stored(&after), Some((Name::After(3, 2), 0)));
     Ok(())
 }
@@ -264,31 +276,33 @@ fn a_new_row_is_listed_by_falling_version(rt: HostRuntime) -> Result<(), Fail> {
 // the link to row 5 has the word 6, and that to row 7 the word 8
 #[test]
 fn new_rows_are_linked_before_the_row_after_the_full_one(rt: HostRuntime) -> Result<(), Fail> {
-    let count = with_new_rows(rt.alloc(), Activity::WriteCount);
+    let count = with_new_rows(rt.alloc(), Activity::WriteCount, 0);
     assert_eq!(rt; stored(&count), Some((Name::Count(3), 3)));
-    let least = with_new_rows(rt.alloc(), Activity::WriteMin);
+    let least = with_new_rows(rt.alloc(), Activity::WriteMin, 0);
     assert_eq!(rt; stored(&least), Some((Name::Min(3), 40)));
-    let link = with_new_rows(rt.alloc(), Activity::WriteNext);
+    let link = with_new_rows(rt.alloc(), Activity::WriteNext, 0);
     assert_eq!(rt; stored(&link), Some((Name::Next(3), 6)));
-    let mut last = with_new_rows(rt.alloc(), Activity::WriteNext);
-    last.rebalance.at = 1;
-    assert_eq!(rt; stored(&last), Some((Name::Next(5), 8)));
-    last.activity = Activity::WriteMin;
-    assert_eq!(rt; stored(&last), Some((Name::Min(5), 48)));
+    let link = with_new_rows(rt.alloc(), Activity::WriteNext, 1);
+    assert_eq!(rt; stored(&link), Some((Name::Next(5), 8)));
+    let least = with_new_rows(rt.alloc(), Activity::WriteMin, 1);
+    assert_eq!(rt; stored(&least), Some((Name::Min(5), 48)));
     Ok(())
 }
 
 // an unmarked link to the full row has the word 3, and a marked one 2^32 more
 #[test]
 fn new_rows_are_made_normal_once_they_are_linked(rt: HostRuntime) -> Result<(), Fail> {
-    let mut local = with_new_rows(rt.alloc(), Activity::Replace);
+    let mut local = with_new_rows(rt.alloc(), Activity::Replace, 0);
     let operation = rebalance_operation(1, &local, Choice::Go);
     assert_eq!(rt; operation.kind, Kind::Replace);
     assert_eq!(rt; operation.name, Name::Head);
     assert_eq!(rt; operation.action, Action::Exchange(3, 4));
     rebalance_resume(&mut local, 9, Choice::Go, 3);
-    assert_eq!(rt; (local.activity, local.rebalance.at), (Activity::Normalise, 0));
-    let mut local = with_new_rows(rt.alloc(), Activity::Replace);
+    assert_eq!(rt;
+        (local.activity, local.rebalance.at),
+        (Activity::Normalise, 0)
+    );
+    let mut local = with_new_rows(rt.alloc(), Activity::Replace, 0);
     rebalance_resume(&mut local, 9, Choice::Go, 4_294_967_299);
     assert_eq!(rt; local.activity, Activity::GiveBack);
     assert_eq!(rt; local.rebalance.afterwards, Afterwards::MoveLeft);
