@@ -165,8 +165,7 @@ pub fn go_read(shared: &Shared, pass: &mut Pass, local: &mut Local) -> u64
 #[inline(always)]
 fn met_link(local: &mut Local, found: u64)
     requires { local.old.walked ≤ CELLS }
-    ensures { local.new ≡ unpaired local.old (list_met product (cell_of_link_word found) local.old)
-        }
+    ensures { local.new ≡ unpaired local.old (list_met product (cell_of_link_word found) local.old) }
 {
     match unpack_cell_link(found) {
         Some(cell) => {

@@ -79,8 +79,7 @@ impl Entries {
 
     /// Drops the entry of a row, if there is one. Takes no memory.
     pub fn remove(&mut self, row: u32)
-        ensures list { self.new ≡ record { rows = self.old.rows; list = without row self.old.list }
-            }
+        ensures list { self.new ≡ record { rows = self.old.rows; list = without row self.old.list } }
         ensures absent { All (λ e. e.row ≢ row) self.new.list }
     {
         if let Some(at) = place_of(&self.list, row) {
@@ -94,8 +93,7 @@ impl Entries {
     pub fn insert(&mut self, entry: Entry)
         requires in_range { entry.row < self.old.rows }
         requires new_row { All (λ e. e.row ≢ entry.row) self.old.list }
-        ensures { self.new ≡ record { rows = self.old.rows; list = with_entry entry self.old.list }
-            }
+        ensures { self.new ≡ record { rows = self.old.rows; list = with_entry entry self.old.list } }
     {
         let at = count_below(&self.list, entry.min);
         if has_min_at(&self.list, at, entry.min) {

@@ -215,8 +215,13 @@ fn is_unread(word: u64) -> bool
 // The one entry with which an index begins.
 fn first_entries(alloc: Global, rows: u32) -> Result<Entries, Memory>
     requires { 1 ≤ rows }
-    ensures list { IfOk result (λ first. first ≡ record { rows = rows; list = record { min = 0; row
-        = 0 } ∷ [] }) }
+    ensures list { IfOk result (λ first. first ≡ record {
+      rows = rows;
+      list = record {
+        min = 0;
+        row = 0;
+      } ∷ [];
+    }) }
     ensures lawful { IfOk result (IsOf rows) }
 {
     let mut first = Entries::new(alloc, rows)?;

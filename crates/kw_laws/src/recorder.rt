@@ -86,10 +86,11 @@ impl Recorder {
         requires ranges { IsLocal product local.now }
         requires begin { CanBegin happening.choice local.now }
         requires origins { local.now.row * CELLS + CELLS ≤ length self.old.origins }
-        ensures entry { IfOk result (λ entry. entry ≡ entry_of product self.old local.now happening)
-            }
-        ensures ok { OnOk result (self.new ≡ record self.old { history = appended self.old.history
-            (logged_of happening) (entry_of product self.old local.now happening).change }) }
+        ensures entry { IfOk result (λ entry. entry ≡ entry_of product self.old local.now happening) }
+        ensures ok { OnOk result (self.new ≡ record self.old {
+          history = appended self.old.history
+              (logged_of happening) (entry_of product self.old local.now happening).change;
+        }) }
         ensures err { OnErr result (self.new ≡ self.old) }
     {
         let log = &self.logs[happening.seat as usize];
@@ -118,8 +119,9 @@ impl Recorder {
 
     // Takes back the event that was prepared: it is not made.
     fn forget(&mut self, entry: Entry)
-        ensures { (k : Recording) (e : Logged) → self.old ≡ record k { history = appended k.history
-            e entry.change } → self.new ≡ k }
+        ensures { (k : Recording) (e : Logged) → self.old ≡ record k {
+          history = appended k.history e entry.change;
+        } → self.new ≡ k }
     {
         self.history.forget(&entry.change);
     }

@@ -43,8 +43,7 @@ pub fn load_epoch(shared: &Shared, pass: &mut Pass, choice: Choice, word: Name) 
 
 /// Stores the epoch that the seat announces.
 pub fn store_pass(shared: &Shared, pass: &mut Pass, choice: Choice, word: Name, stored: u64) -> u64
-    requires { Asks shared.now pass.old choice (operation Kind.StorePass word (Action.Store stored))
-        }
+    requires { Asks shared.now pass.old choice (operation Kind.StorePass word (Action.Store stored)) }
     ensures { Makes shared.now pass.old choice result pass.new }
 {
     step!(
@@ -61,8 +60,7 @@ pub fn store_pass(shared: &Shared, pass: &mut Pass, choice: Choice, word: Name, 
 
 /// Stores that the seat announces no epoch.
 pub fn clear_pass(shared: &Shared, pass: &mut Pass, choice: Choice, word: Name, stored: u64) -> u64
-    requires { Asks shared.now pass.old choice (operation Kind.ClearPass word (Action.Store stored))
-        }
+    requires { Asks shared.now pass.old choice (operation Kind.ClearPass word (Action.Store stored)) }
     ensures { Makes shared.now pass.old choice result pass.new }
 {
     step!(
@@ -106,8 +104,7 @@ pub fn add_count(shared: &Shared, pass: &mut Pass, choice: Choice, word: Name, n
 
 /// Stores the key of a cell.
 pub fn store_key(shared: &Shared, pass: &mut Pass, choice: Choice, word: Name, stored: u64) -> u64
-    requires { Asks shared.now pass.old choice (operation Kind.StoreKey word (Action.Store stored))
-        }
+    requires { Asks shared.now pass.old choice (operation Kind.StoreKey word (Action.Store stored)) }
     ensures { Makes shared.now pass.old choice result pass.new }
 {
     step!(
@@ -280,8 +277,7 @@ pub fn insert(
 
 /// Stores that the seat's entry in a row is idle.
 pub fn clear_pend(shared: &Shared, pass: &mut Pass, choice: Choice, word: Name, stored: u64) -> u64
-    requires { Asks shared.now pass.old choice (operation Kind.ClearPend word (Action.Store stored))
-        }
+    requires { Asks shared.now pass.old choice (operation Kind.ClearPend word (Action.Store stored)) }
     ensures { Makes shared.now pass.old choice result pass.new }
 {
     step!(
@@ -425,8 +421,7 @@ pub fn settle(
 
 /// Stores that the seat makes no scan.
 pub fn clear_scan(shared: &Shared, pass: &mut Pass, choice: Choice, word: Name, stored: u64) -> u64
-    requires { Asks shared.now pass.old choice (operation Kind.ClearScan word (Action.Store stored))
-        }
+    requires { Asks shared.now pass.old choice (operation Kind.ClearScan word (Action.Store stored)) }
     ensures { Makes shared.now pass.old choice result pass.new }
 {
     step!(

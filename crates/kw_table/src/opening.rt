@@ -54,10 +54,18 @@ impl Shared {
         clock: u64,
         epoch: u64,
     ) -> Result<(Shared, Vec<Pass>), Memory>
-        requires { IsOpening product (record { rows = rows; seats = passes; clock = clock; epoch =
-            epoch }) }
-        ensures opening { IfOk result (λ made. made.0.opening ≡ record { rows = rows; seats =
-            passes; clock = clock; epoch = epoch }) }
+        requires { IsOpening product (record {
+          rows = rows;
+          seats = passes;
+          clock = clock;
+          epoch = epoch;
+        }) }
+        ensures opening { IfOk result (λ made. made.0.opening ≡ record {
+          rows = rows;
+          seats = passes;
+          clock = clock;
+          epoch = epoch;
+        }) }
         ensures len { IfOk result (λ made. vec_len made.1 ≡ passes) }
         ensures each { IfOk result (λ made. (i : ℕ) (d : _) → i < vec_len made.1 →
             IsFresh made.0 i (slice_index_or made.1.items i d)) }
