@@ -7,3 +7,4 @@ pub mod ReadEvents
 pub mod Ends
 pub mod Fronts
 pub mod OwnEvents
+pub mod WayEvents
