@@ -71,10 +71,16 @@ impl Model for Record {
 impl Record {
     /// The record of these lists.
     pub fn new(done: Vec<DoneCall>, open_calls: Vec<OpenCall>, order: Vec<Name>) -> Record
-        requires { IsRecord (record { done = done.items; open_calls = open_calls.items; order =
-            order.items }) }
-        ensures { result ≡ record { done = done.items; open_calls = open_calls.items; order =
-            order.items } }
+        requires { IsRecord (record {
+          done = done.items;
+          open_calls = open_calls.items;
+          order = order.items;
+        }) }
+        ensures { result ≡ record {
+          done = done.items;
+          open_calls = open_calls.items;
+          order = order.items;
+        } }
     {
         Record {
             done,
