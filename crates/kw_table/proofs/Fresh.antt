@@ -1,6 +1,8 @@
 -- A pass that was just cut off.
-use Rattle.std.proofs.Common.{◌≡◌, ℕ, ◌<◌, [], refl, ap, sym, ◌∙◌, subst}
-use Rattle.std.proofs.lemmas.List.{get_or-replicate}
+use Rattle.std.proofs.Common.{◌≡◌, ℕ, ◌+◌, ◌<◌, ◌⊎◌, inl, inr, List, [], ◌∷◌, ◌++◌, length, slice_index_or, arith, refl, ap, sym, ◌∙◌, subst}
+use Rattle.std.proofs.Math.Seq.{get_or-append_seam}
+use Rattle.std.proofs.lemmas.Bool.{cases_eq}
+use Rattle.std.proofs.lemmas.List.{get_or-replicate, get_or_append_left}
 use Rattle.kw_world.specs.declared.opening.Opening.{Opening}
 use Rattle.kw_world.specs.Local.{resting}
 use Rattle.kw_world.specs.Opening.{IsOpening}
@@ -27,3 +29,14 @@ module _ (n : ℕ) (o : Opening) (m rest : Mine) (is : rest ≡ (rest_view o n, 
   -- its seat is idle
   pub fresh_local : n < o.seats → local_in m.0 ≡ resting 0
   fresh_local inside = ap (λ (k : Mine). local_in k.0) all ∙ (ap (λ (w : WorldView). local_of w n) (world-nil product o) ∙ get_or-replicate o.seats n (resting 0) (resting 0) inside)
+
+-- what holds of each element of a list, and of one more at its end, holds of each element then
+pub each_pushed : {A : Type 0} (P : ℕ → A → Type 0) (xs : List A) (x : A) (n : ℕ) → length xs ≡ n → ((i : ℕ) (d : A) → i < n → P i (slice_index_or xs i d)) → P n x → (i : ℕ) (d : A) → i < n + 1 → P i (slice_index_or (xs ++ x ∷ []) i d)
+each_pushed P xs x n len each own i d o = which (cases_eq i n)
+  where
+    last : slice_index_or (xs ++ x ∷ []) n d ≡ x
+    last = subst (λ k. slice_index_or (xs ++ x ∷ []) k d ≡ x) len (get_or-append_seam xs x [] d)
+
+    which : (i ≡ n) ⊎ (i ≡ n → ⊥) → P i (slice_index_or (xs ++ x ∷ []) i d)
+    which (inl e) = subst (λ j. P j (slice_index_or (xs ++ x ∷ []) j d)) (sym e) (subst (P n) (sym last) own)
+    which (inr ne) = subst (P i) (sym (get_or_append_left xs (x ∷ []) d i (omega (arith, o, len, ne)))) (each i d (omega (arith, o, ne)))
