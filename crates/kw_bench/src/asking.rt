@@ -1,47 +1,60 @@
 //! Many calls of one kind, one after the other.
 ghost use Rattle.kw_map.specs.Kiwi.{IsIdle};
 
+use crate::load::Load;
 use kw_map::gather_numbers::SumGather;
 use kw_map::kiwi::Kiwi;
 use kw_table::Pass;
 use std::sync::Wait;
 
-/// How many keys the maps hold that are read.
-pub const KEYS: u32 = 32;
+/// What is read.
+#[derive(Clone, Copy, Debug, PartialEq, Eq)]
+pub enum Reading {
+    /// Gets, of one cell's key after another's.
+    Gets,
+    /// Scans of all keys.
+    Scans,
+}
 
-/// Puts a value at each key from the first number on, below the second.
-pub fn put_keys<R: Wait>(rt: &R, kiwi: &Kiwi, pass: Pass, from: u32, end: u32) -> Pass
+/// Puts a value for each cell of an empty row.
+pub fn put_cells<R: Wait>(rt: &R, kiwi: &Kiwi, pass: Pass, load: Load) -> Pass
     requires { IsIdle kiwi.now pass }
     ensures { IsIdle kiwi.now result }
 {
     let mut pass = pass;
-    for key in from..end {
+    for number in 0..load.cells {
         // A row that is full refuses; the call is made all the same.
-        let _ = kiwi.put(rt, &mut pass, key, 1);
+        let _ = kiwi.put(rt, &mut pass, load.keys.of_cell(number), 1);
     }
     pass
 }
 
-/// Makes so many gets, of one key after another.
-pub fn get_keys(kiwi: &Kiwi, pass: Pass, calls: u32) -> Pass
+/// Makes so many calls that read.
+pub fn read(kiwi: &Kiwi, pass: Pass, load: Load, reading: Reading, calls: u32)
     requires { IsIdle kiwi.now pass }
-    ensures { IsIdle kiwi.now result }
+{
+    match reading {
+        Reading::Gets => get_keys(kiwi, pass, load, calls),
+        Reading::Scans => scan_keys(kiwi, pass, load, calls),
+    }
+}
+
+// So many gets, of one cell's key after another's.
+fn get_keys(kiwi: &Kiwi, pass: Pass, load: Load, calls: u32)
+    requires { IsIdle kiwi.now pass }
 {
     let mut pass = pass;
     for call in 0..calls {
-        kiwi.get(&mut pass, call % KEYS);
+        kiwi.get(&mut pass, load.key_of_call(call));
     }
-    pass
 }
 
-/// Makes so many scans of all keys.
-pub fn scan_keys(kiwi: &Kiwi, pass: Pass, calls: u32) -> Pass
+// So many scans of all keys.
+fn scan_keys(kiwi: &Kiwi, pass: Pass, load: Load, calls: u32)
     requires { IsIdle kiwi.now pass }
-    ensures { IsIdle kiwi.now result }
 {
     let mut pass = pass;
     for _ in 0..calls {
-        let _ = kiwi.scan(&mut pass, 0, KEYS, &mut SumGather::new());
+        let _ = kiwi.scan(&mut pass, 0, load.cells, &mut SumGather::new());
     }
-    pass
 }

@@ -1,7 +1,8 @@
-//! How fast the map's calls are, by one thread and by two on one map, how fast lines are read and answers printed, and how fast an index is.
+//! How fast the map's calls are, by one thread and by more on one map, how fast lines are read and answers printed, and how fast an index is.
 //!
-//! With a number N the program makes N calls of each kind on maps of one row and prints what a call took, in nanoseconds, and how many
-//! calls two threads made in the time in which one made a hundred. Then it reads an input of N lines, or of as many as an input may have, and
+//! With a number N the program makes N calls of each kind on maps of one row, for rows of a quarter of their cells to all, of different keys and
+//! of one key. It prints what a call took, in nanoseconds, and of those that read how many two and four threads
+//! made in the time in which one made a hundred. Then it reads an input of N lines, or of as many as an input may have, and
 //! prints an answer to each, with no map. At last it asks an index of few entries, one of some and one of many for N keys, and plain slices
 //! of the same entries, by one thread and by four. All figures of a run come from that run, so its ratios can be
 //! compared where its times cannot. Without a number it says how it is used. Nothing is promised of the figures; the calls
@@ -13,12 +14,18 @@ mod figures;
 mod guessing;
 mod index_timing;
 mod lines;
+mod load;
 mod timing;
 
-use crate::figures::{given_calls, print_figure, print_guesses, print_lines, print_usage};
+use crate::asking::Reading;
+use crate::figures::{
+    given_calls, print_guesses, print_lines, print_puts, print_reads, print_usage,
+};
 use crate::index_timing::time_guesses;
 use crate::lines::time_lines;
-use crate::timing::{time_gets, time_puts, time_scans};
+use crate::load::{Keys, Load};
+use crate::timing::{time_puts, time_reads};
+use kw_words::sizes::CELL_COUNT;
 use std::io;
 use std::process::ExitCode;
 use std::sync::Wait;
@@ -36,11 +43,39 @@ fn run<T: Threads + Wait + Sync>(rt: &HostRuntime, threads: &T) -> io::Result<()
     let Some(calls) = given_calls(rt)? else {
         return print_usage(rt);
     };
-    print_figure(rt, "get", time_gets(rt, threads, calls)?)?;
-    print_figure(rt, "scan", time_scans(rt, threads, calls)?)?;
-    print_figure(rt, "put", time_puts(rt, threads, calls)?)?;
+    for quarters in 1..=4 {
+        time_load(rt, threads, Keys::Different, quarters, calls)?;
+        time_load(rt, threads, Keys::One, quarters, calls)?;
+    }
     print_lines(rt, time_lines(rt, calls)?)?;
     print_guesses(rt, time_guesses(rt, threads, 10, calls)?)?;
     print_guesses(rt, time_guesses(rt, threads, 1_000, calls)?)?;
     print_guesses(rt, time_guesses(rt, threads, 16_384, calls)?)
+}
+
+// Takes and prints the figures of a row of so many quarters of its cells.
+fn time_load<T: Threads + Wait + Sync>(
+    rt: &HostRuntime,
+    threads: &T,
+    keys: Keys,
+    quarters: u32,
+    calls: u32,
+) -> io::Result<()> {
+    let load = Load {
+        cells: (CELL_COUNT / 4).saturating_mul(quarters),
+        keys,
+    };
+    print_reads(
+        rt,
+        "get",
+        load,
+        time_reads(rt, threads, load, Reading::Gets, calls)?,
+    )?;
+    print_reads(
+        rt,
+        "scan",
+        load,
+        time_reads(rt, threads, load, Reading::Scans, calls)?,
+    )?;
+    print_puts(rt, load, time_puts(rt, threads, load, calls)?)
 }

@@ -1,27 +1,48 @@
-//! What calls take, by one thread and by two beside each other.
+//! What calls take, by one thread, and by two and four beside each other.
 ghost use Rattle.std.specs.Prelude.{IfOk};
 ghost use Rattle.kw_map.specs.Kiwi.{IsIdle};
 
-use crate::asking::{KEYS, get_keys, put_keys, scan_keys};
+use crate::asking::{Reading, put_cells, read};
+use crate::load::Load;
 use kw_map::kiwi::Kiwi;
 use kw_model::memory::Memory;
 use kw_table::Pass;
-use kw_words::sizes::CELL_COUNT;
 use std::alloc::Global;
 use std::io;
 use std::sync::Wait;
 use std::thread::{Threads, join};
 use std::time::Instant;
 
-/// How long calls took, in nanoseconds.
+/// How long calls that read took, in nanoseconds.
 #[derive(Clone, Copy, Debug)]
-pub struct Figure {
-    /// How many calls one thread made, and each of two.
+pub struct ReadFigure {
+    /// How many calls each thread made.
     pub calls: u32,
     /// What one thread took for them.
     pub one: u128,
     /// What two threads took, each for so many.
     pub two: u128,
+    /// What four threads took, each for so many.
+    pub four: u128,
+}
+
+/// How long puts took, in nanoseconds.
+#[derive(Clone, Copy, Debug)]
+pub struct PutFigure {
+    /// How many puts were made.
+    pub calls: u32,
+    /// What one thread took for them.
+    pub one: u128,
+}
+
+// A map of one row that holds what is asked for, and its four passes.
+#[derive(Drop)]
+struct Loaded {
+    kiwi: Kiwi,
+    first: Pass,
+    second: Pass,
+    third: Pass,
+    fourth: Pass,
 }
 
 /// Want of memory, as the program's own error.
@@ -29,85 +50,141 @@ pub(crate) fn no_memory<E: Drop>(_error: E) -> io::Error {
     io::Error::from(io::ErrorKind::OutOfMemory)
 }
 
-/// An empty map of one row, and its two passes.
-fn open(alloc: Global) -> Result<(Kiwi, Pass, Pass), Memory>
-    ensures { IfOk result (λ made. IsIdle made.0 made.1 × IsIdle made.0 made.2) }
+// An empty map of one row, and its passes.
+fn open(alloc: Global) -> Result<Loaded, Memory>
+    ensures first { IfOk result (λ made. IsIdle made.kiwi made.first) }
+    ensures second { IfOk result (λ made. IsIdle made.kiwi made.second) }
+    ensures third { IfOk result (λ made. IsIdle made.kiwi made.third) }
+    ensures fourth { IfOk result (λ made. IsIdle made.kiwi made.fourth) }
 {
-    let (kiwi, mut passes) = Kiwi::open(alloc, 1, 2)?;
-    let (Some(second), Some(first)) = (passes.pop(), passes.pop()) else {
+    let (kiwi, mut passes) = Kiwi::open(alloc, 1, 4)?;
+    let (Some(fourth), Some(third), Some(second), Some(first)) = (
+        passes.pop(),
+        passes.pop(),
+        passes.pop(),
+        passes.pop(),
+    ) else {
         unreachable!()
     };
-    Ok((kiwi, first, second))
+    Ok(Loaded {
+        kiwi,
+        first,
+        second,
+        third,
+        fourth,
+    })
 }
 
-/// Times gets on a map that holds `KEYS` keys.
-pub fn time_gets<T: Threads + Wait + Sync>(
+/// Times calls that read, on a map of one row that holds this load: by one thread, by two and by four, each on a map of its own.
+pub fn time_reads<T: Threads + Wait + Sync>(
     rt: &HostRuntime,
     threads: &T,
+    load: Load,
+    reading: Reading,
     calls: u32,
-) -> io::Result<Figure> {
-    let (kiwi, first, second) = open(rt.alloc()).map_err(no_memory)?;
-    let first = put_keys(threads, &kiwi, first, 0, KEYS);
+) -> io::Result<ReadFigure> {
+    Ok(ReadFigure {
+        calls,
+        one: time_by_one(rt, threads, load, reading, calls)?,
+        two: time_by_two(rt, threads, load, reading, calls)?,
+        four: time_by_four(rt, threads, load, reading, calls)?,
+    })
+}
+
+// What one thread takes for so many calls.
+fn time_by_one<T: Threads + Wait + Sync>(
+    rt: &HostRuntime,
+    threads: &T,
+    load: Load,
+    reading: Reading,
+    calls: u32,
+) -> io::Result<u128> {
+    let map = open(rt.alloc()).map_err(no_memory)?;
+    let first = put_cells(threads, &map.kiwi, map.first, load);
     let start = Instant::now(rt)?;
-    let first = get_keys(&kiwi, first, calls);
-    let one = start.elapsed(rt)?.as_nanos();
+    read(&map.kiwi, first, load, reading, calls);
+    Ok(start.elapsed(rt)?.as_nanos())
+}
+
+// What two threads take, each for so many calls.
+fn time_by_two<T: Threads + Wait + Sync>(
+    rt: &HostRuntime,
+    threads: &T,
+    load: Load,
+    reading: Reading,
+    calls: u32,
+) -> io::Result<u128> {
+    let map = open(rt.alloc()).map_err(no_memory)?;
+    let kiwi = map.kiwi;
+    let second = map.second;
+    let first = put_cells(threads, &kiwi, map.first, load);
     let start = Instant::now(rt)?;
     join(
         threads,
-        || get_keys(&kiwi, first, calls),
-        || get_keys(&kiwi, second, calls),
+        || read(&kiwi, first, load, reading, calls),
+        || read(&kiwi, second, load, reading, calls),
     );
-    let two = start.elapsed(rt)?.as_nanos();
-    Ok(Figure { calls, one, two })
+    Ok(start.elapsed(rt)?.as_nanos())
 }
 
-/// Times scans of all keys of a map that holds `KEYS` of them.
-pub fn time_scans<T: Threads + Wait + Sync>(
+// What four threads take, each for so many calls.
+fn time_by_four<T: Threads + Wait + Sync>(
     rt: &HostRuntime,
     threads: &T,
+    load: Load,
+    reading: Reading,
     calls: u32,
-) -> io::Result<Figure> {
-    let (kiwi, first, second) = open(rt.alloc()).map_err(no_memory)?;
-    let first = put_keys(threads, &kiwi, first, 0, KEYS);
-    let start = Instant::now(rt)?;
-    let first = scan_keys(&kiwi, first, calls);
-    let one = start.elapsed(rt)?.as_nanos();
+) -> io::Result<u128> {
+    let map = open(rt.alloc()).map_err(no_memory)?;
+    let kiwi = map.kiwi;
+    let (second, third, fourth) = (map.second, map.third, map.fourth);
+    let first = put_cells(threads, &kiwi, map.first, load);
     let start = Instant::now(rt)?;
     join(
         threads,
-        || scan_keys(&kiwi, first, calls),
-        || scan_keys(&kiwi, second, calls),
+        || read_by_two(threads, &kiwi, first, second, load, reading, calls),
+        || read_by_two(threads, &kiwi, third, fourth, load, reading, calls),
     );
-    let two = start.elapsed(rt)?.as_nanos();
-    Ok(Figure { calls, one, two })
+    Ok(start.elapsed(rt)?.as_nanos())
 }
 
-/// Times puts on fresh maps, each of which takes `CELLS` puts. Opening the maps, and parting the threads, is in the figures.
+// So many calls by each of two threads.
+fn read_by_two<T: Threads + Sync>(
+    threads: &T,
+    kiwi: &Kiwi,
+    one: Pass,
+    other: Pass,
+    load: Load,
+    reading: Reading,
+    calls: u32,
+)
+    requires one { IsIdle kiwi.now one }
+    requires other { IsIdle kiwi.now other }
+{
+    join(
+        threads,
+        || read(kiwi, one, load, reading, calls),
+        || read(kiwi, other, load, reading, calls),
+    );
+}
+
+/// Times puts into rows that fill, each with this load, until about so many puts are made. What opening the maps takes is not in the figure.
 pub fn time_puts<T: Threads + Wait + Sync>(
     rt: &HostRuntime,
     threads: &T,
+    load: Load,
     calls: u32,
-) -> io::Result<Figure> {
-    let maps = calls / CELL_COUNT;
-    let start = Instant::now(rt)?;
+) -> io::Result<PutFigure> {
+    let maps = calls / load.cells.max(1);
+    let mut one: u128 = 0;
     for _ in 0..maps {
-        let (kiwi, first, _) = open(rt.alloc()).map_err(no_memory)?;
-        put_keys(threads, &kiwi, first, 0, CELL_COUNT);
+        let map = open(rt.alloc()).map_err(no_memory)?;
+        let start = Instant::now(rt)?;
+        put_cells(threads, &map.kiwi, map.first, load);
+        one = one.saturating_add(start.elapsed(rt)?.as_nanos());
     }
-    let one = start.elapsed(rt)?.as_nanos();
-    let start = Instant::now(rt)?;
-    for _ in 0..maps {
-        let (kiwi, first, second) = open(rt.alloc()).map_err(no_memory)?;
-        join(
-            threads,
-            || put_keys(threads, &kiwi, first, 0, CELL_COUNT / 2),
-            || put_keys(threads, &kiwi, second, CELL_COUNT / 2, CELL_COUNT),
-        );
-    }
-    let two = start.elapsed(rt)?.as_nanos();
-    Ok(Figure {
-        calls: maps * CELL_COUNT,
+    Ok(PutFigure {
+        calls: maps.saturating_mul(load.cells),
         one,
-        two: two * 2,
     })
 }

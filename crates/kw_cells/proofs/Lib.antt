@@ -13,6 +13,7 @@ pub mod Few
 pub mod Starts
 pub mod StartsOf
 pub mod KeptOf
+pub mod Worked
 pub mod Rooms
 pub mod Entries
 pub mod Tree

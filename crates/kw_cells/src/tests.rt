@@ -131,6 +131,14 @@ fn of_one_key_and_version_the_greatest_place_is_kept(rt: HostRuntime) -> Result<
 }
 
 #[test]
+fn a_cell_given_twice_is_kept_once(rt: HostRuntime) -> Result<(), Fail> {
+    let cells = [put(7, 1, 3), put(5, 2, 6), put(5, 2, 6)];
+    let once = [put(5, 2, 6), put(7, 1, 3)];
+    assert_eq!(rt; kept_of(&cells, &[2])?.as_slice(), once.as_slice());
+    Ok(())
+}
+
+#[test]
 fn of_so_many_keys_each_is_kept_in_order(rt: HostRuntime) -> Result<(), Fail> {
     let mut cells = [put(0, 0, 0); MOST_GATHERED];
     let mut rising = [put(0, 0, 0); MOST_GATHERED];

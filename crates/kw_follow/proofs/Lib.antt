@@ -9,3 +9,4 @@ pub mod ReadEvents
 pub mod Ends
 pub mod Fronts
 pub mod OwnEvents
+pub mod WayEvents

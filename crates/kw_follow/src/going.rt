@@ -1,7 +1,7 @@
 //! Single events of a pass, and the local that follows its seat.
 //!
-//! An event is put together in `event`, once: the core's `operation`, a step of the table, and the core's `resume`. All that the
-//! crates above know of events they know by the contracts of this file.
+//! An event is put together in `event`, once: the core's `operation`, a step of the table, and the core's `resume`. Those that every call
+//! makes have a step of their own in `along`. All that the crates above know of events they know by contracts like those of this file.
 ghost use Rattle.std.specs.Prelude.{◌≡◌, ℕ, true, false, [], Some};
 ghost use Rattle.kw_core.specs.Events.{is_call_in_range};
 ghost use Rattle.kw_world.specs.Local.{resting};
@@ -19,6 +19,7 @@ ghost use Rattle.kw_follow.specs.Following.{Follows, GoesTo, activity_in, held};
 ghost use Rattle.kw_follow.specs.OwnEvents.{MetAs, MetOnly};
 ghost use Rattle.kw_follow.specs.Within.{IsWithinCall};
 
+use crate::along::{clear_epoch, load_own_epoch};
 use kw_core::step::{operation, resume};
 use kw_model::call::{Call, Reply};
 use kw_table::{Pass, Shared, make};
@@ -53,7 +54,6 @@ pub(crate) struct Happened {
 }
 
 // Makes the next event of the pass with this choice, and brings the local up to it. It is not the last event of a scan at a row.
-#[inline(always)]
 pub(crate) fn event(shared: &Shared, pass: &mut Pass, local: &mut Local, choice: Choice) -> Happened
     requires ranges { IsLocal product local.old }
     requires room { HasRoom product local.old }
@@ -74,6 +74,7 @@ pub(crate) fn event(shared: &Shared, pass: &mut Pass, local: &mut Local, choice:
 }
 
 /// Begins a call: the first event of it. The local is at rest before. Takes no memory.
+#[inline(always)]
 pub fn begin(shared: &Shared, pass: &mut Pass, local: &mut Local, call: Call)
     requires table { IsPassOf shared.now pass.old }
     requires idle { activity_in pass.old ≡ Activity.Idle }
@@ -88,7 +89,7 @@ pub fn begin(shared: &Shared, pass: &mut Pass, local: &mut Local, call: Call)
     ensures held { held pass.new ≡ [] }
     ensures only { (told : ℕ) × MetOnly pass.old pass.new (activity_in pass.old) told }
 {
-    event(shared, pass, local, Choice::Begin(call));
+    load_own_epoch(shared, pass, local, call);
 }
 
 /// Makes the next event in the middle of a call, other than one that reads cells or ends a scan. The answer is what the event was told.
@@ -136,7 +137,10 @@ pub fn end(shared: &Shared, pass: &mut Pass, local: &mut Local) -> Reply
         Closes pass.old pass.new (reply_of answer (held pass.old)) × (result ≡ reply_of answer []) }
     ensures only { (told : ℕ) × MetOnly pass.old pass.new (activity_in pass.old) told }
 {
-    let happened = event(shared, pass, local, Choice::Go);
+    let Activity::Leave(answer) = local.activity else {
+        unreachable!()
+    };
+    let happened = clear_epoch(shared, pass, local, answer);
     // code counts no calls
     local.number = 0;
     match happened.done {

@@ -282,6 +282,7 @@ fn put_event(shared: &Shared, pass: &mut Pass, local: &mut Local) -> Happened
 }
 
 /// Makes the next event of a put or a delete at its row. The answer is what the event was told: 0 where it stored. Takes no memory.
+#[inline(always)]
 pub fn go_put(shared: &Shared, pass: &mut Pass, local: &mut Local) -> u64
     requires follows { Follows shared.now pass.old local.old }
     requires putting { IsAtPut local.old.activity }

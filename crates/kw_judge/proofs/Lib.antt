@@ -12,3 +12,5 @@ pub mod Lines
 pub mod LineTexts
 pub mod Prefixes
 pub mod Readings
+pub mod RecordTexts
+pub mod OneRecord

@@ -28,7 +28,7 @@ use Rattle.kw_judge.proofs.Marks.{no_mark, no_mark_decimal}
 use Rattle.kw_judge.proofs.Calls.{space_is_mark, colon_is_mark, no_mark_call}
 
 -- no mark stands in two numbers with another mark between them
-no_mark_two : (mark between m n : ℕ) → (48 ≤ mark → mark < 58 → ⊥) → between ≢ mark → m < 2 ^ 64 → n < 2 ^ 64 → HasNo mark (decimal m ++ between ∷ decimal n)
+pub no_mark_two : (mark between m n : ℕ) → (48 ≤ mark → mark < 58 → ⊥) → between ≢ mark → m < 2 ^ 64 → n < 2 ^ 64 → HasNo mark (decimal m ++ between ∷ decimal n)
 no_mark_two mark between m n o other h k = All-append (λ b. b ≢ mark) (decimal m) (between ∷ decimal n) (no_mark_decimal mark m o h) (All-cons (λ b. b ≢ mark) between (decimal n) other (no_mark_decimal mark n o k))
 
 pub no_space_name : (n : Name) → IsName n → HasNo SPACE (name_text n)
@@ -54,7 +54,7 @@ no_spaces : (ps : List (ℕ × ℕ)) → AllByRecursion IsPair ps → AllByRecur
 no_spaces [] h = tt
 no_spaces (p ∷ ps) h = (no_space_pair p h.0, no_spaces ps h.1)
 
-words-pairs : (ps : List (ℕ × ℕ)) → 0 < length ps → AllByRecursion IsPair ps → words (pairs_text ps) ≡ map pair_text ps
+pub words-pairs : (ps : List (ℕ × ℕ)) → 0 < length ps → AllByRecursion IsPair ps → words (pairs_text ps) ≡ map pair_text ps
 words-pairs [] l h = absurd (omega arith)
 words-pairs (p ∷ ps) l h = words_join (pair_text p) (map pair_text ps) (no_spaces (p ∷ ps) h)
 
@@ -156,7 +156,7 @@ unfolding open_text
 open_is line o e = sym (join_words line) ∙ ap (join_with_byte SPACE) e
 
 -- words without a mark, separated by another byte, have none of it
-no_mark_join : (mark : ℕ) (word : List ℕ) (more : List (List ℕ)) → SPACE ≢ mark → AllByRecursion (HasNo mark) (word ∷ more) → HasNo mark (join_with_byte SPACE (word ∷ more))
+pub no_mark_join : (mark : ℕ) (word : List ℕ) (more : List (List ℕ)) → SPACE ≢ mark → AllByRecursion (HasNo mark) (word ∷ more) → HasNo mark (join_with_byte SPACE (word ∷ more))
 no_mark_join mark word [] o h = h.0
 no_mark_join mark word (next ∷ more) o h = All-append (λ b. b ≢ mark) word (SPACE ∷ join_with_byte SPACE (next ∷ more)) h.0 (All-cons (λ b. b ≢ mark) SPACE (join_with_byte SPACE (next ∷ more)) o (no_mark_join mark next more o h.1))
 

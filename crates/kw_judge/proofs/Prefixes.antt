@@ -35,7 +35,7 @@ order_words_are : (ns : List Name) → AllByRecursion IsName ns → (more : List
 order_words_are [] h = (codes "none" ∷ [], ap words no_names ∙ (words_cut (codes "order") (codes "none") (no_mark SPACE (codes "order") refl) ∙ ap (λ ws. codes "order" ∷ ws) (words_one (codes "none") (no_mark SPACE (codes "none") refl))))
 order_words_are (n ∷ ns) h = (map name_text (n ∷ ns), words-order n ns h)
 
-name_injective : (a b : Name) → IsName a → IsName b → name_text a ≡ name_text b → a ≡ b
+pub name_injective : (a b : Name) → IsName a → IsName b → name_text a ≡ name_text b → a ≡ b
 name_injective a b h k e =
     let parts = one_cut DOT (decimal a.seat) (decimal b.seat) (decimal a.number) (decimal b.number) (no_mark_decimal DOT a.seat (λ p q. omega arith) (omega (arith, h.0))) (no_mark_decimal DOT b.seat (λ p q. omega arith) (omega (arith, k.0))) e in
     both a.seat b.seat a.number b.number (decimal_injective a.seat b.seat (omega (arith, h.0)) (omega (arith, k.0)) parts.0) (decimal_injective a.number b.number (omega (arith, h.2)) (omega (arith, k.2)) parts.1)
@@ -57,14 +57,14 @@ same_open d e h k t =
     let same : name_text d.name ≡ name_text e.name = cc in
     name_injective d.name e.name h.name k.name same
 
-done_not_open : (d : DoneCall) (o : OpenCall) → IsDone d → IsOpen o → done_text d ≢ open_text o
+pub done_not_open : (d : DoneCall) (o : OpenCall) → IsDone d → IsOpen o → done_text d ≢ open_text o
 done_not_open d o h k t =
     let p = done_words d h in
     let all = sym p.1 ∙ (ap words t ∙ words-open o k) in
     let same : codes "done" ≡ codes "open" = cc in
     false≢true (sym (ap (λ w. bytes_eq w (codes "done")) same))
 
-done_not_order : (d : DoneCall) (ns : List Name) → IsDone d → AllByRecursion IsName ns → done_text d ≢ order_text ns
+pub done_not_order : (d : DoneCall) (ns : List Name) → IsDone d → AllByRecursion IsName ns → done_text d ≢ order_text ns
 done_not_order d ns h k t =
     let p = done_words d h in
     let q = order_words_are ns k in
@@ -72,7 +72,7 @@ done_not_order d ns h k t =
     let same : codes "done" ≡ codes "order" = cc in
     false≢true (sym (ap (λ w. bytes_eq w (codes "done")) same))
 
-open_not_order : (o : OpenCall) (ns : List Name) → IsOpen o → AllByRecursion IsName ns → open_text o ≢ order_text ns
+pub open_not_order : (o : OpenCall) (ns : List Name) → IsOpen o → AllByRecursion IsName ns → open_text o ≢ order_text ns
 open_not_order o ns h k t =
     let q = order_words_are ns k in
     let all = sym (words-open o h) ∙ (ap words t ∙ q.1) in
@@ -111,7 +111,7 @@ pub record DonesLeft (names : List Name) (tail : List (List ℕ)) (ds : List Don
   pub left : rest ≡ map done_text more ++ tail
 
 -- no answered call's line begins what follows the answered calls
-not_done : (d : DoneCall) (ps : List OpenCall) (order : List Name) (ys : List (List ℕ)) → IsDone d → AllByRecursion IsOpen ps → AllByRecursion IsName order → done_text d ∷ ys ≡ map open_text ps ++ order_text order ∷ [] → ⊥
+pub not_done : (d : DoneCall) (ps : List OpenCall) (order : List Name) (ys : List (List ℕ)) → IsDone d → AllByRecursion IsOpen ps → AllByRecursion IsName order → done_text d ∷ ys ≡ map open_text ps ++ order_text order ∷ [] → ⊥
 not_done d [] order ys h k n e = let same : done_text d ≡ order_text order = cc in done_not_order d order h n same
 not_done d (p ∷ ps) order ys h k n e = let same : done_text d ≡ open_text p = cc in done_not_open d p h k.0 same
 

@@ -32,7 +32,7 @@ same_self : (a : Name) → same_name a a ≡ true
 same_self a = grind (arith, nat_tests)
 
 -- the call of a name that stands once is the one at its place
-found_at : (cs : List Recorded) (name : Name) (p : ℕ) → ((i j : ℕ) (n : Name) → slice_get (map (λ (c : Recorded). c.name) cs) i ≡ Some n → slice_get (map (λ (c : Recorded). c.name) cs) j ≡ Some n → i ≡ j) → slice_get (map (λ (c : Recorded). c.name) cs) p ≡ Some name → find (λ c. same_name name c.name) cs ≡ Some (get_or cs p no_call)
+pub found_at : (cs : List Recorded) (name : Name) (p : ℕ) → ((i j : ℕ) (n : Name) → slice_get (map (λ (c : Recorded). c.name) cs) i ≡ Some n → slice_get (map (λ (c : Recorded). c.name) cs) j ≡ Some n → i ≡ j) → slice_get (map (λ (c : Recorded). c.name) cs) p ≡ Some name → find (λ c. same_name name c.name) cs ≡ Some (get_or cs p no_call)
 found_at [] name p once w = cc
 found_at (c ∷ cs) name zero once w = let is : c.name ≡ name = cc in rw is (rw (same_self name) refl)
 found_at (c ∷ cs) name (suc p) once w = go (same_name name c.name) refl (found_at cs name p (λ i j n v u. let s = once (suc i) (suc j) n v u in omega arith) w)

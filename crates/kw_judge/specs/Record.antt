@@ -1,10 +1,11 @@
 -- What a record is: the ranges of its numbers, its lines, and the bytes that are its text.
 use Rattle.std.specs.Prelude.{ℕ, ◌≡◌, ◌+◌, ◌<◌, ◌≤◌, ◌^◌, Some, List, [], ◌∷◌, ◌++◌, map, length, slice_get, Result, Ok, Err}
-use Rattle.std.specs.List.{AllByRecursion}
+use Rattle.std.specs.List.{AllByRecursion, flat_map}
 use Rattle.kw_model.specs.declared.call.Call.{Call}
 use Rattle.kw_model.specs.declared.call.Call.TheVariants as call
 use Rattle.kw_model.specs.declared.call.Reply.{Reply}
 use Rattle.kw_model.specs.declared.call.Reply.TheVariants as reply
+use Rattle.kw_line.specs.declared.words.TheConstants.{LINE_FEED}
 use Rattle.kw_line.specs.Cut.{lines}
 use Rattle.kw_line.specs.Line.{FitsCall}
 use Rattle.kw_judge.specs.declared.record.Name.{Name}
@@ -74,6 +75,10 @@ pub record IsRecord (r : RecordView) : Type 0 where
 -- the lines of a record: those of the answered calls, those of the others, and the order
 abbrev pub record_lines : RecordView → List (List ℕ)
 record_lines r = (map done_text r.done ++ map open_text r.open_calls) ++ order_text r.order ∷ []
+
+-- the text of a record: its lines, each with a line feed behind it
+abbrev pub record_text : RecordView → List ℕ
+record_text r = flat_map (λ line. line ++ LINE_FEED ∷ []) (record_lines r)
 
 -- the lines of these bytes are those of the record
 pub record IsRecordText (bytes : List ℕ) (r : RecordView) : Type 0 where

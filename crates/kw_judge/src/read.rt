@@ -2,7 +2,7 @@
 //!
 //! Lines are taken one after the other, as long as those so far begin a record: each is the text of a call or of an order, calls
 //! that were answered come first, no name stands twice, there are not too many, and the order is the last line.
-ghost use Rattle.std.specs.Prelude.{◌≡◌, ◌<◌, ◌≤◌, ◌⊎◌, ◌++◌, ◌∷◌, [], None, Contains, length, IfOk, MatchBool, MatchOption};
+ghost use Rattle.std.specs.Prelude.{ℕ, ◌≡◌, ◌<◌, ◌≤◌, ◌⊎◌, ◌++◌, ◌∷◌, [], None, Contains, length, Err, IfOk, MatchBool, MatchOption};
 ghost use Rattle.kw_judge.specs.Record.{RecordView, IsRecord, IsName, IsDone, IsOpen, IsRecordText, Begins, IfBad, record_lines};
 ghost use Rattle.kw_judge.specs.Texts.{done_text, open_text};
 ghost use Rattle.kw_judge.specs.Reader.{IsReading, IsIndexed, KeepsLists, names_taken, lines_taken};
@@ -22,6 +22,11 @@ use std::collections::BTreeMap;
 pub fn read_record(alloc: Global, bytes: &[u8]) -> Result<Record, RecordError>
     ensures record { IfOk result (IsRecordText bytes.now) }
     ensures bad { IfBad bytes.now result }
+
+    // There is one such record at most; and where there is one, no line is bad.
+    ensures only { IfOk result (λ one. (r : RecordView) → IsRecordText bytes.now r → r ≡ one) }
+    ensures none { (line : ℕ) (r : RecordView) → result ≡ Err (RecordError.Bad line) →
+        IsRecordText bytes.now r → ⊥ }
 {
     let mut reader = Reader::new(alloc);
     for line in Lines::new(bytes) {

@@ -38,6 +38,7 @@ use Rattle.kw_follow.specs.OwnEvents.{MetIn, Met, MetAs, MetOnly}
 use Rattle.kw_live.specs.Meeting.{AsksBelow, AsksNone, IsAsking, MetCount, MetFull, MetRoom}
 use Rattle.kw_core.specs.Stages.{is_putting}
 use Rattle.kw_live.proofs.Asking.{below_trans, none_at, none_below, once_below}
+use Rattle.kw_follow.proofs.OwnEvents.{goes_trans}
 use Rattle.kw_follow.proofs.Fronts.{met_laws, met_local, met_told, met_row_below, local_at}
 
 -- a put that code finds at its row is there
@@ -309,3 +310,21 @@ pub record IsTrying (s : Shared) (o p : Pass) (l : Local) : Type 0 where
   pub calls : Keeps o p
   pub held : held p ≡ held o
   pub found : HasFound o p l.activity
+
+-- the put is still trying after an event, and has fewer to make
+pub record Tries (s : Shared) (o q : Pass) (m : Local) (ahead : ℕ) : Type 0 where
+  pub trying : IsTrying s o q m
+  pub fewer : put_ahead m.activity m.walked m.lost < ahead
+
+pub tries_on : (s : Shared) (o p q : Pass) (l m : Local) (rows told : ℕ) → IsTrying s o p l → is_putting l.activity ≡ true → GoesTo s p q → Follows s q m → Keeps p q → held q ≡ held p → MetAs p q l Go told → MetOnly p q l.activity told → outcome m Moved ≡ next_of product rows Go l told
+    → Tries s o q m (put_ahead l.activity l.walked l.lost)
+tries_on s o p q l m rows told t put goes follows calls held met only line =
+    let on = put_goes s o p q l m rows told t.goes goes met only line put t.found in
+    record {
+      trying = record { goes = goes_trans s o p q t.goes goes; follows = follows; calls = calls ∙ t.calls; held = held ∙ t.held; found = on.found };
+      fewer = on.fewer;
+    }
+
+-- two events, one after the other
+pub fewer_yet : (x y z : ℕ) → x < y → y < z → x < z
+fewer_yet x y z a b = omega (arith, a, b)

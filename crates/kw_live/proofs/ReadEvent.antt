@@ -1,5 +1,5 @@
 -- One whole event of a reader that goes along its row's list, of its pass and of the local that follows it.
-use Rattle.std.proofs.Common.{◌≡◌, ℕ, ◌<◌, suc, true, false, Option, Some, None, List, [], ◌∷◌, ◌++◌, All, length, refl, sym, ◌∙◌, ap, subst, inl, inr}
+use Rattle.std.proofs.Common.{arith, ◌≡◌, ℕ, ◌<◌, suc, true, false, Option, Some, None, List, [], ◌∷◌, ◌++◌, All, refl, sym, ◌∙◌, ap, subst, inl, inr}
 use Rattle.std.proofs.lemmas.List.Elements.{All-nil, All-cons}
 use Rattle.kw_cells.specs.Cells.{pairs_of}
 use Rattle.kw_model.specs.declared.call.Call.{Call}
@@ -27,9 +27,10 @@ use Rattle.kw_follow.specs.Calling.{Keeps}
 use Rattle.kw_follow.specs.Following.{Follows, GoesTo, activity_in, carried, held}
 use Rattle.kw_follow.specs.OwnEvents.{Met, MetAs}
 use Rattle.kw_follow.proofs.Fronts.{local_at, met_laws, met_local, met_told}
+use Rattle.kw_follow.proofs.OwnEvents.{goes_trans}
 use Rattle.kw_follow.proofs.Resting.{stands}
-use Rattle.kw_live.specs.Reading.{HasRead, HasReadAs, is_reading_list}
-use Rattle.kw_live.proofs.ReadStages.{Ended, Goes, IsBelowNext, read_ahead, read_goes}
+use Rattle.kw_live.specs.Reading.{HasRead, HasReadAs, ReadsOn, is_reading_list, reads_ahead}
+use Rattle.kw_live.proofs.ReadStages.{Ended, Goes, IsBelowNext, read_goes}
 
 -- Where a reader is.
 
@@ -85,10 +86,6 @@ has_read (Some (Scan from upto)) want version m before after below (inr g, h) = 
 has_read None want version m before after below e = tt
 
 -- The event.
-
--- how many events of reading there are at most
-abbrev pub reads_ahead : Local → ℕ
-reads_ahead l = read_ahead product l.activity l.walked (length l.remembered)
 
 -- what follows from one event: the reader goes on in the row, or has read it to its end
 pub record Reads (l m : Local) (before after : List (ℕ × ℕ)) : Type 0 where
@@ -176,3 +173,18 @@ reads_on l m n before during after call version want held read =
     (subst (λ v. HasReadAs m.call l.want v n before after) version
     (subst (λ w. HasReadAs m.call w m.version n before after) want
     (subst (λ b. HasReadAs m.call m.want m.version n b after) held read)))
+
+-- One reading after the other, where the reader still reads the row between them.
+pub reads_trans : (s : Shared) (p q r : Pass) (l m n : Local) → is_reading_list m.activity ≡ true → ReadsOn s p l q m → ReadsOn s q m r n → ReadsOn s p l r n
+reads_trans s p q r l m n reading a b =
+    let was = a.on reading in
+    record {
+      goes = goes_trans s p q r a.goes b.goes;
+      follows = b.follows;
+      calls = b.calls ∙ a.calls;
+      call = b.call ∙ a.call;
+      version = b.version ∙ a.version;
+      on = λ e. let more = b.on e in (more.0 ∙ was.0, more.1 ∙ was.1);
+      ends = λ e. reads_on l m n _ _ _ a.call a.version was.0 was.1 (b.ends e);
+      fewer = omega (arith, a.fewer, b.fewer);
+    }

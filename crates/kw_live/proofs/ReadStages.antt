@@ -1,6 +1,6 @@
 -- How a reader goes along the list of its row, cell after cell, then reads what it remembers and did not meet, and what follows at the
 -- end of the row.
-use Rattle.std.proofs.Common.{◌≡◌, ◌⊎◌, ℕ, ◌+◌, ◌*◌, ◌-◌, ◌<◌, ◌≤◌, ◌==◌, Bool, true, false, nat_lt, nat_le, if◌then◌else◌, Option, Some, None, List, [], ◌∷◌, ◌++◌, length, arith, refl, subst, inl, inr, eq-eqb}
+use Rattle.std.proofs.Common.{◌≡◌, ◌⊎◌, ℕ, ◌*◌, ◌<◌, ◌≤◌, ◌==◌, Bool, true, false, nat_lt, nat_le, if◌then◌else◌, Option, Some, None, List, [], ◌∷◌, ◌++◌, length, arith, refl, subst, inl, inr, eq-eqb}
 use Rattle.std.proofs.lemmas.Bool.Decides.{nat_tests}
 use Rattle.kw_words.specs.Plain.{key_of_word, value_of_word, cell_of_link_word}
 use Rattle.kw_cells.specs.Cells.{shown_at, pairs_of}
@@ -23,17 +23,7 @@ use Rattle.kw_world.specs.Table.{transition}
 use Rattle.kw_core.proofs.InRange.{unmarked_few}
 use Rattle.kw_puts.proofs.Owners.{true_false}
 use Rattle.kw_follow.specs.Following.{carried}
-use Rattle.kw_live.specs.Reading.{is_reading_list}
-
--- how many events of reading a reader has yet to make at most, with so many cells met on its walk and so many remembered
-abbrev pub read_ahead : Sizes → Activity → ℕ → ℕ → ℕ
-read_ahead z ListFrom walked marks = 4 * (z.cells - walked) + 2 * marks + 1
-read_ahead z ListKey walked marks = 4 * (z.cells - walked) + 2 * marks + 4
-read_ahead z ListVer walked marks = 4 * (z.cells - walked) + 2 * marks + 3
-read_ahead z ListVal walked marks = 4 * (z.cells - walked) + 2 * marks + 2
-read_ahead z RestKey walked marks = 2 * marks + 2
-read_ahead z RestVal walked marks = 2 * marks + 1
-read_ahead z _ walked marks = 0
+use Rattle.kw_live.specs.Reading.{is_reading_list, read_ahead}
 
 -- What is remembered.
 

@@ -1,5 +1,5 @@
 -- What a reader knows once it has read a row.
-use Rattle.std.specs.Prelude.{◌≡◌, ◌⊎◌, ℕ, ◌<◌, ◌≤◌, ◌++◌, Bool, true, false, Option, Some, List, All}
+use Rattle.std.specs.Prelude.{◌≡◌, ◌⊎◌, ℕ, ◌+◌, ◌*◌, ◌-◌, ◌<◌, ◌≤◌, ◌++◌, Bool, true, false, Option, Some, List, All, length}
 use Rattle.kw_cells.specs.Cells.{shown_at, pairs_of}
 use Rattle.kw_model.specs.declared.call.Call.{Call}
 use Rattle.kw_model.specs.declared.call.Call.TheVariants.{Get, Scan}
@@ -9,6 +9,11 @@ use Rattle.kw_world.specs.declared.activity.Activity.{Activity}
 use Rattle.kw_world.specs.declared.activity.Activity.TheVariants.{Walk, Look, LookKey, LookClock, LookHelp, ListFrom, ListKey, ListVer, ListVal, RestKey, RestVal, ClearScan, Leave}
 use Rattle.kw_world.specs.declared.limits.TheConstants.{NEWEST}
 use Rattle.kw_world.specs.declared.local.Local.{Local}
+use Rattle.kw_world.specs.Sizes.{Sizes, product}
+use Rattle.kw_table.specs.declared.pass.Pass.{Pass}
+use Rattle.kw_table.specs.declared.shared.Shared.{Shared}
+use Rattle.kw_follow.specs.Calling.{Keeps}
+use Rattle.kw_follow.specs.Following.{Follows, GoesTo, held}
 
 -- the reader looks at the entries of the row
 abbrev pub is_looking : Activity → Bool
@@ -54,3 +59,29 @@ HasReadAs _ want version m before after = Unit {0}
 -- the same, of the call of the local with which the reader came to the row
 abbrev pub HasRead : Local → Local → List (ℕ × ℕ) → List (ℕ × ℕ) → Type 0
 HasRead l m before after = HasReadAs l.call l.want l.version m before after
+
+-- how many events of reading a reader has yet to make at most, with so many cells met on its walk and so many remembered
+abbrev pub read_ahead : Sizes → Activity → ℕ → ℕ → ℕ
+read_ahead z ListFrom walked marks = 4 * (z.cells - walked) + 2 * marks + 1
+read_ahead z ListKey walked marks = 4 * (z.cells - walked) + 2 * marks + 4
+read_ahead z ListVer walked marks = 4 * (z.cells - walked) + 2 * marks + 3
+read_ahead z ListVal walked marks = 4 * (z.cells - walked) + 2 * marks + 2
+read_ahead z RestKey walked marks = 2 * marks + 2
+read_ahead z RestVal walked marks = 2 * marks + 1
+read_ahead z _ walked marks = 0
+
+-- the same, of what code knows
+abbrev pub reads_ahead : Local → ℕ
+reads_ahead l = read_ahead product l.activity l.walked (length l.remembered)
+
+-- the reader went on along the list of its row by one event or more: it still reads the row, for the same wanted key and with no pairs
+-- more, or it has read it to its end; and it has fewer events to make
+pub record ReadsOn (s : Shared) (p : Pass) (l : Local) (q : Pass) (m : Local) : Type 0 where
+  pub goes : GoesTo s p q
+  pub follows : Follows s q m
+  pub calls : Keeps p q
+  pub call : m.call ≡ l.call
+  pub version : m.version ≡ l.version
+  pub on : is_reading_list m.activity ≡ true → (m.want ≡ l.want) × (held q ≡ held p)
+  pub ends : is_reading_list m.activity ≡ false → HasRead l m (held p) (held q)
+  pub fewer : reads_ahead m < reads_ahead l

@@ -11,7 +11,7 @@ ghost use Rattle.kw_follow.specs.Following.{Follows, GoesTo, activity_in, held};
 ghost use Rattle.kw_live.specs.Meeting.{AsksNone, MetClock};
 ghost use Rattle.kw_live.specs.Stages.{HasEntered};
 
-use kw_follow::{begin, clear, end, go};
+use kw_follow::{begin, clear, end, go, go_along};
 use kw_model::call::{Call, Reply};
 use kw_table::{Pass, Shared};
 use kw_world::activity::Activity;
@@ -41,7 +41,7 @@ pub fn enter(shared: &Shared, pass: &mut Pass, local: &mut Local, call: Call)
         × ((local.new.activity ≡ Activity.Leave Answer.Spent) ↔ (SPENT ≤ clock)) }
 {
     begin(shared, pass, local, call);
-    go(shared, pass, local, Choice::Go);
+    go_along(shared, pass, local);
     if let Activity::ScanClock = local.activity {
         draw(shared, pass, local);
     }

@@ -40,6 +40,10 @@ pub fn try_put(shared: &Shared, pass: &mut Pass, local: &mut Local) -> TryPut
     let row = local.row;
     while Stage::of(&local.activity).is_putting() {
         go_put(shared, pass, local);
+        // Where it has met a cell it loads the key next. That this is known here spares it the question.
+        if let Activity::InsKey = local.activity {
+            go_put(shared, pass, local);
+        }
     }
     match &local.activity {
         Activity::Leave(Answer::Done) => TryPut::Done,

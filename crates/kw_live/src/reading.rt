@@ -1,14 +1,13 @@
 //! The events of a get or a scan at a row.
-ghost use Rattle.std.specs.Prelude.{◌≡◌, All};
+ghost use Rattle.std.specs.Prelude.{◌≡◌, All, true};
 ghost use Rattle.kw_words.specs.Plain.{IsValue};
 ghost use Rattle.kw_follow.specs.Calling.{Keeps};
 ghost use Rattle.kw_follow.specs.Following.{Follows, GoesTo, held};
-ghost use Rattle.kw_live.specs.Reading.{HasRead, LooksOn, is_looking, is_reading_list};
+ghost use Rattle.kw_live.specs.Reading.{HasRead, LooksOn, ReadsOn, is_looking, is_reading_list};
 
-use kw_follow::{go, go_read};
+use kw_follow::{go_along, go_read};
 use kw_table::{Pass, Shared};
 use kw_world::activity::Activity;
-use kw_world::event::Choice;
 use kw_world::local::Local;
 
 /// Reads the row that the call stands at: its entries first, helping the puts that it meets there, and then its list, and what it
@@ -46,7 +45,7 @@ fn look_at_entries(shared: &Shared, pass: &mut Pass, local: &mut Local)
     ensures held { held pass.new ≡ held pass.old }
 {
     while is_looking(&local.activity) {
-        go(shared, pass, local, Choice::Go);
+        go_along(shared, pass, local);
     }
 }
 
@@ -62,8 +61,58 @@ fn read_list(shared: &Shared, pass: &mut Pass, local: &mut Local)
     ensures calls { Keeps pass.old pass.new }
 {
     while is_reading_list(&local.activity) {
-        go_read(shared, pass, local);
+        read_cell(shared, pass, local);
     }
+}
+
+// The next event along the list, and those that follow on the same cell. What the reader does next is known between them, so that each
+// goes over to the next one at once.
+#[inline(always)]
+fn read_cell(shared: &Shared, pass: &mut Pass, local: &mut Local)
+    requires follows { Follows shared.now pass.old local.old }
+    requires reading { is_reading_list local.old.activity ≡ true }
+    ensures { ReadsOn shared.now pass.old local.old pass.new local.new }
+{
+    read_on(shared, pass, local);
+    if let Activity::ListKey = local.activity {
+        read_key(shared, pass, local);
+    }
+}
+
+// The same, from the key of a cell on.
+#[inline(always)]
+fn read_key(shared: &Shared, pass: &mut Pass, local: &mut Local)
+    requires follows { Follows shared.now pass.old local.old }
+    requires reading { is_reading_list local.old.activity ≡ true }
+    ensures { ReadsOn shared.now pass.old local.old pass.new local.new }
+{
+    read_on(shared, pass, local);
+    if let Activity::ListVer = local.activity {
+        read_version(shared, pass, local);
+    }
+}
+
+// The same, from the version of a cell on.
+#[inline(always)]
+fn read_version(shared: &Shared, pass: &mut Pass, local: &mut Local)
+    requires follows { Follows shared.now pass.old local.old }
+    requires reading { is_reading_list local.old.activity ≡ true }
+    ensures { ReadsOn shared.now pass.old local.old pass.new local.new }
+{
+    read_on(shared, pass, local);
+    if let Activity::ListVal = local.activity {
+        read_on(shared, pass, local);
+    }
+}
+
+// One event along the list.
+#[inline(always)]
+fn read_on(shared: &Shared, pass: &mut Pass, local: &mut Local)
+    requires follows { Follows shared.now pass.old local.old }
+    requires reading { is_reading_list local.old.activity ≡ true }
+    ensures { ReadsOn shared.now pass.old local.old pass.new local.new }
+{
+    go_read(shared, pass, local);
 }
 
 // Whether the reader looks at the entries of the row.

@@ -9,7 +9,7 @@ ghost use Rattle.kw_live.specs.Stages.{arrived, guessing};
 ghost use Rattle.kw_live.specs.Walking.{IsUnderWay, WalksOn};
 
 use kw_core::stage::Stage;
-use kw_follow::go;
+use kw_follow::{go, go_along};
 use kw_table::{Pass, Shared};
 use kw_world::activity::Activity;
 use kw_world::event::Choice;
@@ -55,16 +55,13 @@ pub(crate) fn set_out(shared: &Shared, pass: &mut Pass, local: &mut Local, guess
     ensures held { held pass.new ≡ held pass.old }
     ensures none { AsksNone pass.old pass.new }
 {
-    go(shared, pass, local, choice_of(guess));
-}
-
-// The choice with which a walk begins.
-fn choice_of(guess: Option<u32>) -> Choice
-    ensures { result ≡ guessing guess }
-{
     match guess {
-        Some(row) => Choice::Guess(row),
-        None => Choice::Go,
+        Some(row) => {
+            go(shared, pass, local, Choice::Guess(row));
+        }
+        None => {
+            go_along(shared, pass, local);
+        }
     }
 }
 
@@ -81,6 +78,6 @@ fn walk(shared: &Shared, pass: &mut Pass, local: &mut Local)
     ensures none { AsksNone pass.old pass.new }
 {
     while Stage::of(&local.activity).is_walking() {
-        go(shared, pass, local, Choice::Go);
+        go_along(shared, pass, local);
     }
 }

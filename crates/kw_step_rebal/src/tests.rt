@@ -60,7 +60,7 @@ fn a_rebalance_begins_with_the_clock(rt: HostRuntime) -> Result<(), Fail> {
     Ok(())
 }
 
-// A seat that has no rebalance in hand but that it looks at the state of row 2, whose least key is 40.
+// A seat looks at the state of row 2, the full one, whose least key is 40.
 fn at_a_state(alloc: Global) -> Local
     ensures ranges { IsLocal product result }
     ensures room { HasRoom product result }

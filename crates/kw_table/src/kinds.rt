@@ -34,6 +34,7 @@ macro_rules! step {
 // A call begins and ends.
 
 /// Loads the epoch, to announce it.
+#[inline(always)]
 pub fn load_epoch(shared: &Shared, pass: &mut Pass, choice: Choice, word: Name) -> u64
     requires { Asks shared.now pass.old choice (operation Kind.LoadEpoch word Action.Load) }
     ensures { Makes shared.now pass.old choice result pass.new }
@@ -42,6 +43,7 @@ pub fn load_epoch(shared: &Shared, pass: &mut Pass, choice: Choice, word: Name) 
 }
 
 /// Stores the epoch that the seat announces.
+#[inline(always)]
 pub fn store_pass(shared: &Shared, pass: &mut Pass, choice: Choice, word: Name, stored: u64) -> u64
     requires { Asks shared.now pass.old choice (operation Kind.StorePass word (Action.Store stored)) }
     ensures { Makes shared.now pass.old choice result pass.new }
@@ -59,6 +61,7 @@ pub fn store_pass(shared: &Shared, pass: &mut Pass, choice: Choice, word: Name, 
 }
 
 /// Stores that the seat announces no epoch.
+#[inline(always)]
 pub fn clear_pass(shared: &Shared, pass: &mut Pass, choice: Choice, word: Name, stored: u64) -> u64
     requires { Asks shared.now pass.old choice (operation Kind.ClearPass word (Action.Store stored)) }
     ensures { Makes shared.now pass.old choice result pass.new }
@@ -78,6 +81,7 @@ pub fn clear_pass(shared: &Shared, pass: &mut Pass, choice: Choice, word: Name, 
 // A put or a delete at its row.
 
 /// Loads the count of a row.
+#[inline(always)]
 pub fn load_count(shared: &Shared, pass: &mut Pass, choice: Choice, word: Name) -> u64
     requires { Asks shared.now pass.old choice (operation Kind.LoadCount word Action.Load) }
     ensures { Makes shared.now pass.old choice result pass.new }
@@ -86,6 +90,7 @@ pub fn load_count(shared: &Shared, pass: &mut Pass, choice: Choice, word: Name) 
 }
 
 /// Adds to the count of a row, to get a cell.
+#[inline(always)]
 pub fn add_count(shared: &Shared, pass: &mut Pass, choice: Choice, word: Name, number: u64) -> u64
     requires { Asks shared.now pass.old choice (operation Kind.AddCount word (Action.Add number)) }
     ensures { Makes shared.now pass.old choice result pass.new }
@@ -103,6 +108,7 @@ pub fn add_count(shared: &Shared, pass: &mut Pass, choice: Choice, word: Name, n
 }
 
 /// Stores the key of a cell.
+#[inline(always)]
 pub fn store_key(shared: &Shared, pass: &mut Pass, choice: Choice, word: Name, stored: u64) -> u64
     requires { Asks shared.now pass.old choice (operation Kind.StoreKey word (Action.Store stored)) }
     ensures { Makes shared.now pass.old choice result pass.new }
@@ -120,6 +126,7 @@ pub fn store_key(shared: &Shared, pass: &mut Pass, choice: Choice, word: Name, s
 }
 
 /// Stores the value of a cell.
+#[inline(always)]
 pub fn store_value(shared: &Shared, pass: &mut Pass, choice: Choice, word: Name, stored: u64) -> u64
     requires { Asks shared.now pass.old choice
         (operation Kind.StoreValue word (Action.Store stored)) }
@@ -138,6 +145,7 @@ pub fn store_value(shared: &Shared, pass: &mut Pass, choice: Choice, word: Name,
 }
 
 /// Exchanges the seat's idle entry in a row for one with its cell.
+#[inline(always)]
 pub fn announce(
     shared: &Shared,
     pass: &mut Pass,
@@ -164,6 +172,7 @@ pub fn announce(
 }
 
 /// Loads the clock.
+#[inline(always)]
 pub fn load_clock(shared: &Shared, pass: &mut Pass, choice: Choice, word: Name) -> u64
     requires { Asks shared.now pass.old choice (operation Kind.LoadClock word Action.Load) }
     ensures { Makes shared.now pass.old choice result pass.new }
@@ -172,6 +181,7 @@ pub fn load_clock(shared: &Shared, pass: &mut Pass, choice: Choice, word: Name) 
 }
 
 /// Exchanges the seat's pending entry for one with a version.
+#[inline(always)]
 pub fn stamp(
     shared: &Shared,
     pass: &mut Pass,
@@ -198,6 +208,7 @@ pub fn stamp(
 }
 
 /// Stores the version of a cell.
+#[inline(always)]
 pub fn store_version(
     shared: &Shared,
     pass: &mut Pass,
@@ -224,6 +235,7 @@ pub fn store_version(
 // A reader at its row, and the end of a put.
 
 /// Loads a link between the cells of a row: its first, or that after a cell.
+#[inline(always)]
 pub fn load_after(shared: &Shared, pass: &mut Pass, choice: Choice, word: Name) -> u64
     requires { Asks shared.now pass.old choice (operation Kind.LoadAfter word Action.Load) }
     ensures { Makes shared.now pass.old choice result pass.new }
@@ -232,6 +244,7 @@ pub fn load_after(shared: &Shared, pass: &mut Pass, choice: Choice, word: Name) 
 }
 
 /// Stores the link after a cell that is not listed yet.
+#[inline(always)]
 pub fn store_after(shared: &Shared, pass: &mut Pass, choice: Choice, word: Name, stored: u64) -> u64
     requires { Asks shared.now pass.old choice
         (operation Kind.StoreAfter word (Action.Store stored)) }
@@ -250,6 +263,7 @@ pub fn store_after(shared: &Shared, pass: &mut Pass, choice: Choice, word: Name,
 }
 
 /// Exchanges a link between the cells of a row for one to a cell that is listed so.
+#[inline(always)]
 pub fn insert(
     shared: &Shared,
     pass: &mut Pass,
@@ -276,6 +290,7 @@ pub fn insert(
 }
 
 /// Stores that the seat's entry in a row is idle.
+#[inline(always)]
 pub fn clear_pend(shared: &Shared, pass: &mut Pass, choice: Choice, word: Name, stored: u64) -> u64
     requires { Asks shared.now pass.old choice (operation Kind.ClearPend word (Action.Store stored)) }
     ensures { Makes shared.now pass.old choice result pass.new }
@@ -293,6 +308,7 @@ pub fn clear_pend(shared: &Shared, pass: &mut Pass, choice: Choice, word: Name, 
 }
 
 /// Loads an entry of a row.
+#[inline(always)]
 pub fn load_pend(shared: &Shared, pass: &mut Pass, choice: Choice, word: Name) -> u64
     requires { Asks shared.now pass.old choice (operation Kind.LoadPend word Action.Load) }
     ensures { Makes shared.now pass.old choice result pass.new }
@@ -301,6 +317,7 @@ pub fn load_pend(shared: &Shared, pass: &mut Pass, choice: Choice, word: Name) -
 }
 
 /// Loads the key of a cell.
+#[inline(always)]
 pub fn load_key(shared: &Shared, pass: &mut Pass, choice: Choice, word: Name) -> u64
     requires { Asks shared.now pass.old choice (operation Kind.LoadKey word Action.Load) }
     ensures { Makes shared.now pass.old choice result pass.new }
@@ -309,6 +326,7 @@ pub fn load_key(shared: &Shared, pass: &mut Pass, choice: Choice, word: Name) ->
 }
 
 /// Loads the value of a cell.
+#[inline(always)]
 pub fn load_value(shared: &Shared, pass: &mut Pass, choice: Choice, word: Name) -> u64
     requires { Asks shared.now pass.old choice (operation Kind.LoadValue word Action.Load) }
     ensures { Makes shared.now pass.old choice result pass.new }
@@ -317,6 +335,7 @@ pub fn load_value(shared: &Shared, pass: &mut Pass, choice: Choice, word: Name) 
 }
 
 /// Loads the version of a cell.
+#[inline(always)]
 pub fn load_version(shared: &Shared, pass: &mut Pass, choice: Choice, word: Name) -> u64
     requires { Asks shared.now pass.old choice (operation Kind.LoadVersion word Action.Load) }
     ensures { Makes shared.now pass.old choice result pass.new }
@@ -439,6 +458,7 @@ pub fn clear_scan(shared: &Shared, pass: &mut Pass, choice: Choice, word: Name, 
 // The walk along the rows.
 
 /// Loads the link to the first row.
+#[inline(always)]
 pub fn load_head(shared: &Shared, pass: &mut Pass, choice: Choice, word: Name) -> u64
     requires { Asks shared.now pass.old choice (operation Kind.LoadHead word Action.Load) }
     ensures { Makes shared.now pass.old choice result pass.new }
@@ -447,6 +467,7 @@ pub fn load_head(shared: &Shared, pass: &mut Pass, choice: Choice, word: Name) -
 }
 
 /// Loads the link from a row to the next.
+#[inline(always)]
 pub fn load_link(shared: &Shared, pass: &mut Pass, choice: Choice, word: Name) -> u64
     requires { Asks shared.now pass.old choice (operation Kind.LoadLink word Action.Load) }
     ensures { Makes shared.now pass.old choice result pass.new }
@@ -455,6 +476,7 @@ pub fn load_link(shared: &Shared, pass: &mut Pass, choice: Choice, word: Name) -
 }
 
 /// Loads the least key of a row.
+#[inline(always)]
 pub fn load_min(shared: &Shared, pass: &mut Pass, choice: Choice, word: Name) -> u64
     requires { Asks shared.now pass.old choice (operation Kind.LoadMin word Action.Load) }
     ensures { Makes shared.now pass.old choice result pass.new }

@@ -18,6 +18,7 @@ use std::marker::Brand;
 
 impl Shared {
     // Where the word lies.
+    #[inline(always)]
     fn place(&self, word: Name) -> usize
         requires { IsWithin SEATS CELLS self.now.opening.rows word }
         ensures place { result ≡ place_of SEATS CELLS word }
@@ -27,6 +28,7 @@ impl Shared {
     }
 
     // `load`, where the proof has the choice from `C`.
+    #[inline(always)]
     fn load_as<C: Choosing>(&self, pass: &mut Pass, choice: Choice, operation: Operation) -> u64
         requires choice { C.choice ≡ choice }
         requires action { operation.action ≡ Action.Load }
@@ -39,6 +41,7 @@ impl Shared {
     }
 
     /// Loads the word.
+    #[inline(always)]
     pub(crate) fn load(&self, pass: &mut Pass, choice: Choice, operation: Operation) -> u64
         requires action { operation.action ≡ Action.Load }
         requires asked { Asks self.now pass.old choice operation }
@@ -48,6 +51,7 @@ impl Shared {
     }
 
     // `store`, where the proof has the choice from `C`.
+    #[inline(always)]
     fn store_as<C: Choosing>(
         &self,
         pass: &mut Pass,
@@ -67,6 +71,7 @@ impl Shared {
     }
 
     /// Stores a word.
+    #[inline(always)]
     pub(crate) fn store(
         &self,
         pass: &mut Pass,
@@ -82,6 +87,7 @@ impl Shared {
     }
 
     // `add`, where the proof has the choice from `C`.
+    #[inline(always)]
     fn add_as<C: Choosing>(
         &self,
         pass: &mut Pass,
@@ -100,6 +106,7 @@ impl Shared {
     }
 
     /// Adds a number to the word.
+    #[inline(always)]
     pub(crate) fn add(
         &self,
         pass: &mut Pass,
@@ -148,6 +155,7 @@ impl Shared {
     }
 
     // `exchange`, where the proof has the choice from `C`.
+    #[inline(always)]
     fn exchange_as<C: Choosing>(
         &self,
         pass: &mut Pass,
@@ -170,6 +178,7 @@ impl Shared {
     }
 
     /// Exchanges the word for another, where it is the expected one.
+    #[inline(always)]
     pub(crate) fn exchange(
         &self,
         pass: &mut Pass,

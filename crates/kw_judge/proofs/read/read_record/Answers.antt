@@ -1,6 +1,7 @@
 use Rattle.std.proofs.Common.{ap, ◌+◌, ◌++◌, ◌∷◌, ◌∙◌}
 use Rattle.std.proofs.lemmas.List.{append-nil}
 use Rattle.kw_judge.specs.Reader.{lines_taken}
+use Rattle.kw_judge.proofs.OneRecord.{bad_or_record, only_one}
 use Rattle.kw_judge.proofs.Readings.{begins, finished}
 use Rattle.kw_judge.proofs.read.read_record.Goals as goal
 
@@ -16,6 +17,14 @@ returns-then-not-branch-clause-bad c =
       begins = begins r c.loop-line.invariant.reading;
       bad = rw c.if-not-branch.true at (c.in_ok-take.ensures {u = tt});
     }
+
+pub returns-then-not-branch-clause-none : goal.returns-then-not-branch-clause-none
+returns-then-not-branch-clause-none c = λ line r e h. bad_or_record c.args.bytes.now _ r (returns-then-not-branch-clause-bad c) h
+
+pub returns-clause-only : goal.returns-clause-only
+returns-clause-only c =
+    let last = c.in-None.ensures {u = tt} in
+    only_one c.args.bytes.now (lines_taken c.loop-line.reader) c.finish.result _ c.ok_or.result c.ok_or.ensures.value (c.loop-line.invariant.taken ∙ (ap (λ t. lines_taken c.loop-line.reader ++ t) last.steps.0 ∙ append-nil _)) c.finish.ensures
 
 pub returns-clause-bad : goal.returns-clause-bad
 returns-clause-bad c =

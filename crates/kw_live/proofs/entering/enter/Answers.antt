@@ -9,51 +9,51 @@ use Rattle.kw_live.proofs.entering.enter.Goals as goal
 
 pub draw-requires-clause-scan : goal.draw-requires-clause-scan
 draw-requires-clause-scan c =
-    let e = enters _ c.args.call _ _ _ c.begin.ensures.activity c.begin.ensures.call c.begin.ensures.unread c.go.ensures.line in
+    let e = enters _ c.args.call _ _ _ c.begin.ensures.activity c.begin.ensures.call c.begin.ensures.unread c.go_along.ensures.line in
     ap is_scan e.call_is ∙ e.scan c.in-ScanClock.is
 
 pub returns-in-ScanClock-clause-entered : goal.returns-in-ScanClock-clause-entered
 returns-in-ScanClock-clause-entered c =
-    let e = enters _ c.args.call _ _ _ c.begin.ensures.activity c.begin.ensures.call c.begin.ensures.unread c.go.ensures.line in
+    let e = enters _ c.args.call _ _ _ c.begin.ensures.activity c.begin.ensures.call c.begin.ensures.unread c.go_along.ensures.line in
     subst (λ x. IfSome x (λ k. HasEntered k c.draw.new.local.activity)) e.call_is c.draw.ensures.entered
 
 pub returns-in-ScanClock-clause-call : goal.returns-in-ScanClock-clause-call
 returns-in-ScanClock-clause-call c =
-    let e = enters _ c.args.call _ _ _ c.begin.ensures.activity c.begin.ensures.call c.begin.ensures.unread c.go.ensures.line in
+    let e = enters _ c.args.call _ _ _ c.begin.ensures.activity c.begin.ensures.call c.begin.ensures.unread c.go_along.ensures.line in
     c.draw.ensures.call ∙ e.call_is
 
 pub returns-in-ScanClock-clause-unread : goal.returns-in-ScanClock-clause-unread
 returns-in-ScanClock-clause-unread c =
-    let e = enters _ c.args.call _ _ _ c.begin.ensures.activity c.begin.ensures.call c.begin.ensures.unread c.go.ensures.line in
+    let e = enters _ c.args.call _ _ _ c.begin.ensures.activity c.begin.ensures.call c.begin.ensures.unread c.go_along.ensures.line in
     c.draw.ensures.unread ∙ e.unread
 
 pub returns-in-ScanClock-clause-spent : goal.returns-in-ScanClock-clause-spent
 returns-in-ScanClock-clause-spent c = λ scan.
     let m = c.draw.ensures.spent in
-    (m.0, met_clock_earlier c.begin.ensures.goes (met_clock_earlier c.go.ensures.goes m.1), m.2)
+    (m.0, met_clock_earlier c.begin.ensures.goes (met_clock_earlier c.go_along.ensures.goes m.1), m.2)
 
 pub returns-in_default-clause-entered : goal.returns-in_default-clause-entered
 returns-in_default-clause-entered c =
-    let e = enters _ c.args.call _ _ _ c.begin.ensures.activity c.begin.ensures.call c.begin.ensures.unread c.go.ensures.line in
+    let e = enters _ c.args.call _ _ _ c.begin.ensures.activity c.begin.ensures.call c.begin.ensures.unread c.go_along.ensures.line in
     (e.starts c.in_default.not-ScanClock).1
 
 pub returns-in_default-clause-call : goal.returns-in_default-clause-call
-returns-in_default-clause-call c = (enters _ c.args.call _ _ _ c.begin.ensures.activity c.begin.ensures.call c.begin.ensures.unread c.go.ensures.line).call_is
+returns-in_default-clause-call c = (enters _ c.args.call _ _ _ c.begin.ensures.activity c.begin.ensures.call c.begin.ensures.unread c.go_along.ensures.line).call_is
 
 pub returns-in_default-clause-unread : goal.returns-in_default-clause-unread
-returns-in_default-clause-unread c = (enters _ c.args.call _ _ _ c.begin.ensures.activity c.begin.ensures.call c.begin.ensures.unread c.go.ensures.line).unread
+returns-in_default-clause-unread c = (enters _ c.args.call _ _ _ c.begin.ensures.activity c.begin.ensures.call c.begin.ensures.unread c.go_along.ensures.line).unread
 
 pub returns-in_default-clause-spent : goal.returns-in_default-clause-spent
 returns-in_default-clause-spent c = λ scan.
-    let e = enters _ c.args.call _ _ _ c.begin.ensures.activity c.begin.ensures.call c.begin.ensures.unread c.go.ensures.line in
+    let e = enters _ c.args.call _ _ _ c.begin.ensures.activity c.begin.ensures.call c.begin.ensures.unread c.go_along.ensures.line in
     let no : is_scan (Some c.args.call) ≡ false = (e.starts c.in_default.not-ScanClock).0 in
     let x : true ≡ false = sym scan ∙ no in
     absurd (cc)
 
 pub returns-in-ScanClock-clause-none : goal.returns-in-ScanClock-clause-none
 returns-in-ScanClock-clause-none c =
-    let announces = none_at c.go.ensures.goes c.begin.ensures.activity c.go.ensures.only (λ h. h) in
-    none_trans c.begin.ensures.goes (goes_trans _ _ _ _ c.go.ensures.goes c.draw.ensures.goes) (none_at c.begin.ensures.goes c.requires.idle c.begin.ensures.only.1 (λ h. h)) (none_trans c.go.ensures.goes c.draw.ensures.goes announces c.draw.ensures.none)
+    let announces = none_at c.go_along.ensures.goes c.begin.ensures.activity c.go_along.ensures.only (λ h. h) in
+    none_trans c.begin.ensures.goes (goes_trans _ _ _ _ c.go_along.ensures.goes c.draw.ensures.goes) (none_at c.begin.ensures.goes c.requires.idle c.begin.ensures.only.1 (λ h. h)) (none_trans c.go_along.ensures.goes c.draw.ensures.goes announces c.draw.ensures.none)
 
 pub returns-in_default-clause-none : goal.returns-in_default-clause-none
-returns-in_default-clause-none c = none_trans c.begin.ensures.goes c.go.ensures.goes (none_at c.begin.ensures.goes c.requires.idle c.begin.ensures.only.1 (λ h. h)) (none_at c.go.ensures.goes c.begin.ensures.activity c.go.ensures.only (λ h. h))
+returns-in_default-clause-none c = none_trans c.begin.ensures.goes c.go_along.ensures.goes (none_at c.begin.ensures.goes c.requires.idle c.begin.ensures.only.1 (λ h. h)) (none_at c.go_along.ensures.goes c.begin.ensures.activity c.go_along.ensures.only (λ h. h))

@@ -1,4 +1,5 @@
-use Rattle.kw_live.proofs.ReadEvent.{IsReadingOn, reads_ahead}
+use Rattle.kw_live.specs.Reading.{reads_ahead}
+use Rattle.kw_live.proofs.ReadEvent.{IsReadingOn}
 use Rattle.kw_live.proofs.reading.read_list.Given as goal
 
 abbrev pub invariant-loop-pass : goal.invariant-loop-pass

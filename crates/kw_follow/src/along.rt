@@ -1,0 +1,190 @@
+//! The events that every call makes: as it begins, on its way to its row, at the entries there, and as it ends; each by its own step of the
+//! table.
+//!
+//! A call loads the epoch and announces it, loads the link from the head and the link after each row that it passes, and announces no epoch
+//! any more at its end; a reader looks at each entry of its row. What the local does next says which step it is, as in `putting`; every
+//! other event is put together in `going`.
+ghost use Rattle.std.specs.Prelude.{◌≡◌, true};
+ghost use Rattle.kw_core.specs.Events.{is_call_in_range};
+ghost use Rattle.kw_world.specs.Local.{resting};
+ghost use Rattle.kw_world.specs.Sizes.{product};
+ghost use Rattle.kw_world.specs.Step.{next_of};
+ghost use Rattle.kw_world.specs.Transition.{outcome};
+ghost use Rattle.kw_world.specs.declared.event.StepDone.TheVariants.{Moved};
+ghost use Rattle.kw_table.specs.Passes.{view, IsPassOf, Makes};
+ghost use Rattle.kw_follow.specs.Calling.{Keeps};
+ghost use Rattle.kw_follow.specs.Following.{Follows, GoesTo, activity_in, held};
+ghost use Rattle.kw_follow.specs.OwnEvents.{MetAs, MetOnly};
+ghost use Rattle.kw_follow.specs.Within.{IsWithinCall};
+
+use crate::going::{Happened, event};
+use kw_model::call::Call;
+use kw_step_put::resume::end_call;
+use kw_step_put::resume_entries::look;
+use kw_step_put::resume_scan::{begin, enter};
+use kw_step_rows::resume::{first, link, walk_min};
+use kw_table::{
+    Pass, Shared, clear_pass, load_epoch, load_head, load_link, load_min, load_pend, store_pass,
+};
+use kw_words::layout::Name;
+use kw_words::plain::pack_pass;
+use kw_world::activity::Activity;
+use kw_world::answer::Answer;
+use kw_world::event::Choice;
+use kw_world::local::Local;
+
+// Loads the epoch, by which a call begins.
+#[inline(always)]
+pub(crate) fn load_own_epoch(
+    shared: &Shared,
+    pass: &mut Pass,
+    local: &mut Local,
+    call: Call,
+) -> Happened
+    requires table { IsPassOf shared.now pass.old }
+    requires idle { activity_in pass.old ≡ Activity.Idle }
+    requires rested { local.old ≡ resting 0 }
+    requires range { is_call_in_range call ≡ true }
+    ensures makes { Makes shared.now pass.old (Choice.Begin call) result.told pass.new }
+    ensures line { outcome local.new result.done ≡ next_of product shared.now.opening.rows
+        (Choice.Begin call) local.old result.told }
+{
+    let choice = Choice::Begin(call);
+    let told = load_epoch(shared, pass, choice, Name::Epoch);
+    let done = begin(local, choice, told);
+    Happened { told, done }
+}
+
+// Stores that the seat announces no epoch any more, by which a call ends.
+#[inline(always)]
+pub(crate) fn clear_epoch(
+    shared: &Shared,
+    pass: &mut Pass,
+    local: &mut Local,
+    answer: Answer,
+) -> Happened
+    requires follows { Follows shared.now pass.old local.old }
+    requires leaving { local.old.activity ≡ Activity.Leave answer }
+    ensures makes { Makes shared.now pass.old Choice.Go result.told pass.new }
+    ensures line { outcome local.new result.done ≡ next_of product shared.now.opening.rows Choice.Go
+        local.old result.told }
+{
+    let word = Name::Pass(pass.number());
+    let none = pack_pass(None);
+    let told = clear_pass(shared, pass, Choice::Go, word, none);
+    let done = end_call(local, answer);
+    Happened { told, done }
+}
+
+// Stores the epoch that the seat announces.
+#[inline(always)]
+fn announce_epoch(shared: &Shared, pass: &mut Pass, local: &mut Local) -> Happened
+    requires follows { Follows shared.now pass.old local.old }
+    requires activity { local.old.activity ≡ Activity.Enter }
+    ensures makes { Makes shared.now pass.old Choice.Go result.told pass.new }
+    ensures line { outcome local.new result.done ≡ next_of product shared.now.opening.rows Choice.Go
+        local.old result.told }
+{
+    let word = Name::Pass(pass.number());
+    let epoch = pack_pass(Some(local.epoch));
+    let told = store_pass(shared, pass, Choice::Go, word, epoch);
+    let done = enter(local);
+    Happened { told, done }
+}
+
+// Loads the link to the first row.
+#[inline(always)]
+fn load_first_row(shared: &Shared, pass: &mut Pass, local: &mut Local) -> Happened
+    requires follows { Follows shared.now pass.old local.old }
+    requires activity { local.old.activity ≡ Activity.Start }
+    ensures makes { Makes shared.now pass.old Choice.Go result.told pass.new }
+    ensures line { outcome local.new result.done ≡ next_of product shared.now.opening.rows Choice.Go
+        local.old result.told }
+{
+    let told = load_head(shared, pass, Choice::Go, Name::Head);
+    let done = first(local, told);
+    Happened { told, done }
+}
+
+// Loads the link after the row.
+#[inline(always)]
+fn load_next_row(shared: &Shared, pass: &mut Pass, local: &mut Local) -> Happened
+    requires follows { Follows shared.now pass.old local.old }
+    requires activity { local.old.activity ≡ Activity.Walk }
+    ensures makes { Makes shared.now pass.old Choice.Go result.told pass.new }
+    ensures line { outcome local.new result.done ≡ next_of product shared.now.opening.rows Choice.Go
+        local.old result.told }
+{
+    let word = Name::Next(local.row);
+    let told = load_link(shared, pass, Choice::Go, word);
+    let done = link(local, told);
+    Happened { told, done }
+}
+
+// Loads the least key of the row after it.
+#[inline(always)]
+fn load_least_key(shared: &Shared, pass: &mut Pass, local: &mut Local) -> Happened
+    requires follows { Follows shared.now pass.old local.old }
+    requires activity { local.old.activity ≡ Activity.WalkMin }
+    ensures makes { Makes shared.now pass.old Choice.Go result.told pass.new }
+    ensures line { outcome local.new result.done ≡ next_of product shared.now.opening.rows Choice.Go
+        local.old result.told }
+{
+    let word = Name::Min(local.candidate);
+    let told = load_min(shared, pass, Choice::Go, word);
+    let done = walk_min(local, told);
+    Happened { told, done }
+}
+
+// Loads the entry of this seat.
+#[inline(always)]
+fn load_entry(shared: &Shared, pass: &mut Pass, local: &mut Local, entry: u32) -> Happened
+    requires follows { Follows shared.now pass.old local.old }
+    requires activity { local.old.activity ≡ Activity.Look entry }
+    ensures makes { Makes shared.now pass.old Choice.Go result.told pass.new }
+    ensures line { outcome local.new result.done ≡ next_of product shared.now.opening.rows Choice.Go
+        local.old result.told }
+{
+    let word = Name::Pend(local.row, entry);
+    let told = load_pend(shared, pass, Choice::Go, word);
+    let done = look(local, entry, told);
+    Happened { told, done }
+}
+
+// The next event, by what the local does next.
+#[inline(always)]
+fn event_along(shared: &Shared, pass: &mut Pass, local: &mut Local) -> Happened
+    requires follows { Follows shared.now pass.old local.old }
+    requires within { IsWithinCall local.old.activity }
+    ensures makes { Makes shared.now pass.old Choice.Go result.told pass.new }
+    ensures line { outcome local.new result.done ≡ next_of product shared.now.opening.rows Choice.Go
+        local.old result.told }
+{
+    match local.activity {
+        Activity::Enter => announce_epoch(shared, pass, local),
+        Activity::Start => load_first_row(shared, pass, local),
+        Activity::Walk => load_next_row(shared, pass, local),
+        Activity::WalkMin => load_least_key(shared, pass, local),
+        Activity::Look(entry) => load_entry(shared, pass, local, entry),
+        _ => event(shared, pass, local, Choice::Go),
+    }
+}
+
+/// Makes the next event in the middle of a call, as `go` does with the choice `Go`. The announcement of the epoch, the walk along the rows
+/// and the looks at entries are made by steps of their own. The answer is what the event was told. Takes no memory.
+#[inline(always)]
+pub fn go_along(shared: &Shared, pass: &mut Pass, local: &mut Local) -> u64
+    requires follows { Follows shared.now pass.old local.old }
+    requires within { IsWithinCall local.old.activity }
+    ensures goes { GoesTo shared.now pass.old pass.new }
+    ensures follows { Follows shared.now pass.new local.new }
+    ensures line { outcome local.new Moved ≡ next_of product (view pass.old).opening.rows Choice.Go
+        local.old result }
+    ensures met { MetAs pass.old pass.new local.old Choice.Go result }
+    ensures only { MetOnly pass.old pass.new local.old.activity result }
+    ensures calls { Keeps pass.old pass.new }
+    ensures held { held pass.new ≡ held pass.old }
+{
+    let happened = event_along(shared, pass, local);
+    happened.told
+}
