@@ -8,7 +8,7 @@ ghost use Rattle.kw_words.specs.declared.sizes.TheConstants.{CELLS};
 ghost use Rattle.kw_world.specs.Sane.{IsCellBelow, IsCopy, IsLocal};
 ghost use Rattle.kw_world.specs.Sizes.{product};
 ghost use Rattle.kw_world.specs.SeekTransitions.{infant};
-ghost use Rattle.kw_world.specs.WriteTransitions.{infant_cells, infant_count, infant_least, infant_link, first_listed, listed_after, last_of_key, last_with, has_key, row_or};
+ghost use Rattle.kw_world.specs.WriteTransitions.{infant_cells, infant_count, infant_least, first_listed, listed_after, last_of_key, last_with, has_key, row_or};
 
 use kw_cells::cell::Cell;
 use kw_words::count::Count;

@@ -1,5 +1,5 @@
 //! The operations that store what a new row holds, one for each sort of word.
-ghost use Rattle.std.specs.Prelude.{◌≡◌, ◌<◌, slice_get};
+ghost use Rattle.std.specs.Prelude.{◌≡◌, slice_get};
 ghost use Rattle.kw_cells.specs.Cells.{value_in};
 ghost use Rattle.kw_words.specs.Count.{count_word};
 ghost use Rattle.kw_words.specs.Link.{link_word};

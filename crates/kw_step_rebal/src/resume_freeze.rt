@@ -4,7 +4,7 @@ ghost use Rattle.kw_cells.specs.declared.limits.TheConstants.{MOST_NEEDED};
 ghost use Rattle.kw_words.specs.Pend.{pend_of, pend_word};
 ghost use Rattle.kw_words.specs.Scan.{scan_of};
 ghost use Rattle.kw_words.specs.declared.sizes.TheConstants.{SEATS};
-ghost use Rattle.kw_world.specs.FreezeTransitions.{count_frozen, to_scans, to_freeze_look, marking, freezing, freeze_met, entry_tried, to_scan_look, needing, scan_met, scan_helped};
+ghost use Rattle.kw_world.specs.FreezeTransitions.{count_frozen, to_freeze_look, marking, freezing, freeze_met, entry_tried, to_scan_look, needing, scan_met, scan_helped};
 ghost use Rattle.kw_world.specs.Sane.{IsEntry};
 ghost use Rattle.kw_world.specs.Sizes.{product};
 ghost use Rattle.kw_world.specs.Transition.{outcome};

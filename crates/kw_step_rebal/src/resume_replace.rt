@@ -3,7 +3,7 @@ ghost use Rattle.std.specs.Prelude.{◌≡◌, ◌≤◌, Some, length, ℕ};
 ghost use Rattle.kw_words.specs.Link.{link_of};
 ghost use Rattle.kw_words.specs.Plain.{key_of_word};
 ghost use Rattle.kw_words.specs.State.{state_of};
-ghost use Rattle.kw_world.specs.ReplaceTransitions.{at_before, before_transition, first_before, guess_before, guess_least, least_before, link_before, normalised, replaced, row_before, row_replaced};
+ghost use Rattle.kw_world.specs.ReplaceTransitions.{before_transition, first_before, guess_before, guess_least, least_before, link_before, normalised, replaced, row_before};
 ghost use Rattle.kw_world.specs.Transition.{outcome, row_linked, row_or_first};
 
 use crate::infant::next_at;

@@ -2,9 +2,8 @@
 ghost use Rattle.std.specs.Prelude.{◌≡◌, ◌==◌, ◌<◌, ◌≤◌, length};
 ghost use Rattle.kw_words.specs.State.{state_of, state_word};
 ghost use Rattle.kw_words.specs.declared.state.State.{State};
-ghost use Rattle.kw_world.specs.SeekTransitions.{at_infant, gave_back, give_back, given_back, has_more, moved_left, row_behind, row_taken, seek_first_transition, seek_met, seeking, take_row, to_seek, with_row};
+ghost use Rattle.kw_world.specs.SeekTransitions.{gave_back, give_back, given_back, has_more, row_behind, seek_first_transition, seek_met, seeking, take_row, to_seek};
 ghost use Rattle.kw_world.specs.Transition.{outcome};
-ghost use Rattle.kw_world.specs.declared.rebalance.Afterwards.{Afterwards};
 
 use crate::infant::next_at;
 use crate::resume::to;

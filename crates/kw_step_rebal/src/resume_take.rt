@@ -5,7 +5,6 @@
 ghost use Rattle.std.specs.Prelude.{◌≡◌, ◌≤◌, length};
 ghost use Rattle.kw_words.specs.Plain.{cell_of_link_word, key_of_word, value_of_word, version_of_word};
 ghost use Rattle.kw_words.specs.declared.sizes.TheConstants.{CELLS, SEATS};
-ghost use Rattle.kw_world.specs.ListTransitions.{at_first};
 ghost use Rattle.kw_world.specs.Sizes.{product};
 ghost use Rattle.kw_world.specs.TakeTransitions.{keeping, planned, take_met, take_past, take_version, taking, to_left, to_take};
 ghost use Rattle.kw_world.specs.Transition.{outcome, to};
