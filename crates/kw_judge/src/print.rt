@@ -106,7 +106,8 @@ pub fn push_open(out: &mut Vec<u8>, name: Name, first: u64, call: &Call) -> Resu
 
 /// Adds the line that says in which order these calls stand: their names in it, or `none` where there are none.
 pub fn push_order(out: &mut Vec<u8>, names: &[Name]) -> Result<(), Memory>
-    ensures { OnOk result (out.new.items ≡ out.old.items ++ order_text names.now ++ LINE_FEED ∷ []) }
+    ensures { OnOk result (out.new.items ≡ out.old.items
+        ++ order_text names.now ++ LINE_FEED ∷ []) }
 {
     out.extend_from_slice(b"order")?;
     if names.is_empty() {

@@ -6,3 +6,8 @@ pub mod Grows
 pub mod Runs
 pub mod Readers
 pub mod Texts
+pub mod Gathered
+pub mod TraceCalls
+pub mod TraceReplies
+pub mod GoodRecords
+pub mod WholeRecords

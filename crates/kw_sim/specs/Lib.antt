@@ -4,3 +4,5 @@ pub mod Queue
 pub mod State
 pub mod Meaning
 pub mod Output
+pub mod Recorded
+pub mod Sections

@@ -27,3 +27,9 @@ pub record IsOutputOf (rows : ℕ) (script bytes : List ℕ) : Type 0 where
   pub commands : List Command
   pub lines : AreLinesOf rows script commands
   pub output : IsOutputAt (script_state rows commands) bytes
+
+-- the state is what the commands lead to whose texts are the lines of the script
+pub record IsStateOf (rows : ℕ) (script : List ℕ) (st : State) : Type 0 where
+  pub commands : List Command
+  pub lines : AreLinesOf rows script commands
+  pub is : st ≡ script_state rows commands

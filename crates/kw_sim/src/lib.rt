@@ -12,5 +12,6 @@ pub mod command;
 pub mod parse;
 pub mod print;
 pub mod queue;
+pub mod recording;
 pub mod script;
 pub mod simulator;

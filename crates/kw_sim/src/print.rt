@@ -41,7 +41,8 @@ pub fn push_done(
     call: &Call,
     done: &StepDone,
 ) -> Result<(), Memory>
-    ensures { OnOk result (out.new.items ≡ out.old.items ++ done_text seat number call.now done.now) }
+    ensures { OnOk result (out.new.items ≡ out.old.items
+        ++ done_text seat number call.now done.now) }
 {
     match done {
         StepDone::Ended(reply) => push_ended(out, seat, number, call, reply),

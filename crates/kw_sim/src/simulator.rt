@@ -3,7 +3,7 @@
 //! A `Simulator` keeps the events that were made, the calls that each seat is still to make, and what is printed so far.
 //! Each rule of a script has one method here that is proved to be that rule: an event, a step of a seat, steps in number,
 //! steps until a kind of event, a line, and the order at the end. All events are made in `event`, by the `Trace`.
-ghost use Rattle.std.specs.Prelude.{◌≡◌, ◌+◌, ◌<◌, ◌≤◌, true, if◌then◌else◌, [], ◌∷◌, length, replicate, IfOk, OnOk, IfNone, IfSome};
+ghost use Rattle.std.specs.Prelude.{◌≡◌, ◌+◌, ◌<◌, ◌≤◌, true, if◌then◌else◌, [], ◌∷◌, length, replicate, IfOk, OnOk, IfNone, IfSome, MatchOption};
 ghost use Rattle.kw_words.specs.declared.sizes.TheConstants.{SEATS, MOST_ROWS};
 ghost use Rattle.kw_world.specs.declared.limits.TheConstants.{MOST_CALLS};
 ghost use Rattle.kw_line.specs.Line.{FitsCall};
@@ -11,12 +11,15 @@ ghost use Rattle.kw_sim.specs.declared.parse.TheConstants.{MOST_STEPS};
 ghost use Rattle.kw_sim.specs.Script.{IsCommand};
 ghost use Rattle.kw_sim.specs.State.{queue_of};
 ghost use Rattle.kw_sim.specs.Meaning.{event, FitsChoice, kind_at, after_event, is_idle, next_choice, taken, next_event, seat_step, go, until, is_kind, missed, queued, after_command, first_state};
+ghost use Rattle.kw_judge.specs.declared.record.TheConstants.{MOST_POSITION};
 ghost use Rattle.kw_sim.specs.Output.{IsOutputAt};
+ghost use Rattle.kw_sim.specs.Recorded.{IsTooMany, IsRecordAt};
 
 use crate::command::Command;
 use crate::parse::MOST_STEPS;
 use crate::print::{judged, push_done, push_missed};
 use crate::queue::Queue;
+use crate::recording::record_of;
 use kw_core::step::kind_of;
 use kw_judge::print::push_order;
 use kw_model::call::Call;
@@ -75,6 +78,15 @@ impl Simulator {
         let mut text = self.text;
         push_order(&mut text, &judged(alloc, &names)?)?;
         Ok(text)
+    }
+
+    /// The record of the calls so far; none where it has more calls than a record may have.
+    pub fn to_record(&self, alloc: Global) -> Result<Option<Vec<u8>>, Memory>
+        requires { length self.now.trace.events ≤ MOST_POSITION }
+        ensures { IfOk result (λ text. MatchOption text (IsTooMany self.now.trace) (λ bytes.
+            IsRecordAt self.now.trace bytes.items)) }
+    {
+        record_of(alloc, &self.trace)
     }
 
     /// Runs one line. Without memory a part of it may have been run and printed.

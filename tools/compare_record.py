@@ -1,0 +1,63 @@
+#!/usr/bin/env python3
+"""Compares `./kiwi simulate --record` with another program on scripts, and has each record judged.
+
+  tools/compare_record.py --with 'COMMAND' --scripts 'COMMAND {seed}'             500 scripts, of the seeds from 1 on
+  tools/compare_record.py --with 'COMMAND' --scripts 'COMMAND {seed}' 200 --seed 7
+  tools/compare_record.py --with 'COMMAND' --folder FOLDER                        each file of a folder is a script
+  tools/compare_record.py .. --without 'until [0-7] (KIND|KIND)'                  lines of scripts that are left out
+  tools/compare_record.py .. --program 'COMMAND' --judge 'COMMAND'                in place of `./kiwi simulate --record` and `./kiwi judge`
+
+The other program writes the record of a script on standard input as `simulate --record` does (docs/DEFINITIONS.md, "Records"), on
+the same event table with the same sizes (8 seats, 64 cells a row); it is written apart from this one, and none is in the repository.
+Both records must be the same byte for byte, and the statuses too. Each record that is written is then judged, and the verdict must be
+`yes`, with status 0. A command of --scripts writes a script to standard output, and {seed} in it is the seed. The last line says
+how many agreed; the status is 1 where one did not, or where a script could not be had."""
+
+import argparse
+import re
+import shlex
+import sys
+
+from compare_simulate import first_difference, generated, stored, without_lines
+from kiwi_map import KIWI, ended
+
+
+def main():
+    options = argparse.ArgumentParser(description=__doc__, formatter_class=argparse.RawDescriptionHelpFormatter)
+    options.add_argument("count", nargs="?", type=int, default=500)
+    options.add_argument("--seed", type=int, default=1)
+    options.add_argument("--with", dest="other", required=True, help="the command to compare with")
+    scripts = options.add_mutually_exclusive_group(required=True)
+    scripts.add_argument("--scripts", help="a command that writes the script of a {seed}")
+    scripts.add_argument("--folder", help="a folder of scripts")
+    options.add_argument("--without", help="a pattern of lines of scripts that are left out")
+    options.add_argument("--program", help="the command that is compared, if not ./kiwi simulate --record")
+    options.add_argument("--judge", help="the command that judges, if not ./kiwi judge")
+    options = options.parse_args()
+    program = shlex.split(options.program) if options.program else [KIWI, "simulate", "--record"]
+    judge = shlex.split(options.judge) if options.judge else [KIWI, "judge"]
+    left_out = re.compile(options.without.encode()) if options.without else None
+    found = generated(options.scripts, options.seed, options.count) if options.scripts else stored(options.folder)
+    passed = differ = 0
+    for name, text in found:
+        if left_out:
+            text = without_lines(text, left_out)
+        wanted, _, status = ended(shlex.split(options.other), text)
+        got, _, ended_with = ended(program, text)
+        if (got, ended_with) != (wanted, status):
+            differ += 1
+            print(f"{name} differs: statuses {ended_with} and {status}; {first_difference(got, wanted)}")
+            continue
+        if status == 0:
+            verdict, _, judged = ended(judge, got)
+            if (verdict, judged) != (b"yes\n", 0):
+                differ += 1
+                print(f"{name}: its record is judged {verdict!r}, status {judged}")
+                continue
+        passed += 1
+    print(f"{passed} passed, {differ} failed")
+    return 1 if differ or not passed else 0
+
+
+if __name__ == "__main__":
+    sys.exit(main())
