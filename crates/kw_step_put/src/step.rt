@@ -14,7 +14,7 @@ use kw_words::sizes::{CELLS, SEATS};
 use kw_world::event::{Event, StepDone};
 use kw_world::world::World;
 
-/// Makes one event of the world, which is any but one of a walk along the rows.
+/// Makes one event of the world, which is any but one of a walk along the rows or of a rebalance.
 ///
 /// `Skipped` comes exactly where the seat is idle and begins nothing. The world is as it was after it, and without memory,
 /// which only the pairs of a scan take, at the end of a row.

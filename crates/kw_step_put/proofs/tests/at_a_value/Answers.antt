@@ -6,6 +6,7 @@ use Rattle.kw_world.specs.declared.local.Local.{Local}
 use Rattle.kw_world.specs.Local.{resting}
 use Rattle.kw_world.specs.Sane.{IsLocal, IsPair, IsMark, IsCopy}
 use Rattle.kw_world.specs.Sizes.{product}
+use Rattle.kw_world.proofs.Opens.{none_ranges}
 use Rattle.kw_step_put.proofs.tests.at_a_value.Goals as goal
 
 -- the scan, from what an idle seat knows
@@ -37,6 +38,7 @@ in_range = record {
   held = tt;
   walked = omega arith;
   lost = omega arith;
+  rebalance = none_ranges product;
 }
 
 pub returns-clause-ranges : goal.returns-clause-ranges
