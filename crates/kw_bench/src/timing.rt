@@ -35,27 +35,17 @@ pub struct PutFigure {
     pub one: u128,
 }
 
-// A map of one row that holds what is asked for, and its four passes.
-#[derive(Drop)]
-struct Loaded {
-    kiwi: Kiwi,
-    first: Pass,
-    second: Pass,
-    third: Pass,
-    fourth: Pass,
-}
-
 /// Want of memory, as the program's own error.
 pub(crate) fn no_memory<E: Drop>(_error: E) -> io::Error {
     io::Error::from(io::ErrorKind::OutOfMemory)
 }
 
-// An empty map of one row, and its passes.
-fn open(alloc: Global) -> Result<Loaded, Memory>
-    ensures first { IfOk result (λ made. IsIdle made.kiwi made.first) }
-    ensures second { IfOk result (λ made. IsIdle made.kiwi made.second) }
-    ensures third { IfOk result (λ made. IsIdle made.kiwi made.third) }
-    ensures fourth { IfOk result (λ made. IsIdle made.kiwi made.fourth) }
+// An empty map of one row, and its four passes.
+fn open(alloc: Global) -> Result<(Kiwi, Pass, Pass, Pass, Pass), Memory>
+    ensures first { IfOk result (λ made. IsIdle made.0 made.1) }
+    ensures second { IfOk result (λ made. IsIdle made.0 made.2) }
+    ensures third { IfOk result (λ made. IsIdle made.0 made.3) }
+    ensures fourth { IfOk result (λ made. IsIdle made.0 made.4) }
 {
     let (kiwi, mut passes) = Kiwi::open(alloc, 1, 4)?;
     let (Some(fourth), Some(third), Some(second), Some(first)) = (
@@ -66,13 +56,7 @@ fn open(alloc: Global) -> Result<Loaded, Memory>
     ) else {
         unreachable!()
     };
-    Ok(Loaded {
-        kiwi,
-        first,
-        second,
-        third,
-        fourth,
-    })
+    Ok((kiwi, first, second, third, fourth))
 }
 
 /// Times calls that read, on a map of one row that holds this load: by one thread, by two and by four, each on a map of its own.
@@ -99,10 +83,10 @@ fn time_by_one<T: Threads + Wait + Sync>(
     reading: Reading,
     calls: u32,
 ) -> io::Result<u128> {
-    let map = open(rt.alloc()).map_err(no_memory)?;
-    let first = put_cells(threads, &map.kiwi, map.first, load);
+    let (kiwi, first, ..) = open(rt.alloc()).map_err(no_memory)?;
+    let first = put_cells(threads, &kiwi, first, load);
     let start = Instant::now(rt)?;
-    read(&map.kiwi, first, load, reading, calls);
+    read(&kiwi, first, load, reading, calls);
     Ok(start.elapsed(rt)?.as_nanos())
 }
 
@@ -114,10 +98,8 @@ fn time_by_two<T: Threads + Wait + Sync>(
     reading: Reading,
     calls: u32,
 ) -> io::Result<u128> {
-    let map = open(rt.alloc()).map_err(no_memory)?;
-    let kiwi = map.kiwi;
-    let second = map.second;
-    let first = put_cells(threads, &kiwi, map.first, load);
+    let (kiwi, first, second, ..) = open(rt.alloc()).map_err(no_memory)?;
+    let first = put_cells(threads, &kiwi, first, load);
     let start = Instant::now(rt)?;
     join(
         threads,
@@ -135,10 +117,8 @@ fn time_by_four<T: Threads + Wait + Sync>(
     reading: Reading,
     calls: u32,
 ) -> io::Result<u128> {
-    let map = open(rt.alloc()).map_err(no_memory)?;
-    let kiwi = map.kiwi;
-    let (second, third, fourth) = (map.second, map.third, map.fourth);
-    let first = put_cells(threads, &kiwi, map.first, load);
+    let (kiwi, first, second, third, fourth) = open(rt.alloc()).map_err(no_memory)?;
+    let first = put_cells(threads, &kiwi, first, load);
     let start = Instant::now(rt)?;
     join(
         threads,
@@ -178,9 +158,9 @@ pub fn time_puts<T: Threads + Wait + Sync>(
     let maps = calls / load.cells.max(1);
     let mut one: u128 = 0;
     for _ in 0..maps {
-        let map = open(rt.alloc()).map_err(no_memory)?;
+        let (kiwi, first, ..) = open(rt.alloc()).map_err(no_memory)?;
         let start = Instant::now(rt)?;
-        put_cells(threads, &map.kiwi, map.first, load);
+        put_cells(threads, &kiwi, first, load);
         one = one.saturating_add(start.elapsed(rt)?.as_nanos());
     }
     Ok(PutFigure {
