@@ -1,5 +1,5 @@
 -- What the program reads of `clap`'s parse.
-use Rattle.std.proofs.Common.{◌≡◌, ℕ, ◌<◌, ◌≤◌, ◌^◌, Bool, true, false, ◌&&◌, ◌⊎◌, cond, Option, Some, None, List, [], ◌∷◌, map, length, drop, refl, sym, ◌∙◌, ap, ap₂, subst, arith}
+use Rattle.std.proofs.Common.{◌≡◌, ℕ, ◌<◌, ◌≤◌, ◌^◌, Bool, true, false, ◌&&◌, ◌⊎◌, cond, Option, Some, None, List, [], ◌∷◌, map, codes, length, drop, refl, sym, ◌∙◌, ap, ap₂, subst, arith}
 use mathlib.Core.Logic.{⊎_elim}
 use Rattle.std.specs.Prelude.{nat_le, option_map, Result, Ok, Err}
 use Rattle.std.specs.List.{list_all}
@@ -10,10 +10,10 @@ use Rattle.std.proofs.lemmas.Str.Parse.{parse_digits}
 use Rattle.kw_command.specs.declared.words.Arguments.{Arguments}
 use Rattle.kw_command.specs.Words.{is_digits, is_known, number_in}
 use Rattle.kw_command.specs.Reading.{no_arguments, reads}
-use Rattle.kw_command.specs.Clap.{Field, start, count, workers, rows, id_of, least_of, most_of, kiwi}
+use Rattle.kw_command.specs.Clap.{Field, start, count, workers, rows, id_of, flag_id, least_of, most_of, kiwi}
 use Rattle.kw_command.proofs.Numbers.{all_digits, own}
-use Rattle.kw_command.proofs.Walk.{Use, row_for, value_in, one_of-uses, stands, kinds_from, fault_of-kiwi}
-use Rattle.kw_command.proofs.Parsed.{field_of, Fits, Holds}
+use Rattle.kw_command.proofs.Walk.{Use, row_for, value_in, flag_in, flag_text, one_of-uses, one_of-flag, stands, kinds_from, fault_of-kiwi}
+use Rattle.kw_command.proofs.Parsed.{field_of, Fits, HasNumbers}
 use Rattle.kw_command.proofs.Tokens.{first, read_all, IsRead, IsRefused}
 use Rattle.kw_command.proofs.Known.{are_digits, first_digit, no_minus, first_known, tokens_of}
 use Rattle.clap.specs.Lexer.{without_minus}
@@ -71,7 +71,7 @@ read_of {E} least most n w gives parses fits is None h =
 
 -- what the program reads of an argument
 pub gets : {E : Type 0} (f : Field) (us : List Use) (a : Arguments) (m : ArgMatches) (r : Option ℕ) (gives : List ℕ → Result ℕ E → Type 0) → ((t : List ℕ) (x : Result ℕ E) → gives t x → ParsesUnsigned 32 10 t x)
-    → rows_of (found_of m) ≡ map row_for us → Holds us a → (one_text (found_of m) (id_of f) ≡ None → r ≡ None) → ((t : List ℕ) → one_text (found_of m) (id_of f) ≡ Some t → ReadsOne gives t r) → r ≡ field_of f a
+    → rows_of (found_of m) ≡ map row_for us → HasNumbers us a → (one_text (found_of m) (id_of f) ≡ None → r ≡ None) → ((t : List ℕ) → one_text (found_of m) (id_of f) ≡ Some t → ReadsOne gives t r) → r ≡ field_of f a
 gets f us a m r gives parses rows_are holds none some =
     let text : one_text (found_of m) (id_of f) ≡ option_map without_minus (value_in f us) = one_text-rows (found_of m) (id_of f) ∙ (ap (one_of (id_of f)) rows_are ∙ one_of-uses f us) in
     at (value_in f us) refl (field_of f a) (holds f) text
@@ -84,6 +84,16 @@ gets f us a m r gives parses rows_are holds none some =
         let plain : without_minus w ≡ w = no_minus_first w (number_parts (least_of f) (most_of f) n w h).0 in
         read_of (least_of f) (most_of f) n w gives parses (most_fits f) h r (some w (t ∙ ap (λ (x : List ℕ). Some x) plain))
 
+-- whether the program finds the flag
+pub gets_flag : (us : List Use) (a : Arguments) (m : ArgMatches) (r : Bool) → rows_of (found_of m) ≡ map row_for us → flag_in us ≡ Some a.recorded
+    → (one_text (found_of m) flag_id ≡ Some (codes "true") → r ≡ true) → (one_text (found_of m) flag_id ≡ Some (codes "false") → r ≡ false) → r ≡ a.recorded
+gets_flag us a m r rows_are is if_true if_false =
+    at a.recorded (one_text-rows (found_of m) flag_id ∙ (ap (one_of flag_id) rows_are ∙ (one_of-flag us ∙ ap (option_map flag_text) is)))
+  where
+    at : (b : Bool) → one_text (found_of m) flag_id ≡ Some (flag_text b) → r ≡ b
+    at true e = if_true e
+    at false e = if_false e
+
 -- ---- the parse of all words
 
 known_rest : (ws : List (List ℕ)) → list_all is_known ws ≡ true → list_all is_known (drop 1 ws) ≡ true
@@ -94,7 +104,7 @@ parsed : (ws : List (List ℕ)) → list_all is_known ws ≡ true → IsRead [] 
 parsed ws e =
     let t = tokens_of ws e in
     subst (λ (x : List (List ℕ)). IsRead [] None no_arguments 1 x ⊎ IsRefused [] None no_arguments 1 x) (sym t.words)
-    (read_all t.tokens [] None no_arguments first t.are (λ f. fits f) tt (λ b e. let is : no_arguments ≡ b = cc in (ap (λ (x : Arguments). x.start) (sym is), ap (λ (x : Arguments). x.count) (sym is))))
+    (read_all t.tokens [] None no_arguments first t.are ((λ f. fits f), refl) tt (λ b e. let is : no_arguments ≡ b = cc in (ap (λ (x : Arguments). x.start) (sym is), ap (λ (x : Arguments). x.count) (sym is))))
   where
     fits : (f : Field) → Fits f None (field_of f no_arguments)
     fits start = tt
@@ -109,7 +119,8 @@ pub record IsParse (ws : List (List ℕ)) (m : ArgMatches) : Type 0 where
   pub found : List Use
   pub after : Arguments
   pub rows_are : rows_of (found_of m) ≡ map row_for found
-  pub holds : Holds found after
+  pub numbers : HasNumbers found after
+  pub flag_is : flag_in found ≡ Some after.recorded
   pub reads_are : reads (Some no_arguments) (drop 1 ws) ≡ Some after
 
 -- a parse that succeeds has found what reading the words gives
@@ -118,7 +129,7 @@ pub parse_is : (app : App) (texts ws : List (List ℕ)) (m : ArgMatches) → app
 parse_is app texts ws m is same known matches kinds =
     let none : kinds_from (stands [] None 1) (drop 1 ws) ≡ [] = sym (ap₂ fault_of is same ∙ fault_of-kiwi ws) ∙ kinds (ap is_simple_and_free is ∙ is_simple_kiwi.1) in
     let found : rows_of (found_of m) ≡ matches_of kiwi ws = matches (ap is_simple is ∙ is_simple_kiwi.0) ∙ ap₂ matches_of is same in
-    ⊎_elim (λ r. record { found = r.found; after = r.after; rows_are = found ∙ r.rows_are; holds = r.holds; reads_are = r.reads_are }) (λ r. absurd (r.kinds none)) (parsed (drop 1 ws) (known_rest ws known))
+    ⊎_elim (λ r. record { found = r.found; after = r.after; rows_are = found ∙ r.rows_are; numbers = r.numbers; flag_is = r.flag_is; reads_are = r.reads_are }) (λ r. absurd (r.kinds none)) (parsed (drop 1 ws) (known_rest ws known))
 
 -- a parse that fails, and not for memory, was of words that are no arguments
 pub refused_is : (app : App) (texts ws : List (List ℕ)) (e : Error) → app ≡ kiwi → texts ≡ ws → list_all is_known ws ≡ true

@@ -1,4 +1,4 @@
--- Words that are tested one by one: each is the name of an option, or a word that `clap` takes for a number just where it is one.
+-- Words that are tested one by one: each is the name of an option, the flag, or a word that `clap` takes for a number just where it is one.
 use Rattle.std.proofs.Common.{◌≡◌, ◌==◌, ℕ, ◌<◌, ◌≤◌, ◌^◌, Bool, true, false, ◌&&◌, ◌||◌, cond, Some, None, is_some, List, [], ◌∷◌, length, codes, refl, sym, ◌∙◌, ap, arith}
 use Rattle.std.specs.Prelude.{nat_le, nat_lt, ℤ, pos, neg_ℤ, int_le}
 use Rattle.std.specs.Char.{is_ascii_digit, digit_value}
@@ -12,7 +12,7 @@ use Rattle.kw_command.specs.declared.words.TheConstants.{MOST_DIGITS}
 use Rattle.kw_command.specs.Words.{is_digits, is_known, number_in}
 use Rattle.kw_command.specs.Clap.{least_of, most_of}
 use Rattle.kw_command.proofs.Numbers.{all_digits, own}
-use Rattle.kw_command.proofs.Tokens.{Token, workers_name, rows_name, plain, token_word, words_of, IsToken}
+use Rattle.kw_command.proofs.Tokens.{Token, workers_name, rows_name, flag_name, plain, token_word, words_of, IsToken}
 use Rattle.clap.specs.ValueTests.{is_numeral, is_signed_in, fits_i64}
 
 -- the parts of the test for digits
@@ -113,16 +113,18 @@ digits_token (x ∷ xs) e =
     }
 
 token_of : (w : List ℕ) → is_known w ≡ true → IsTokenOf w
-token_of w e = at (bytes_eq w (codes "replay")) refl (bytes_eq w (codes "simulate")) refl (bytes_eq w (codes "gen")) refl (bytes_eq w (codes "--workers")) refl (bytes_eq w (codes "--rows")) refl e
+token_of w e = at (bytes_eq w (codes "replay")) refl (bytes_eq w (codes "simulate")) refl (bytes_eq w (codes "judge")) refl (bytes_eq w (codes "gen")) refl (bytes_eq w (codes "--workers")) refl (bytes_eq w (codes "--rows")) refl (bytes_eq w (codes "--record")) refl e
   where
-    at : (a : Bool) → bytes_eq w (codes "replay") ≡ a → (b : Bool) → bytes_eq w (codes "simulate") ≡ b → (c : Bool) → bytes_eq w (codes "gen") ≡ c → (d : Bool) → bytes_eq w (codes "--workers") ≡ d
-        → (r : Bool) → bytes_eq w (codes "--rows") ≡ r → (a || (b || (c || (d || (r || is_digits w))))) ≡ true → IsTokenOf w
-    at true f b g c h d i r j e = record { token = plain 114 (codes "eplay"); word = (bytes_eq-Decides w (codes "replay")).0 f; is = (refl, λ f. refl) }
-    at false f true g c h d i r j e = record { token = plain 115 (codes "imulate"); word = (bytes_eq-Decides w (codes "simulate")).0 g; is = (refl, λ f. refl) }
-    at false f false g true h d i r j e = record { token = plain 103 (codes "en"); word = (bytes_eq-Decides w (codes "gen")).0 h; is = (refl, λ f. refl) }
-    at false f false g false h true i r j e = record { token = workers_name; word = (bytes_eq-Decides w (codes "--workers")).0 i; is = tt }
-    at false f false g false h false i true j e = record { token = rows_name; word = (bytes_eq-Decides w (codes "--rows")).0 j; is = tt }
-    at false f false g false h false i false j e = digits_token w e
+    at : (a : Bool) → bytes_eq w (codes "replay") ≡ a → (b : Bool) → bytes_eq w (codes "simulate") ≡ b → (j : Bool) → bytes_eq w (codes "judge") ≡ j → (c : Bool) → bytes_eq w (codes "gen") ≡ c → (d : Bool) → bytes_eq w (codes "--workers") ≡ d
+        → (r : Bool) → bytes_eq w (codes "--rows") ≡ r → (s : Bool) → bytes_eq w (codes "--record") ≡ s → (a || (b || (j || (c || (d || (r || (s || is_digits w))))))) ≡ true → IsTokenOf w
+    at true f b g j k c h d i r l s m e = record { token = plain 114 (codes "eplay"); word = (bytes_eq-Decides w (codes "replay")).0 f; is = (refl, λ f. refl) }
+    at false f true g j k c h d i r l s m e = record { token = plain 115 (codes "imulate"); word = (bytes_eq-Decides w (codes "simulate")).0 g; is = (refl, λ f. refl) }
+    at false f false g true k c h d i r l s m e = record { token = plain 106 (codes "udge"); word = (bytes_eq-Decides w (codes "judge")).0 k; is = (refl, λ f. refl) }
+    at false f false g false k true h d i r l s m e = record { token = plain 103 (codes "en"); word = (bytes_eq-Decides w (codes "gen")).0 h; is = (refl, λ f. refl) }
+    at false f false g false k false h true i r l s m e = record { token = workers_name; word = (bytes_eq-Decides w (codes "--workers")).0 i; is = tt }
+    at false f false g false k false h false i true l s m e = record { token = rows_name; word = (bytes_eq-Decides w (codes "--rows")).0 l; is = tt }
+    at false f false g false k false h false i false l true m e = record { token = flag_name; word = (bytes_eq-Decides w (codes "--record")).0 m; is = tt }
+    at false f false g false k false h false i false l false m e = digits_token w e
 
 pub record AreTokensOf (ws : List (List ℕ)) : Type 0 where
   pub tokens : List Token

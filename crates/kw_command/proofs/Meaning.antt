@@ -1,13 +1,27 @@
 -- What words mean, as a function of them: it gives just the command that the definition gives.
-use Rattle.std.proofs.Common.{◌≡◌, ℕ, Bool, true, false, cond, Option, None, List, [], ◌∷◌, codes, refl, ◌∙◌, ap}
+use Rattle.std.proofs.Common.{◌≡◌, ℕ, Bool, true, false, cond, Option, Some, None, List, [], ◌∷◌, codes, refl, ◌∙◌, ap, subst}
 use Rattle.std.specs.List.{flat_map}
 use Rattle.std.specs.Str.{bytes_eq}
 use Rattle.std.proofs.lemmas.Slice.Eq.{bytes_eq-Decides}
 use Rattle.kw_command.specs.declared.words.Arguments.{Arguments}
-use Rattle.kw_command.specs.Words.{Part, number, workers, rows, part_words}
-use Rattle.kw_command.specs.Reading.{with_workers, with_rows, with_number, then_with, reads}
+use Rattle.kw_command.specs.Words.{Part, number, workers, rows, recorded, part_words}
+use Rattle.kw_command.specs.Reading.{with_workers, with_rows, with_number, with_flag, with_alone, then_with, reads}
 
 -- ---- the words read one after the other, and the parts that they are
+
+-- the arguments with the flag, where there may be none any more
+abbrev pub then_flag : Option Arguments → Option Arguments
+then_flag None = None
+then_flag (Some a) = with_flag a
+
+-- a word by itself is the flag or a number
+pub alone_flag : (o : Option Arguments) (w : List ℕ) → bytes_eq w (codes "--record") ≡ true → then_with with_alone o w ≡ then_flag o
+alone_flag None w e = refl
+alone_flag (Some a) w e = ap (λ (b : Bool). cond b (with_flag a) (with_number a w)) e
+
+pub alone_number : (o : Option Arguments) (w : List ℕ) → bytes_eq w (codes "--record") ≡ false → then_with with_alone o w ≡ then_with with_number o w
+alone_number None w e = refl
+alone_number (Some a) w e = ap (λ (b : Bool). cond b (with_flag a) (with_number a w)) e
 
 -- the arguments that parts add
 abbrev pub adds : Option Arguments → List Part → Option Arguments
@@ -15,6 +29,7 @@ adds o [] = o
 adds o (number w ∷ parts) = adds (then_with with_number o w) parts
 adds o (workers w ∷ parts) = adds (then_with with_workers o w) parts
 adds o (rows w ∷ parts) = adds (then_with with_rows o w) parts
+adds o (recorded ∷ parts) = adds (then_flag o) parts
 
 -- where there are none any more, there stay none
 pub adds_none : (parts : List Part) → adds None parts ≡ None
@@ -22,6 +37,7 @@ adds_none [] = refl
 adds_none (number w ∷ parts) = adds_none parts
 adds_none (workers w ∷ parts) = adds_none parts
 adds_none (rows w ∷ parts) = adds_none parts
+adds_none (recorded ∷ parts) = adds_none parts
 
 same_either_way : {X : Type 0} (b : Bool) (x y z : X) → x ≡ z → y ≡ z → cond b x y ≡ z
 same_either_way true x y z h k = h
@@ -49,16 +65,27 @@ more_rows o b w x ws e c = record { parts = rows x ∷ c.parts; cut = ap (λ (l 
 more_numbers : (o b : Option Arguments) (w : List ℕ) (ws : List (List ℕ)) → IsCut (then_with with_number o w) ws b → IsCut o (w ∷ ws) b
 more_numbers o b w ws c = record { parts = number w ∷ c.parts; cut = ap (λ (l : List (List ℕ)). w ∷ l) c.cut; adds_are = c.adds_are }
 
+more_flags : (o b : Option Arguments) (w : List ℕ) (ws : List (List ℕ)) → w ≡ codes "--record" → IsCut (then_flag o) ws b → IsCut o (w ∷ ws) b
+more_flags o b w ws e c = record { parts = recorded ∷ c.parts; cut = ap (λ (l : List ℕ). l ∷ ws) e ∙ ap (λ (l : List (List ℕ)). codes "--record" ∷ l) c.cut; adds_are = c.adds_are }
+
+-- a word by itself is a part of its own
+more_alone : (o b : Option Arguments) (w : List ℕ) (ws : List (List ℕ)) → IsCut (then_with with_alone o w) ws b → IsCut o (w ∷ ws) b
+more_alone o b w ws c = at (bytes_eq w (codes "--record")) refl
+  where
+    at : (p : Bool) → bytes_eq w (codes "--record") ≡ p → IsCut o (w ∷ ws) b
+    at true e = more_flags o b w ws ((bytes_eq-Decides w (codes "--record")).0 e) (subst (λ (x : Option Arguments). IsCut x ws b) (alone_flag o w e) c)
+    at false e = more_numbers o b w ws (subst (λ (x : Option Arguments). IsCut x ws b) (alone_number o w e) c)
+
 cut_by : (o b : Option Arguments) (w x : List ℕ) (ws : List (List ℕ)) (p q : Bool) → bytes_eq w (codes "--workers") ≡ p → bytes_eq w (codes "--rows") ≡ q
     → IsCut (then_with with_workers o x) ws (reads (then_with with_workers o x) ws) → IsCut (then_with with_rows o x) ws (reads (then_with with_rows o x) ws)
-    → IsCut (then_with with_number o w) (x ∷ ws) (reads (then_with with_number o w) (x ∷ ws))
-    → IsCut o (w ∷ x ∷ ws) (cond p (reads (then_with with_workers o x) ws) (cond q (reads (then_with with_rows o x) ws) (reads (then_with with_number o w) (x ∷ ws))))
+    → IsCut (then_with with_alone o w) (x ∷ ws) (reads (then_with with_alone o w) (x ∷ ws))
+    → IsCut o (w ∷ x ∷ ws) (cond p (reads (then_with with_workers o x) ws) (cond q (reads (then_with with_rows o x) ws) (reads (then_with with_alone o w) (x ∷ ws))))
 cut_by o b w x ws true q e f h i j = more_workers o _ w x ws ((bytes_eq-Decides w (codes "--workers")).0 e) h
 cut_by o b w x ws false true e f h i j = more_rows o _ w x ws ((bytes_eq-Decides w (codes "--rows")).0 f) i
-cut_by o b w x ws false false e f h i j = more_numbers o _ w (x ∷ ws) j
+cut_by o b w x ws false false e f h i j = more_alone o _ w (x ∷ ws) j
 
 pub cut_of : (o : Option Arguments) (ws : List (List ℕ)) → IsCut o ws (reads o ws)
 cut_of o [] = record { parts = []; cut = refl; adds_are = refl }
-cut_of o (w ∷ []) = record { parts = number w ∷ []; cut = refl; adds_are = refl }
+cut_of o (w ∷ []) = more_alone o _ w [] (record { parts = []; cut = refl; adds_are = refl })
 cut_of o (w ∷ x ∷ ws) = cut_by o o w x ws (bytes_eq w (codes "--workers")) (bytes_eq w (codes "--rows")) refl refl
-    (cut_of (then_with with_workers o x) ws) (cut_of (then_with with_rows o x) ws) (cut_of (then_with with_number o w) (x ∷ ws))
+    (cut_of (then_with with_workers o x) ws) (cut_of (then_with with_rows o x) ws) (cut_of (then_with with_alone o w) (x ∷ ws))

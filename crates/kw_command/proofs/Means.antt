@@ -6,7 +6,7 @@ use Rattle.kw_words.specs.declared.sizes.TheConstants.{MOST_ROWS}
 use Rattle.kw_command.specs.declared.command.Command.{Command}
 use Rattle.kw_command.specs.declared.command.Command.TheVariants as command
 use Rattle.kw_command.specs.declared.command.TheConstants.{MOST_WORKERS, DEFAULT_WORKERS, FEWEST_ROWS, DEFAULT_ROWS, SIMULATED_ROWS, MOST_START, MOST_LINES}
-use Rattle.kw_command.specs.Words.{Part, number, workers, rows, part_words, numbers, all_workers, all_rows, is_known, number_in, IsOption, AreNumbers, Makes, Means, command_word}
+use Rattle.kw_command.specs.Words.{Part, number, workers, rows, recorded, part_words, numbers, all_workers, all_rows, is_known, number_in, IsOption, AreNumbers, Makes, Means, command_word}
 use Rattle.kw_command.proofs.Getters.{number_parts}
 
 abbrev IsKnown : List ℕ → Type 0
@@ -14,19 +14,19 @@ IsKnown w = is_known w ≡ true
 
 number_known : (least most n : ℕ) (w : List ℕ) → number_in least most w ≡ Some n → IsKnown w
 number_known least most n w e =
-    ap (λ (b : Bool). bytes_eq w (codes "replay") || (bytes_eq w (codes "simulate") || (bytes_eq w (codes "gen") || (bytes_eq w (codes "--workers") || (bytes_eq w (codes "--rows") || b))))) (number_parts least most n w e).0
-    ∙ at (bytes_eq w (codes "replay")) (bytes_eq w (codes "simulate")) (bytes_eq w (codes "gen")) (bytes_eq w (codes "--workers")) (bytes_eq w (codes "--rows"))
+    ap (λ (b : Bool). bytes_eq w (codes "replay") || (bytes_eq w (codes "simulate") || (bytes_eq w (codes "judge") || (bytes_eq w (codes "gen") || (bytes_eq w (codes "--workers") || (bytes_eq w (codes "--rows") || (bytes_eq w (codes "--record") || b))))))) (number_parts least most n w e).0
+    ∙ at (bytes_eq w (codes "replay")) (bytes_eq w (codes "simulate")) (bytes_eq w (codes "judge")) (bytes_eq w (codes "gen")) (bytes_eq w (codes "--workers")) (bytes_eq w (codes "--rows")) (bytes_eq w (codes "--record"))
   where
     or_true : (b : Bool) → (b || true) ≡ true
     or_true true = refl
     or_true false = refl
 
-    at : (a b c d r : Bool) → (a || (b || (c || (d || (r || true))))) ≡ true
-    at true b c d r = refl
-    at false true c d r = refl
-    at false false true d r = refl
-    at false false false true r = refl
-    at false false false false r = or_true r
+    or_stays : (a b : Bool) → b ≡ true → (a || b) ≡ true
+    or_stays true b e = refl
+    or_stays false b e = e
+
+    at : (a b j c d r f : Bool) → (a || (b || (j || (c || (d || (r || (f || true))))))) ≡ true
+    at a b j c d r f = or_stays a _ (or_stays b _ (or_stays j _ (or_stays c _ (or_stays d _ (or_stays r _ (or_true f))))))
 
 option_known : (least most default n : ℕ) (ws : List (List ℕ)) → IsOption least most default ws n → AllByRecursion IsKnown ws
 option_known least most default n [] h = tt
@@ -50,15 +50,18 @@ parts_known [] n w r = refl
 parts_known (number x ∷ parts) n w r = both (is_known x) (list_all is_known (flat_map part_words parts)) n.0 (parts_known parts n.1 w r)
 parts_known (workers x ∷ parts) n w r = both (is_known x) (list_all is_known (flat_map part_words parts)) w.0 (parts_known parts n w.1 r)
 parts_known (rows x ∷ parts) n w r = both (is_known x) (list_all is_known (flat_map part_words parts)) r.0 (parts_known parts n w r.1)
+parts_known (recorded ∷ parts) n w r = parts_known parts n w r
 
 makes_known : (parts : List Part) (c : Command) → Makes parts c → list_all is_known (flat_map part_words parts) ≡ true
 makes_known parts (command.Replay w r) h = parts_known parts (none_known (numbers parts) h.0) (option_known 1 MOST_WORKERS DEFAULT_WORKERS w (all_workers parts) h.1) (option_known FEWEST_ROWS MOST_ROWS DEFAULT_ROWS r (all_rows parts) h.2)
-makes_known parts (command.Simulate r) h = parts_known parts (none_known (numbers parts) h.0) (none_known (all_workers parts) h.1) (option_known FEWEST_ROWS MOST_ROWS SIMULATED_ROWS r (all_rows parts) h.2)
+makes_known parts command.Judge h = ap (λ (x : List Part). list_all is_known (flat_map part_words x)) h
+makes_known parts (command.Simulate r b) h = parts_known parts (none_known (numbers parts) h.0) (none_known (all_workers parts) h.1) (option_known FEWEST_ROWS MOST_ROWS SIMULATED_ROWS r (all_rows parts) h.2)
 makes_known parts (command.Gen s n w r) h = parts_known parts (both_known s n (numbers parts) h.0) (option_known 1 MOST_WORKERS DEFAULT_WORKERS w (all_workers parts) h.1) (option_known FEWEST_ROWS MOST_ROWS DEFAULT_ROWS r (all_rows parts) h.2)
 
 word_known : (c : Command) → is_known (command_word c) ≡ true
 word_known (command.Replay w r) = refl
-word_known (command.Simulate r) = refl
+word_known (command.Simulate r b) = refl
+word_known command.Judge = refl
 word_known (command.Gen s n w r) = refl
 
 pub means_known : (ws : List (List ℕ)) (c : Command) → Means ws c → list_all is_known ws ≡ true

@@ -1,5 +1,5 @@
 -- What parts add, option by option, and which command that makes.
-use Rattle.std.proofs.Common.{◌≡◌, ℕ, Option, Some, None, List, [], ◌∷◌, refl, sym, ◌∙◌, ap, subst}
+use Rattle.std.proofs.Common.{◌≡◌, ℕ, Bool, true, false, Option, Some, None, List, [], ◌∷◌, refl, sym, ◌∙◌, ap, subst}
 use Rattle.std.specs.Prelude.{option_map, unwrap_or}
 use Rattle.kw_words.specs.declared.sizes.TheConstants.{MOST_ROWS}
 use Rattle.kw_command.specs.declared.command.Command.{Command}
@@ -8,9 +8,9 @@ use Rattle.kw_command.specs.declared.command.Name.{Name}
 use Rattle.kw_command.specs.declared.command.Name.TheVariants as name
 use Rattle.kw_command.specs.declared.command.TheConstants.{MOST_WORKERS, DEFAULT_WORKERS, FEWEST_ROWS, DEFAULT_ROWS, SIMULATED_ROWS, MOST_START, MOST_LINES}
 use Rattle.kw_command.specs.declared.words.Arguments.{Arguments}
-use Rattle.kw_command.specs.Words.{Part, number, workers, rows, numbers, all_workers, all_rows, number_in, IsOption, AreNumbers, Makes}
+use Rattle.kw_command.specs.Words.{Part, number, workers, rows, recorded, numbers, all_workers, all_rows, all_flags, number_in, IsOption, IsFlag, AreNumbers, Makes}
 use Rattle.kw_command.specs.Reading.{once, with_workers, with_rows, with_number, then_with, no_arguments, picked, picked_from}
-use Rattle.kw_command.proofs.Meaning.{adds}
+use Rattle.kw_command.proofs.Meaning.{adds, then_flag}
 
 -- what is known of an option after one more word that it is given, or none where it is one too many or a bad one
 abbrev pub fill : Option (Option ℕ) → ℕ → ℕ → List ℕ → Option (Option ℕ)
@@ -31,65 +31,95 @@ abbrev pub filled_pair : Option (Option ℕ × Option ℕ) → List (List ℕ) �
 filled_pair o [] = o
 filled_pair o (w ∷ ws) = filled_pair (fill_pair o w) ws
 
+-- and of the flag, after one more word that is it
+abbrev pub fill_flag : Option Bool → Option Bool
+fill_flag None = None
+fill_flag (Some true) = None
+fill_flag (Some false) = Some true
+
+abbrev pub filled_flag : Option Bool → List (List ℕ) → Option Bool
+filled_flag o [] = o
+filled_flag o (w ∷ ws) = filled_flag (fill_flag o) ws
+
 -- the arguments with what is known of each
-abbrev pub joined : Option (Option ℕ × Option ℕ) → Option (Option ℕ) → Option (Option ℕ) → Option Arguments
-joined None w r = None
-joined (Some n) None r = None
-joined (Some n) (Some w) None = None
-joined (Some n) (Some w) (Some r) = Some (record { start = n.0; count = n.1; workers = w; rows = r })
+abbrev pub joined : Option (Option ℕ × Option ℕ) → Option (Option ℕ) → Option (Option ℕ) → Option Bool → Option Arguments
+joined None w r b = None
+joined (Some n) None r b = None
+joined (Some n) (Some w) None b = None
+joined (Some n) (Some w) (Some r) None = None
+joined (Some n) (Some w) (Some r) (Some b) = Some (record { start = n.0; count = n.1; workers = w; rows = r; recorded = b })
 
-no_workers : (n : Option (Option ℕ × Option ℕ)) (r : Option (Option ℕ)) → None ≡ joined n None r
-no_workers None r = refl
-no_workers (Some n) r = refl
+no_workers : (n : Option (Option ℕ × Option ℕ)) (r : Option (Option ℕ)) (b : Option Bool) → None ≡ joined n None r b
+no_workers None r b = refl
+no_workers (Some n) r b = refl
 
-no_rows : (n : Option (Option ℕ × Option ℕ)) (w : Option (Option ℕ)) → None ≡ joined n w None
-no_rows None w = refl
-no_rows (Some n) None = refl
-no_rows (Some n) (Some w) = refl
+no_rows : (n : Option (Option ℕ × Option ℕ)) (w : Option (Option ℕ)) (b : Option Bool) → None ≡ joined n w None b
+no_rows None w b = refl
+no_rows (Some n) None b = refl
+no_rows (Some n) (Some w) b = refl
+
+no_flag : (n : Option (Option ℕ × Option ℕ)) (w r : Option (Option ℕ)) → None ≡ joined n w r None
+no_flag None w r = refl
+no_flag (Some n) None r = refl
+no_flag (Some n) (Some w) None = refl
+no_flag (Some n) (Some w) (Some r) = refl
 
 -- one more word, for each kind of part
-add_workers : (n : Option (Option ℕ × Option ℕ)) (w r : Option (Option ℕ)) (x : List ℕ) → then_with with_workers (joined n w r) x ≡ joined n (fill w 1 MOST_WORKERS x) r
-add_workers None w r x = refl
-add_workers (Some n) None r x = refl
-add_workers (Some n) (Some w) None x = no_rows (Some n) (fill (Some w) 1 MOST_WORKERS x)
-add_workers (Some n) (Some w) (Some r) x = at (once w 1 MOST_WORKERS x)
+add_workers : (n : Option (Option ℕ × Option ℕ)) (w r : Option (Option ℕ)) (b : Option Bool) (x : List ℕ) → then_with with_workers (joined n w r b) x ≡ joined n (fill w 1 MOST_WORKERS x) r b
+add_workers None w r b x = refl
+add_workers (Some n) None r b x = refl
+add_workers (Some n) (Some w) None b x = no_rows (Some n) (fill (Some w) 1 MOST_WORKERS x) b
+add_workers (Some n) (Some w) (Some r) None x = no_flag (Some n) (fill (Some w) 1 MOST_WORKERS x) (Some r)
+add_workers (Some n) (Some w) (Some r) (Some b) x = at (once w 1 MOST_WORKERS x)
   where
-    at : (o : Option ℕ) → option_map (λ k. record { start = n.0; count = n.1; workers = Some k; rows = r }) o ≡ joined (Some n) (option_map (λ k. Some k) o) (Some r)
+    at : (o : Option ℕ) → option_map (λ k. record { start = n.0; count = n.1; workers = Some k; rows = r; recorded = b }) o ≡ joined (Some n) (option_map (λ k. Some k) o) (Some r) (Some b)
     at None = refl
     at (Some k) = refl
 
-add_rows : (n : Option (Option ℕ × Option ℕ)) (w r : Option (Option ℕ)) (x : List ℕ) → then_with with_rows (joined n w r) x ≡ joined n w (fill r FEWEST_ROWS MOST_ROWS x)
-add_rows None w r x = refl
-add_rows (Some n) None r x = refl
-add_rows (Some n) (Some w) None x = refl
-add_rows (Some n) (Some w) (Some r) x = at (once r FEWEST_ROWS MOST_ROWS x)
+add_rows : (n : Option (Option ℕ × Option ℕ)) (w r : Option (Option ℕ)) (b : Option Bool) (x : List ℕ) → then_with with_rows (joined n w r b) x ≡ joined n w (fill r FEWEST_ROWS MOST_ROWS x) b
+add_rows None w r b x = refl
+add_rows (Some n) None r b x = refl
+add_rows (Some n) (Some w) None b x = refl
+add_rows (Some n) (Some w) (Some r) None x = no_flag (Some n) (Some w) (fill (Some r) FEWEST_ROWS MOST_ROWS x)
+add_rows (Some n) (Some w) (Some r) (Some b) x = at (once r FEWEST_ROWS MOST_ROWS x)
   where
-    at : (o : Option ℕ) → option_map (λ k. record { start = n.0; count = n.1; workers = w; rows = Some k }) o ≡ joined (Some n) (Some w) (option_map (λ k. Some k) o)
+    at : (o : Option ℕ) → option_map (λ k. record { start = n.0; count = n.1; workers = w; rows = Some k; recorded = b }) o ≡ joined (Some n) (Some w) (option_map (λ k. Some k) o) (Some b)
     at None = refl
     at (Some k) = refl
 
-add_number : (n : Option (Option ℕ × Option ℕ)) (w r : Option (Option ℕ)) (x : List ℕ) → then_with with_number (joined n w r) x ≡ joined (fill_pair n x) w r
-add_number None w r x = refl
-add_number (Some n) None r x = no_workers (fill_pair (Some n) x) r
-add_number (Some n) (Some w) None x = no_rows (fill_pair (Some n) x) (Some w)
-add_number (Some (None, m)) (Some w) (Some r) x = at (number_in 0 MOST_START x)
+add_number : (n : Option (Option ℕ × Option ℕ)) (w r : Option (Option ℕ)) (b : Option Bool) (x : List ℕ) → then_with with_number (joined n w r b) x ≡ joined (fill_pair n x) w r b
+add_number None w r b x = refl
+add_number (Some n) None r b x = no_workers (fill_pair (Some n) x) r b
+add_number (Some n) (Some w) None b x = no_rows (fill_pair (Some n) x) (Some w) b
+add_number (Some n) (Some w) (Some r) None x = no_flag (fill_pair (Some n) x) (Some w) (Some r)
+add_number (Some (None, m)) (Some w) (Some r) (Some b) x = at (number_in 0 MOST_START x)
   where
-    at : (o : Option ℕ) → option_map (λ k. record { start = Some k; count = m; workers = w; rows = r }) o ≡ joined (option_map (λ s. (Some s, m)) o) (Some w) (Some r)
+    at : (o : Option ℕ) → option_map (λ k. record { start = Some k; count = m; workers = w; rows = r; recorded = b }) o ≡ joined (option_map (λ s. (Some s, m)) o) (Some w) (Some r) (Some b)
     at None = refl
     at (Some k) = refl
-add_number (Some (Some s, m)) (Some w) (Some r) x = at (once m 1 MOST_LINES x)
+add_number (Some (Some s, m)) (Some w) (Some r) (Some b) x = at (once m 1 MOST_LINES x)
   where
-    at : (o : Option ℕ) → option_map (λ k. record { start = Some s; count = Some k; workers = w; rows = r }) o ≡ joined (option_map (λ k. (Some s, Some k)) o) (Some w) (Some r)
+    at : (o : Option ℕ) → option_map (λ k. record { start = Some s; count = Some k; workers = w; rows = r; recorded = b }) o ≡ joined (option_map (λ k. (Some s, Some k)) o) (Some w) (Some r) (Some b)
     at None = refl
     at (Some k) = refl
+
+add_flag : (n : Option (Option ℕ × Option ℕ)) (w r : Option (Option ℕ)) (b : Option Bool) → then_flag (joined n w r b) ≡ joined n w r (fill_flag b)
+add_flag None w r b = refl
+add_flag (Some n) None r b = refl
+add_flag (Some n) (Some w) None b = refl
+add_flag (Some n) (Some w) (Some r) None = refl
+add_flag (Some n) (Some w) (Some r) (Some true) = refl
+add_flag (Some n) (Some w) (Some r) (Some false) = refl
 
 -- parts add to each option what it is given
-pub adds-joined : (n : Option (Option ℕ × Option ℕ)) (w r : Option (Option ℕ)) (parts : List Part)
-    → adds (joined n w r) parts ≡ joined (filled_pair n (numbers parts)) (filled w 1 MOST_WORKERS (all_workers parts)) (filled r FEWEST_ROWS MOST_ROWS (all_rows parts))
-adds-joined n w r [] = refl
-adds-joined n w r (number x ∷ parts) = ap (λ (o : Option Arguments). adds o parts) (add_number n w r x) ∙ adds-joined (fill_pair n x) w r parts
-adds-joined n w r (workers x ∷ parts) = ap (λ (o : Option Arguments). adds o parts) (add_workers n w r x) ∙ adds-joined n (fill w 1 MOST_WORKERS x) r parts
-adds-joined n w r (rows x ∷ parts) = ap (λ (o : Option Arguments). adds o parts) (add_rows n w r x) ∙ adds-joined n w (fill r FEWEST_ROWS MOST_ROWS x) parts
+pub adds-joined : (n : Option (Option ℕ × Option ℕ)) (w r : Option (Option ℕ)) (b : Option Bool) (parts : List Part)
+    → adds (joined n w r b) parts
+    ≡ joined (filled_pair n (numbers parts)) (filled w 1 MOST_WORKERS (all_workers parts)) (filled r FEWEST_ROWS MOST_ROWS (all_rows parts)) (filled_flag b (all_flags parts))
+adds-joined n w r b [] = refl
+adds-joined n w r b (number x ∷ parts) = ap (λ (o : Option Arguments). adds o parts) (add_number n w r b x) ∙ adds-joined (fill_pair n x) w r b parts
+adds-joined n w r b (workers x ∷ parts) = ap (λ (o : Option Arguments). adds o parts) (add_workers n w r b x) ∙ adds-joined n (fill w 1 MOST_WORKERS x) r b parts
+adds-joined n w r b (rows x ∷ parts) = ap (λ (o : Option Arguments). adds o parts) (add_rows n w r b x) ∙ adds-joined n w (fill r FEWEST_ROWS MOST_ROWS x) b parts
+adds-joined n w r b (recorded ∷ parts) = ap (λ (o : Option Arguments). adds o parts) (add_flag n w r b) ∙ adds-joined n w r (fill_flag b) parts
 
 -- ---- which words an option may be given
 
@@ -133,6 +163,28 @@ none_given least most (w ∷ ws) e = absurd (at (number_in least most w) e)
     at : (m : Option ℕ) → filled (option_map (λ n. Some n) m) least most ws ≡ Some None → ⊥
     at None e = let none : filled None least most ws ≡ None = filled_none least most ws in cc
     at (Some n) e = stays n ws e
+
+-- a flag of which it is known whether it is given stands once, or not at all
+no_flags : (ws : List (List ℕ)) (b : Bool) → filled_flag None ws ≡ Some b → ⊥
+no_flags [] b e = cc
+no_flags (w ∷ ws) b e = no_flags ws b e
+
+flag_is : (ws : List (List ℕ)) (b : Bool) → filled_flag (Some false) ws ≡ Some b → IsFlag ws b
+flag_is [] b e = cc
+flag_is (w ∷ []) b e = cc
+flag_is (w ∷ x ∷ ws) b e = no_flags ws b e
+
+-- and the other way round
+flag_known : (ws : List (List ℕ)) (b : Bool) → IsFlag ws b → filled_flag (Some false) ws ≡ Some b
+flag_known [] b h = ap (λ (x : Bool). Some x) (sym h)
+flag_known (w ∷ []) b h = ap (λ (x : Bool). Some x) (sym h)
+flag_known (w ∷ x ∷ ws) b h = absurd h
+
+-- a flag that is not given does not stand
+no_flag_given : (ws : List (List ℕ)) → filled_flag (Some false) ws ≡ Some false → ws ≡ []
+no_flag_given [] e = refl
+no_flag_given (w ∷ []) e = absurd cc
+no_flag_given (w ∷ x ∷ ws) e = absurd (no_flags ws false e)
 
 -- the first and the second number that are known
 abbrev first_of : Option (Option ℕ × Option ℕ) → Option ℕ
@@ -195,17 +247,19 @@ numbers_known (w ∷ x ∷ y ∷ ws) s n h = absurd h
 -- the name of a command
 abbrev pub command_name : Command → Name
 command_name (command.Replay w r) = name.Replay
-command_name (command.Simulate r) = name.Simulate
+command_name (command.Simulate r b) = name.Simulate
+command_name command.Judge = name.Judge
 command_name (command.Gen s n w r) = name.Gen
 
 -- what parts add, where each option is known
-adds_known : (parts : List Part) (n : Option ℕ × Option ℕ) (w r : Option ℕ) → filled_pair (Some (None, None)) (numbers parts) ≡ Some n
-    → filled (Some None) 1 MOST_WORKERS (all_workers parts) ≡ Some w → filled (Some None) FEWEST_ROWS MOST_ROWS (all_rows parts) ≡ Some r
-    → adds (Some no_arguments) parts ≡ Some (record { start = n.0; count = n.1; workers = w; rows = r })
-adds_known parts n w r e f g =
-    adds-joined (Some (None, None)) (Some None) (Some None) parts
-    ∙ (ap (λ (x : Option (Option ℕ × Option ℕ)). joined x (filled (Some None) 1 MOST_WORKERS (all_workers parts)) (filled (Some None) FEWEST_ROWS MOST_ROWS (all_rows parts))) e
-    ∙ (ap (λ (x : Option (Option ℕ)). joined (Some n) x (filled (Some None) FEWEST_ROWS MOST_ROWS (all_rows parts))) f ∙ ap (joined (Some n) (Some w)) g))
+adds_known : (parts : List Part) (n : Option ℕ × Option ℕ) (w r : Option ℕ) (b : Bool) → filled_pair (Some (None, None)) (numbers parts) ≡ Some n
+    → filled (Some None) 1 MOST_WORKERS (all_workers parts) ≡ Some w → filled (Some None) FEWEST_ROWS MOST_ROWS (all_rows parts) ≡ Some r → filled_flag (Some false) (all_flags parts) ≡ Some b
+    → adds (Some no_arguments) parts ≡ Some (record { start = n.0; count = n.1; workers = w; rows = r; recorded = b })
+adds_known parts n w r b e f g h =
+    adds-joined (Some (None, None)) (Some None) (Some None) (Some false) parts
+    ∙ (ap (λ (x : Option (Option ℕ × Option ℕ)). joined x (filled (Some None) 1 MOST_WORKERS (all_workers parts)) (filled (Some None) FEWEST_ROWS MOST_ROWS (all_rows parts)) (filled_flag (Some false) (all_flags parts))) e
+    ∙ (ap (λ (x : Option (Option ℕ)). joined (Some n) x (filled (Some None) FEWEST_ROWS MOST_ROWS (all_rows parts)) (filled_flag (Some false) (all_flags parts))) f
+    ∙ (ap (λ (x : Option (Option ℕ)). joined (Some n) (Some w) x (filled_flag (Some false) (all_flags parts))) g ∙ ap (joined (Some n) (Some w) (Some r)) h)))
 
 -- parts that make a command add the arguments of which it is picked
 pub record IsPicked (parts : List Part) (c : Command) : Type 0 where
@@ -218,23 +272,24 @@ picks parts (command.Replay w r) h =
     let known_workers = known_of 1 MOST_WORKERS DEFAULT_WORKERS (all_workers parts) w h.1 in
     let known_rows = known_of FEWEST_ROWS MOST_ROWS DEFAULT_ROWS (all_rows parts) r h.2 in
     record {
-      arguments = record { start = None; count = None; workers = known_workers.0; rows = known_rows.0 };
-      adds_are = adds_known parts (None, None) known_workers.0 known_rows.0 (ap (filled_pair (Some (None, None))) h.0) known_workers.1 known_rows.1;
+      arguments = record { start = None; count = None; workers = known_workers.0; rows = known_rows.0; recorded = false };
+      adds_are = adds_known parts (None, None) known_workers.0 known_rows.0 false (ap (filled_pair (Some (None, None))) h.0) known_workers.1 known_rows.1 (ap (filled_flag (Some false)) h.3);
       picked_is = ap (λ (x : ℕ). Some (command.Replay x (unwrap_or known_rows.0 DEFAULT_ROWS))) (sym known_workers.2) ∙ ap (λ (x : ℕ). Some (command.Replay w x)) (sym known_rows.2);
     }
-picks parts (command.Simulate r) h =
+picks parts (command.Simulate r b) h =
     let known_rows = known_of FEWEST_ROWS MOST_ROWS SIMULATED_ROWS (all_rows parts) r h.2 in
     record {
-      arguments = record { start = None; count = None; workers = None; rows = known_rows.0 };
-      adds_are = adds_known parts (None, None) None known_rows.0 (ap (filled_pair (Some (None, None))) h.0) (ap (filled (Some None) 1 MOST_WORKERS) h.1) known_rows.1;
-      picked_is = ap (λ (x : ℕ). Some (command.Simulate x)) (sym known_rows.2);
+      arguments = record { start = None; count = None; workers = None; rows = known_rows.0; recorded = b };
+      adds_are = adds_known parts (None, None) None known_rows.0 b (ap (filled_pair (Some (None, None))) h.0) (ap (filled (Some None) 1 MOST_WORKERS) h.1) known_rows.1 (flag_known (all_flags parts) b h.3);
+      picked_is = ap (λ (x : ℕ). Some (command.Simulate x b)) (sym known_rows.2);
     }
+picks parts command.Judge h = record { arguments = no_arguments; adds_are = ap (adds (Some no_arguments)) h; picked_is = refl }
 picks parts (command.Gen s n w r) h =
     let known_workers = known_of 1 MOST_WORKERS DEFAULT_WORKERS (all_workers parts) w h.1 in
     let known_rows = known_of FEWEST_ROWS MOST_ROWS DEFAULT_ROWS (all_rows parts) r h.2 in
     record {
-      arguments = record { start = Some s; count = Some n; workers = known_workers.0; rows = known_rows.0 };
-      adds_are = adds_known parts (Some s, Some n) known_workers.0 known_rows.0 (numbers_known (numbers parts) s n h.0) known_workers.1 known_rows.1;
+      arguments = record { start = Some s; count = Some n; workers = known_workers.0; rows = known_rows.0; recorded = false };
+      adds_are = adds_known parts (Some s, Some n) known_workers.0 known_rows.0 false (numbers_known (numbers parts) s n h.0) known_workers.1 known_rows.1 (ap (filled_flag (Some false)) h.3);
       picked_is = ap (λ (x : ℕ). Some (command.Gen s n x (unwrap_or known_rows.0 DEFAULT_ROWS))) (sym known_workers.2) ∙ ap (λ (x : ℕ). Some (command.Gen s n w x)) (sym known_rows.2);
     }
 
@@ -243,45 +298,68 @@ record Known (parts : List Part) (a : Arguments) : Type 0 where
   pub pair : filled_pair (Some (None, None)) (numbers parts) ≡ Some (a.start, a.count)
   pub of_workers : filled (Some None) 1 MOST_WORKERS (all_workers parts) ≡ Some a.workers
   pub of_rows : filled (Some None) FEWEST_ROWS MOST_ROWS (all_rows parts) ≡ Some a.rows
+  pub of_flag : filled_flag (Some false) (all_flags parts) ≡ Some a.recorded
 
-known_if : (parts : List Part) (a : Arguments) (n : Option (Option ℕ × Option ℕ)) (w r : Option (Option ℕ)) → filled_pair (Some (None, None)) (numbers parts) ≡ n
-    → filled (Some None) 1 MOST_WORKERS (all_workers parts) ≡ w → filled (Some None) FEWEST_ROWS MOST_ROWS (all_rows parts) ≡ r → joined n w r ≡ Some a → Known parts a
-known_if parts a None w r e f g h = absurd cc
-known_if parts a (Some n) None r e f g h = absurd cc
-known_if parts a (Some n) (Some w) None e f g h = absurd cc
-known_if parts a (Some n) (Some w) (Some r) e f g h =
-    let is : record { start = n.0; count = n.1; workers = w; rows = r } ≡ a = cc in
+known_if : (parts : List Part) (a : Arguments) (n : Option (Option ℕ × Option ℕ)) (w r : Option (Option ℕ)) (b : Option Bool) → filled_pair (Some (None, None)) (numbers parts) ≡ n
+    → filled (Some None) 1 MOST_WORKERS (all_workers parts) ≡ w → filled (Some None) FEWEST_ROWS MOST_ROWS (all_rows parts) ≡ r → filled_flag (Some false) (all_flags parts) ≡ b
+    → joined n w r b ≡ Some a → Known parts a
+known_if parts a None w r b e f g i h = absurd cc
+known_if parts a (Some n) None r b e f g i h = absurd cc
+known_if parts a (Some n) (Some w) None b e f g i h = absurd cc
+known_if parts a (Some n) (Some w) (Some r) None e f g i h = absurd cc
+known_if parts a (Some n) (Some w) (Some r) (Some b) e f g i h =
+    let is : record { start = n.0; count = n.1; workers = w; rows = r; recorded = b } ≡ a = cc in
     record {
       pair = e ∙ ap (λ (x : Arguments). Some (x.start, x.count)) is;
       of_workers = f ∙ ap (λ (x : Arguments). Some x.workers) is;
       of_rows = g ∙ ap (λ (x : Arguments). Some x.rows) is;
+      of_flag = i ∙ ap (λ (x : Arguments). Some x.recorded) is;
     }
 
-makes_from : (parts : List Part) (n : Name) (s m w r : Option ℕ) (c : Command) → filled_pair (Some (None, None)) (numbers parts) ≡ Some (s, m)
-    → filled (Some None) 1 MOST_WORKERS (all_workers parts) ≡ Some w → filled (Some None) FEWEST_ROWS MOST_ROWS (all_rows parts) ≡ Some r
-    → picked_from n s m w r ≡ Some c → Makes parts c × (command_name c ≡ n)
-makes_from parts name.Replay None None w r c e f g h =
+-- where nothing of any kind stands there are no parts
+nothing : (parts : List Part) → numbers parts ≡ [] → all_workers parts ≡ [] → all_rows parts ≡ [] → all_flags parts ≡ [] → parts ≡ []
+nothing [] e f g h = refl
+nothing (number w ∷ parts) e f g h = absurd cc
+nothing (workers w ∷ parts) e f g h = absurd cc
+nothing (rows w ∷ parts) e f g h = absurd cc
+nothing (recorded ∷ parts) e f g h = absurd cc
+
+makes_from : (parts : List Part) (n : Name) (s m w r : Option ℕ) (b : Bool) (c : Command) → filled_pair (Some (None, None)) (numbers parts) ≡ Some (s, m)
+    → filled (Some None) 1 MOST_WORKERS (all_workers parts) ≡ Some w → filled (Some None) FEWEST_ROWS MOST_ROWS (all_rows parts) ≡ Some r → filled_flag (Some false) (all_flags parts) ≡ Some b
+    → picked_from n s m w r b ≡ Some c → Makes parts c × (command_name c ≡ n)
+makes_from parts name.Replay None None w r false c e f g i h =
     let is : command.Replay (unwrap_or w DEFAULT_WORKERS) (unwrap_or r DEFAULT_ROWS) ≡ c = cc in
     subst (λ (x : Command). Makes parts x × (command_name x ≡ name.Replay)) is
-    ((none_stand (numbers parts) None e, option_is 1 MOST_WORKERS DEFAULT_WORKERS (all_workers parts) w f, option_is FEWEST_ROWS MOST_ROWS DEFAULT_ROWS (all_rows parts) r g), refl)
-makes_from parts name.Replay None (Some m) w r c e f g h = absurd cc
-makes_from parts name.Replay (Some s) m w r c e f g h = absurd cc
-makes_from parts name.Simulate None None None r c e f g h =
-    let is : command.Simulate (unwrap_or r SIMULATED_ROWS) ≡ c = cc in
+    ((none_stand (numbers parts) None e, option_is 1 MOST_WORKERS DEFAULT_WORKERS (all_workers parts) w f, option_is FEWEST_ROWS MOST_ROWS DEFAULT_ROWS (all_rows parts) r g, no_flag_given (all_flags parts) i), refl)
+makes_from parts name.Replay None None w r true c e f g i h = absurd cc
+makes_from parts name.Replay None (Some m) w r b c e f g i h = absurd cc
+makes_from parts name.Replay (Some s) m w r b c e f g i h = absurd cc
+makes_from parts name.Simulate None None None r b c e f g i h =
+    let is : command.Simulate (unwrap_or r SIMULATED_ROWS) b ≡ c = cc in
     subst (λ (x : Command). Makes parts x × (command_name x ≡ name.Simulate)) is
-    ((none_stand (numbers parts) None e, none_given 1 MOST_WORKERS (all_workers parts) f, option_is FEWEST_ROWS MOST_ROWS SIMULATED_ROWS (all_rows parts) r g), refl)
-makes_from parts name.Simulate None None (Some w) r c e f g h = absurd cc
-makes_from parts name.Simulate None (Some m) w r c e f g h = absurd cc
-makes_from parts name.Simulate (Some s) m w r c e f g h = absurd cc
-makes_from parts name.Gen (Some s) (Some m) w r c e f g h =
+    ((none_stand (numbers parts) None e, none_given 1 MOST_WORKERS (all_workers parts) f, option_is FEWEST_ROWS MOST_ROWS SIMULATED_ROWS (all_rows parts) r g, flag_is (all_flags parts) b i), refl)
+makes_from parts name.Simulate None None (Some w) r b c e f g i h = absurd cc
+makes_from parts name.Simulate None (Some m) w r b c e f g i h = absurd cc
+makes_from parts name.Simulate (Some s) m w r b c e f g i h = absurd cc
+makes_from parts name.Judge None None None None false c e f g i h =
+    let is : command.Judge ≡ c = cc in
+    subst (λ (x : Command). Makes parts x × (command_name x ≡ name.Judge)) is
+    (nothing parts (none_stand (numbers parts) None e) (none_given 1 MOST_WORKERS (all_workers parts) f) (none_given FEWEST_ROWS MOST_ROWS (all_rows parts) g) (no_flag_given (all_flags parts) i), refl)
+makes_from parts name.Judge None None None None true c e f g i h = absurd cc
+makes_from parts name.Judge None None None (Some r) b c e f g i h = absurd cc
+makes_from parts name.Judge None None (Some w) r b c e f g i h = absurd cc
+makes_from parts name.Judge None (Some m) w r b c e f g i h = absurd cc
+makes_from parts name.Judge (Some s) m w r b c e f g i h = absurd cc
+makes_from parts name.Gen (Some s) (Some m) w r false c e f g i h =
     let is : command.Gen s m (unwrap_or w DEFAULT_WORKERS) (unwrap_or r DEFAULT_ROWS) ≡ c = cc in
     subst (λ (x : Command). Makes parts x × (command_name x ≡ name.Gen)) is
-    ((numbers_are (numbers parts) s m e, option_is 1 MOST_WORKERS DEFAULT_WORKERS (all_workers parts) w f, option_is FEWEST_ROWS MOST_ROWS DEFAULT_ROWS (all_rows parts) r g), refl)
-makes_from parts name.Gen (Some s) None w r c e f g h = absurd cc
-makes_from parts name.Gen None m w r c e f g h = absurd cc
+    ((numbers_are (numbers parts) s m e, option_is 1 MOST_WORKERS DEFAULT_WORKERS (all_workers parts) w f, option_is FEWEST_ROWS MOST_ROWS DEFAULT_ROWS (all_rows parts) r g, no_flag_given (all_flags parts) i), refl)
+makes_from parts name.Gen (Some s) (Some m) w r true c e f g i h = absurd cc
+makes_from parts name.Gen (Some s) None w r b c e f g i h = absurd cc
+makes_from parts name.Gen None m w r b c e f g i h = absurd cc
 
 -- parts that add the arguments of which a command is picked make it
 pub makes : (parts : List Part) (n : Name) (a : Arguments) (c : Command) → adds (Some no_arguments) parts ≡ Some a → picked n a ≡ Some c → Makes parts c × (command_name c ≡ n)
 makes parts n a c e h =
-    let known = known_if parts a _ _ _ refl refl refl (sym (adds-joined (Some (None, None)) (Some None) (Some None) parts) ∙ e) in
-    makes_from parts n a.start a.count a.workers a.rows c known.pair known.of_workers known.of_rows h
+    let known = known_if parts a _ _ _ _ refl refl refl refl (sym (adds-joined (Some (None, None)) (Some None) (Some None) (Some false) parts) ∙ e) in
+    makes_from parts n a.start a.count a.workers a.rows a.recorded c known.pair known.of_workers known.of_rows known.of_flag h

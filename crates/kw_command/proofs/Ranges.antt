@@ -35,7 +35,8 @@ numbers_within s n (w ∷ x ∷ y ∷ ws) h = absurd h
 makes_within : (parts : List Part) (c : Command) → Makes parts c → AreInRange c
 makes_within parts (command.Replay w r) h =
     (option_within 1 MOST_WORKERS DEFAULT_WORKERS w (all_workers parts) (omega arith) (omega arith) h.1, option_within FEWEST_ROWS MOST_ROWS DEFAULT_ROWS r (all_rows parts) (omega arith) (omega arith) h.2)
-makes_within parts (command.Simulate r) h = option_within FEWEST_ROWS MOST_ROWS SIMULATED_ROWS r (all_rows parts) (omega arith) (omega arith) h.2
+makes_within parts command.Judge h = tt
+makes_within parts (command.Simulate r b) h = option_within FEWEST_ROWS MOST_ROWS SIMULATED_ROWS r (all_rows parts) (omega arith) (omega arith) h.2
 makes_within parts (command.Gen s n w r) h =
     let given = numbers_within s n (numbers parts) h.0 in
     (given.0, given.1, option_within 1 MOST_WORKERS DEFAULT_WORKERS w (all_workers parts) (omega arith) (omega arith) h.1, option_within FEWEST_ROWS MOST_ROWS DEFAULT_ROWS r (all_rows parts) (omega arith) (omega arith) h.2)

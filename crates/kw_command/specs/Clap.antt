@@ -4,9 +4,11 @@ use Rattle.kw_words.specs.declared.sizes.TheConstants.{MOST_ROWS}
 use Rattle.kw_command.specs.declared.command.TheConstants.{MOST_WORKERS, FEWEST_ROWS, MOST_START, MOST_LINES}
 use Rattle.clap.specs.Simple.{App, new_app, new_rule, on_top, with_rule}
 use Rattle.clap.specs.Walk.{Rule}
+use Rattle.clap.specs.declared.builder.action.ArgAction.TheVariants.{SetTrue}
 use Rattle.clap.specs.declared.builder.value_parser.ValueParser.{ValueParser}
 use Rattle.clap.specs.declared.builder.value_parser.ValueParser.TheVariants as parser
 
+-- the arguments that have a number
 pub data Field : Type 0 where
   start : Field
   count : Field
@@ -40,6 +42,13 @@ rule_for count = record (new_rule (codes "count")) { parser = Some (parser_of co
 rule_for workers = record (new_rule (codes "workers")) { long = Some (codes "workers"); parser = Some (parser_of workers) }
 rule_for rows = record (new_rule (codes "rows")) { long = Some (codes "rows"); parser = Some (parser_of rows) }
 
+-- the flag
+abbrev pub flag_id : List ℕ
+flag_id = codes "record"
+
+abbrev pub flag_rule : Rule
+flag_rule = record (new_rule flag_id) { long = Some (codes "record"); action = Some SetTrue }
+
 -- the program's arguments, as `clap` is told them
 abbrev pub kiwi : App
-kiwi = with_rule (with_rule (with_rule (with_rule (on_top (λ s. record s { disable_help_flag = true }) (new_app (codes "kiwi"))) (rule_for start)) (rule_for count)) (rule_for workers)) (rule_for rows)
+kiwi = with_rule (with_rule (with_rule (with_rule (with_rule (on_top (λ s. record s { disable_help_flag = true }) (new_app (codes "kiwi"))) (rule_for start)) (rule_for count)) (rule_for workers)) (rule_for rows)) flag_rule

@@ -1,5 +1,5 @@
 -- What stands after a command's own word, read from the first word on.
-use Rattle.std.specs.Prelude.{ℕ, if◌then◌else◌, List, [], ◌∷◌, Option, Some, None, codes, option_map, unwrap_or, is_some}
+use Rattle.std.specs.Prelude.{ℕ, Bool, true, false, if◌then◌else◌, List, [], ◌∷◌, Option, Some, None, codes, option_map, unwrap_or, is_some}
 use Rattle.std.specs.Str.{bytes_eq}
 use Rattle.kw_words.specs.declared.sizes.TheConstants.{MOST_ROWS}
 use Rattle.kw_command.specs.declared.command.Command.{Command}
@@ -30,6 +30,14 @@ with_second a w = option_map (λ n. record a { count = Some n }) (once a.count 1
 abbrev pub with_number : Arguments → List ℕ → Option Arguments
 with_number a w = if is_some a.start then with_second a w else option_map (λ n. record a { start = Some n }) (number_in 0 MOST_START w)
 
+-- with the flag, where it did not stand yet
+abbrev pub with_flag : Arguments → Option Arguments
+with_flag a = if a.recorded then None else Some (record a { recorded = true })
+
+-- with a word that stands by itself: the flag, or the next of the two numbers
+abbrev pub with_alone : Arguments → List ℕ → Option Arguments
+with_alone a w = if bytes_eq w (codes "--record") then with_flag a else with_number a w
+
 -- and the same where there may be no arguments any more
 abbrev pub then_with : (Arguments → List ℕ → Option Arguments) → Option Arguments → List ℕ → Option Arguments
 then_with f None w = None
@@ -38,20 +46,21 @@ then_with f (Some a) w = f a w
 -- the arguments that these words add
 abbrev pub reads : Option Arguments → List (List ℕ) → Option Arguments
 reads o [] = o
-reads o (w ∷ []) = then_with with_number o w
+reads o (w ∷ []) = then_with with_alone o w
 reads o (w ∷ x ∷ ws) = if bytes_eq w (codes "--workers") then reads (then_with with_workers o x) ws
     else (if bytes_eq w (codes "--rows") then reads (then_with with_rows o x) ws
-    else reads (then_with with_number o w) (x ∷ ws))
+    else reads (then_with with_alone o w) (x ∷ ws))
 
 -- no argument yet
 abbrev pub no_arguments : Arguments
-no_arguments = record { start = None; count = None; workers = None; rows = None }
+no_arguments = record { start = None; count = None; workers = None; rows = None; recorded = false }
 
 -- the command whose own word this is
 abbrev pub name_of : List ℕ → Option Name
 name_of w = if bytes_eq w (codes "replay") then Some name.Replay
     else (if bytes_eq w (codes "simulate") then Some name.Simulate
-    else (if bytes_eq w (codes "gen") then Some name.Gen else None))
+    else (if bytes_eq w (codes "judge") then Some name.Judge
+    else (if bytes_eq w (codes "gen") then Some name.Gen else None)))
 
 -- the command whose own word is the first of these
 abbrev pub first_name : List (List ℕ) → Option Name
@@ -59,11 +68,12 @@ first_name [] = None
 first_name (w ∷ ws) = name_of w
 
 -- the command of this name, where it takes just these arguments
-abbrev pub picked_from : Name → Option ℕ → Option ℕ → Option ℕ → Option ℕ → Option Command
-picked_from name.Replay None None w r = Some (command.Replay (unwrap_or w DEFAULT_WORKERS) (unwrap_or r DEFAULT_ROWS))
-picked_from name.Simulate None None None r = Some (command.Simulate (unwrap_or r SIMULATED_ROWS))
-picked_from name.Gen (Some s) (Some n) w r = Some (command.Gen s n (unwrap_or w DEFAULT_WORKERS) (unwrap_or r DEFAULT_ROWS))
-picked_from _ s n w r = None
+abbrev pub picked_from : Name → Option ℕ → Option ℕ → Option ℕ → Option ℕ → Bool → Option Command
+picked_from name.Replay None None w r false = Some (command.Replay (unwrap_or w DEFAULT_WORKERS) (unwrap_or r DEFAULT_ROWS))
+picked_from name.Simulate None None None r recorded = Some (command.Simulate (unwrap_or r SIMULATED_ROWS) recorded)
+picked_from name.Judge None None None None false = Some command.Judge
+picked_from name.Gen (Some s) (Some n) w r false = Some (command.Gen s n (unwrap_or w DEFAULT_WORKERS) (unwrap_or r DEFAULT_ROWS))
+picked_from _ s n w r recorded = None
 
 abbrev pub picked : Name → Arguments → Option Command
-picked name a = picked_from name a.start a.count a.workers a.rows
+picked name a = picked_from name a.start a.count a.workers a.rows a.recorded

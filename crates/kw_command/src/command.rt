@@ -1,6 +1,7 @@
 //! The commands of the program, and which lists of words they are.
 //!
-//! A command is the whole list of its words: its own word first, and then numbers and options, each option at most once.
+//! A command is the whole list of its words: its own word first, and then numbers, options and a flag, each option and the flag at most
+//! once.
 //! `specs/Words.antt` says which lists these are; no list is two commands. Every other list is bad words, the empty one among them. What stands after
 //! the first word is read by `words`; here the first word is read, and what its command takes of the rest is picked.
 ghost use Rattle.std.specs.Prelude.{◌≡◌, ℕ, List, IfOk, IfSome, MatchOption};
@@ -43,10 +44,14 @@ pub enum Command {
         workers: u32,
         rows: u32,
     },
-    /// Runs a script of seats and steps on the core of the concurrent map.
+    /// Runs a script of seats and steps on the core of the concurrent map. Where `recorded`, what it prints is the record of the run's
+    /// calls, which `Judge` reads.
     Simulate {
         rows: u32,
+        recorded: bool,
     },
+    /// Judges the record of a run that the input has.
+    Judge,
     /// Asks `count` generated lines of one map; the generator begins with `start`.
     Gen {
         start: u32,
@@ -61,6 +66,7 @@ pub enum Command {
 pub enum Name {
     Replay,
     Simulate,
+    Judge,
     Gen,
 }
 
@@ -102,6 +108,7 @@ fn name_of(word: &str) -> Option<Name>
     match word {
         "replay" => Some(Name::Replay),
         "simulate" => Some(Name::Simulate),
+        "judge" => Some(Name::Judge),
         "gen" => Some(Name::Gen),
         _ => None,
     }
@@ -116,17 +123,20 @@ fn picked(name: Name, arguments: Arguments) -> Option<Command>
         count,
         workers,
         rows,
+        recorded,
     } = arguments;
     let asked = workers.unwrap_or(DEFAULT_WORKERS);
-    match (name, start, count, workers) {
-        (Name::Replay, None, None, _) => Some(Command::Replay {
+    match (name, start, count, workers, rows, recorded) {
+        (Name::Replay, None, None, _, _, false) => Some(Command::Replay {
             workers: asked,
             rows: rows.unwrap_or(DEFAULT_ROWS),
         }),
-        (Name::Simulate, None, None, None) => Some(Command::Simulate {
+        (Name::Simulate, None, None, None, _, _) => Some(Command::Simulate {
             rows: rows.unwrap_or(SIMULATED_ROWS),
+            recorded,
         }),
-        (Name::Gen, Some(start), Some(count), _) => Some(Command::Gen {
+        (Name::Judge, None, None, None, None, false) => Some(Command::Judge),
+        (Name::Gen, Some(start), Some(count), _, _, false) => Some(Command::Gen {
             start,
             count,
             workers: asked,

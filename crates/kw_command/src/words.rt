@@ -1,4 +1,4 @@
-//! What stands after a command's own word: numbers and options, as `clap` reads them.
+//! What stands after a command's own word: numbers, options and a flag, as `clap` reads them.
 //!
 //! All commands share one set of arguments, and `command` picks what each takes. The words are tested one by one before `clap`
 //! sees them, so that none of the other forms that it would read (`--workers=2`, `--`, a sign) reaches it: such a word is bad
@@ -15,7 +15,7 @@ ghost use Rattle.kw_command.specs.Reading.{no_arguments, reads};
 use crate::command::{FEWEST_ROWS, MOST_LINES, MOST_WORKERS};
 use crate::word::Word;
 use clap::error::ErrorKind;
-use clap::{Arg, Command, value_parser};
+use clap::{Arg, ArgAction, Command, value_parser};
 use kw_model::memory::Memory;
 use kw_words::sizes::MOST_ROWS;
 use std::alloc::{AllocError, Global};
@@ -23,27 +23,31 @@ use std::alloc::{AllocError, Global};
 /// The most digits that a number may have.
 pub const MOST_DIGITS: usize = 10;
 
-/// What may stand after a command's own word: two numbers, and two options.
+/// What may stand after a command's own word: two numbers, two options, and a flag, which has no value.
 #[derive(Clone, Copy, Debug, PartialEq, Eq)]
 pub struct Arguments {
     pub start: Option<u32>,
     pub count: Option<u32>,
     pub workers: Option<u32>,
     pub rows: Option<u32>,
+    pub recorded: bool,
 }
 
-/// Whether each word is a command's own, the name of an option, or digits.
+/// Whether each word is a command's own, the name of an option, the flag, or digits.
 pub fn are_known(words: &[Word]) -> bool
     ensures { result ≡ list_all is_known words.now }
 {
     words.iter().all(|word| is_known(word.text()))
 }
 
-/// Whether the word is a command's own, the name of an option, or digits.
+/// Whether the word is a command's own, the name of an option, the flag, or digits.
 fn is_known(word: &str) -> bool
     ensures { result ≡ is_known word.now }
 {
-    matches!(word, "replay" | "simulate" | "gen" | "--workers" | "--rows") || is_digits(word)
+    matches!(
+        word,
+        "replay" | "simulate" | "judge" | "gen" | "--workers" | "--rows" | "--record"
+    ) || is_digits(word)
 }
 
 /// Whether the word is one digit to ten, of which the first may be 0.
@@ -73,6 +77,7 @@ pub fn arguments_of(alloc: Global, words: &[Word]) -> Result<Option<Arguments>, 
             count: matches.get_one::<u32>("count"),
             workers: matches.get_one::<u32>("workers"),
             rows: matches.get_one::<u32>("rows"),
+            recorded: matches.get_flag("record"),
         })),
         Err(error) => match error.kind() {
             ErrorKind::OutOfMemory => Err(Memory),
@@ -95,10 +100,14 @@ fn parser<'a>(alloc: Global) -> Result<Command<'a>, AllocError>
     let rows = Arg::new(alloc, "rows").long("rows").value_parser(value_parser!(u32).range(
         i64::from(FEWEST_ROWS)..=i64::from(MOST_ROWS),
     ));
+    let recorded = Arg::new(alloc, "record")
+        .long("record")
+        .action(ArgAction::SetTrue);
     Command::new(alloc, "kiwi")
         .disable_help_flag(true)
         .arg(start)?
         .arg(count)?
         .arg(workers)?
-        .arg(rows)
+        .arg(rows)?
+        .arg(recorded)
 }

@@ -24,7 +24,7 @@ fn load(start: u32, count: u32, workers: u32, rows: u32) -> Command {
 
 #[test]
 fn options_that_do_not_stand_have_their_defaults(rt: HostRuntime) -> Result<(), Fail> {
-    let lists: [(&[&str], Command); 5] = [
+    let lists: [(&[&str], Command); 6] = [
         (
             &["replay"],
             Command::Replay {
@@ -46,7 +46,14 @@ fn options_that_do_not_stand_have_their_defaults(rt: HostRuntime) -> Result<(), 
                 rows: 64,
             },
         ),
-        (&["simulate"], Command::Simulate { rows: 64 }),
+        (
+            &["simulate"],
+            Command::Simulate {
+                rows: 64,
+                recorded: false,
+            },
+        ),
+        (&["judge"], Command::Judge),
         (&["gen", "0", "1"], load(0, 1, 1, 16_384)),
     ];
     for (list, command) in lists {
@@ -72,7 +79,10 @@ fn options_stand_in_any_order(rt: HostRuntime) -> Result<(), Fail> {
         (&["replay", "--rows", "70", "--workers", "2"], replay),
         (
             &["simulate", "--rows", "65536"],
-            Command::Simulate { rows: 65_536 },
+            Command::Simulate {
+                rows: 65_536,
+                recorded: false,
+            },
         ),
         (&["gen", "--workers", "2", "--rows", "70", "5", "9"], made),
         (&["gen", "--rows", "70", "5", "--workers", "2", "9"], made),
@@ -91,6 +101,32 @@ fn options_stand_in_any_order(rt: HostRuntime) -> Result<(), Fail> {
             ],
             made,
         ),
+    ];
+    for (list, command) in lists {
+        let words = words(rt.alloc(), list)?;
+        assert_eq!(rt;
+            command_of(rt.alloc(), &words)?,
+            Some(command),
+            "of {list:?}"
+        );
+    }
+    Ok(())
+}
+
+#[test]
+fn a_flag_stands_before_or_after_an_option(rt: HostRuntime) -> Result<(), Fail> {
+    let alone = Command::Simulate {
+        rows: 64,
+        recorded: true,
+    };
+    let on_more_rows = Command::Simulate {
+        rows: 70,
+        recorded: true,
+    };
+    let lists: [(&[&str], Command); 3] = [
+        (&["simulate", "--record"], alone),
+        (&["simulate", "--record", "--rows", "70"], on_more_rows),
+        (&["simulate", "--rows", "70", "--record"], on_more_rows),
     ];
     for (list, command) in lists {
         let words = words(rt.alloc(), list)?;
@@ -126,7 +162,7 @@ fn numbers_reach_to_the_ends_of_their_ranges(rt: HostRuntime) -> Result<(), Fail
 
 #[test]
 fn other_words_are_bad(rt: HostRuntime) -> Result<(), Fail> {
-    let lists: [&[&str]; 49] = [
+    let lists: [&[&str]; 62] = [
         &[],
         &[""],
         &["Replay"],
@@ -134,7 +170,8 @@ fn other_words_are_bad(rt: HostRuntime) -> Result<(), Fail> {
         &["--help"],
         &["--"],
         &["1"],
-        &["judge"],
+        &["record"],
+        &["--record"],
         &["rollup"],
         &["--rows", "64", "replay"],
         &["replay", "replay"],
@@ -167,6 +204,18 @@ fn other_words_are_bad(rt: HostRuntime) -> Result<(), Fail> {
         &["simulate", "64"],
         &["simulate", "--rows", "63"],
         &["simulate", "--workers", "1"],
+        &["simulate", "--rows", "--record", "64"],
+        &["simulate", "--rows", "--record"],
+        &["simulate", "--record", "64"],
+        &["simulate", "--record", "--record"],
+        &["simulate", "--record", "--rows", "64", "--record"],
+        &["simulate", "--record=true"],
+        &["replay", "--record"],
+        &["judge", "--record"],
+        &["judge", "--rows", "64"],
+        &["judge", "judge"],
+        &["judge", "1"],
+        &["gen", "1", "2", "--record"],
         &["gen"],
         &["gen", "1"],
         &["gen", "1", "0"],

@@ -3,9 +3,10 @@ use Rattle.std.proofs.Common.{◌≡◌, Option, Some, true, false, codes, ◌�
 use Rattle.std.proofs.lemmas.Result.{IfOk-weaker}
 use Rattle.clap.specs.Words.{Rule, app_of, new_app, new_rule, rule_of, with_rule}
 use Rattle.clap.specs.Simple.{app_of_fields, on_top}
+use Rattle.clap.specs.declared.builder.action.ArgAction.TheVariants.{SetTrue}
 use Rattle.clap.specs.declared.builder.arg.Arg.{Arg}
 use Rattle.clap.specs.declared.builder.value_parser.ValueParser.{ValueParser}
-use Rattle.kw_command.specs.Clap.{start, count, workers, rows, rule_for, parser_of}
+use Rattle.kw_command.specs.Clap.{start, count, workers, rows, rule_for, flag_rule, parser_of}
 use Rattle.kw_command.proofs.words.parser.Goals as goal
 
 -- an argument with a parser
@@ -27,12 +28,16 @@ returns c =
     let rows_parser : c.value_parser-rows.result.value_parser ≡ Some (parser_of rows) = c.value_parser-rows.ensures.given.1 ∙ ap (λ (q : ValueParser). Some q) (c.value_parser-rows.ensures.given.2 ∙ rows_range) in
     let rows_long : rule_of c.long-2.result ≡ record (new_rule (codes "rows")) { long = Some (codes "rows") } = ap rule_of c.long-2.ensures ∙ ap (λ (x : Rule). record x { long = Some (codes "rows") }) c.new-6.ensures.rule in
     let rows_is : rule_of c.value_parser-rows.result ≡ rule_for rows = with_parser c.long-2.result c.value_parser-rows.result _ (parser_of rows) c.value_parser-rows.ensures.others rows_long rows_parser in
-    let none_is : app_of c.disable_help_flag.result ≡ on_top (λ s. record s { disable_help_flag = true }) (new_app (codes "kiwi")) = ap app_of_fields c.disable_help_flag.ensures ∙ ap (on_top (λ s. record s { disable_help_flag = true })) c.new-8.ensures.app in
+    let flag_long : rule_of c.long-3.result ≡ record (new_rule (codes "record")) { long = Some (codes "record") } = ap rule_of c.long-3.ensures ∙ ap (λ (x : Rule). record x { long = Some (codes "record") }) c.new-8.ensures.rule in
+    let flag_is : rule_of c.action-recorded.result ≡ flag_rule = ap rule_of c.action-recorded.ensures ∙ ap (λ (x : Rule). record x { action = Some SetTrue }) flag_long in
+    let none_is : app_of c.disable_help_flag.result ≡ on_top (λ s. record s { disable_help_flag = true }) (new_app (codes "kiwi")) = ap app_of_fields c.disable_help_flag.ensures ∙ ap (on_top (λ s. record s { disable_help_flag = true })) c.new-9.ensures.app in
     let start_global : c.value_parser-start.result.global ≡ false = ap (λ (a : Arg). a.global) c.value_parser-start.ensures.others ∙ c.new.ensures.optional.1 in
     let count_global : c.value_parser-count.result.global ≡ false = ap (λ (a : Arg). a.global) c.value_parser-count.ensures.others ∙ c.new-2.ensures.optional.1 in
     let workers_global : c.value_parser-workers.result.global ≡ false = ap (λ (a : Arg). a.global) c.value_parser-workers.ensures.others ∙ (ap (λ (a : Arg). a.global) c.long.ensures ∙ c.new-4.ensures.optional.1) in
     let rows_global : c.value_parser-rows.result.global ≡ false = ap (λ (a : Arg). a.global) c.value_parser-rows.ensures.others ∙ (ap (λ (a : Arg). a.global) c.long-2.ensures ∙ c.new-6.ensures.optional.1) in
+    let flag_global : c.action-recorded.result.global ≡ false = ap (λ (a : Arg). a.global) c.action-recorded.ensures ∙ (ap (λ (a : Arg). a.global) c.long-3.ensures ∙ c.new-8.ensures.optional.1) in
     let one_is = c.in_ok-arg.ensures.shape start_global ∙ ap₂ with_rule none_is start_is in
     let two_is = c.in_ok-arg-2.ensures.shape count_global ∙ ap₂ with_rule one_is count_is in
     let three_is = c.in_ok-arg-3.ensures.shape workers_global ∙ ap₂ with_rule two_is workers_is in
-    IfOk-weaker c.arg-4.result _ _ (λ r h. h.shape rows_global ∙ ap₂ with_rule three_is rows_is) c.arg-4.ensures
+    let four_is = c.in_ok-arg-4.ensures.shape rows_global ∙ ap₂ with_rule three_is rows_is in
+    IfOk-weaker c.arg-5.result _ _ (λ r h. h.shape flag_global ∙ ap₂ with_rule four_is flag_is) c.arg-5.ensures
