@@ -130,7 +130,6 @@ module _ (c : Choice) where
   scan_met_carries z i (Some (scan.Drawn version)) l = scan_looks z (i + 1) (needing version l)
   scan_met_carries z i None l = scan_looks z (i + 1) l
 
-
   helped_carries : (z : Sizes) (i : ℕ) (w : Option ScanWord) (l : Local) → Carries c l.pairs (scan_helped z i w l) (scan_helped z i w (carried l))
   helped_carries z i (Some scan.Quiet) l = scan_looks z (i + 1) l
   helped_carries z i (Some (scan.Waiting clock)) l = own (clock == l.rebalance.waiting)
