@@ -30,8 +30,9 @@ pub fn put_cells<R: Wait>(rt: &R, kiwi: &Kiwi, pass: Pass, load: Load) -> Pass
 }
 
 /// Makes so many calls that read.
-pub fn read(kiwi: &Kiwi, pass: Pass, load: Load, reading: Reading, calls: u32)
+pub fn read(kiwi: &Kiwi, pass: Pass, load: Load, reading: Reading, calls: u32) -> Pass
     requires { IsIdle kiwi.now pass }
+    ensures { IsIdle kiwi.now result }
 {
     match reading {
         Reading::Gets => get_keys(kiwi, pass, load, calls),
@@ -40,21 +41,25 @@ pub fn read(kiwi: &Kiwi, pass: Pass, load: Load, reading: Reading, calls: u32)
 }
 
 // So many gets, of one cell's key after another's.
-fn get_keys(kiwi: &Kiwi, pass: Pass, load: Load, calls: u32)
+fn get_keys(kiwi: &Kiwi, pass: Pass, load: Load, calls: u32) -> Pass
     requires { IsIdle kiwi.now pass }
+    ensures { IsIdle kiwi.now result }
 {
     let mut pass = pass;
     for call in 0..calls {
         kiwi.get(&mut pass, load.key_of_call(call));
     }
+    pass
 }
 
 // So many scans of all keys.
-fn scan_keys(kiwi: &Kiwi, pass: Pass, load: Load, calls: u32)
+fn scan_keys(kiwi: &Kiwi, pass: Pass, load: Load, calls: u32) -> Pass
     requires { IsIdle kiwi.now pass }
+    ensures { IsIdle kiwi.now result }
 {
     let mut pass = pass;
     for _ in 0..calls {
         let _ = kiwi.scan(&mut pass, 0, load.cells, &mut SumGather::new());
     }
+    pass
 }

@@ -20,13 +20,12 @@ pub fn print_usage(rt: &HostRuntime) -> io::Result<()> {
     )
 }
 
-/// Prints what a call that reads took, and how many calls two and four threads made in the time in which one made a hundred.
+/// Prints what a call that reads took, and how many calls two threads made in the time in which one made a hundred.
 pub fn print_reads(rt: &HostRuntime, name: &str, load: Load, figure: ReadFigure) -> io::Result<()> {
     let a_call = figure.one / u128::from(figure.calls.max(1));
     let by_two = figure.one.saturating_mul(200) / figure.two.max(1);
-    let by_four = figure.one.saturating_mul(400) / figure.four.max(1);
     println!(rt;
-        "{name}, {} cells of {}: {a_call} ns by one thread; two threads make {by_two} calls and four {by_four} where one makes 100",
+        "{name}, {} cells of {}: {a_call} ns by one thread; two threads make {by_two} calls where one makes 100",
         load.cells,
         load.keys.words()
     )

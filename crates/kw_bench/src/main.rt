@@ -1,7 +1,7 @@
-//! How fast the map's calls are, by one thread and by more on one map, how fast lines are read and answers printed, and how fast an index is.
+//! How fast the map's calls are, by one thread and by two on one map, how fast lines are read and answers printed, and how fast an index is.
 //!
 //! With a number N the program makes N calls of each kind on maps of one row, for rows of a quarter of their cells to all, of different keys and
-//! of one key. It prints what a call took, in nanoseconds, and of those that read how many two and four threads
+//! of one key. It prints what a call took, in nanoseconds, and of those that read how many two threads
 //! made in the time in which one made a hundred. Then it reads an input of N lines, or of as many as an input may have, and
 //! prints an answer to each, with no map. At last it asks an index of few entries, one of some and one of many for N keys, and plain slices
 //! of the same entries, by one thread and by four. All figures of a run come from that run, so its ratios can be
