@@ -16,6 +16,17 @@ pub enum Reading {
     Scans,
 }
 
+/// So many calls that read a row of this load.
+#[derive(Clone, Copy, Debug, PartialEq, Eq)]
+pub struct Task {
+    /// What the row holds.
+    pub load: Load,
+    /// What is read.
+    pub reading: Reading,
+    /// How many calls are made.
+    pub calls: u32,
+}
+
 /// Puts a value for each cell of an empty row.
 pub fn put_cells<R: Wait>(rt: &R, kiwi: &Kiwi, pass: Pass, load: Load) -> Pass
     requires { IsIdle kiwi.now pass }
@@ -29,14 +40,14 @@ pub fn put_cells<R: Wait>(rt: &R, kiwi: &Kiwi, pass: Pass, load: Load) -> Pass
     pass
 }
 
-/// Makes so many calls that read.
-pub fn read(kiwi: &Kiwi, pass: Pass, load: Load, reading: Reading, calls: u32) -> Pass
+/// Makes the calls.
+pub fn read(kiwi: &Kiwi, pass: Pass, task: Task) -> Pass
     requires { IsIdle kiwi.now pass }
     ensures { IsIdle kiwi.now result }
 {
-    match reading {
-        Reading::Gets => get_keys(kiwi, pass, load, calls),
-        Reading::Scans => scan_keys(kiwi, pass, load, calls),
+    match task.reading {
+        Reading::Gets => get_keys(kiwi, pass, task.load, task.calls),
+        Reading::Scans => scan_keys(kiwi, pass, task.load, task.calls),
     }
 }
 

@@ -17,7 +17,7 @@ mod lines;
 mod load;
 mod timing;
 
-use crate::asking::Reading;
+use crate::asking::{Reading, Task};
 use crate::figures::{
     given_calls, print_guesses, print_lines, print_puts, print_reads, print_usage,
 };
@@ -65,17 +65,17 @@ fn time_load<T: Threads + Wait + Sync>(
         cells: (CELL_COUNT / 4).saturating_mul(quarters),
         keys,
     };
-    print_reads(
-        rt,
-        "get",
+    let gets = Task {
         load,
-        time_reads(rt, threads, load, Reading::Gets, calls)?,
-    )?;
-    print_reads(
-        rt,
-        "scan",
+        reading: Reading::Gets,
+        calls,
+    };
+    let scans = Task {
         load,
-        time_reads(rt, threads, load, Reading::Scans, calls)?,
-    )?;
+        reading: Reading::Scans,
+        calls,
+    };
+    print_reads(rt, "get", load, time_reads(rt, threads, gets)?)?;
+    print_reads(rt, "scan", load, time_reads(rt, threads, scans)?)?;
     print_puts(rt, load, time_puts(rt, threads, load, calls)?)
 }

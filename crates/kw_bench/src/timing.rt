@@ -2,7 +2,7 @@
 ghost use Rattle.std.specs.Prelude.{IfOk};
 ghost use Rattle.kw_map.specs.Kiwi.{IsIdle};
 
-use crate::asking::{Reading, put_cells, read};
+use crate::asking::{Task, put_cells, read};
 use crate::load::Load;
 use kw_map::kiwi::Kiwi;
 use kw_model::memory::Memory;
@@ -49,27 +49,29 @@ fn open(alloc: Global) -> Result<(Kiwi, Pass, Pass), Memory>
     Ok((kiwi, first, second))
 }
 
-/// Times calls that read, on a map of one row that holds this load.
+/// Times calls that read, on a map of one row that holds the task's load.
 pub fn time_reads<T: Threads + Wait + Sync>(
     rt: &HostRuntime,
     threads: &T,
-    load: Load,
-    reading: Reading,
-    calls: u32,
+    task: Task,
 ) -> io::Result<ReadFigure> {
     let (kiwi, first, second) = open(rt.alloc()).map_err(no_memory)?;
-    let first = put_cells(threads, &kiwi, first, load);
+    let first = put_cells(threads, &kiwi, first, task.load);
     let start = Instant::now(rt)?;
-    let first = read(&kiwi, first, load, reading, calls);
+    let first = read(&kiwi, first, task);
     let one = start.elapsed(rt)?.as_nanos();
     let start = Instant::now(rt)?;
     join(
         threads,
-        || read(&kiwi, first, load, reading, calls),
-        || read(&kiwi, second, load, reading, calls),
+        || read(&kiwi, first, task),
+        || read(&kiwi, second, task),
     );
     let two = start.elapsed(rt)?.as_nanos();
-    Ok(ReadFigure { calls, one, two })
+    Ok(ReadFigure {
+        calls: task.calls,
+        one,
+        two,
+    })
 }
 
 /// Times puts into rows that fill, each with this load, until about so many puts are made. What opening the maps takes is not in the figure.
