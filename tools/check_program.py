@@ -19,20 +19,39 @@ from kiwi_map import KIWI
 FOLDER, FULL = "/", "/dev/full"
 LONG = b"get 1\n" * 3_000_000
 
+# A put that is stamped and goes on, and a get that finds it; its record; and a record whose order has a call behind a later one.
+SCRIPT = b"call 0 put 5 10\nuntil 0 stamp\ncall 1 get 5\ngo 1 100\n"
+RECORD = b"done 1.1 11 26 get 5: 10\nopen 0.1 0 put 5 10\norder 0.1 1.1\n"
+TURNED = b"done 0.1 0 5 put 5 10: ok\ndone 1.1 6 9 get 5: 10\norder 1.1 0.1\n"
+
 Case = namedtuple("Case", "name words given output printed said status", defaults=(b"", None, b"", b"", 0))
 
 CASES = (
     Case("all is printed", "replay", b"put 5 50\nget 5\n", printed=b"ok\n50\n"),
     Case("workers and rows", "replay --rows 64 --workers 8", b"put 5 50\nwait\nsum 0 9\n", printed=b"ok\n50\n"),
     Case("a script", "simulate", b"", printed=b"order none\n"),
+    Case("a script with a flag before an option", "simulate --record --rows 64", b"", printed=b"order none\n"),
+    Case("a script's record", "simulate --record", SCRIPT, printed=RECORD),
+    Case("a good record", "judge", RECORD, printed=b"yes\n"),
+    Case("a record with a call missing", "judge", RECORD.replace(b" 1.1\n", b"\n"), printed=b"no: missing 1.1\n", said=b"not legal\n", status=7),
+    Case("a record with its order turned round", "judge", TURNED, printed=b"no: late 0.1 1.1\n", said=b"not legal\n", status=7),
     Case("a summary", "gen 7 3", printed=b"puts 3\ndels 0\ngets 0\nfound 0\ncount 3\nsum 22218\nleast 3365\ngreatest 10868\n"),
     Case("no such command", "rollup", said=b"bad words\n", status=2),
     Case("a worker too many", "replay --workers 9", said=b"bad words\n", status=2),
+    Case("a script recorded twice", "simulate --record --record", said=b"bad words\n", status=2),
+    Case("a flag in an option's place", "simulate --rows --record 64", said=b"bad words\n", status=2),
+    Case("a replay recorded", "replay --record", said=b"bad words\n", status=2),
+    Case("a judge with rows", "judge --rows 64", said=b"bad words\n", status=2),
+    Case("a judge twice", "judge judge", said=b"bad words\n", status=2),
     Case("a bad line", "replay", b"get 1\nget\n", said=b"bad line 2\n", status=3),
     Case("a bad line of a script", "simulate", b"call 9 get 1\n", said=b"bad line 1\n", status=3),
+    Case("a bad line of a recorded script", "simulate --record", b"call 9 get 1\n", said=b"bad line 1\n", status=3),
+    Case("a record without an order", "judge", b"done 0.1 0 5 get 5: none\n", said=b"bad line 2\n", status=3),
+    Case("no record", "judge", b"", said=b"bad line 1\n", status=3),
     Case("an input that is too long", "replay", LONG, said=b"input too long\n", status=3),
     Case("an input that cannot be read", "replay", FOLDER, said=b"read fault\n", status=4),
     Case("an output that is full", "replay", b"get 1\n", FULL, said=b"write fault\n", status=5),
+    Case("an output that is full of what is wrong", "judge", TURNED, FULL, said=b"write fault\n", status=5),
 )
 
 

@@ -1,5 +1,5 @@
 -- Which inputs are bad: a good one has no bad line, and a bad one has one line that is told.
-use Rattle.std.proofs.Common.{◌≡◌, ℕ, Bool, ◌≤◌, ◌<◌, List, length, inl, inr, sym, ◌∙◌, arith, Option, Some, None}
+use Rattle.std.proofs.Common.{◌≡◌, ℕ, ◌≤◌, ◌<◌, List, length, inl, inr, sym, ◌∙◌, arith, Option, Some, None}
 use mathlib.Core.Logic.{⊎_elim}
 use Rattle.std.specs.Prelude.{IfSome}
 use Rattle.kw_line.specs.declared.parse.TheConstants.{MOST_BYTES}
@@ -7,26 +7,31 @@ use Rattle.kw_line.proofs.Unique.{items_or_bad, same_bad}
 use Rattle.kw_table.specs.declared.pass.Pass.{Pass}
 use Rattle.kw_command.specs.declared.command.Command.{Command}
 use Rattle.kw_command.specs.declared.command.Command.TheVariants as command
+use Rattle.kw_command.specs.Words.{AreInRange}
+use Rattle.kw_app.specs.declared.printed.Ending.{Ending}
 use Rattle.kw_app.specs.declared.outcome.Outcome.{Outcome}
 use Rattle.kw_app.specs.declared.outcome.Status.TheVariants as status
 use Rattle.kw_app.specs.Ends.{IsPrinted, IsFirstOutside, IsToldBad, Reads}
-use Rattle.kw_app.proofs.Scripts.{commands_or_bad, same_bad_line}
+use Rattle.kw_app.proofs.Scripts.{same_outside, simulated_or_bad}
+use Rattle.kw_app.proofs.Records.{record_or_bad, same_bad_record_line}
 
 -- what has a text has no bad line
-printed_or_bad : (c : Command) (front : Option Pass) (refused : Bool) (bytes printed : List ℕ) (at : ℕ) → IsPrinted c front refused bytes printed → IsFirstOutside c bytes at → ⊥
-printed_or_bad (command.Replay w r) front refused bytes printed at good bad = items_or_bad bytes good.items at good.lines bad
-printed_or_bad (command.Simulate r) front refused bytes printed at good bad = commands_or_bad r bytes good.2.commands at good.2.lines bad
-printed_or_bad (command.Gen s n w r) front refused bytes printed at good bad = bad
+printed_or_bad : (c : Command) (front : Option Pass) (end : Ending) (bytes printed : List ℕ) (at : ℕ) → AreInRange c → IsPrinted c front end bytes printed → IsFirstOutside c bytes at → ⊥
+printed_or_bad (command.Replay w r) front end bytes printed at range good bad = items_or_bad bytes good.items at good.lines bad
+printed_or_bad (command.Simulate r b) front end bytes printed at range good bad = simulated_or_bad b r bytes printed at (omega (arith, range.1)) good.2 bad
+printed_or_bad command.Judge front end bytes printed at range good bad = record_or_bad bytes good.1.written at good.1.text bad
+printed_or_bad (command.Gen s n w r) front end bytes printed at range good bad = bad
 
 -- there is one first bad line at most
 one_bad : (c : Command) (bytes : List ℕ) (m n : ℕ) → IsFirstOutside c bytes m → IsFirstOutside c bytes n → m ≡ n
 one_bad (command.Replay w r) bytes m n h k = same_bad bytes m n h k
-one_bad (command.Simulate r) bytes m n h k = same_bad_line r bytes m n h k
+one_bad (command.Simulate r b) bytes m n h k = same_outside b r bytes m n h k
+one_bad command.Judge bytes m n h k = same_bad_record_line bytes m n h k
 one_bad (command.Gen s i w r) bytes m n h k = absurd h
 
 -- an input that has a text is not bad
-pub good_is_not_bad : (c : Command) (front : Option Pass) (refused : Bool) (bytes printed : List ℕ) (outcome : Outcome) → length bytes ≤ MOST_BYTES → IsPrinted c front refused bytes printed → IsToldBad c outcome bytes
-good_is_not_bad c front refused bytes printed outcome short good at bad = absurd (⊎_elim (λ long. at_length long.0) (λ first. printed_or_bad c front refused bytes printed at good first.1) bad.1)
+pub good_is_not_bad : (c : Command) (front : Option Pass) (end : Ending) (bytes printed : List ℕ) (outcome : Outcome) → AreInRange c → length bytes ≤ MOST_BYTES → IsPrinted c front end bytes printed → IsToldBad c outcome bytes
+good_is_not_bad c front end bytes printed outcome range short good at bad = absurd (⊎_elim (λ long. at_length long.0) (λ first. printed_or_bad c front end bytes printed at range good first.1) bad.1)
   where
     at_length : MOST_BYTES < length bytes → ⊥
     at_length long = omega arith

@@ -1,6 +1,7 @@
 pub mod Asked
 pub mod Lines
 pub mod Scripts
+pub mod Records
 pub mod Ended
 pub mod Inputs
 pub mod Streams

@@ -7,6 +7,9 @@ pub mod Rounds
 pub mod Running
 pub mod Headline
 pub mod Answering
+pub mod Ending
+pub mod Judging
+pub mod Simulating
 pub mod Replay
 pub mod Generated
 pub mod Summary

@@ -13,6 +13,7 @@ status_code status.BadInput = 3
 status_code status.ReadFault = 4
 status_code status.WriteFault = 5
 status_code status.OutOfMemory = 6
+status_code status.NotLegal = 7
 status_code status.Refused = 8
 
 -- a line of text, with its line feed
@@ -31,6 +32,7 @@ status_text status.BadInput line = bad_input_line line
 status_text status.ReadFault line = line_of (codes "read fault")
 status_text status.WriteFault line = line_of (codes "write fault")
 status_text status.OutOfMemory line = line_of (codes "out of memory")
+status_text status.NotLegal line = line_of (codes "not legal")
 status_text status.Refused line = line_of (codes "some calls were refused")
 
 -- the fault line of an outcome

@@ -42,6 +42,7 @@ fn fixed_line(status: Status) -> &'static [u8]
         Status::ReadFault => b"read fault\n",
         Status::WriteFault => b"write fault\n",
         Status::OutOfMemory => b"out of memory\n",
+        Status::NotLegal => b"not legal\n",
         Status::Refused => b"some calls were refused\n",
     }
 }

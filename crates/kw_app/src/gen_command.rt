@@ -5,7 +5,7 @@ ghost use Rattle.kw_app.specs.Gen.{IsSummaryOf};
 use crate::answering::{answered, some_refused};
 use crate::crew::Crew;
 use crate::generate::generate;
-use crate::printed::Printed;
+use crate::printed::{Ending, Printed};
 use crate::summary::summary;
 use crate::working::Gate;
 use kw_command::command::MOST_LINES;
@@ -24,15 +24,15 @@ pub fn summarized<R: Threads + Wait + Sync, G: Gate + Sync>(
 ) -> Result<Printed, Memory>
     requires { count ≤ MOST_LINES }
     ensures { IfOk result (λ printed. IsSummaryOf start count crew.now.workers crew.now.rows
-        printed.text.items printed.front printed.refused) }
+        printed.text.items printed.front printed.ending) }
 {
     let items = generate(alloc, start, count)?;
     let (front, answers) = answered(rt, alloc, crew, &items)?;
     let text = summary(alloc, &items, &answers)?;
-    let refused = some_refused(&answers);
+    let ending = Ending::of_replies(some_refused(&answers));
     Ok(Printed {
         text,
-        refused,
+        ending,
         front,
     })
 }

@@ -5,7 +5,8 @@
 //! on the contract of `run`. The modules below it:
 //!
 //! - `kw_command`, a crate of its own, reads the words of the command line.
-//! - `text`, `printed` and `replay` make the text of an input's replies; `gen_command`, `generate` and `summary` the summary of the replies to
+//! - `text`, `printed` and `replay` make the text of an input's replies, `simulating` that of a script,
+//!   and `judging` that of a verdict; `gen_command`, `generate` and `summary` the summary of the replies to
 //!   generated lines. `crew` has who answers them.
 //! - `answering` asks the lines, of the concurrent map or of the plain list (`plain`).
 //! - `running`, `rounds`, `working` and `asking` run lines on the concurrent map: all blocks, one block, one worker, one line. Block after
@@ -20,6 +21,7 @@ mod crew;
 mod fault;
 mod gen_command;
 mod generate;
+mod judging;
 mod outcome;
 mod plain;
 mod printed;
@@ -27,6 +29,7 @@ mod replay;
 mod rounds;
 mod run;
 mod running;
+mod simulating;
 mod summary;
 #[cfg(test)]
 mod tests;

@@ -5,14 +5,15 @@ ghost use Rattle.kw_app.specs.Status.{status_code};
 use kw_table::Pass;
 
 /// How a run ended. The causes are tested in this order: bad words, a read fault, bad input, a write fault; want of memory may
-/// come at any place before the first byte is written. Refused calls are told last, since they are no fault of the run.
+/// come at any place before the first byte is written. That a record is not good, or that calls were refused, is told last, since it is no
+/// fault of the run.
 #[derive(Clone, Copy, Debug, PartialEq, Eq)]
 pub enum Status {
     /// The whole text was written.
     Done = 0,
     /// The words are no command. Nothing was read.
     BadWords = 2,
-    /// The input is too long, or has a line that is not in the grammar. Nothing was written.
+    /// The input is too long, or has a line that is not in the grammar, or a script's record would be too long. Nothing was written.
     BadInput = 3,
     /// The source failed. Nothing was written.
     ReadFault = 4,
@@ -20,6 +21,8 @@ pub enum Status {
     WriteFault = 5,
     /// Memory was wanted and not found. Nothing was written.
     OutOfMemory = 6,
+    /// The whole text was written, and says what is wrong with a record.
+    NotLegal = 7,
     /// The whole text was written, and a call was refused.
     Refused = 8,
 }

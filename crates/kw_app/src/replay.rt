@@ -6,7 +6,7 @@ ghost use Rattle.kw_app.specs.Replay.{IsPrintedOf, IsReplayed};
 
 use crate::answering::{answered, some_refused};
 use crate::crew::Crew;
-use crate::printed::Printed;
+use crate::printed::{Ending, Printed};
 use crate::working::Gate;
 use kw_line::item::{Item, LineError};
 use kw_line::parse::{MOST_BYTES, parse};
@@ -25,7 +25,7 @@ pub fn replay<R: Threads + Wait + Sync, G: Gate + Sync>(
 ) -> Result<Printed, LineError>
     requires { length bytes.now ≤ MOST_BYTES }
     ensures text { IfOk result (λ printed. IsReplayed crew.now.workers crew.now.rows
-        bytes.now printed.text.items printed.front printed.refused) }
+        bytes.now printed.text.items printed.front printed.ending) }
     ensures bad { IfBadLine bytes.now result }
 {
     let items = parse(alloc, bytes)?;
@@ -45,14 +45,14 @@ fn printed<R: Threads + Wait + Sync, G: Gate + Sync>(
     requires few { length items.now < 2 ^ 32 }
     requires items { AllByRecursion IsItem items.now }
     ensures { IfOk result (λ printed. IsPrintedOf crew.now.workers crew.now.rows
-        items.now printed.text.items printed.front printed.refused) }
+        items.now printed.text.items printed.front printed.ending) }
 {
     let (front, answers) = answered(rt, alloc, crew, items)?;
     let text = print(alloc, &answers)?;
-    let refused = some_refused(&answers);
+    let ending = Ending::of_replies(some_refused(&answers));
     Ok(Printed {
         text,
-        refused,
+        ending,
         front,
     })
 }

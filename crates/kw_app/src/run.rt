@@ -10,7 +10,7 @@ ghost use Rattle.kw_app.specs.Ends.{Reads, ReadsInput, WritesPrinted, WritesText
 use crate::crew::Crew;
 use crate::gen_command::summarized;
 use crate::outcome::{Outcome, Status};
-use crate::printed::Printed;
+use crate::printed::{Ending, Printed};
 use crate::text::{InputError, text_of};
 use crate::working::Gate;
 use kw_command::command::{Command, command_of};
@@ -38,9 +38,10 @@ pub fn run<R: Threads + Wait + Sync, S: Source, K: Sink, G: Gate + Sync>(
     gate: &G,
 ) -> Outcome
     // The text of the command was written, whole or up to a fault: for `replay` the replies to the lines in order, for `simulate` the
-    // output of the script, for `gen` the summary of the replies to the lines it made. The replies come from the concurrent map where the
-    // lines that set a value or take a key away fit one row. The pass in `front` then shows the run, for any number of workers, and the
-    // replies are those of one thread in an order of the lines that keeps what came before what. At every other status nothing was written.
+    // output of the script or the record of its calls, for `judge` the verdict on the record, for `gen` the summary of the replies to the lines it made. The replies come
+    // from the concurrent map where the lines that set a value or take a key away fit one row. The pass in `front` then shows the run, for any
+    // number of workers, and the replies are those of one thread in an order of the lines that keeps what came before what. At every other
+    // status nothing was written.
     ensures writes { WritesText K.written K.faults (Means words.now) (S.left source.old)
         result sink.old sink.new }
 
@@ -81,6 +82,7 @@ fn run_command<R: Threads + Wait + Sync, S: Source, K: Sink, G: Gate + Sync>(
     match command {
         Command::Replay { .. } => read_and_answer(rt, alloc, command, source, sink, gate),
         Command::Simulate { .. } => read_and_answer(rt, alloc, command, source, sink, gate),
+        Command::Judge => read_and_answer(rt, alloc, command, source, sink, gate),
         Command::Gen {
             start,
             count,
@@ -156,13 +158,14 @@ fn written<K: Sink>(printed: Printed, sink: &mut K) -> Outcome
 {
     let Printed {
         text,
-        refused,
+        ending,
         front,
     } = printed;
-    let status = match write_all(sink, &text) {
-        Ok(()) if refused => Status::Refused,
-        Ok(()) => Status::Done,
-        Err(_) => Status::WriteFault,
+    let status = match (write_all(sink, &text), ending) {
+        (Ok(()), Ending::Done) => Status::Done,
+        (Ok(()), Ending::Refused) => Status::Refused,
+        (Ok(()), Ending::NotLegal) => Status::NotLegal,
+        (Err(_), _) => Status::WriteFault,
     };
     Outcome {
         status,

@@ -14,6 +14,7 @@ mod generated;
 mod lines;
 mod scripts;
 mod streams;
+mod verdicts;
 mod workers;
 
 const ROOM: u32 = 65_536;

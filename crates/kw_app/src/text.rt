@@ -7,14 +7,16 @@ ghost use Rattle.kw_command.specs.Words.{AreInRange};
 ghost use Rattle.kw_app.specs.Ends.{IfOutside, IsPrinted, Reads};
 
 use crate::crew::Crew;
+use crate::judging::judged;
 use crate::printed::Printed;
 use crate::replay::replay;
+use crate::simulating::simulated;
 use crate::working::Gate;
 use kw_command::command::Command;
+use kw_judge::record::RecordError;
 use kw_line::item::LineError;
 use kw_line::parse::MOST_BYTES;
 use kw_sim::command::ScriptError;
-use kw_sim::script::run_script;
 use std::alloc::Global;
 use std::sync::Wait;
 use std::thread::Threads;
@@ -22,13 +24,13 @@ use std::thread::Threads;
 /// Why an input has no text.
 #[derive(Clone, Copy, Debug, PartialEq, Eq)]
 pub enum InputError {
-    /// The first line, counted from 1, that is not in the command's grammar.
+    /// The first line, counted from 1, that is not in the command's grammar, or 0 for a script whose record would have too many calls.
     Bad { line: u32 },
     /// Memory was wanted and not found.
     Memory,
 }
 
-/// The text that the command prints of these bytes. `Bad` names the first line that is not in its grammar.
+/// The text that the command prints of these bytes. `Bad` names the first line that is not in its grammar, or line 0.
 pub fn text_of<R: Threads + Wait + Sync, G: Gate + Sync>(
     rt: &R,
     alloc: Global,
@@ -39,7 +41,7 @@ pub fn text_of<R: Threads + Wait + Sync, G: Gate + Sync>(
     requires reads { Reads command }
     requires range { AreInRange command }
     requires short { length bytes.now ≤ MOST_BYTES }
-    ensures printed { IfOk result (λ printed. IsPrinted command printed.front printed.refused
+    ensures printed { IfOk result (λ printed. IsPrinted command printed.front printed.ending
         bytes.now printed.text.items) }
     ensures bad { IfOutside command bytes.now result }
 {
@@ -56,10 +58,15 @@ pub fn text_of<R: Threads + Wait + Sync, G: Gate + Sync>(
                 Err(LineError::Memory) => Err(InputError::Memory),
             }
         }
-        Command::Simulate { rows } => match run_script(alloc, rows, bytes) {
+        Command::Simulate { rows, recorded } => match simulated(alloc, rows, recorded, bytes) {
             Ok(text) => Ok(Printed::of(text)),
             Err(ScriptError::Bad { line }) => Err(InputError::Bad { line }),
             Err(ScriptError::Memory) => Err(InputError::Memory),
+        },
+        Command::Judge => match judged(alloc, bytes) {
+            Ok(printed) => Ok(printed),
+            Err(RecordError::Bad { line }) => Err(InputError::Bad { line }),
+            Err(RecordError::Memory) => Err(InputError::Memory),
         },
         Command::Gen { .. } => unreachable!(),
     }

@@ -112,7 +112,7 @@ verb_named-word verb.Until = refl
 verb_named-word verb.Guess = refl
 verb_named-word verb.Stop = refl
 
-verb_word_injective : (u v : Verb) → verb_word u ≡ verb_word v → u ≡ v
+pub verb_word_injective : (u v : Verb) → verb_word u ≡ verb_word v → u ≡ v
 verb_word_injective u v e = let s : Some u ≡ Some v = sym (verb_named-word u) ∙ (ap verb_named e ∙ verb_named-word v) in cc
 
 -- Lines.

@@ -82,6 +82,7 @@ fn each_status_but_the_first_has_its_fault_line(rt: HostRuntime) -> Result<(), F
         (Status::ReadFault, 0, "read fault\n"),
         (Status::WriteFault, 0, "write fault\n"),
         (Status::OutOfMemory, 0, "out of memory\n"),
+        (Status::NotLegal, 0, "not legal\n"),
         (Status::Refused, 0, "some calls were refused\n"),
     ];
     for (status, line, text) in lines {
@@ -98,7 +99,7 @@ fn each_status_but_the_first_has_its_fault_line(rt: HostRuntime) -> Result<(), F
 #[test]
 fn a_run_that_does_not_do_all_says_why(rt: HostRuntime) -> Result<(), Fail> {
     let three = b"put 5 50\nget 5\nsum 0 9\n".as_slice();
-    let runs: [(&[&str], &[u8], &[u32], u32, &[u8]); 7] = [
+    let runs: [(&[&str], &[u8], &[u32], u32, &[u8]); 9] = [
         (&["replay"], three, &[], ROOM, b""),
         (
             &["replay"],
@@ -110,6 +111,8 @@ fn a_run_that_does_not_do_all_says_why(rt: HostRuntime) -> Result<(), Fail> {
         (&["replay"], b"put 1 1\nput 3", &[], ROOM, b"bad line 2\n"),
         (&["replay"], three, &[0], ROOM, b"read fault\n"),
         (&["replay"], three, &[], 4, b"write fault\n"),
+        (&["judge"], b"order 0.1\n", &[], ROOM, b"not legal\n"),
+        (&["judge"], b"order\n", &[], ROOM, b"bad line 1\n"),
         (&["replays"], three, &[], ROOM, b"bad words\n"),
         (&[], three, &[], ROOM, b"bad words\n"),
     ];

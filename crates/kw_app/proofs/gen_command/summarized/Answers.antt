@@ -1,12 +1,19 @@
 -- The answers to the generated lines, and their summary.
-use Rattle.std.proofs.Common.{◌≡◌, ◌<◌, ◌^◌, List, length, sym, ◌∙◌, ap, subst}
+use Rattle.std.proofs.Common.{◌≡◌, ◌<◌, ◌^◌, Bool, true, false, List, length, refl, sym, ◌∙◌, ap, subst}
 use Rattle.kw_line.specs.declared.answer.Answer.{Answer}
 use Rattle.kw_line.specs.declared.item.Item.{Item}
+use Rattle.kw_app.specs.declared.printed.Ending.TheVariants as ending
 use Rattle.kw_app.specs.Answering.{IsAnswered, some_refused}
+use Rattle.kw_app.specs.Ending.{refusal_ending}
 use Rattle.kw_app.specs.Generated.{generated}
 use Rattle.kw_app.specs.Summary.{summary}
 use Rattle.kw_app.proofs.QuietGenerated.{generated_answers, generated_is_few}
 use Rattle.kw_app.proofs.gen_command.summarized.Goals as goal
+
+-- where nothing is said of the replies none is a refusal
+none_refused : (b : Bool) → refusal_ending b ≡ ending.Done → b ≡ false
+none_refused true e = absurd cc
+none_refused false e = refl
 
 pub answered-requires-clause-few : goal.answered-requires-clause-few
 answered-requires-clause-few g c κs within =
@@ -20,11 +27,12 @@ returns g c =
     subst (λ (l : List Item). IsAnswered c.args.crew.now.workers c.args.crew.now.rows l answers c.in_ok-front.front) (c.deref.ensures.value ∙ c.in_ok-items.ensures.lines) c.in_ok-front.ensures in
     let text_is : c.in_ok-text.text.items ≡ summary items answers =
     c.in_ok-text.ensures ∙ (ap (λ (l : List Item). summary l c.deref-3.result.now) (c.deref-2.ensures.value ∙ c.in_ok-items.ensures.lines) ∙ ap (summary items) c.deref-3.ensures.value) in
-    let refused_is : c.some_refused-refused.result ≡ some_refused answers = c.some_refused-refused.ensures ∙ ap some_refused c.deref-4.ensures.value in
+    let refused_is : c.some_refused.result ≡ some_refused answers = c.some_refused.ensures ∙ ap some_refused c.deref-4.ensures.value in
+    let ending_is : c.of_replies-ending.result ≡ refusal_ending (some_refused answers) = c.of_replies-ending.ensures ∙ ap refusal_ending refused_is in
     record {
       answers = answers;
       answered = answered;
       text_is = text_is;
-      refused_is = refused_is;
-      quiet = λ none. text_is ∙ ap (summary items) (generated_answers c.args.start c.args.count c.args.crew.now.workers c.args.crew.now.rows answers c.in_ok-front.front c.args.crew.now.opens answered (sym refused_is ∙ none));
+      ending_is = ending_is;
+      quiet = λ none. text_is ∙ ap (summary items) (generated_answers c.args.start c.args.count c.args.crew.now.workers c.args.crew.now.rows answers c.in_ok-front.front c.args.crew.now.opens answered (none_refused (some_refused answers) (sym ending_is ∙ none)));
     }

@@ -17,7 +17,7 @@ returns-in-Ok-clause-reads g c =
     let ends = text_ends _ _ _ _ _ _ c.written.ensures in
     unread_reads _ _ _ _ c.args.bytes.now ends.0 ends.1 c.written.ensures.no_line
     (λ d same. subst (λ x. IsToldBad x c.written.result c.args.bytes.now) (sym same)
-    (good_is_not_bad c.args.command c.in-Ok.printed.front c.in-Ok.printed.refused c.args.bytes.now c.in-Ok.printed.text.items c.written.result c.requires.short c.in-Ok.ensures.printed))
+    (good_is_not_bad c.args.command c.in-Ok.printed.front c.in-Ok.printed.ending c.args.bytes.now c.in-Ok.printed.text.items c.written.result c.requires.range c.requires.short c.in-Ok.ensures.printed))
 
 pub returns-in-Err-Bad-clause-writes : goal.returns-in-Err-Bad-clause-writes
 returns-in-Err-Bad-clause-writes g c = silent_writes _ _ _ _ _ _ (silent_at_bad_input c.bad_input.result c.bad_input.ensures.status) c.bad_input.ensures.front

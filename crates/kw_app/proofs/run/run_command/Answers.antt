@@ -13,7 +13,7 @@ pub returns-in-Ok-clause-writes : goal.returns-in-Ok-clause-writes
 returns-in-Ok-clause-writes g c =
     text_writes _ _ c.args.command _ c.in-Ok.printed _ _ _
     (λ (Writes : List ℕ → Type 0) writes.
-    subst (λ (d : Command). Tells d (g.S.Source.left c.args.source.now) c.in-Ok.printed.front c.in-Ok.printed.refused Writes) (sym c.in-Gen.is)
+    subst (λ (d : Command). Tells d (g.S.Source.left c.args.source.now) c.in-Ok.printed.front c.in-Ok.printed.ending Writes) (sym c.in-Gen.is)
     (record { printed = c.in-Ok.printed.text.items; is_summary = c.in-Ok.ensures; writes = writes }))
     c.written.ensures
 
