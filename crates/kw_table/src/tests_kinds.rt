@@ -244,16 +244,16 @@ fn a_put_and_the_scan_that_helps_it_find_the_words_of_their_kinds(
     let (Some(mut scanner), Some(mut putter)) = (passes.pop(), passes.pop()) else {
         return Err("two passes")?;
     };
-    let (mut put, first) = begin(rt.alloc(), &shared, &mut putter, Call::Put(5, 10))?;
-    assert_eq!(rt; first, (Kind::LoadEpoch, 1));
-    let made = play(rt.alloc(), &shared, &mut putter, &mut put, 9)?;
-    assert_eq!(rt; made.as_slice(), PUT_UNTIL_ITS_STAMP.as_slice());
-    let (mut scan, first) = begin(rt.alloc(), &shared, &mut scanner, Call::Scan(0, 9))?;
-    assert_eq!(rt; first, (Kind::LoadEpoch, 1));
-    let made = play(rt.alloc(), &shared, &mut scanner, &mut scan, 23)?;
-    assert_eq!(rt; made.as_slice(), SCAN_THAT_HELPS.as_slice());
-    let made = play(rt.alloc(), &shared, &mut putter, &mut put, ALL)?;
-    assert_eq!(rt; made.as_slice(), PUT_FROM_ITS_STAMP.as_slice());
+    let (mut put, put_began) = begin(rt.alloc(), &shared, &mut putter, Call::Put(5, 10))?;
+    let until_its_stamp = play(rt.alloc(), &shared, &mut putter, &mut put, 9)?;
+    let (mut scan, scan_began) = begin(rt.alloc(), &shared, &mut scanner, Call::Scan(0, 9))?;
+    let scanned = play(rt.alloc(), &shared, &mut scanner, &mut scan, ALL)?;
+    let from_its_stamp = play(rt.alloc(), &shared, &mut putter, &mut put, ALL)?;
+    assert_eq!(rt; put_began, (Kind::LoadEpoch, 1));
+    assert_eq!(rt; until_its_stamp.as_slice(), PUT_UNTIL_ITS_STAMP.as_slice());
+    assert_eq!(rt; scan_began, (Kind::LoadEpoch, 1));
+    assert_eq!(rt; scanned.as_slice(), SCAN_THAT_HELPS.as_slice());
+    assert_eq!(rt; from_its_stamp.as_slice(), PUT_FROM_ITS_STAMP.as_slice());
     Ok(())
 }
 
