@@ -13,35 +13,21 @@ Both records must be the same byte for byte, and the statuses too. Each record t
 `yes`, with status 0. A command of --scripts writes a script to standard output, and {seed} in it is the seed. The last line says
 how many agreed; the status is 1 where one did not, or where a script could not be had."""
 
-import argparse
-import re
 import shlex
 import sys
 
-from compare_simulate import first_difference, generated, stored, without_lines
+from compare_simulate import first_difference, script_options, scripts_of
 from kiwi_map import KIWI, ended
 
 
 def main():
-    options = argparse.ArgumentParser(description=__doc__, formatter_class=argparse.RawDescriptionHelpFormatter)
-    options.add_argument("count", nargs="?", type=int, default=500)
-    options.add_argument("--seed", type=int, default=1)
-    options.add_argument("--with", dest="other", required=True, help="the command to compare with")
-    scripts = options.add_mutually_exclusive_group(required=True)
-    scripts.add_argument("--scripts", help="a command that writes the script of a {seed}")
-    scripts.add_argument("--folder", help="a folder of scripts")
-    options.add_argument("--without", help="a pattern of lines of scripts that are left out")
-    options.add_argument("--program", help="the command that is compared, if not ./kiwi simulate --record")
+    options = script_options(__doc__)
     options.add_argument("--judge", help="the command that judges, if not ./kiwi judge")
     options = options.parse_args()
     program = shlex.split(options.program) if options.program else [KIWI, "simulate", "--record"]
     judge = shlex.split(options.judge) if options.judge else [KIWI, "judge"]
-    left_out = re.compile(options.without.encode()) if options.without else None
-    found = generated(options.scripts, options.seed, options.count) if options.scripts else stored(options.folder)
     passed = differ = 0
-    for name, text in found:
-        if left_out:
-            text = without_lines(text, left_out)
+    for name, text in scripts_of(options):
         wanted, _, status = ended(shlex.split(options.other), text)
         got, _, ended_with = ended(program, text)
         if (got, ended_with) != (wanted, status):

@@ -57,8 +57,9 @@ def first_difference(got, wanted):
     return f"one ends after line {min(len(ours), len(theirs))}"
 
 
-def main():
-    options = argparse.ArgumentParser(description=__doc__, formatter_class=argparse.RawDescriptionHelpFormatter)
+def script_options(description):
+    """A parser with the options that say which scripts are run, and what with."""
+    options = argparse.ArgumentParser(description=description, formatter_class=argparse.RawDescriptionHelpFormatter)
     options.add_argument("count", nargs="?", type=int, default=500)
     options.add_argument("--seed", type=int, default=1)
     options.add_argument("--with", dest="other", required=True, help="the command to compare with")
@@ -66,16 +67,25 @@ def main():
     scripts.add_argument("--scripts", help="a command that writes the script of a {seed}")
     scripts.add_argument("--folder", help="a folder of scripts")
     options.add_argument("--without", help="a pattern of lines of scripts that are left out")
-    options.add_argument("--drop-order", action="store_true", help="leave out the order line of the other's output")
-    options.add_argument("--program", help="the command that is compared, if not ./kiwi simulate")
-    options = options.parse_args()
-    program = shlex.split(options.program) if options.program else [KIWI, "simulate"]
+    options.add_argument("--program", help="the command that is compared, if not that of ./kiwi")
+    return options
+
+
+def scripts_of(options):
+    """The scripts that the options ask for, without the lines that are left out: a name and the bytes of each."""
     left_out = re.compile(options.without.encode()) if options.without else None
     found = generated(options.scripts, options.seed, options.count) if options.scripts else stored(options.folder)
-    passed = differ = 0
     for name, text in found:
-        if left_out:
-            text = without_lines(text, left_out)
+        yield name, without_lines(text, left_out) if left_out else text
+
+
+def main():
+    options = script_options(__doc__)
+    options.add_argument("--drop-order", action="store_true", help="leave out the order line of the other's output")
+    options = options.parse_args()
+    program = shlex.split(options.program) if options.program else [KIWI, "simulate"]
+    passed = differ = 0
+    for name, text in scripts_of(options):
         wanted, _, status = ended(shlex.split(options.other), text)
         if options.drop_order:
             wanted = ORDER_LINE.sub(b"", wanted)
