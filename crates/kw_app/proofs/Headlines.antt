@@ -1,5 +1,5 @@
 -- What the answers of a run are worth, from the order of its lines.
-use Rattle.std.proofs.Common.{ℕ, zero, suc, ◌<◌, true, false, ◌≡◌, ◌≢◌, ◌⊎◌, inl, inr, IsTrue, All, List, [], ◌∷◌, length, take, Some, refl, sym, ap, ◌∙◌, subst, arith}
+use Rattle.std.proofs.Common.{ℕ, zero, suc, ◌<◌, true, false, ◌≡◌, ◌⊎◌, inl, inr, IsTrue, All, List, [], ◌∷◌, length, map, take, Some, refl, sym, ap, ◌∙◌, subst, arith}
 use Rattle.std.specs.List.{slice_get, AllByRecursion}
 use Rattle.std.proofs.lemmas.Bool.{false≢true}
 use Rattle.std.proofs.lemmas.List.{length-map}
@@ -9,7 +9,6 @@ use Rattle.kw_model.specs.Map.{Pairs, after, answers}
 use Rattle.kw_model.specs.Legal.{IsLegal, IsRight, is_refusal, may_refuse}
 use Rattle.kw_model.specs.declared.call.Call.{Call}
 use Rattle.kw_model.specs.declared.call.Reply.{Reply}
-use Rattle.kw_model.specs.declared.call.Reply.TheVariants.{Stopped}
 use Rattle.kw_model.proofs.Answers.{answers_only}
 use Rattle.kw_world.specs.declared.opening.Opening.{Opening}
 use Rattle.kw_world.specs.Opening.{IsOpening}
@@ -20,7 +19,6 @@ use Rattle.kw_line.specs.declared.item.Form.{Form}
 use Rattle.kw_line.specs.declared.item.Item.{Item}
 use Rattle.kw_line.specs.declared.item.Item.TheVariants as item
 use Rattle.kw_line.specs.Answered.{IsReplyOf, answer_for, answers_for, is_range}
-use Rattle.kw_line.proofs.Replied.{right_is_reply}
 use Rattle.kw_line.specs.Line.{IsCallOf, IsItem, calls, forms}
 use Rattle.kw_line.specs.Quiet.{quiet}
 use Rattle.kw_work.specs.declared.line.Line.{Line}
@@ -28,7 +26,7 @@ use Rattle.kw_work.specs.Dealing.{lines_of, blocks_of}
 use Rattle.kw_work.specs.LineOrder.{IsOrderOf, IsLegalIn, call_at, reply_at, joined, KeepsWorkers, NoItemRefused}
 use Rattle.kw_work.proofs.Asked.{element_at, map_after, right_at}
 use Rattle.kw_work.proofs.LineOrders.{legal_in_line_order}
-use Rattle.kw_work.proofs.Numbers.{calls-lines_of, joined-blocks_of}
+use Rattle.kw_work.proofs.Numbers.{calls-lines_of, forms-lines_of, joined-blocks_of}
 use Rattle.kw_work.proofs.QuietBlocks.{none_passes}
 use Rattle.kw_work.proofs.QuietItems.{quiet_items_answered}
 use Rattle.kw_work.proofs.WorkerOrders.{keeps_all, keeps_keys}
@@ -36,7 +34,7 @@ use Rattle.kw_table.specs.declared.pass.Pass.{Pass}
 use Rattle.kw_table.specs.declared.pass.View.{View}
 use Rattle.kw_table.specs.Passes.{view}
 use Rattle.kw_laws.specs.SeatCalls.{CallSeen}
-use Rattle.kw_app.specs.Recorded.{IsWithin, no_call, recorded, reply_of, seat_calls}
+use Rattle.kw_app.specs.Recorded.{line_forms, no_call, recorded, reply_of, seat_calls}
 use Rattle.kw_app.specs.Running.{is_refused, Shows}
 use Rattle.kw_app.specs.Headline.{Headline, HasOneOrder, UpdatesServed, QuietAnswered, AreRefusals, line_calls}
 use Rattle.kw_app.specs.Answering.{some_refused}
@@ -44,7 +42,7 @@ use Rattle.kw_app.specs.OneThread.{answers_to}
 use Rattle.kw_app.proofs.AnswerForms.{MayBeRefused, answers_at, same_answers, unrefused, range_refused, right_refusal}
 use Rattle.kw_app.proofs.Shown.{IfFirst}
 use Rattle.kw_app.proofs.Merging.{length-merge}
-use Rattle.kw_app.proofs.LineOrders.{AreOrdered, line_caused, lines_ordered}
+use Rattle.kw_app.proofs.LineOrders.{AreOrdered, line_caused, line_replied, lines_ordered}
 
 -- there are as many forms as calls
 many_forms : (items : List Item) → length (forms items) ≡ length (calls items)
@@ -139,21 +137,36 @@ module _ (o : Opening) (items : List Item) (printed : List Answer) (v : View) (o
       let r : reply_at replies i ≡ x.reply = get_or_from_slice_get replies i x.reply _ x.replied in
       record { map = m; right = subst (λ q. IsRight m q x.reply) c (subst (λ q. IsRight m (call_at (calls items) i) q) r right) }
 
-  -- its call was not stopped
-  unstopped : (i : ℕ) (r : Reply) → slice_get replies i ≡ Some r → r ≢ Stopped
-  unstopped i r e stop =
-      let made : List CallSeen = line_calls o v.seen (lines_of 1 items) in
-      let c = element_at made i (subst (λ n. i < n) (length-map made reply_of) (slice_get_within replies i r e)) in
-      let is : reply_of c.0 ≡ r = same_Some (reply_of c.0) r (sym (slice_get-map reply_of made i ∙ ap (option_map reply_of) c.1) ∙ e) in
-      let within = subst (IsWithin 0 (length v.seen)) (get_or_from_slice_get made i c.0 c.0 c.1) (ordered.ended_all i c.0 (slice_get_within made i c.0 c.1)) in
-      within.unstopped (is ∙ stop)
+  -- the line at a place, and the call that it made
+  record IsLineAt (i : ℕ) (f : Form) (r : Reply) : Type 0 where
+    line : Line
+    here : slice_get (lines_of 1 items) i ≡ Some line
+    is_form : line.form ≡ f
+    made : CallSeen
+    seen : slice_get (line_calls o v.seen (lines_of 1 items)) i ≡ Some made
+    is_reply : reply_of made ≡ r
 
-  -- so it is one that a line of its form may have
-  is_reply : (i : ℕ) (f : Form) (x : IsAt i f) → IsReplyOf f x.reply
-  is_reply i f x = let h = right_here i f x in right_is_reply h.map f x.call x.reply x.is_call h.right (unstopped i x.reply x.replied)
+  line_at : (i : ℕ) (f : Form) (r : Reply) → slice_get (forms items) i ≡ Some f → slice_get replies i ≡ Some r → IsLineAt i f r
+  line_at i f r e g =
+      let calls : List CallSeen = line_calls o v.seen (lines_of 1 items) in
+      let fs : map (λ (l : Line). l.form) (lines_of 1 items) ≡ forms items = forms-lines_of 1 items in
+      let l = element_at (lines_of 1 items) i (subst (λ n. i < n) (length-map (lines_of 1 items) (λ (l : Line). l.form)) (slice_get_within (line_forms (lines_of 1 items)) i f (ap (λ q. slice_get q i) fs ∙ e))) in
+      let c = element_at calls i (subst (λ n. i < n) (length-map calls reply_of) (slice_get_within replies i r g)) in
+      record {
+        line = l.0;
+        here = l.1;
+        is_form = same_Some l.0.form f (sym (slice_get-map (λ (l : Line). l.form) (lines_of 1 items) i ∙ ap (option_map (λ (l : Line). l.form)) l.1) ∙ (ap (λ q. slice_get q i) fs ∙ e));
+        made = c.0;
+        seen = c.1;
+        is_reply = same_Some (reply_of c.0) r (sym (slice_get-map reply_of calls i ∙ ap (option_map reply_of) c.1) ∙ g);
+      }
 
+  -- the reply of a line is one that the line may have, since it is so of the calls of each seat
   are_replies : (i : ℕ) (f : Form) (r : Reply) → slice_get (forms items) i ≡ Some f → slice_get replies i ≡ Some r → IsReplyOf f r
-  are_replies i f r e g = let x = at i f e in subst (IsReplyOf f) (same_Some x.reply r (sym x.replied ∙ g)) (is_reply i f x)
+  are_replies i f r e g =
+      let x = line_at i f r e g in
+      let h : IsReplyOf x.line.form (reply_of x.made) = line_replied o v.seen (lines_of 1 items) opening shows.valid shows.asks_are shows.ended shows.are_replies i x.line x.made x.here x.seen in
+      subst (λ q. IsReplyOf q r) x.is_form (subst (IsReplyOf x.line.form) x.is_reply h)
 
   one_order : HasOneOrder o v.seen items printed
   one_order = record {
@@ -181,7 +194,7 @@ module _ (o : Opening) (items : List Item) (printed : List Answer) (v : View) (o
       let x = at i f.0 f.1 in
       let a : Answer = answer_for f.0 x.reply in
       let served : is_refused a ≡ false = subst (λ b. is_refused b ≡ false) (get_or_from_slice_get printed i a a x.answered) (none i a (slice_get_within printed i a x.answered)) in
-      subst (λ r. is_refusal r ≡ false) (sym (get_or_from_slice_get replies i x.reply d x.replied)) (unrefused f.0 x.reply (is_reply i f.0 x) served)
+      subst (λ r. is_refusal r ≡ false) (sym (get_or_from_slice_get replies i x.reply d x.replied)) (unrefused f.0 x.reply (are_replies i f.0 x.reply f.1 x.replied) served)
 
   -- one worker's lines stand in line order, and so the answers are those in line order
   alone : o.seats ≡ 1 → All (λ a. is_refused a ≡ false) printed → printed ≡ answers_to items
@@ -206,7 +219,7 @@ module _ (o : Opening) (items : List Item) (printed : List Answer) (v : View) (o
 
       go : (slice_get (answers [] (calls items)) i ≡ Some x.reply) ⊎ (IsTrue (is_range f) × IsTrue (may_refuse x.call x.reply)) → (slice_get printed i ≡ slice_get (answers_to items) i) ⊎ (IsTrue (is_range f) × (slice_get printed i ≡ Some Spent))
       go (inl same) = inl (x.answered ∙ sym (answers_at (forms items) (answers [] (calls items)) i f x.reply e same))
-      go (inr h) = inr (h.0, x.answered ∙ ap Some (range_refused f x.call x.reply (is_reply i f x) x.is_call h.0 h.1))
+      go (inr h) = inr (h.0, x.answered ∙ ap Some (range_refused f x.call x.reply (are_replies i f x.reply e x.replied) x.is_call h.0 h.1))
 
   -- where all lines are quiet and none is refused, the answers are those in line order
   pub all_quiet : ((i : ℕ) (f : Form) → slice_get (forms items) i ≡ Some f → slice_get (quiet items) i ≡ Some true) → some_refused printed ≡ false → printed ≡ answers_to items

@@ -36,7 +36,7 @@ use Rattle.kw_work.specs.LineOrder.{IsOrderOf, StandsBefore, IsLegalIn, AreOfLin
 use Rattle.kw_work.proofs.Asked.{element_at}
 use Rattle.kw_work.proofs.Collected.{map-merge}
 use Rattle.kw_work.proofs.MadeCalls.{lines_in_order, lines_legal, lines_before_by}
-use Rattle.kw_app.specs.Recorded.{asked, asks, EndsBefore, HasCause, IsWithin, no_call, recorded, reply_at, reply_of, seat_calls}
+use Rattle.kw_app.specs.Recorded.{asked, asks, AreReplies, EndsBefore, HasCause, IsWithin, no_call, recorded, reply_at, reply_of, seat_calls}
 use Rattle.kw_app.specs.Running.{AreInBlocks}
 use Rattle.kw_app.specs.Headline.{HasTops, IsOrderOfCalls, KeepsPrecedence, line_calls}
 use Rattle.kw_app.proofs.Merging.{length-merge}
@@ -148,6 +148,16 @@ module _ (o : Opening) (E : List Event) (lines : List Line) (opening : IsOpening
       let d = across (λ (c : CallSeen). c.call) (λ (m : Line). m.call) (seat_calls o E w) (part o.seats w lines) k l (asks_are w (seated l)) (in_part o.seats i lines l e) in
       subst (HasCause o E w) (same_Some (get_or (seat_calls o E w) k no_call) c (sym (merged_at o.seats (seat_calls o E) no_call lines i l e) ∙ f))
       (causes w (seated l) k no_call (slice_get_within (seat_calls o E w) k d.0 d.1))
+
+  -- the call of a line has a reply that the line may have, where each seat's calls have
+  pub line_replied : ((w : ℕ) → w < o.seats → AreReplies (part o.seats w lines) (seat_calls o E w)) → AreReplies lines (line_calls o E lines)
+  line_replied replied i l c e f =
+      let w : ℕ = worker_of o.seats l in
+      let k : ℕ = own_before o.seats w lines i in
+      let here = in_part o.seats i lines l e in
+      let d = across (λ (c : CallSeen). c.call) (λ (m : Line). m.call) (seat_calls o E w) (part o.seats w lines) k l (asks_are w (seated l)) here in
+      let at : get_or (seat_calls o E w) k no_call ≡ c = same_Some (get_or (seat_calls o E w) k no_call) c (sym (merged_at o.seats (seat_calls o E) no_call lines i l e) ∙ f) in
+      replied w (seated l) k l c here (d.1 ∙ ap Some (sym (get_or_from_slice_get (seat_calls o E w) k d.0 no_call d.1) ∙ at))
 
   -- all calls have ended
   all_ended : AllEnded product o E

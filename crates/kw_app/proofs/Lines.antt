@@ -7,7 +7,7 @@ use Rattle.kw_line.specs.declared.item.Form.TheVariants as form
 use Rattle.kw_line.specs.declared.item.Item.{Item}
 use Rattle.kw_line.specs.declared.item.Item.TheVariants as item
 use Rattle.kw_line.specs.Line.{IsItem}
-use Rattle.kw_app.specs.declared.generate.TheConstants.{MODULUS, KEYS}
+use Rattle.kw_app.specs.declared.generate.TheConstants.{MODULUS, KEYS, KINDS, DELETE_KIND}
 use Rattle.kw_app.specs.Generated.{next, drawn, line_of, line_after, lines_after, last_lines, generated}
 
 -- the number after so many lines
@@ -26,7 +26,7 @@ number_after-suc (suc n) x = number_after-suc n (next (next (next x)))
 
 -- a line of draws below 2^15 is in the grammar
 line_is_item : (a b c : ℕ) → c < 2 ^ 15 → IsItem (line_of a b c)
-line_is_item a b c h = at (nat_lt (a % 8) 5) (nat_eq (a % 8) 5)
+line_is_item a b c h = at (nat_lt (a % KINDS) DELETE_KIND) (nat_eq (a % KINDS) DELETE_KIND)
   where
     key : b % KEYS < 2 ^ 32
     key = omega arith

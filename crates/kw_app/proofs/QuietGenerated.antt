@@ -19,7 +19,7 @@ use Rattle.kw_world.specs.Sizes.{product}
 use Rattle.kw_table.specs.declared.pass.Pass.{Pass}
 use Rattle.kw_table.specs.Passes.{view}
 use Rattle.kw_command.specs.declared.command.TheConstants.{MOST_LINES}
-use Rattle.kw_app.specs.declared.generate.TheConstants.{MODULUS, KEYS}
+use Rattle.kw_app.specs.declared.generate.TheConstants.{MODULUS, KEYS, KINDS, DELETE_KIND}
 use Rattle.kw_app.specs.Answering.{IsAnswered, opening, some_refused}
 use Rattle.kw_app.specs.Generated.{next, drawn, line_of, line_after, lines_after, last_lines, generated}
 use Rattle.kw_app.specs.OneThread.{answers_to}
@@ -28,7 +28,7 @@ use Rattle.kw_app.proofs.Lines.{generated_are_items}
 
 -- a generated line is no wait
 line_is_no_wait : (a b c : ℕ) → is_wait (line_of a b c) ≡ false
-line_is_no_wait a b c = at (nat_lt (a % 8) 5) (nat_eq (a % 8) 5)
+line_is_no_wait a b c = at (nat_lt (a % KINDS) DELETE_KIND) (nat_eq (a % KINDS) DELETE_KIND)
   where
     at : (p q : Bool) → is_wait (cond p (item.Call (call.Put (b % KEYS) c) form.Put) (cond q (item.Call (call.Del (b % KEYS)) form.Del) (item.Call (call.Get (b % KEYS)) form.Get))) ≡ false
     at true q = refl
@@ -50,7 +50,7 @@ lines_are_quiet k (suc n) x = line_is_quiet (drawn (next x)) (drawn (next (next 
   where
     line_is_quiet : (a b c : ℕ) (rest : List Item) → map (λ (f : Form). not (is_range f) || k) (forms rest) ≡ map (λ (f : Form). true) (forms rest)
         → map (λ (f : Form). not (is_range f) || k) (forms (line_of a b c ∷ rest)) ≡ map (λ (f : Form). true) (forms (line_of a b c ∷ rest))
-    line_is_quiet a b c rest h = at (nat_lt (a % 8) 5) (nat_eq (a % 8) 5)
+    line_is_quiet a b c rest h = at (nat_lt (a % KINDS) DELETE_KIND) (nat_eq (a % KINDS) DELETE_KIND)
       where
         at : (p q : Bool) → map (λ (f : Form). not (is_range f) || k) (forms (cond p (item.Call (call.Put (b % KEYS) c) form.Put) (cond q (item.Call (call.Del (b % KEYS)) form.Del) (item.Call (call.Get (b % KEYS)) form.Get)) ∷ rest))
             ≡ map (λ (f : Form). true) (forms (cond p (item.Call (call.Put (b % KEYS) c) form.Put) (cond q (item.Call (call.Del (b % KEYS)) form.Del) (item.Call (call.Get (b % KEYS)) form.Get)) ∷ rest))

@@ -17,7 +17,7 @@ use Rattle.kw_sim.specs.Recorded.{IsRecordOf, IsTooLong, IsTooMany}
 use Rattle.kw_app.specs.Simulating.{IsOutsideScript, IsSimulated}
 use Rattle.kw_sim.proofs.Texts.{words-command_text, verb_word_injective}
 use Rattle.kw_sim.specs.declared.parse.TheConstants.{MOST_LINES}
-use Rattle.kw_sim.specs.Script.{HasRange, IsCommand, IsText, AreLinesOf, IsFirstBad, command_text, command_words, rest_words, seat_of, verb_of, verb_word}
+use Rattle.kw_sim.specs.Script.{HasRange, IsCommand, IsText, AreLinesOf, IsFirstBadCommand, command_text, command_words, rest_words, seat_of, verb_of, verb_word}
 
 -- lines that are texts reach a line that is none, or is one too many, only at the most that a script may have
 bad_at : (rows most : ℕ) (cs before : List Command) (line : List ℕ) (after : List (List ℕ)) → AllByRecursion (IsCommand rows) cs → map command_text cs ≡ map command_text before ++ line ∷ after
@@ -34,7 +34,7 @@ bad_at rows most (c ∷ cs) (d ∷ ds) line after h e n b =
     omega arith
 
 -- no bytes have both commands and a bad line
-pub commands_or_bad : (rows : ℕ) (bytes : List ℕ) (cs : List Command) (at : ℕ) → AreLinesOf rows bytes cs → IsFirstBad rows bytes at → ⊥
+pub commands_or_bad : (rows : ℕ) (bytes : List ℕ) (cs : List Command) (at : ℕ) → AreLinesOf rows bytes cs → IsFirstBadCommand rows bytes at → ⊥
 commands_or_bad rows bytes cs at h k =
     let long : MOST_LINES < 0 + length cs = bad_at rows MOST_LINES cs k.before k.line k.after h.each (sym h.texts ∙ k.cut) 0 (λ t. let e : length k.before ≡ MOST_LINES = k.bad t in omega arith) in
     let few : length cs ≤ MOST_LINES = h.few in
@@ -59,7 +59,7 @@ same_place rows most (i ∷ is) (j ∷ js) x y xs ys h k e n l m b d =
     (λ t. let at : n + length (i ∷ is) ≡ most = b t in omega arith) (λ t. let at : n + length (j ∷ js) ≡ most = d t in omega arith))
 
 -- there is one first bad line at most
-pub same_bad_line : (rows : ℕ) (bytes : List ℕ) (m n : ℕ) → IsFirstBad rows bytes m → IsFirstBad rows bytes n → m ≡ n
+pub same_bad_line : (rows : ℕ) (bytes : List ℕ) (m n : ℕ) → IsFirstBadCommand rows bytes m → IsFirstBadCommand rows bytes n → m ≡ n
 same_bad_line rows bytes m n h k =
     let place : length h.before ≡ length k.before = same_place rows MOST_LINES h.before k.before h.line k.line h.after k.after h.each k.each (sym h.cut ∙ k.cut) 0
     (let few : length h.before ≤ MOST_LINES = h.few in omega arith) (let few : length k.before ≤ MOST_LINES = k.few in omega arith)

@@ -13,7 +13,7 @@ use Rattle.kw_map.specs.declared.kiwi.Kiwi.{Kiwi}
 use Rattle.kw_work.specs.declared.line.Line.{Line}
 use Rattle.kw_work.specs.Dealing.{part, lines_of, blocks_of}
 use Rattle.kw_work.proofs.Numbers.{forms-lines_of, joined-blocks_of}
-use Rattle.kw_app.specs.Recorded.{asks, printed, recorded, seat_calls}
+use Rattle.kw_app.specs.Recorded.{asks, AreReplies, printed, recorded, seat_calls}
 use Rattle.kw_app.specs.Rounds.{AreTogether}
 use Rattle.kw_app.specs.Running.{joined, Ran, Shows}
 use Rattle.kw_app.proofs.Runs.{in_blocks}
@@ -37,6 +37,7 @@ shows_first m o items answers (p ∷ ps) is together ran =
       valid = ap (λ (x : Opening). is_valid product x (view p).seen) (sym opening) ∙ p.known.valid;
       asks_are = λ w lt. ran.asks_are w lt ∙ ap (λ x. asks (part o.seats w x)) lines;
       ended = ran.ended;
+      are_replies = λ w lt. subst (λ x. AreReplies (part o.seats w x) (seat_calls o (view p).seen w)) lines (ran.are_replies w lt);
       causes = ran.causes;
       prints = ran.prints ∙ (ap (λ x. printed o.seats (seat_calls o (view p).seen) x) lines
           ∙ ap (λ fs. answers_for fs (recorded o.seats (seat_calls o (view p).seen) (lines_of 1 items))) (forms-lines_of 1 items));

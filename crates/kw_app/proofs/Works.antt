@@ -1,6 +1,7 @@
 -- What a worker has done, line by line.
-use Rattle.std.proofs.Common.{◌≡◌, ℕ, ◌+◌, ◌<◌, ◌≤◌, take, get_or, subst, List, [], ◌∷◌, ◌++◌, length, map, refl, ap, sym, ◌∙◌, arith, append-nil, append_assoc, length-append, Option, Some, None}
+use Rattle.std.proofs.Common.{◌≡◌, ℕ, zero, suc, ◌+◌, ◌<◌, ◌≤◌, take, get_or, subst, List, [], ◌∷◌, ◌++◌, length, map, refl, ap, sym, ◌∙◌, arith, append-nil, append_assoc, length-append, Option, Some, None}
 use Rattle.std.proofs.lemmas.List.{map-append, length-map, take_more}
+use Rattle.std.proofs.lemmas.Option.{same_Some}
 use mathlib.Core.List.{IsPrefix}
 use Rattle.std.proofs.lemmas.List.Elements.{All-nil, All-cons, All-append, All-weaker}
 use Rattle.kw_model.specs.declared.call.Reply.{Reply}
@@ -21,7 +22,7 @@ use Rattle.kw_map.specs.declared.kiwi.Kiwi.{Kiwi}
 use Rattle.kw_map.specs.Kiwi.{IsIdle}
 use Rattle.kw_work.specs.declared.line.Line.{Line}
 use Rattle.kw_work.specs.declared.line.Answered.{Answered}
-use Rattle.kw_app.specs.Recorded.{asked, asks, line_forms, reply_of, EndsBefore, HasCause, IsWithin}
+use Rattle.kw_app.specs.Recorded.{asked, asks, line_forms, reply_of, AreReplies, EndsBefore, HasCause, IsWithin}
 use Rattle.kw_app.proofs.Spent.{caused, cause_later}
 use Rattle.kw_app.specs.Working.{LineAnswered, MetSpent, Works, answered, answered_by}
 
@@ -57,6 +58,18 @@ within_wider a b c d p q x h = record { begins = let k = h.begins in omega arith
 reply_unstopped : (f : Form) (r : Reply) → IsReplyOf f r → r ≡ Stopped → ⊥
 reply_unstopped f r h e = subst (IsReplyOf f) e h
 
+-- one line more at the front, and its call
+replies_cons : (l : Line) (c : CallSeen) (ls : List Line) (cs : List CallSeen) → IsReplyOf l.form (reply_of c) → AreReplies ls cs → AreReplies (l ∷ ls) (c ∷ cs)
+replies_cons l c ls cs h rest zero x y e f = subst (λ (z : Line). IsReplyOf z.form (reply_of y)) (same_Some l x e) (subst (λ (z : CallSeen). IsReplyOf l.form (reply_of z)) (same_Some c y f) h)
+replies_cons l c ls cs h rest (suc i) x y e f = rest i x y e f
+
+-- the calls of some lines, and then those of others, each by a reply that its line may have
+pub replies_append : (ls ms : List Line) (cs ds : List CallSeen) → length cs ≡ length ls → AreReplies ls cs → AreReplies ms ds → AreReplies (ls ++ ms) (cs ++ ds)
+replies_append [] ms [] ds same a b = b
+replies_append [] ms (c ∷ cs) ds same a b = absurd (omega arith)
+replies_append (l ∷ ls) ms [] ds same a b = absurd (omega arith)
+replies_append (l ∷ ls) ms (c ∷ cs) ds same a b = replies_cons l c (ls ++ ms) (cs ++ ds) (a 0 l c refl refl) (replies_append ls ms cs ds (omega arith) (λ i. a (suc i)) b)
+
 -- a longer list is not shorter
 pub prefix_length : {A : Type 0} (xs ys : List A) → IsPrefix xs ys → length xs ≤ length ys
 prefix_length xs ys p = let e : length xs + length p.0 ≡ length ys = sym (length-append xs p.0) ∙ ap length p.1 in omega arith
@@ -64,7 +77,7 @@ prefix_length xs ys p = let e : length xs + length p.0 ≡ length ys = sym (leng
 -- no line is answered yet
 pub works_none : (p : Pass) → Works p p [] []
 unfolding answered_by
-works_none p = record { made = []; calls = sym (append-nil (calls_in p)); asks_are = refl; within = All-nil (IsWithin (now_in p) (now_in p)); causes = All-nil (HasCause (view p).opening (view p).seen (view p).number); answers_are = refl }
+works_none p = record { made = []; calls = sym (append-nil (calls_in p)); asks_are = refl; within = All-nil (IsWithin (now_in p) (now_in p)); are_replies = λ i l c e f. absurd (cc); causes = All-nil (HasCause (view p).opening (view p).seen (view p).number); answers_are = refl }
 
 -- one line more is answered
 pub works_more : (m : Kiwi) (p q r : Pass) (ls : List Line) (l : Line) (done : List Answered) (reply : Reply) → now_in p ≤ now_in q → now_in q ≤ now_in r → IsIdle m q → GoesTo m.shared q r
@@ -79,6 +92,7 @@ works_more m p q r ls l done reply before later idle goes w c is_reply cause =
       within = All-append (IsWithin (now_in p) (now_in r)) w.made (one ∷ [])
           (All-weaker (IsWithin (now_in p) (now_in q)) (IsWithin (now_in p) (now_in r)) (λ x h. within_wider (now_in p) (now_in q) (now_in p) (now_in r) (omega arith) later x h) w.made w.within)
           (All-cons (IsWithin (now_in p) (now_in r)) one [] record { begins = let k = c.begins in omega arith; ends = c.ends; unstopped = reply_unstopped l.form reply is_reply } (All-nil (IsWithin (now_in p) (now_in r))));
+      are_replies = replies_append ls (l ∷ []) w.made (one ∷ []) (as_many w.made ls w.asks_are) w.are_replies (replies_cons l one [] [] is_reply (λ i x y e f. absurd (cc)));
       causes = All-append (HasCause (view r).opening (view r).seen (view r).number) w.made (one ∷ [])
           (All-weaker (HasCause (view q).opening (view q).seen (view q).number) (HasCause (view r).opening (view r).seen (view r).number) (λ x h. moved x h) w.made w.causes)
           (All-cons (HasCause (view r).opening (view r).seen (view r).number) one [] (caused m q r l.call reply idle goes c cause) (All-nil (HasCause (view r).opening (view r).seen (view r).number)));

@@ -5,7 +5,7 @@ use Rattle.kw_line.specs.declared.item.Form.{Form}
 use Rattle.kw_line.specs.declared.item.Form.TheVariants as form
 use Rattle.kw_line.specs.declared.item.Item.{Item}
 use Rattle.kw_line.specs.declared.item.Item.TheVariants as item
-use Rattle.kw_app.specs.declared.generate.TheConstants.{MULTIPLIER, INCREMENT, MODULUS, DRAW_UNIT, KEYS}
+use Rattle.kw_app.specs.declared.generate.TheConstants.{MULTIPLIER, INCREMENT, MODULUS, DRAW_UNIT, KEYS, KINDS, DELETE_KIND}
 
 -- what a draw makes of the generator's number
 abbrev pub next : ℕ → ℕ
@@ -17,8 +17,8 @@ drawn x = x / DRAW_UNIT
 
 -- the line of three draws: of eight kinds five are puts, one is a del and two are gets
 abbrev pub line_of : ℕ → ℕ → ℕ → Item
-line_of a b c = if nat_lt (a % 8) 5 then item.Call (call.Put (b % KEYS) c) form.Put
-    else (if (a % 8) == 5 then item.Call (call.Del (b % KEYS)) form.Del
+line_of a b c = if nat_lt (a % KINDS) DELETE_KIND then item.Call (call.Put (b % KEYS) c) form.Put
+    else (if (a % KINDS) == DELETE_KIND then item.Call (call.Del (b % KEYS)) form.Del
     else item.Call (call.Get (b % KEYS)) form.Get)
 
 -- the line that the generator makes from this number on

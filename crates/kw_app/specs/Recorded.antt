@@ -1,5 +1,5 @@
 -- What a list of events has recorded of the calls that lines make.
-use Rattle.std.specs.Prelude.{ℕ, ◌≡◌, ◌<◌, ◌≤◌, List, [], ◌∷◌, ◌++◌, map, Option, Some, None}
+use Rattle.std.specs.Prelude.{ℕ, ◌≡◌, ◌<◌, ◌≤◌, List, [], ◌∷◌, ◌++◌, map, slice_get, Option, Some, None}
 use Rattle.kw_words.specs.declared.sizes.TheConstants.{SPENT}
 use Rattle.kw_model.specs.declared.call.Call.{Call}
 use Rattle.kw_model.specs.declared.call.Call.TheVariants.{Get}
@@ -15,7 +15,7 @@ use Rattle.kw_laws.specs.SeatCalls.{CallSeen, calls_seen, begun_at}
 use Rattle.kw_follow.specs.OwnEvents.{MetIn}
 use Rattle.kw_line.specs.declared.answer.Answer.{Answer}
 use Rattle.kw_line.specs.declared.item.Form.{Form}
-use Rattle.kw_line.specs.Answered.{answers_for}
+use Rattle.kw_line.specs.Answered.{IsReplyOf, answers_for}
 use Rattle.kw_work.specs.declared.line.Line.{Line}
 use Rattle.kw_work.specs.Collecting.{merge}
 
@@ -66,6 +66,10 @@ pub record FoundSpent (o : Opening) (E : List Event) (seat : ℕ) (c : CallSeen)
 -- where the seat's call was answered as spent, it has found the versions spent
 abbrev pub HasCause : Opening → List Event → ℕ → CallSeen → Type 0
 HasCause o E seat c = reply_of c ≡ Spent → FoundSpent o E seat c
+
+-- each of these calls has a reply that the line in its place may have, which is one of the line's form
+abbrev pub AreReplies : List Line → List CallSeen → Type 0
+AreReplies ls cs = (i : ℕ) (l : Line) (c : CallSeen) → slice_get ls i ≡ Some l → slice_get cs i ≡ Some c → IsReplyOf l.form (reply_of c)
 
 -- what stands where a worker has too few calls
 abbrev pub no_call : CallSeen

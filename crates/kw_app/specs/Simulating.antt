@@ -4,7 +4,7 @@ use Rattle.kw_sim.specs.declared.command.ScriptError.{ScriptError}
 use Rattle.kw_sim.specs.declared.command.ScriptError.TheVariants as error
 use Rattle.kw_sim.specs.Output.{IsOutputOf}
 use Rattle.kw_sim.specs.Recorded.{IsRecordOf, IsTooLong}
-use Rattle.kw_sim.specs.Script.{IsFirstBad}
+use Rattle.kw_sim.specs.Script.{IsFirstBadCommand}
 
 -- by whether the record is asked for
 abbrev pub IsSimulated : Bool → ℕ → List ℕ → List ℕ → Type 0
@@ -13,8 +13,8 @@ IsSimulated true rows script printed = IsRecordOf rows script printed
 
 -- the line is the script's first bad one; or it is line 0, and a record is asked for that would have too many calls
 abbrev pub IsOutsideScript : Bool → ℕ → List ℕ → ℕ → Type 0
-IsOutsideScript false rows script at = IsFirstBad rows script at
-IsOutsideScript true rows script at = IsFirstBad rows script at ⊎ ((at ≡ 0) × IsTooLong rows script)
+IsOutsideScript false rows script at = IsFirstBadCommand rows script at
+IsOutsideScript true rows script at = IsFirstBadCommand rows script at ⊎ ((at ≡ 0) × IsTooLong rows script)
 
 -- a line that is named is such a line
 abbrev pub IfOutsideScript : {X : Type 0} → Bool → ℕ → List ℕ → Result X ScriptError → Type 0

@@ -14,7 +14,7 @@ use Rattle.kw_follow.specs.Calling.{Calls, calls_in, now_in}
 use Rattle.kw_live.specs.Meeting.{MetClock}
 use Rattle.kw_work.specs.declared.line.Line.{Line}
 use Rattle.kw_work.specs.declared.line.Answered.{Answered}
-use Rattle.kw_app.specs.Recorded.{asked, asks, reply_of, HasCause, IsWithin}
+use Rattle.kw_app.specs.Recorded.{asked, asks, reply_of, AreReplies, HasCause, IsWithin}
 
 -- the pass found the clock at the end of the versions
 pub record MetSpent (p q : Pass) : Type 0 where
@@ -41,12 +41,13 @@ answered_by [] cs = []
 answered_by (l ∷ ls) [] = []
 answered_by (l ∷ ls) (c ∷ cs) = answered l c ∷ answered_by ls cs
 
--- the new calls of the pass are just those of the lines, in their order, and all have ended, none of them stopped; the answers are those of the
--- recorded replies
+-- the new calls of the pass are just those of the lines, in their order, and all have ended, each by a reply that its line may have, so none was
+-- stopped; the answers are those of the recorded replies
 pub record Works (p q : Pass) (lines : List Line) (answers : List Answered) : Type 0 where
   pub made : List CallSeen
   pub calls : calls_in q ≡ calls_in p ++ made
   pub asks_are : asked made ≡ asks lines
   pub within : All (IsWithin (now_in p) (now_in q)) made
+  pub are_replies : AreReplies lines made
   pub causes : All (HasCause (view q).opening (view q).seen (view q).number) made
   pub answers_are : answers ≡ answered_by lines made

@@ -28,6 +28,12 @@ pub const DRAW_UNIT: u64 = 65_536;
 /// The keys of generated lines are below this.
 pub const KEYS: u64 = 4_096;
 
+/// The kinds of generated lines are below this.
+pub const KINDS: u64 = 8;
+
+/// The kinds below this are puts, this one is a delete, and those above are gets.
+pub const DELETE_KIND: u64 = 5;
+
 /// The lines after the generated ones: all of them are answered first, and then all keys are asked for.
 const LAST_LINES: [Item; 5] = [
     Item::Wait,
@@ -69,13 +75,15 @@ impl Generator {
         ensures line { result ≡ line_after self.old.number }
         ensures number { self.new.number ≡ next (next (next self.old.number)) }
     {
-        let kind = self.draw() % 8;
+        let kind = self.draw() % KINDS;
         let key = (self.draw() % KEYS) as u32;
         let value = self.draw();
-        match kind {
-            0..=4 => Item::Call(Call::Put(key, value), Form::Put),
-            5 => Item::Call(Call::Del(key), Form::Del),
-            _ => Item::Call(Call::Get(key), Form::Get),
+        if kind < DELETE_KIND {
+            Item::Call(Call::Put(key, value), Form::Put)
+        } else if kind == DELETE_KIND {
+            Item::Call(Call::Del(key), Form::Del)
+        } else {
+            Item::Call(Call::Get(key), Form::Get)
         }
     }
 }
@@ -106,6 +114,8 @@ mod tests {
         assert_eq!(rt; MODULUS, 2_147_483_648);
         assert_eq!(rt; DRAW_UNIT, 65_536);
         assert_eq!(rt; KEYS, 4_096);
+        assert_eq!(rt; KINDS, 8);
+        assert_eq!(rt; DELETE_KIND, 5);
     }
 
     #[test]

@@ -1,11 +1,15 @@
 //! Many calls of one kind, one after the other.
+ghost use Rattle.std.specs.Prelude.{All};
 ghost use Rattle.kw_map.specs.Kiwi.{IsIdle};
 
 use crate::load::Load;
 use kw_map::gather_numbers::SumGather;
 use kw_map::kiwi::Kiwi;
 use kw_table::Pass;
+use std::alloc::AllocError;
 use std::sync::Wait;
+use std::thread;
+use std::thread::Threads;
 
 /// What is read.
 #[derive(Clone, Copy, Debug, PartialEq, Eq)]
@@ -40,8 +44,26 @@ pub fn put_cells<R: Wait>(rt: &R, kiwi: &Kiwi, pass: Pass, load: Load) -> Pass
     pass
 }
 
+/// Makes the calls with each pass, in a thread of its own; with one pass in this thread.
+pub fn read_by_each<T: Threads + Sync>(
+    threads: &T,
+    kiwi: &Kiwi,
+    passes: Vec<Pass>,
+    task: Task,
+) -> Result<Vec<Pass>, AllocError>
+    requires { All (IsIdle kiwi.now) passes.items }
+{
+    thread::map_vec(
+        threads,
+        passes,
+        &|pass: Pass|
+            requires { IsIdle kiwi.now pass }
+        { read(kiwi, pass, task) },
+    )
+}
+
 /// Makes the calls.
-pub fn read(kiwi: &Kiwi, pass: Pass, task: Task) -> Pass
+fn read(kiwi: &Kiwi, pass: Pass, task: Task) -> Pass
     requires { IsIdle kiwi.now pass }
     ensures { IsIdle kiwi.now result }
 {

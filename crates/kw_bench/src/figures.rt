@@ -20,24 +20,40 @@ pub fn print_usage(rt: &HostRuntime) -> io::Result<()> {
     )
 }
 
-/// Prints what a call that reads took, and how many calls two threads made in the time in which one made a hundred.
-pub fn print_reads(rt: &HostRuntime, name: &str, load: Load, figure: ReadFigure) -> io::Result<()> {
-    let a_call = figure.one / u128::from(figure.calls.max(1));
-    let by_two = figure.one.saturating_mul(200) / figure.two.max(1);
+/// Prints the heads of the columns for what calls took.
+pub fn print_heads(rt: &HostRuntime) -> io::Result<()> {
     println!(rt;
-        "{name}, {} cells of {}: {a_call} ns by one thread; two threads make {by_two} calls where one makes 100",
-        load.cells,
-        load.keys.words()
+        "nanoseconds a call, by one thread and by each of two and of four; and how many calls two and four make where one makes 100"
+    )?;
+    println!(rt;
+        "{:<5}{:>6}  {:<15}{:>6}{:>6}{:>6}{:>8}{:>8}",
+        "call", "cells", "keys", "one", "two", "four", "by two", "by four"
     )
 }
 
-/// Prints what a put into a row took that fills.
-pub fn print_puts(rt: &HostRuntime, load: Load, figure: PutFigure) -> io::Result<()> {
-    let a_call = figure.one / u128::from(figure.calls.max(1));
+/// Prints what a call that reads took: a line below the heads.
+pub fn print_reads(rt: &HostRuntime, name: &str, load: Load, figure: ReadFigure) -> io::Result<()> {
+    let calls = u128::from(figure.calls.max(1));
+    let by_two = figure.one.saturating_mul(200) / figure.two.max(1);
+    let by_four = figure.one.saturating_mul(400) / figure.four.max(1);
     println!(rt;
-        "put, {} cells of {}: {a_call} ns by one thread",
+        "{name:<5}{:>6}  {:<15}{:>6}{:>6}{:>6}{by_two:>8}{by_four:>8}",
         load.cells,
-        load.keys.words()
+        load.keys.words(),
+        figure.one / calls,
+        figure.two / calls,
+        figure.four / calls
+    )
+}
+
+/// Prints what a put into a row took that fills: a line below the heads, for one thread.
+pub fn print_puts(rt: &HostRuntime, load: Load, figure: PutFigure) -> io::Result<()> {
+    println!(rt;
+        "{:<5}{:>6}  {:<15}{:>6}",
+        "put",
+        load.cells,
+        load.keys.words(),
+        figure.one / u128::from(figure.calls.max(1))
     )
 }
 

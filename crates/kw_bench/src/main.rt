@@ -1,8 +1,9 @@
-//! How fast the map's calls are, by one thread and by two on one map, how fast lines are read and answers printed, and how fast an index is.
+//! How fast the map's calls are, by one thread, two and four on one map, how fast lines are read and answers printed, and how fast an
+//! index is.
 //!
 //! With a number N the program makes N calls of each kind on maps of one row, for rows of a quarter of their cells to all, of different keys and
-//! of one key. It prints what a call took, in nanoseconds, and of those that read how many two threads
-//! made in the time in which one made a hundred. Then it reads an input of N lines, or of as many as an input may have, and
+//! of one key. It prints a table of what a call took, in nanoseconds, and of those that read what it took each of two threads and of four
+//! that made N at once, and how many calls they made in the time in which one made a hundred. Then it reads an input of N lines, or of as many as an input may have, and
 //! prints an answer to each, with no map. At last it asks an index of few entries, one of some and one of many for N keys, and plain slices
 //! of the same entries, by one thread and by four. All figures of a run come from that run, so its ratios can be
 //! compared where its times cannot. Without a number it says how it is used. Nothing is promised of the figures; the calls
@@ -19,7 +20,7 @@ mod timing;
 
 use crate::asking::{Reading, Task};
 use crate::figures::{
-    given_calls, print_guesses, print_lines, print_puts, print_reads, print_usage,
+    given_calls, print_guesses, print_heads, print_lines, print_puts, print_reads, print_usage,
 };
 use crate::index_timing::time_guesses;
 use crate::lines::time_lines;
@@ -43,6 +44,7 @@ fn run<T: Threads + Wait + Sync>(rt: &HostRuntime, threads: &T) -> io::Result<()
     let Some(calls) = given_calls(rt)? else {
         return print_usage(rt);
     };
+    print_heads(rt)?;
     for quarters in 1..=4 {
         time_load(rt, threads, Keys::Different, quarters, calls)?;
         time_load(rt, threads, Keys::One, quarters, calls)?;
@@ -53,7 +55,7 @@ fn run<T: Threads + Wait + Sync>(rt: &HostRuntime, threads: &T) -> io::Result<()
     print_guesses(rt, time_guesses(rt, threads, 16_384, calls)?)
 }
 
-// Takes and prints the figures of a row of so many quarters of its cells.
+// Takes the figures of a row of so many quarters of its cells, and prints a line for each.
 fn time_load<T: Threads + Wait + Sync>(
     rt: &HostRuntime,
     threads: &T,

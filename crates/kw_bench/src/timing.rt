@@ -1,8 +1,9 @@
-//! What calls take, by one thread and by two beside each other.
-ghost use Rattle.std.specs.Prelude.{IfOk};
+//! What calls take, by one thread and by several beside each other.
+ghost use Rattle.std.specs.Prelude.{◌≡◌, ◌<◌, ◌+◌, All, IfOk, vec_len};
+ghost use Rattle.kw_words.specs.declared.sizes.TheConstants.{SEATS};
 ghost use Rattle.kw_map.specs.Kiwi.{IsIdle};
 
-use crate::asking::{Task, put_cells, read};
+use crate::asking::{Task, put_cells, read_by_each};
 use crate::load::Load;
 use kw_map::kiwi::Kiwi;
 use kw_model::memory::Memory;
@@ -10,7 +11,7 @@ use kw_table::Pass;
 use std::alloc::Global;
 use std::io;
 use std::sync::Wait;
-use std::thread::{Threads, join};
+use std::thread::Threads;
 use std::time::Instant;
 
 /// How long calls that read took, in nanoseconds.
@@ -22,6 +23,8 @@ pub struct ReadFigure {
     pub one: u128,
     /// What two threads took, each for so many.
     pub two: u128,
+    /// What four threads took, each for so many.
+    pub four: u128,
 }
 
 /// How long puts took, in nanoseconds.
@@ -38,40 +41,61 @@ pub(crate) fn no_memory<E: Drop>(_error: E) -> io::Error {
     io::Error::from(io::ErrorKind::OutOfMemory)
 }
 
-// An empty map of one row, and its two passes.
-fn open(alloc: Global) -> Result<(Kiwi, Pass, Pass), Memory>
-    ensures { IfOk result (λ made. IsIdle made.0 made.1 × IsIdle made.0 made.2) }
+// A map of one row, a pass for each of so many threads, and one more, to fill the row.
+fn open(alloc: Global, threads: u32) -> Result<(Kiwi, Vec<Pass>, Pass), Memory>
+    requires { threads < SEATS }
+    ensures len { IfOk result (λ made. vec_len made.1 ≡ threads) }
+    ensures idle { IfOk result (λ made. All (IsIdle made.0) made.1.items) }
+    ensures filling { IfOk result (λ made. IsIdle made.0 made.2) }
 {
-    let (kiwi, mut passes) = Kiwi::open(alloc, 1, 2)?;
-    let (Some(second), Some(first)) = (passes.pop(), passes.pop()) else {
+    let (kiwi, mut passes) = Kiwi::open(alloc, 1, threads + 1)?;
+    let Some(filling) = passes.pop() else {
         unreachable!()
     };
-    Ok((kiwi, first, second))
+    Ok((kiwi, passes, filling))
 }
 
-/// Times calls that read, on a map of one row that holds the task's load.
+// The same, with the program's own error.
+fn opened(alloc: Global, threads: u32) -> io::Result<(Kiwi, Vec<Pass>, Pass)>
+    requires { threads < SEATS }
+    ensures len { IfOk result (λ made. vec_len made.1 ≡ threads) }
+    ensures idle { IfOk result (λ made. All (IsIdle made.0) made.1.items) }
+    ensures filling { IfOk result (λ made. IsIdle made.0 made.2) }
+{
+    match open(alloc, threads) {
+        Ok(made) => Ok(made),
+        Err(error) => Err(no_memory(error)),
+    }
+}
+
+/// Times calls that read, on maps of one row that hold the task's load, by one thread, by two and by four.
 pub fn time_reads<T: Threads + Wait + Sync>(
     rt: &HostRuntime,
     threads: &T,
     task: Task,
 ) -> io::Result<ReadFigure> {
-    let (kiwi, first, second) = open(rt.alloc()).map_err(no_memory)?;
-    let first = put_cells(threads, &kiwi, first, task.load);
-    let start = Instant::now(rt)?;
-    let first = read(&kiwi, first, task);
-    let one = start.elapsed(rt)?.as_nanos();
-    let start = Instant::now(rt)?;
-    join(
-        threads,
-        || read(&kiwi, first, task),
-        || read(&kiwi, second, task),
-    );
-    let two = start.elapsed(rt)?.as_nanos();
     Ok(ReadFigure {
         calls: task.calls,
-        one,
-        two,
+        one: time_threads(rt, threads, task, 1)?,
+        two: time_threads(rt, threads, task, 2)?,
+        four: time_threads(rt, threads, task, 4)?,
     })
+}
+
+// What so many threads take, each for the task's calls.
+fn time_threads<T: Threads + Wait + Sync>(
+    rt: &HostRuntime,
+    threads: &T,
+    task: Task,
+    count: u32,
+) -> io::Result<u128>
+    requires { count < SEATS }
+{
+    let (kiwi, passes, filling) = opened(rt.alloc(), count)?;
+    let _filling = put_cells(threads, &kiwi, filling, task.load);
+    let start = Instant::now(rt)?;
+    read_by_each(threads, &kiwi, passes, task).map_err(no_memory)?;
+    Ok(start.elapsed(rt)?.as_nanos())
 }
 
 /// Times puts into rows that fill, each with this load, until about so many puts are made. What opening the maps takes is not in the figure.
@@ -84,9 +108,9 @@ pub fn time_puts<T: Threads + Wait + Sync>(
     let maps = calls / load.cells.max(1);
     let mut one: u128 = 0;
     for _ in 0..maps {
-        let (kiwi, first, _) = open(rt.alloc()).map_err(no_memory)?;
+        let (kiwi, _, filling) = opened(rt.alloc(), 0)?;
         let start = Instant::now(rt)?;
-        put_cells(threads, &kiwi, first, load);
+        put_cells(threads, &kiwi, filling, load);
         one = one.saturating_add(start.elapsed(rt)?.as_nanos());
     }
     Ok(PutFigure {

@@ -47,6 +47,16 @@ with_cell-all P c (d ∷ cells) p a = which (stands_before d c) (stands_before c
     which false true i = all_cons P c (d ∷ cells) p a
     which false false i = a
 
+-- a cell more is at most one more
+pub length-with_cell : (c : Cell) (cells : List Cell) → length (with_cell c cells) ≤ suc (length cells)
+length-with_cell c [] = omega arith
+length-with_cell c (d ∷ cells) = which (stands_before d c) (stands_before c d) (length-with_cell c cells)
+  where
+    which : (x y : Bool) → length (with_cell c cells) ≤ suc (length cells) → length (if x then d ∷ with_cell c cells else if y then c ∷ d ∷ cells else d ∷ cells) ≤ suc (suc (length cells))
+    which true y i = omega (arith, i)
+    which false true i = omega arith
+    which false false i = omega arith
+
 -- a cell more keeps the order
 pub with_cell-in_order : (c : Cell) (cells : List Cell) → AreInOrder cells → AreInOrder (with_cell c cells)
 with_cell-in_order c [] o = AllPairs-cons (λ x y. stands_before x y ≡ true) c [] (λ k d u. absurd (omega arith)) o
@@ -73,6 +83,20 @@ front_before c (y ∷ cells) zero x o u e zero d w = e
 front_before c (y ∷ cells) zero x o u e (suc k) d w = absurd (omega arith)
 front_before c (y ∷ cells) (suc n) x o u e zero d w = before_trans y (get_or cells n x) c (in_order_head y cells o n x (omega arith)) e
 front_before c (y ∷ cells) (suc n) x o u e (suc k) d w = front_before c cells n x (in_order_tail y cells o) (omega arith) e k d (omega arith)
+
+-- behind them, where the last one stands before it
+pub place_in-behind : (c : Cell) (cells : List Cell) (n : ℕ) (x : Cell) → AreInOrder cells → suc n ≡ length cells → stands_before (get_or cells n x) c ≡ true → place_in c cells ≡ length cells
+place_in-behind c cells n x o last e = place_in-at c cells (length cells) (omega arith) (λ k d w. front_before c cells n x o (omega (arith, last)) e k d (omega (arith, last, w))) (λ d w. absurd (omega (arith, w)))
+
+-- all in front of its place stand before it
+pub place_in-front : (c : Cell) (cells : List Cell) (k : ℕ) (x : Cell) → k < place_in c cells → stands_before (get_or cells k x) c ≡ true
+place_in-front c [] k x u = absurd (omega arith)
+place_in-front c (d ∷ cells) k x u = which (stands_before d c) refl k u (λ n w. place_in-front c cells n x w)
+  where
+    which : (b : Bool) → stands_before d c ≡ b → (n : ℕ) → n < (if b then suc (place_in c cells) else 0) → ((m : ℕ) → m < place_in c cells → stands_before (get_or cells m x) c ≡ true) → stands_before (get_or (d ∷ cells) n x) c ≡ true
+    which true e zero w f = e
+    which true e (suc n) w f = f n (omega arith)
+    which false e n w f = absurd (omega arith)
 
 -- the place is among the cells or behind them
 pub place_in-within : (c : Cell) (cells : List Cell) → place_in c cells ≤ length cells

@@ -3,7 +3,7 @@
 //! The list of a row goes by key, then by falling version, then by falling place: so the first cell of a key that a version
 //! may show is the best one, and the pairs of a range come one after the other. `cell` asks the same of cells in any order,
 //! and reads them again for each key.
-ghost use Rattle.std.specs.Prelude.{ℕ, ◌≡◌, ◌+◌, ◌≤◌, ◌<◌, [], ◌∷◌, IfSome, IfNone, length, None};
+ghost use Rattle.std.specs.Prelude.{ℕ, ◌≡◌, ◌↔◌, ◌+◌, ◌≤◌, ◌<◌, [], ◌∷◌, IfSome, IfNone, IsTrue, length, None};
 ghost use Rattle.kw_cells.specs.Cells.{best_of, IsNextPair, shown_at, pairs_of};
 ghost use Rattle.kw_cells.specs.InOrder.{stands_before, AreInOrder, AreBelow, place_in};
 
@@ -11,6 +11,7 @@ use crate::cell::Cell;
 
 impl Cell {
     /// Whether this cell stands before the other in a row's list: by key, then by falling version, then by falling place.
+    #[inline(always)]
     pub fn stands_before(&self, other: &Cell) -> bool
         ensures { result ≡ stands_before self.now other.now }
     {
@@ -36,6 +37,20 @@ pub fn place_in(cell: &Cell, cells: &[Cell]) -> usize
     0
 }
 
+/// Whether the cell's place is behind all of the cells, as that of the next cell of a walk along a row's list is. Looks at the last
+/// of them alone.
+#[inline(always)]
+pub fn is_behind(cell: &Cell, cells: &[Cell]) -> bool
+    requires { AreInOrder cells.now }
+    ensures { IsTrue result ↔ (place_in cell.now cells.now ≡ length cells.now) }
+{
+    let count = cells.len();
+    if count == 0 {
+        return true;
+    }
+    cells[count - 1].stands_before(cell)
+}
+
 /// The cell of the key with the greatest version not above `version`, of cells in order: the first that has such a version.
 ///
 /// None where no cell of the key has a version at most `version`. Reads no cell behind the one that it answers.
@@ -57,6 +72,7 @@ pub fn first_fit(cells: &[Cell], key: u32, version: u64) -> Option<Cell>
 /// The keys of the cells in front of the place `at` are below `from`. It goes on to the first cell that may have a later
 /// pair, so that a caller who asks again from the key after the one that it was given reads each cell once, and no cell
 /// behind the first one above the range.
+#[inline(always)]
 pub fn next_in_order(
     cells: &[Cell],
     at: &mut usize,
@@ -191,5 +207,8 @@ mod tests {
         assert_eq!(rt; place_in(&put(4, 1, 0, 0), &row), 0);
         assert_eq!(rt; place_in(&put(7, 2, 0, 0), &row), 4);
         assert_eq!(rt; place_in(&put(9, 8, 2, 0), &row), 6);
+        assert!(rt; is_behind(&put(9, 8, 2, 0), &row));
+        assert!(rt; !is_behind(&put(9, 9, 2, 0), &row));
+        assert!(rt; is_behind(&put(0, 1, 0, 0), &[]));
     }
 }

@@ -3,7 +3,7 @@
 -- There is one constructor for each arrow, from activities to which a seat may come. It carries what the event found, so that a law by cases on the arrow splits no test of
 -- the table again; where a law does not matter for most arrows, one catch-all serves them. The words are a function of names.
 -- What follows where the end of the looks, or of a row's cells, has no event of its own is an arrow of its own type, `NextLook` and
--- `NextRest`.
+-- `NextRest`. In a rebalance there are two arrows in its place, so that each says outright what the seat knows next.
 use Rattle.std.proofs.Common.{ℕ, ◌≡◌, ◌≢◌, ◌⊎◌, inl, inr, ◌+◌, ◌<◌, ◌≤◌, ◌==◌, Option, Some, None, Bool, true, false, nat_lt, nat_le, [], arith, refl, sym, ◌∙◌, ap, subst, if◌then◌else◌, unwrap_or}
 use Rattle.std.proofs.lemmas.Bool.Decides.{nat_tests}
 use Rattle.kw_words.specs.declared.layout.Name.TheVariants as name
@@ -14,8 +14,10 @@ use Rattle.kw_words.specs.declared.state.State.TheVariants.{Free, Infant, Normal
 use Rattle.kw_words.specs.declared.sizes.TheConstants.{SPENT}
 use Rattle.kw_words.specs.Count.{count_of}
 use Rattle.kw_words.specs.Pend.{pend_of, pend_word}
+use Rattle.kw_words.specs.declared.scan.ScanWord.{ScanWord}
+use Rattle.kw_words.specs.declared.scan.ScanWord.TheVariants as scan
 use Rattle.kw_words.specs.Scan.{scan_of}
-use Rattle.kw_words.specs.State.{state_of}
+use Rattle.kw_words.specs.State.{state_of, state_word}
 use Rattle.kw_words.specs.Link.{link_of}
 use Rattle.kw_words.specs.Plain.{key_of_word, value_of_word, version_of_word, cell_link_word, cell_of_link_word}
 use Rattle.kw_words.proofs.PlainWords.{number_word-number_of_word}
@@ -23,7 +25,7 @@ use Rattle.kw_cells.specs.Cells.{shown_at}
 use Rattle.kw_model.specs.declared.call.Call.{Call}
 use Rattle.kw_model.specs.declared.call.Call.TheVariants.{Put, Del, Get, Scan}
 use Rattle.kw_world.specs.declared.answer.Answer.{Answer}
-use Rattle.kw_world.specs.declared.answer.Answer.TheVariants.{Done, Pairs, Spent, Stopped}
+use Rattle.kw_world.specs.declared.answer.Answer.TheVariants.{Done, Pairs, NoRows, Spent, Stopped}
 use Rattle.kw_world.specs.Answers.{answer_found}
 use Rattle.kw_world.specs.declared.activity.Activity.{Activity}
 use Rattle.kw_world.specs.declared.activity.Activity.TheVariants.{Idle, Enter, ScanClock, ScanWait, ScanDraw, ScanSettle, Start, Head, GuessMin, Walk, WalkMin, Look, LookKey, LookClock, LookHelp, ListFrom, ListKey, ListVer, ListVal, RestKey, RestVal, ClearScan, PutCount, PutAdd, PutKey, PutValue, Announce, PutClock, Stamp, PutVersion, InsFrom, InsKey, InsVer, InsSet, Insert, PutClear, Leave, Again, AgainEpoch, BalClock, BalEpoch, BalState, BalNormal, Engage, MarkLink, Decide, FreezeCount, FreezeLook, Freeze, ScanLook, HelpDraw, HelpSettle, TakeFrom, TakeKey, TakeVersion, TakeValue, TakeRestKey, TakeRestValue, SeekFirst, Seek, TakeRow, GiveBack, WriteCount, WriteMin, WriteNext, WriteFirst, WritePend, WriteKey, WriteValue, WriteVersion, WriteAfter, Before, BeforeGuess, BeforeHead, BeforeLink, BeforeMin, Replace, Normalise, Number, Retire}
@@ -31,7 +33,7 @@ use Rattle.kw_world.specs.declared.local.Local.{Local}
 use Rattle.kw_world.specs.declared.limits.TheConstants.{NEWEST}
 use Rattle.kw_world.specs.declared.event.Choice.{Choice}
 use Rattle.kw_world.specs.declared.event.Choice.TheVariants.{Begin, Go, Guess, Stop}
-use Rattle.kw_world.specs.Sizes.{Sizes}
+use Rattle.kw_world.specs.Sizes.{Form, Refused, Decided, Gathered, IsFreezing, IsRebalancing, Sizes}
 use Rattle.kw_world.specs.Local.{resting}
 use Rattle.kw_world.specs.Calls.{first_key, last_key, is_in_range, is_scan, is_range_empty}
 use Rattle.kw_world.specs.Transition.{Outcome, to, leave, row_linked, row_or_first}
@@ -40,13 +42,17 @@ use Rattle.kw_world.specs.WalkTransitions.{start_transition, guess_met, arrive, 
 use Rattle.kw_world.specs.declared.marks.Mark.{Mark}
 use Rattle.kw_world.specs.Marks.{unmarked, least_mark}
 use Rattle.kw_world.specs.ReadTransitions.{to_look, look_met, help_met, remembering, reaching, rest_of, to_rest, list_met, list_past, row_read, get_answered, scan_ended, scan_on, with_pairs, row_scanned, gathering}
-use Rattle.kw_world.specs.PutTransitions.{full, has_room, given_of, stamp_met}
+use Rattle.kw_world.specs.PutTransitions.{full_in, full, has_room, given_of, stamp_met}
+use Rattle.kw_world.specs.EngageTransitions.{to_rebalance, again, refuse, state_met, engaged, followed_by, led_in, led_alone, decided}
+use Rattle.kw_world.specs.FreezeTransitions.{count_frozen, to_scans, to_freeze_look, marking, freezing, freeze_met, entry_tried, to_scan_look, needing, scan_met, scan_helped}
+use Rattle.kw_world.specs.TakeTransitions.{to_take, planned, left_of, to_left, taking, take_met, take_version, keeping, take_past, packed_in, packed}
 use Rattle.kw_world.specs.ListTransitions.{link_name, meeting, losing, to_insert, insert_from, insert_past, is_newer, insert_tried}
 use Rattle.kw_world.specs.Table.{transition}
 use Rattle.kw_world.specs.Step.{followed, is_skipped}
 use Rattle.kw_core.specs.Words.{Words, next_in, least_in}
 use Rattle.kw_core.specs.Stages.{is_put, IsReached}
 use Rattle.kw_core.proofs.Events.{IsBegun}
+use Rattle.kw_core.proofs.Building.{Building, IsBuilding, building}
 
 -- what a reader does after the entries below j: the next look, or the row's list
 pub data NextLook (z : Sizes) (j : ℕ) : Activity → Type 0 where
@@ -75,6 +81,11 @@ pub record IsNot (cell w : ℕ) : Type 0 where
 pub record IsNotOwn (cell w : ℕ) : Type 0 where
   pub pending : pend_of w ≢ Some (pend.Pending cell)
   pub stamped : (version : ℕ) → pend_of w ≢ Some (pend.Stamped cell version)
+
+-- the word is neither that of a scan that waits since this clock nor of one that has drawn
+pub record IsNoScan (clock w : ℕ) : Type 0 where
+  pub waiting : scan_of w ≢ Some (scan.Waiting clock)
+  pub drawn : (version : ℕ) → scan_of w ≢ Some (scan.Drawn version)
 
 -- from an activity to what the seat knows next
 pub data Arrow (z : Sizes) (v : Words) (s : ℕ) (choice : Choice) (l : Local) : Activity → Local → Type 0 where
@@ -128,17 +139,21 @@ pub data Arrow (z : Sizes) (v : Words) (s : ℕ) (choice : Choice) (l : Local) :
   clears_scan : (answer : Answer) → Arrow z v s choice l (ClearScan answer) (leave (answer_or_stopped answer choice) l).local
   -- a put or a delete
   finds_room : has_room z (count_of (v (name.Count l.row))) ≡ true → Arrow z v s choice l PutCount (record l { activity = PutAdd })
-  finds_none : has_room z (count_of (v (name.Count l.row))) ≡ false → Arrow z v s choice l PutCount (full l).local
+  finds_none : has_room z (count_of (v (name.Count l.row))) ≡ false → z.form ≡ Refused → Arrow z v s choice l PutCount (leave NoRows l).local
+  finds_full : has_room z (count_of (v (name.Count l.row))) ≡ false → IsRebalancing z.form → Arrow z v s choice l PutCount (to_rebalance l).local
   takes_cell : has_room z (count_of (v (name.Count l.row))) ≡ true → Arrow z v s choice l PutAdd (record l { cell = given_of (count_of (v (name.Count l.row))); activity = PutKey })
-  takes_none : has_room z (count_of (v (name.Count l.row))) ≡ false → Arrow z v s choice l PutAdd (full l).local
+  takes_none : has_room z (count_of (v (name.Count l.row))) ≡ false → z.form ≡ Refused → Arrow z v s choice l PutAdd (leave NoRows l).local
+  takes_full : has_room z (count_of (v (name.Count l.row))) ≡ false → IsRebalancing z.form → Arrow z v s choice l PutAdd (to_rebalance l).local
   stores_key : Arrow z v s choice l PutKey (record l { activity = PutValue })
   stores_value : Arrow z v s choice l PutValue (record l { activity = Announce })
   announces : v (name.Pend l.row s) ≡ pend_word pend.Idle → Arrow z v s choice l Announce (record l { activity = PutClock })
-  is_refused : v (name.Pend l.row s) ≢ pend_word pend.Idle → Arrow z v s choice l Announce (full l).local
+  is_refused : v (name.Pend l.row s) ≢ pend_word pend.Idle → z.form ≡ Refused → Arrow z v s choice l Announce (leave NoRows l).local
+  announces_full : v (name.Pend l.row s) ≢ pend_word pend.Idle → IsRebalancing z.form → Arrow z v s choice l Announce (to_rebalance l).local
   loads_clock : Arrow z v s choice l PutClock (record l { version = v name.Clock; activity = Stamp })
   stamps : pend_of (v (name.Pend l.row s)) ≡ Some (pend.Pending l.cell) → Arrow z v s choice l Stamp (record l { activity = PutVersion })
   is_stamped : (version : ℕ) → pend_of (v (name.Pend l.row s)) ≡ Some (pend.Stamped l.cell version) → Arrow z v s choice l Stamp (record l { version = version; activity = PutVersion })
-  is_not_own : IsNotOwn l.cell (v (name.Pend l.row s)) → Arrow z v s choice l Stamp (full l).local
+  is_not_own : IsNotOwn l.cell (v (name.Pend l.row s)) → z.form ≡ Refused → Arrow z v s choice l Stamp (leave NoRows l).local
+  stamps_full : IsNotOwn l.cell (v (name.Pend l.row s)) → IsRebalancing z.form → Arrow z v s choice l Stamp (to_rebalance l).local
   stores_version : Arrow z v s choice l PutVersion (to_insert l).local
   -- its cell is inserted
   meets_cell : (c : ℕ) → cell_of_link_word (v (link_name l.row l.link)) ≡ Some c → Arrow z v s choice l InsFrom (record (meeting z c l) { activity = InsKey })
@@ -154,6 +169,65 @@ pub data Arrow (z : Sizes) (v : Words) (s : ℕ) (choice : Choice) (l : Local) :
   clears : Arrow z v s choice l PutClear (leave Done l).local
   -- the call ends
   leaves : (answer : Answer) → Arrow z v s choice l (Leave answer) (resting l.number)
+  -- a put tries again
+  retries : Arrow z v s choice l Again (record l { activity = AgainEpoch })
+  enters_again : Arrow z v s choice l AgainEpoch (record l { epoch = v name.Epoch; activity = Enter })
+  -- a rebalance begins
+  clock_is_spent : SPENT ≤ v name.Clock → Arrow z v s choice l BalClock (refuse Spent l).local
+  clock_serves : v name.Clock < SPENT → Arrow z v s choice l BalClock (record l { activity = BalEpoch })
+  epoch_is_spent : SPENT ≤ v name.Epoch → Arrow z v s choice l BalEpoch (refuse Spent l).local
+  epoch_serves : v name.Epoch < SPENT → Arrow z v s choice l BalEpoch (record l { activity = BalState })
+  finds_infant : (seat : ℕ) → state_of (v (name.State l.row)) ≡ Some (Infant seat) → Arrow z v s choice l BalState (record l { activity = BalNormal seat })
+  finds_normal : state_of (v (name.State l.row)) ≡ Some Normal → Arrow z v s choice l BalState (record l { activity = Engage })
+  finds_leader : (count : ℕ) → state_of (v (name.State l.row)) ≡ Some (Leader count) → count ≤ 1 → Arrow z v s choice l BalState (record l { activity = MarkLink count })
+  finds_other_state : Arrow z v s choice l BalState (again l).local
+  normalises : (seat : ℕ) → Arrow z v s choice l (BalNormal seat) (record l { activity = BalState })
+  engages : v (name.State l.row) ≡ state_word Normal → Arrow z v s choice l Engage (record l { activity = MarkLink 0 })
+  is_engaged : v (name.State l.row) ≢ state_word Normal → Arrow z v s choice l Engage (record l { activity = BalState })
+  marks_link : (count : ℕ) → count ≡ 0 → Arrow z v s choice l (MarkLink count) (record (followed_by (next_in v l.row) l) { activity = Decide 1 })
+  marks_led : (count : ℕ) → count ≢ 0 → z.form ≢ Decided → Arrow z v s choice l (MarkLink count) (record (followed_by (next_in v l.row) l) { activity = FreezeCount })
+  marks_last : (count : ℕ) → count ≢ 0 → z.form ≡ Decided → Arrow z v s choice l (MarkLink count) (refuse NoRows (followed_by (next_in v l.row) l)).local
+  decides : (count n : ℕ) → state_of (v (name.State l.row)) ≡ Some (Leader n) → n ≤ 1 → z.form ≢ Decided → Arrow z v s choice l (Decide count) (record l { activity = FreezeCount })
+  decides_last : (count n : ℕ) → state_of (v (name.State l.row)) ≡ Some (Leader n) → n ≤ 1 → z.form ≡ Decided → Arrow z v s choice l (Decide count) (refuse NoRows l).local
+  decides_not : (count : ℕ) → Arrow z v s choice l (Decide count) (again l).local
+  -- the full row is frozen
+  freezes_count : Arrow z v s choice l FreezeCount (count_frozen l).local
+  meets_idle : (i : ℕ) → pend_of (v (name.Pend l.row i)) ≡ Some pend.Idle → Arrow z v s choice l (FreezeLook i) (freezing i pend.Idle l).local
+  meets_unstamped : (i c : ℕ) → pend_of (v (name.Pend l.row i)) ≡ Some (pend.Pending c) → Arrow z v s choice l (FreezeLook i) (freezing i (pend.Pending c) l).local
+  remembers : (i c version : ℕ) → pend_of (v (name.Pend l.row i)) ≡ Some (pend.Stamped c version) → i + 1 < z.seats → Arrow z v s choice l (FreezeLook i) (record (marking c version l) { activity = FreezeLook (i + 1) })
+  remembers_last : (i c version : ℕ) → pend_of (v (name.Pend l.row i)) ≡ Some (pend.Stamped c version) → z.seats ≤ i + 1 → Arrow z v s choice l (FreezeLook i) (to_scans (marking c version l)).local
+  meets_frozen : (i : ℕ) → (pend_of (v (name.Pend l.row i)) ≡ Some pend.Frozen) ⊎ (pend_of (v (name.Pend l.row i)) ≡ None) → i + 1 < z.seats → Arrow z v s choice l (FreezeLook i) (record l { activity = FreezeLook (i + 1) })
+  meets_frozen_last : (i : ℕ) → (pend_of (v (name.Pend l.row i)) ≡ Some pend.Frozen) ⊎ (pend_of (v (name.Pend l.row i)) ≡ None) → z.seats ≤ i + 1 → Arrow z v s choice l (FreezeLook i) (to_scans l).local
+  freezes_entry : (i : ℕ) → v (name.Pend l.row i) ≡ pend_word l.rebalance.entry → i + 1 < z.seats → Arrow z v s choice l (Freeze i) (record l { activity = FreezeLook (i + 1) })
+  freezes_last : (i : ℕ) → v (name.Pend l.row i) ≡ pend_word l.rebalance.entry → z.seats ≤ i + 1 → Arrow z v s choice l (Freeze i) (to_scans l).local
+  looks_again : (i : ℕ) → v (name.Pend l.row i) ≢ pend_word l.rebalance.entry → Arrow z v s choice l (Freeze i) (record l { activity = FreezeLook i })
+  -- the scans are looked at
+  meets_quiet : (i : ℕ) → (scan_of (v (name.Scan i)) ≡ Some scan.Quiet) ⊎ (scan_of (v (name.Scan i)) ≡ None) → i + 1 < z.seats → Arrow z v s choice l (ScanLook i) (record l { activity = ScanLook (i + 1) })
+  meets_quiet_last : (i : ℕ) → (scan_of (v (name.Scan i)) ≡ Some scan.Quiet) ⊎ (scan_of (v (name.Scan i)) ≡ None) → z.seats ≤ i + 1 → Arrow z v s choice l (ScanLook i) (to_take l).local
+  helps_scan : (i clock : ℕ) → scan_of (v (name.Scan i)) ≡ Some (scan.Waiting clock) → Arrow z v s choice l (ScanLook i) (record l { rebalance = record l.rebalance { waiting = clock }; activity = HelpDraw i })
+  meets_drawn : (i version : ℕ) → scan_of (v (name.Scan i)) ≡ Some (scan.Drawn version) → i + 1 < z.seats → Arrow z v s choice l (ScanLook i) (record (needing version l) { activity = ScanLook (i + 1) })
+  meets_drawn_last : (i version : ℕ) → scan_of (v (name.Scan i)) ≡ Some (scan.Drawn version) → z.seats ≤ i + 1 → Arrow z v s choice l (ScanLook i) (to_take (needing version l)).local
+  draws_for : (i : ℕ) → Arrow z v s choice l (HelpDraw i) (record l { rebalance = record l.rebalance { drawn = v name.Clock }; activity = HelpSettle i })
+  settles_scan : (i : ℕ) → scan_of (v (name.Scan i)) ≡ Some (scan.Waiting l.rebalance.waiting) → i + 1 < z.seats → Arrow z v s choice l (HelpSettle i) (record (needing l.rebalance.drawn l) { activity = ScanLook (i + 1) })
+  settles_last : (i : ℕ) → scan_of (v (name.Scan i)) ≡ Some (scan.Waiting l.rebalance.waiting) → z.seats ≤ i + 1 → Arrow z v s choice l (HelpSettle i) (to_take (needing l.rebalance.drawn l)).local
+  finds_drawn : (i version : ℕ) → scan_of (v (name.Scan i)) ≡ Some (scan.Drawn version) → i + 1 < z.seats → Arrow z v s choice l (HelpSettle i) (record (needing version l) { activity = ScanLook (i + 1) })
+  finds_drawn_last : (i version : ℕ) → scan_of (v (name.Scan i)) ≡ Some (scan.Drawn version) → z.seats ≤ i + 1 → Arrow z v s choice l (HelpSettle i) (to_take (needing version l)).local
+  finds_no_scan : (i : ℕ) → IsNoScan l.rebalance.waiting (v (name.Scan i)) → i + 1 < z.seats → Arrow z v s choice l (HelpSettle i) (record l { activity = ScanLook (i + 1) })
+  finds_no_scan_last : (i : ℕ) → IsNoScan l.rebalance.waiting (v (name.Scan i)) → z.seats ≤ i + 1 → Arrow z v s choice l (HelpSettle i) (to_take l).local
+  -- the full row's cells are gathered
+  take_leads : (c : ℕ) → cell_of_link_word (v (link_name l.row l.link)) ≡ Some c → Arrow z v s choice l TakeFrom (record (taking z c l) { activity = TakeKey })
+  takes_left : (m : Mark) → cell_of_link_word (v (link_name l.row l.link)) ≡ None → least_mark l.rebalance.marks ≡ Some m → Arrow z v s choice l TakeFrom (record l { place = m.cell; place_version = m.version; rebalance = record l.rebalance { marks = unmarked m.cell l.rebalance.marks }; activity = TakeRestKey })
+  takes_no_more : cell_of_link_word (v (link_name l.row l.link)) ≡ None → least_mark l.rebalance.marks ≡ None → z.form ≢ Gathered → Arrow z v s choice l TakeFrom (record (planned z l) { activity = SeekFirst })
+  takes_last : cell_of_link_word (v (link_name l.row l.link)) ≡ None → least_mark l.rebalance.marks ≡ None → z.form ≡ Gathered → Arrow z v s choice l TakeFrom (refuse NoRows (planned z l)).local
+  takes_key : Arrow z v s choice l TakeKey (record l { place_key = key_of_word (v (name.Key l.row l.place)); activity = TakeVersion })
+  takes_version : Arrow z v s choice l TakeVersion (take_version (version_of_word (v (name.Version l.row l.place))) l).local
+  keeps_taken : Arrow z v s choice l TakeValue (take_past (keeping z (value_of_word (v (name.Value l.row l.place))) l)).local
+  takes_left_key : Arrow z v s choice l TakeRestKey (record l { place_key = key_of_word (v (name.Key l.row l.place)); activity = TakeRestValue })
+  keeps_left : (m : Mark) → least_mark l.rebalance.marks ≡ Some m → Arrow z v s choice l TakeRestValue (record (keeping z (value_of_word (v (name.Value l.row l.place))) l) { place = m.cell; place_version = m.version; rebalance = record (keeping z (value_of_word (v (name.Value l.row l.place))) l).rebalance { marks = unmarked m.cell l.rebalance.marks }; activity = TakeRestKey })
+  keeps_no_more : least_mark l.rebalance.marks ≡ None → z.form ≢ Gathered → Arrow z v s choice l TakeRestValue (record (planned z (keeping z (value_of_word (v (name.Value l.row l.place))) l)) { activity = SeekFirst })
+  keeps_last : least_mark l.rebalance.marks ≡ None → z.form ≡ Gathered → Arrow z v s choice l TakeRestValue (refuse NoRows (planned z (keeping z (value_of_word (v (name.Value l.row l.place))) l))).local
+  -- new rows are taken, written, linked and made normal, and the full one is retired: a type of its own has the ways that these may go
+  builds : (c : Activity) (next : Local) → IsBuilding c → IsReached z c → Building z v choice l c next → Arrow z v s choice l c next
 
 -- Tests of the table.
 
@@ -221,6 +295,69 @@ next_rest l = met (least_mark l.remembered) refl
     met : (o : Option Mark) → least_mark l.remembered ≡ o → NextRest l (rest_of o l).local
     met (Some m) e = rests m e
     met None e = read_arrow l l.call e refl
+
+-- what follows at a full row, in any form
+full_arrow : (z : Sizes) (v : Words) (s : ℕ) (choice : Choice) (l : Local) (a : Activity) → (z.form ≡ Refused → Arrow z v s choice l a (leave NoRows l).local) → (IsRebalancing z.form → Arrow z v s choice l a (to_rebalance l).local) → Arrow z v s choice l a (full z l).local
+full_arrow z v s choice l a refuses rebalances = by z.form refl
+  where
+    by : (f : Form) → z.form ≡ f → Arrow z v s choice l a (full_in f l).local
+    by Refused e = refuses e
+    by Decided e = rebalances (subst IsRebalancing (sym e) tt)
+    by Gathered e = rebalances (subst IsRebalancing (sym e) tt)
+
+-- and at one that is led alone
+led_arrow : (z : Sizes) (v : Words) (s : ℕ) (choice : Choice) (l k : Local) (a : Activity) → (z.form ≢ Decided → Arrow z v s choice l a (record k { activity = FreezeCount })) → (z.form ≡ Decided → Arrow z v s choice l a (refuse NoRows k).local) → Arrow z v s choice l a (led_alone z k).local
+led_arrow z v s choice l k a freezes ends = by z.form refl
+  where
+    by : (f : Form) → z.form ≡ f → Arrow z v s choice l a (led_in f k).local
+    by Refused e = freezes (λ f. let x : Refused ≡ Decided = sym e ∙ f in cc)
+    by Decided e = ends e
+    by Gathered e = freezes (λ f. let x : Gathered ≡ Decided = sym e ∙ f in cc)
+
+-- the next entry, or the scans
+next_entry : (z : Sizes) (j : ℕ) (l : Local) (P : Local → Type 0) → (j < z.seats → P (record l { activity = FreezeLook j })) → (z.seats ≤ j → P (to_scans l).local) → P (to_freeze_look z j l).local
+next_entry z j l P on last = met (nat_lt j z.seats) refl
+  where
+    met : (b : Bool) → nat_lt j z.seats ≡ b → P (let x : Outcome = if b then to (FreezeLook j) l else to_scans l in x).local
+    met true e = on (below j z.seats e)
+    met false e = last (not_below j z.seats e)
+
+-- the next scan, or the row's cells
+next_scan : (z : Sizes) (j : ℕ) (l : Local) (P : Local → Type 0) → (j < z.seats → P (record l { activity = ScanLook j })) → (z.seats ≤ j → P (to_take l).local) → P (to_scan_look z j l).local
+next_scan z j l P on last = met (nat_lt j z.seats) refl
+  where
+    met : (b : Bool) → nat_lt j z.seats ≡ b → P (let x : Outcome = if b then to (ScanLook j) l else to_take l in x).local
+    met true e = on (below j z.seats e)
+    met false e = last (not_below j z.seats e)
+
+-- the next remembered cell, or the plan
+next_left : (z : Sizes) (l : Local) (P : Local → Type 0) → ((m : Mark) → least_mark l.rebalance.marks ≡ Some m → P (left_of z (Some m) l).local) → (least_mark l.rebalance.marks ≡ None → P (left_of z None l).local) → P (to_left z l).local
+next_left z l P on last = met (least_mark l.rebalance.marks) refl
+  where
+    met : (o : Option Mark) → least_mark l.rebalance.marks ≡ o → P (left_of z o l).local
+    met (Some m) e = on m e
+    met None e = last e
+
+-- and once all cells are gathered
+packed_arrow : (z : Sizes) (v : Words) (s : ℕ) (choice : Choice) (l k : Local) (a : Activity) → (z.form ≢ Gathered → Arrow z v s choice l a (record (planned z k) { activity = SeekFirst })) → (z.form ≡ Gathered → Arrow z v s choice l a (refuse NoRows (planned z k)).local) → Arrow z v s choice l a (packed z k).local
+packed_arrow z v s choice l k a seeks ends = by z.form refl
+  where
+    by : (f : Form) → z.form ≡ f → Arrow z v s choice l a (packed_in f (planned z k)).local
+    by Refused e = seeks (λ f. let x : Refused ≡ Gathered = sym e ∙ f in cc)
+    by Decided e = seeks (λ f. let x : Decided ≡ Gathered = sym e ∙ f in cc)
+    by Gathered e = ends e
+
+-- a form that goes on past the decision freezes the row
+pub goes_to_freeze : (f : Form) → IsRebalancing f → f ≢ Decided → IsFreezing f
+goes_to_freeze Refused b d = absurd b
+goes_to_freeze Decided b d = absurd (d refl)
+goes_to_freeze Gathered b d = tt
+
+-- a form that freezes the row goes no further than to gather its cells
+pub goes_no_further : {A : Type 0} (f : Form) → IsFreezing f → f ≢ Gathered → A
+goes_no_further Refused b d = absurd b
+goes_no_further Decided b d = absurd b
+goes_no_further Gathered b d = absurd (d refl)
 
 module _ (z : Sizes) (rows : ℕ) (v : Words) (s : ℕ) (choice : Choice) (l : Local) where
   enter_arrow : (c : Option Call) → l.call ≡ c → Arrow z v s choice l Enter (entered c l).local
@@ -301,27 +438,86 @@ module _ (z : Sizes) (rows : ℕ) (v : Words) (s : ℕ) (choice : Choice) (l : L
   list_arrow (Some c) e = list_leads c e
   list_arrow None e = list_ends _ e (next_rest l)
 
-  stamp_arrow : (x : Option Pend) → pend_of (v (name.Pend l.row s)) ≡ x → Arrow z v s choice l Stamp (stamp_met x l).local
-  stamp_arrow (Some pend.Idle) e = is_not_own (record { pending = λ q. let y : Some pend.Idle ≡ Some (pend.Pending l.cell) = sym e ∙ q in cc; stamped = λ u q. let y : Some pend.Idle ≡ Some (pend.Stamped l.cell u) = sym e ∙ q in cc })
+  not_own_arrow : IsNotOwn l.cell (v (name.Pend l.row s)) → Arrow z v s choice l Stamp (full z l).local
+  not_own_arrow n = full_arrow z v s choice l Stamp (is_not_own n) (stamps_full n)
+
+  stamp_arrow : (x : Option Pend) → pend_of (v (name.Pend l.row s)) ≡ x → Arrow z v s choice l Stamp (stamp_met z x l).local
+  stamp_arrow (Some pend.Idle) e = not_own_arrow (record { pending = λ q. let y : Some pend.Idle ≡ Some (pend.Pending l.cell) = sym e ∙ q in cc; stamped = λ u q. let y : Some pend.Idle ≡ Some (pend.Stamped l.cell u) = sym e ∙ q in cc })
   stamp_arrow (Some (pend.Pending cell)) e = met (cell == l.cell) refl
     where
-      met : (b : Bool) → (cell == l.cell) ≡ b → Arrow z v s choice l Stamp (let x : Outcome = if b then to PutVersion l else full l in x).local
+      met : (b : Bool) → (cell == l.cell) ≡ b → Arrow z v s choice l Stamp (let x : Outcome = if b then to PutVersion l else full z l in x).local
       met true h = stamps (e ∙ ap (λ c. Some (pend.Pending c)) (eq_from cell l.cell h))
-      met false h = is_not_own (record { pending = λ q. let y : Some (pend.Pending cell) ≡ Some (pend.Pending l.cell) = sym e ∙ q in eq_not cell l.cell h (cc); stamped = λ u q. let y : Some (pend.Pending cell) ≡ Some (pend.Stamped l.cell u) = sym e ∙ q in cc })
+      met false h = not_own_arrow (record { pending = λ q. let y : Some (pend.Pending cell) ≡ Some (pend.Pending l.cell) = sym e ∙ q in eq_not cell l.cell h (cc); stamped = λ u q. let y : Some (pend.Pending cell) ≡ Some (pend.Stamped l.cell u) = sym e ∙ q in cc })
   stamp_arrow (Some (pend.Stamped cell version)) e = met (cell == l.cell) refl
     where
-      met : (b : Bool) → (cell == l.cell) ≡ b → Arrow z v s choice l Stamp (let x : Outcome = if b then to PutVersion (record l { version = version }) else full l in x).local
+      met : (b : Bool) → (cell == l.cell) ≡ b → Arrow z v s choice l Stamp (let x : Outcome = if b then to PutVersion (record l { version = version }) else full z l in x).local
       met true h = is_stamped version (e ∙ ap (λ c. Some (pend.Stamped c version)) (eq_from cell l.cell h))
-      met false h = is_not_own (record { pending = λ q. let y : Some (pend.Stamped cell version) ≡ Some (pend.Pending l.cell) = sym e ∙ q in cc; stamped = λ u q. let y : Some (pend.Stamped cell version) ≡ Some (pend.Stamped l.cell u) = sym e ∙ q in eq_not cell l.cell h (cc) })
-  stamp_arrow (Some pend.Frozen) e = is_not_own (record { pending = λ q. let y : Some pend.Frozen ≡ Some (pend.Pending l.cell) = sym e ∙ q in cc; stamped = λ u q. let y : Some pend.Frozen ≡ Some (pend.Stamped l.cell u) = sym e ∙ q in cc })
-  stamp_arrow None e = is_not_own (record { pending = λ q. let y : None ≡ Some (pend.Pending l.cell) = sym e ∙ q in cc; stamped = λ u q. let y : None ≡ Some (pend.Stamped l.cell u) = sym e ∙ q in cc })
+      met false h = not_own_arrow (record { pending = λ q. let y : Some (pend.Stamped cell version) ≡ Some (pend.Pending l.cell) = sym e ∙ q in cc; stamped = λ u q. let y : Some (pend.Stamped cell version) ≡ Some (pend.Stamped l.cell u) = sym e ∙ q in eq_not cell l.cell h (cc) })
+  stamp_arrow (Some pend.Frozen) e = not_own_arrow (record { pending = λ q. let y : Some pend.Frozen ≡ Some (pend.Pending l.cell) = sym e ∙ q in cc; stamped = λ u q. let y : Some pend.Frozen ≡ Some (pend.Stamped l.cell u) = sym e ∙ q in cc })
+  stamp_arrow None e = not_own_arrow (record { pending = λ q. let y : None ≡ Some (pend.Pending l.cell) = sym e ∙ q in cc; stamped = λ u q. let y : None ≡ Some (pend.Stamped l.cell u) = sym e ∙ q in cc })
+
+  balance_arrow : (x : Option State) → state_of (v (name.State l.row)) ≡ x → Arrow z v s choice l BalState (state_met x l).local
+  balance_arrow (Some Free) e = finds_other_state
+  balance_arrow (Some (Infant seat)) e = finds_infant seat e
+  balance_arrow (Some Normal) e = finds_normal e
+  balance_arrow (Some (Leader count)) e = met (nat_le count 1) refl
+    where
+      met : (b : Bool) → nat_le count 1 ≡ b → Arrow z v s choice l BalState (let x : Outcome = if b then to (MarkLink count) l else again l in x).local
+      met true h = finds_leader count e (at_most _ _ h)
+      met false h = finds_other_state
+  balance_arrow (Some (Follower leader)) e = finds_other_state
+  balance_arrow (Some (Retired number)) e = finds_other_state
+  balance_arrow None e = finds_other_state
+
+  decide_arrow : (count : ℕ) (x : Option State) → state_of (v (name.State l.row)) ≡ x → Arrow z v s choice l (Decide count) (decided z x l).local
+  decide_arrow count (Some Free) e = decides_not count
+  decide_arrow count (Some (Infant seat)) e = decides_not count
+  decide_arrow count (Some Normal) e = decides_not count
+  decide_arrow count (Some (Leader n)) e = met (nat_le n 1) refl
+    where
+      met : (b : Bool) → nat_le n 1 ≡ b → Arrow z v s choice l (Decide count) (let x : Outcome = if b then led_alone z l else again l in x).local
+      met true h = led_arrow z v s choice l l (Decide count) (decides count n e (at_most _ _ h)) (decides_last count n e (at_most _ _ h))
+      met false h = decides_not count
+  decide_arrow count (Some (Follower leader)) e = decides_not count
+  decide_arrow count (Some (Retired number)) e = decides_not count
+  decide_arrow count None e = decides_not count
+
+  freeze_arrow : (i : ℕ) (x : Option Pend) → pend_of (v (name.Pend l.row i)) ≡ x → Arrow z v s choice l (FreezeLook i) (freeze_met z i x l).local
+  freeze_arrow i (Some pend.Idle) e = meets_idle i e
+  freeze_arrow i (Some (pend.Pending cell)) e = meets_unstamped i cell e
+  freeze_arrow i (Some (pend.Stamped cell version)) e = next_entry z (i + 1) (marking cell version l) (Arrow z v s choice l (FreezeLook i)) (remembers i cell version e) (remembers_last i cell version e)
+  freeze_arrow i (Some pend.Frozen) e = next_entry z (i + 1) l (Arrow z v s choice l (FreezeLook i)) (meets_frozen i (inl e)) (meets_frozen_last i (inl e))
+  freeze_arrow i None e = next_entry z (i + 1) l (Arrow z v s choice l (FreezeLook i)) (meets_frozen i (inr e)) (meets_frozen_last i (inr e))
+
+  scan_arrow : (i : ℕ) (x : Option ScanWord) → scan_of (v (name.Scan i)) ≡ x → Arrow z v s choice l (ScanLook i) (scan_met z i x l).local
+  scan_arrow i (Some scan.Quiet) e = next_scan z (i + 1) l (Arrow z v s choice l (ScanLook i)) (meets_quiet i (inl e)) (meets_quiet_last i (inl e))
+  scan_arrow i (Some (scan.Waiting clock)) e = helps_scan i clock e
+  scan_arrow i (Some (scan.Drawn version)) e = next_scan z (i + 1) (needing version l) (Arrow z v s choice l (ScanLook i)) (meets_drawn i version e) (meets_drawn_last i version e)
+  scan_arrow i None e = next_scan z (i + 1) l (Arrow z v s choice l (ScanLook i)) (meets_quiet i (inr e)) (meets_quiet_last i (inr e))
+
+  no_scan_arrow : (i : ℕ) → IsNoScan l.rebalance.waiting (v (name.Scan i)) → Arrow z v s choice l (HelpSettle i) (to_scan_look z (i + 1) l).local
+  no_scan_arrow i n = next_scan z (i + 1) l (Arrow z v s choice l (HelpSettle i)) (finds_no_scan i n) (finds_no_scan_last i n)
+
+  settle_arrow : (i : ℕ) (x : Option ScanWord) → scan_of (v (name.Scan i)) ≡ x → Arrow z v s choice l (HelpSettle i) (scan_helped z i x l).local
+  settle_arrow i (Some scan.Quiet) e = no_scan_arrow i (record { waiting = λ q. let y : Some scan.Quiet ≡ Some (scan.Waiting l.rebalance.waiting) = sym e ∙ q in cc; drawn = λ u q. let y : Some scan.Quiet ≡ Some (scan.Drawn u) = sym e ∙ q in cc })
+  settle_arrow i (Some (scan.Waiting clock)) e = met (clock == l.rebalance.waiting) refl
+    where
+      met : (b : Bool) → (clock == l.rebalance.waiting) ≡ b → Arrow z v s choice l (HelpSettle i) (to_scan_look z (i + 1) (let x : Local = if b then needing l.rebalance.drawn l else l in x)).local
+      met true h = let w = e ∙ ap (λ c. Some (scan.Waiting c)) (eq_from clock l.rebalance.waiting h) in next_scan z (i + 1) (needing l.rebalance.drawn l) (Arrow z v s choice l (HelpSettle i)) (settles_scan i w) (settles_last i w)
+      met false h = no_scan_arrow i (record { waiting = λ q. let y : Some (scan.Waiting clock) ≡ Some (scan.Waiting l.rebalance.waiting) = sym e ∙ q in eq_not clock l.rebalance.waiting h (cc); drawn = λ u q. let y : Some (scan.Waiting clock) ≡ Some (scan.Drawn u) = sym e ∙ q in cc })
+  settle_arrow i (Some (scan.Drawn version)) e = next_scan z (i + 1) (needing version l) (Arrow z v s choice l (HelpSettle i)) (finds_drawn i version e) (finds_drawn_last i version e)
+  settle_arrow i None e = no_scan_arrow i (record { waiting = λ q. let y : None ≡ Some (scan.Waiting l.rebalance.waiting) = sym e ∙ q in cc; drawn = λ u q. let y : None ≡ Some (scan.Drawn u) = sym e ∙ q in cc })
+
+  take_arrow : (x : Option ℕ) → cell_of_link_word (v (link_name l.row l.link)) ≡ x → Arrow z v s choice l TakeFrom (take_met z x l).local
+  take_arrow (Some c) e = take_leads c e
+  take_arrow None e = next_left z l (Arrow z v s choice l TakeFrom) (λ m n. takes_left m e n) (λ n. packed_arrow z v s choice l l TakeFrom (takes_no_more e n) (takes_last e n))
 
   insert_arrow : (x : Option ℕ) → cell_of_link_word (v (link_name l.row l.link)) ≡ x → Arrow z v s choice l InsFrom (insert_from z x l).local
   insert_arrow (Some c) e = meets_cell c e
   insert_arrow None e = meets_none e
 
   -- every event that is not skipped, of a seat that may come to its activity, takes an arrow
-  pub arrow : (a : Activity) → IsReached a → IsBegun a choice → is_skipped a choice ≡ false → Arrow z v s choice l a (followed rows (transition z a s choice l) (v (transition z a s choice l).operation.name)).local
+  pub arrow : (a : Activity) → IsReached z a → IsBegun a choice → is_skipped a choice ≡ false → Arrow z v s choice l a (followed rows (transition z a s choice l) (v (transition z a s choice l).operation.name)).local
   arrow Idle o b m = begin_arrow choice refl b m
   arrow Enter o b m = enter_arrow l.call refl
   arrow ScanClock o b m = met (nat_le SPENT (v name.Clock)) refl
@@ -372,21 +568,21 @@ module _ (z : Sizes) (rows : ℕ) (v : Words) (s : ℕ) (choice : Choice) (l : L
   arrow (ClearScan answer) o b m = clears_scan answer
   arrow PutCount o b m = met (has_room z (count_of (v (name.Count l.row)))) refl
     where
-      met : (b : Bool) → has_room z (count_of (v (name.Count l.row))) ≡ b → Arrow z v s choice l PutCount (let x : Outcome = if b then to PutAdd l else full l in x).local
+      met : (b : Bool) → has_room z (count_of (v (name.Count l.row))) ≡ b → Arrow z v s choice l PutCount (let x : Outcome = if b then to PutAdd l else full z l in x).local
       met true e = finds_room e
-      met false e = finds_none e
+      met false e = full_arrow z v s choice l PutCount (finds_none e) (finds_full e)
   arrow PutAdd o b m = met (has_room z (count_of (v (name.Count l.row)))) refl
     where
-      met : (b : Bool) → has_room z (count_of (v (name.Count l.row))) ≡ b → Arrow z v s choice l PutAdd (let x : Outcome = if b then to PutKey (record l { cell = given_of (count_of (v (name.Count l.row))) }) else full l in x).local
+      met : (b : Bool) → has_room z (count_of (v (name.Count l.row))) ≡ b → Arrow z v s choice l PutAdd (let x : Outcome = if b then to PutKey (record l { cell = given_of (count_of (v (name.Count l.row))) }) else full z l in x).local
       met true e = takes_cell e
-      met false e = takes_none e
+      met false e = full_arrow z v s choice l PutAdd (takes_none e) (takes_full e)
   arrow PutKey o b m = stores_key
   arrow PutValue o b m = stores_value
   arrow Announce o b m = met (v (name.Pend l.row s) == pend_word pend.Idle) refl
     where
-      met : (b : Bool) → (v (name.Pend l.row s) == pend_word pend.Idle) ≡ b → Arrow z v s choice l Announce (let x : Outcome = if b then to PutClock l else full l in x).local
+      met : (b : Bool) → (v (name.Pend l.row s) == pend_word pend.Idle) ≡ b → Arrow z v s choice l Announce (let x : Outcome = if b then to PutClock l else full z l in x).local
       met true e = announces (eq_from _ _ e)
-      met false e = is_refused (eq_not _ _ e)
+      met false e = full_arrow z v s choice l Announce (is_refused (eq_not _ _ e)) (announces_full (eq_not _ _ e))
   arrow PutClock o b m = loads_clock
   arrow Stamp o b m = stamp_arrow (pend_of (v (name.Pend l.row s))) refl
   arrow PutVersion o b m = stores_version
@@ -411,46 +607,66 @@ module _ (z : Sizes) (rows : ℕ) (v : Words) (s : ℕ) (choice : Choice) (l : L
       met false e = loses (eq_not _ _ e)
   arrow PutClear o b m = clears
   arrow (Leave answer) o b m = leaves answer
-  arrow Again o b m = absurd o
-  arrow AgainEpoch o b m = absurd o
-  arrow BalClock o b m = absurd o
-  arrow BalEpoch o b m = absurd o
-  arrow BalState o b m = absurd o
-  arrow (BalNormal seat) o b m = absurd o
-  arrow Engage o b m = absurd o
-  arrow (MarkLink count) o b m = absurd o
-  arrow (Decide count) o b m = absurd o
-  arrow FreezeCount o b m = absurd o
-  arrow (FreezeLook i) o b m = absurd o
-  arrow (Freeze i) o b m = absurd o
-  arrow (ScanLook i) o b m = absurd o
-  arrow (HelpDraw i) o b m = absurd o
-  arrow (HelpSettle i) o b m = absurd o
-  arrow TakeFrom o b m = absurd o
-  arrow TakeKey o b m = absurd o
-  arrow TakeVersion o b m = absurd o
-  arrow TakeValue o b m = absurd o
-  arrow TakeRestKey o b m = absurd o
-  arrow TakeRestValue o b m = absurd o
-  arrow SeekFirst o b m = absurd o
-  arrow Seek o b m = absurd o
-  arrow TakeRow o b m = absurd o
-  arrow GiveBack o b m = absurd o
-  arrow WriteCount o b m = absurd o
-  arrow WriteMin o b m = absurd o
-  arrow WriteNext o b m = absurd o
-  arrow WriteFirst o b m = absurd o
-  arrow (WritePend i) o b m = absurd o
-  arrow (WriteKey j) o b m = absurd o
-  arrow (WriteValue j) o b m = absurd o
-  arrow (WriteVersion j) o b m = absurd o
-  arrow (WriteAfter j) o b m = absurd o
-  arrow Before o b m = absurd o
-  arrow BeforeGuess o b m = absurd o
-  arrow BeforeHead o b m = absurd o
-  arrow BeforeLink o b m = absurd o
-  arrow BeforeMin o b m = absurd o
-  arrow Replace o b m = absurd o
-  arrow Normalise o b m = absurd o
-  arrow Number o b m = absurd o
-  arrow Retire o b m = absurd o
+  arrow Again o b m = retries
+  arrow AgainEpoch o b m = enters_again
+  arrow BalClock o b m = met (nat_le SPENT (v name.Clock)) refl
+    where
+      met : (b : Bool) → nat_le SPENT (v name.Clock) ≡ b → Arrow z v s choice l BalClock (let x : Outcome = if b then refuse Spent l else to BalEpoch l in x).local
+      met true e = clock_is_spent (at_most _ _ e)
+      met false e = clock_serves (above _ _ e)
+  arrow BalEpoch o b m = met (nat_le SPENT (v name.Epoch)) refl
+    where
+      met : (b : Bool) → nat_le SPENT (v name.Epoch) ≡ b → Arrow z v s choice l BalEpoch (let x : Outcome = if b then refuse Spent l else to BalState l in x).local
+      met true e = epoch_is_spent (at_most _ _ e)
+      met false e = epoch_serves (above _ _ e)
+  arrow BalState o b m = balance_arrow (state_of (v (name.State l.row))) refl
+  arrow (BalNormal seat) o b m = normalises seat
+  arrow Engage o b m = met (v (name.State l.row) == state_word Normal) refl
+    where
+      met : (b : Bool) → (v (name.State l.row) == state_word Normal) ≡ b → Arrow z v s choice l Engage (engaged b l).local
+      met true e = engages (eq_from _ _ e)
+      met false e = is_engaged (eq_not _ _ e)
+  arrow (MarkLink count) o b m = met (count == 0) refl
+    where
+      met : (b : Bool) → (count == 0) ≡ b → Arrow z v s choice l (MarkLink count) (let x : Outcome = if b then to (Decide 1) (followed_by (next_in v l.row) l) else led_alone z (followed_by (next_in v l.row) l) in x).local
+      met true e = marks_link count (eq_from _ _ e)
+      met false e = led_arrow z v s choice l (followed_by (next_in v l.row) l) (MarkLink count) (marks_led count (eq_not _ _ e)) (marks_last count (eq_not _ _ e))
+  arrow (Decide count) o b m = decide_arrow count (state_of (v (name.State l.row))) refl
+  arrow FreezeCount o b m = freezes_count
+  arrow (FreezeLook i) o b m = freeze_arrow i (pend_of (v (name.Pend l.row i))) refl
+  arrow (Freeze i) o b m = met (v (name.Pend l.row i) == pend_word l.rebalance.entry) refl
+    where
+      met : (b : Bool) → (v (name.Pend l.row i) == pend_word l.rebalance.entry) ≡ b → Arrow z v s choice l (Freeze i) (entry_tried z i b l).local
+      met true e = next_entry z (i + 1) l (Arrow z v s choice l (Freeze i)) (freezes_entry i (eq_from _ _ e)) (freezes_last i (eq_from _ _ e))
+      met false e = looks_again i (eq_not _ _ e)
+  arrow (ScanLook i) o b m = scan_arrow i (scan_of (v (name.Scan i))) refl
+  arrow (HelpDraw i) o b m = draws_for i
+  arrow (HelpSettle i) o b m = settle_arrow i (scan_of (v (name.Scan i))) refl
+  arrow TakeFrom o b m = take_arrow (cell_of_link_word (v (link_name l.row l.link))) refl
+  arrow TakeKey o b m = takes_key
+  arrow TakeVersion o b m = takes_version
+  arrow TakeValue o b m = keeps_taken
+  arrow TakeRestKey o b m = takes_left_key
+  arrow TakeRestValue o b m = next_left z (keeping z (value_of_word (v (name.Value l.row l.place))) l) (Arrow z v s choice l TakeRestValue) keeps_left (λ n. packed_arrow z v s choice l (keeping z (value_of_word (v (name.Value l.row l.place))) l) TakeRestValue (keeps_no_more n) (keeps_last n))
+  arrow SeekFirst o b m = builds SeekFirst _ tt o (building z rows v s choice l SeekFirst tt)
+  arrow Seek o b m = builds Seek _ tt o (building z rows v s choice l Seek tt)
+  arrow TakeRow o b m = builds TakeRow _ tt o (building z rows v s choice l TakeRow tt)
+  arrow GiveBack o b m = builds GiveBack _ tt o (building z rows v s choice l GiveBack tt)
+  arrow WriteCount o b m = builds WriteCount _ tt o (building z rows v s choice l WriteCount tt)
+  arrow WriteMin o b m = builds WriteMin _ tt o (building z rows v s choice l WriteMin tt)
+  arrow WriteNext o b m = builds WriteNext _ tt o (building z rows v s choice l WriteNext tt)
+  arrow WriteFirst o b m = builds WriteFirst _ tt o (building z rows v s choice l WriteFirst tt)
+  arrow (WritePend i) o b m = builds (WritePend i) _ tt o (building z rows v s choice l (WritePend i) tt)
+  arrow (WriteKey j) o b m = builds (WriteKey j) _ tt o (building z rows v s choice l (WriteKey j) tt)
+  arrow (WriteValue j) o b m = builds (WriteValue j) _ tt o (building z rows v s choice l (WriteValue j) tt)
+  arrow (WriteVersion j) o b m = builds (WriteVersion j) _ tt o (building z rows v s choice l (WriteVersion j) tt)
+  arrow (WriteAfter j) o b m = builds (WriteAfter j) _ tt o (building z rows v s choice l (WriteAfter j) tt)
+  arrow Before o b m = builds Before _ tt o (building z rows v s choice l Before tt)
+  arrow BeforeGuess o b m = builds BeforeGuess _ tt o (building z rows v s choice l BeforeGuess tt)
+  arrow BeforeHead o b m = builds BeforeHead _ tt o (building z rows v s choice l BeforeHead tt)
+  arrow BeforeLink o b m = builds BeforeLink _ tt o (building z rows v s choice l BeforeLink tt)
+  arrow BeforeMin o b m = builds BeforeMin _ tt o (building z rows v s choice l BeforeMin tt)
+  arrow Replace o b m = builds Replace _ tt o (building z rows v s choice l Replace tt)
+  arrow Normalise o b m = builds Normalise _ tt o (building z rows v s choice l Normalise tt)
+  arrow Number o b m = builds Number _ tt o (building z rows v s choice l Number tt)
+  arrow Retire o b m = builds Retire _ tt o (building z rows v s choice l Retire tt)

@@ -1,6 +1,7 @@
 -- What each event adds to the record, one constructor for each change.
 use Rattle.std.proofs.Common.{ℕ, ◌≡◌, ◌+◌, ◌==◌, Bool, true, false, Option, Some, None, refl, if◌then◌else◌}
 use Rattle.kw_words.specs.declared.layout.Name.TheVariants as name
+use Rattle.kw_words.specs.declared.pend.Pend.{Pend}
 use Rattle.kw_words.specs.declared.pend.Pend.TheVariants as pend
 use Rattle.kw_words.specs.Pend.{pend_word}
 use Rattle.kw_words.specs.Count.{count_of}
@@ -8,15 +9,15 @@ use Rattle.kw_model.specs.declared.call.Call.{Call}
 use Rattle.kw_world.specs.declared.answer.Answer.{Answer}
 use Rattle.kw_world.specs.Answers.{reply_of}
 use Rattle.kw_world.specs.declared.activity.Activity.{Activity}
-use Rattle.kw_world.specs.declared.activity.Activity.TheVariants.{Idle, LookHelp, PutAdd, Announce, Stamp, Leave}
+use Rattle.kw_world.specs.declared.activity.Activity.TheVariants.{Idle, LookHelp, PutAdd, Announce, Stamp, Leave, Freeze}
 use Rattle.kw_world.specs.declared.local.Local.{Local}
 use Rattle.kw_world.specs.declared.event.Choice.{Choice}
 use Rattle.kw_world.specs.declared.event.Choice.TheVariants.{Begin, Go, Guess, Stop}
 use Rattle.kw_world.specs.Sizes.{Sizes}
 use Rattle.kw_world.specs.Calls.{first_key, put_value}
 use Rattle.kw_world.specs.PutTransitions.{has_room, given_of}
-use Rattle.kw_core.specs.Noted.{Change, Nothing, Begins, Adds, Announces, Stamps, Ends}
-use Rattle.kw_core.specs.Run.{SeatLog, Origins, change_of, beginning, helping, answering, drawing}
+use Rattle.kw_core.specs.Noted.{Change, Nothing, Begins, Adds, Announces, Loses, Stamps, Ends}
+use Rattle.kw_core.specs.Run.{SeatLog, Origins, change_of, beginning, helping, losing, freezing, answering, drawing}
 use Rattle.kw_core.specs.Words.{Words}
 use Rattle.kw_core.proofs.Arrows.{eq_from}
 use Rattle.kw_core.proofs.Happens.{found_at}
@@ -29,6 +30,7 @@ pub data Makes (z : Sizes) (v : Words) (s : ℕ) (choice : Choice) (l : Local) (
   makes_announce : v (name.Pend l.row s) ≡ pend_word pend.Idle → Makes z v s choice l g o Announce (Announces g.own)
   makes_stamp : v (name.Pend l.row s) ≡ pend_word (pend.Pending l.cell) → Makes z v s choice l g o Stamp (Stamps g.own l.version g.loaded)
   makes_help : (p : ℕ) → v (name.Pend l.row l.looked) ≡ pend_word (pend.Pending l.met) → o l.row l.met ≡ Some p → Makes z v s choice l g o LookHelp (Stamps p l.helping g.loaded)
+  makes_lose : (i c p : ℕ) → l.rebalance.entry ≡ pend.Pending c → v (name.Pend l.row i) ≡ pend_word (pend.Pending c) → o l.row c ≡ Some p → Makes z v s choice l g o (Freeze i) (Loses p)
   makes_end : (answer : Answer) → Makes z v s choice l g o (Leave answer) (Ends g.call (reply_of answer l.pairs) (answering l.call l g) (drawing answer l g))
 
 -- every event makes one of these changes
@@ -64,5 +66,20 @@ made z v s choice l g o LookHelp = met (v (name.Pend l.row l.looked) == pend_wor
     met : (b : Bool) → (v (name.Pend l.row l.looked) == pend_word (pend.Pending l.met)) ≡ b → Makes z v s choice l g o LookHelp (if b then helping (o l.row l.met) l.helping g.loaded else Nothing)
     met true e = helps (o l.row l.met) refl (eq_from _ _ e)
     met false e = makes_nothing LookHelp
+made z v s choice l g o (Freeze i) = met (v (name.Pend l.row i) == pend_word l.rebalance.entry) refl
+  where
+    loses : (c : ℕ) (x : Option ℕ) → l.rebalance.entry ≡ pend.Pending c → v (name.Pend l.row i) ≡ pend_word (pend.Pending c) → o l.row c ≡ x → Makes z v s choice l g o (Freeze i) (losing x)
+    loses c (Some p) y w e = makes_lose i c p y w e
+    loses c None y w e = makes_nothing (Freeze i)
+
+    freezes : (x : Pend) → l.rebalance.entry ≡ x → v (name.Pend l.row i) ≡ pend_word x → Makes z v s choice l g o (Freeze i) (freezing x l.row o)
+    freezes pend.Idle y w = makes_nothing (Freeze i)
+    freezes (pend.Pending c) y w = loses c (o l.row c) y w refl
+    freezes (pend.Stamped c version) y w = makes_nothing (Freeze i)
+    freezes pend.Frozen y w = makes_nothing (Freeze i)
+
+    met : (b : Bool) → (v (name.Pend l.row i) == pend_word l.rebalance.entry) ≡ b → Makes z v s choice l g o (Freeze i) (if b then freezing l.rebalance.entry l.row o else Nothing)
+    met true e = freezes l.rebalance.entry refl (eq_from _ _ e)
+    met false e = makes_nothing (Freeze i)
 made z v s choice l g o (Leave answer) = makes_end answer
 made z v s choice l g o a = makes_nothing a

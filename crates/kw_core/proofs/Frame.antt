@@ -133,14 +133,16 @@ module _ {z : Sizes} {r r' : Run} {s : ℕ} {choice : Choice} {l l' : Local} whe
       let it = transition z a s choice l in
       kept_by it.operation.action it.operation.name n (word z r.world) (word z r'.world) h.changed.loaded (h.changed.other n i) (λ e. d (sym (written_is z a s choice l) ∙ e))
 
--- The rows: no event of a seat that may come to its activity writes a state, a minimum, a link, the head or the epoch.
+-- The rows: no event of a seat that may come to its activity writes a minimum, the head or the epoch.
 
 -- some event writes a word of this family
 abbrev pub is_written : Name → Bool
 is_written name.Clock = true
 is_written (name.Pass seat) = true
 is_written (name.Scan seat) = true
+is_written (name.State q) = true
 is_written (name.Count q) = true
+is_written (name.Next q) = true
 is_written (name.Pend q seat) = true
 is_written (name.Key q cell) = true
 is_written (name.Value q cell) = true
@@ -153,68 +155,52 @@ may_write : Option Name → Bool
 may_write (Some n) = is_written n
 may_write None = true
 
-written : (a : Activity) (s : ℕ) (b : Bool) (l : Local) → IsReached a → may_write (writes a s b l) ≡ true
+written : (z : Sizes) (a : Activity) (s : ℕ) (b : Bool) (l : Local) → IsReached z a → may_write (writes a s b l) ≡ true
 unfolding may_write
-written Again s b l o = absurd o
-written (BalNormal seat) s b l o = absurd o
-written Engage s b l o = absurd o
-written (MarkLink count) s b l o = absurd o
-written (Decide count) s b l o = absurd o
-written FreezeCount s b l o = absurd o
-written (Freeze i) s b l o = absurd o
-written (HelpDraw i) s b l o = absurd o
-written (HelpSettle i) s b l o = absurd o
-written TakeRow s b l o = absurd o
-written GiveBack s b l o = absurd o
-written WriteCount s b l o = absurd o
-written WriteMin s b l o = absurd o
-written WriteNext s b l o = absurd o
-written WriteFirst s b l o = absurd o
-written (WritePend i) s b l o = absurd o
-written (WriteKey j) s b l o = absurd o
-written (WriteValue j) s b l o = absurd o
-written (WriteVersion j) s b l o = absurd o
-written (WriteAfter j) s b l o = absurd o
-written Replace s b l o = absurd o
-written Normalise s b l o = absurd o
-written Number s b l o = absurd o
-written Retire s b l o = absurd o
-written Insert s b l o = links l.link
+written z TakeRow s b l o = absurd o
+written z GiveBack s b l o = absurd o
+written z WriteCount s b l o = absurd o
+written z WriteMin s b l o = absurd o
+written z WriteNext s b l o = absurd o
+written z WriteFirst s b l o = absurd o
+written z (WritePend i) s b l o = absurd o
+written z (WriteKey j) s b l o = absurd o
+written z (WriteValue j) s b l o = absurd o
+written z (WriteVersion j) s b l o = absurd o
+written z (WriteAfter j) s b l o = absurd o
+written z Replace s b l o = absurd o
+written z Normalise s b l o = absurd o
+written z Number s b l o = absurd o
+written z Retire s b l o = absurd o
+written z Insert s b l o = links l.link
   where
     links : (link : Option ℕ) → may_write (Some (link_name l.row link)) ≡ true
     links (Some c) = refl
     links None = refl
-written Walk s true l o = refl
-written Walk s false l o = refl
-written _ s b l o = refl
+written z Walk s true l o = refl
+written z Walk s false l o = refl
+written z _ s b l o = refl
 
-never_writes : (a : Activity) (s : ℕ) (b : Bool) (l : Local) (n : Name) → IsReached a → is_written n ≡ false → writes a s b l ≢ Some n
+never_writes : (z : Sizes) (a : Activity) (s : ℕ) (b : Bool) (l : Local) (n : Name) → IsReached z a → is_written n ≡ false → writes a s b l ≢ Some n
 unfolding may_write
-never_writes a s b l n o f e = let x : true ≡ false = sym (written a s b l o) ∙ ap may_write e ∙ f in cc
+never_writes z a s b l n o f e = let x : true ≡ false = sym (written z a s b l o) ∙ ap may_write e ∙ f in cc
 
 pub fixed : {z : Sizes} {r r' : Run} {s : ℕ} {choice : Choice} {l l' : Local} (a : Activity) → Happens z r r' s choice l l' a → (n : Name) → IsWithin z.seats z.cells r.world.rows n → is_written n ≡ false → word z r'.world n ≡ word z r.world n
-fixed {z} {r} {r'} {s} {choice} {l} {l'} a h n i f = unwritten a h n i (never_writes a s (is_stopped choice l) l n h.reached f)
+fixed {z} {r} {r'} {s} {choice} {l} {l'} a h n i f = unwritten a h n i (never_writes z a s (is_stopped choice l) l n h.reached f)
 
 -- The families of words that events write.
 
--- which activities write an entry of their seat, a count, the clock, a pass, a key, a value
+-- which activities write an entry of their seat, a count, the clock, a pass, a key, a value, and the state and the link of their row
 abbrev pub WritesOwnEntry : Activity → Type 0
 WritesOwnEntry Announce = Unit {0}
 WritesOwnEntry Stamp = Unit {0}
 WritesOwnEntry PutClear = Unit {0}
 WritesOwnEntry _ = ⊥
 
-abbrev pub WritesCount : Activity → Type 0
-WritesCount PutAdd = Unit {0}
-WritesCount _ = ⊥
-
-abbrev pub WritesClock : Activity → Type 0
-WritesClock ScanDraw = Unit {0}
-WritesClock _ = ⊥
-
 abbrev pub WritesPass : Activity → Type 0
 WritesPass Enter = Unit {0}
 WritesPass (Leave answer) = Unit {0}
+WritesPass Again = Unit {0}
 WritesPass _ = ⊥
 
 abbrev pub WritesKey : Activity → Type 0
@@ -225,14 +211,30 @@ abbrev pub WritesValue : Activity → Type 0
 WritesValue PutValue = Unit {0}
 WritesValue _ = ⊥
 
+abbrev pub WritesState : Activity → Type 0
+WritesState (BalNormal seat) = Unit {0}
+WritesState Engage = Unit {0}
+WritesState (Decide count) = Unit {0}
+WritesState _ = ⊥
+
+abbrev pub WritesNext : Activity → Type 0
+WritesNext (MarkLink count) = Unit {0}
+WritesNext _ = ⊥
+
 -- names of one family that are the same
-same_pend : (q t x y : ℕ) → Some (name.Pend q t) ≡ Some (name.Pend x y) → (q ≡ x) × (t ≡ y)
+pub same_pend : (q t x y : ℕ) → Some (name.Pend q t) ≡ Some (name.Pend x y) → (q ≡ x) × (t ≡ y)
 same_pend q t x y e = (cc, cc)
 
-same_count : (q x : ℕ) → Some (name.Count q) ≡ Some (name.Count x) → q ≡ x
+same_state : (q x : ℕ) → Some (name.State q) ≡ Some (name.State x) → q ≡ x
+same_state q x e = cc
+
+same_next : (q x : ℕ) → Some (name.Next q) ≡ Some (name.Next x) → q ≡ x
+same_next q x e = cc
+
+pub same_count : (q x : ℕ) → Some (name.Count q) ≡ Some (name.Count x) → q ≡ x
 same_count q x e = cc
 
-same_scan : (q x : ℕ) → Some (name.Scan q) ≡ Some (name.Scan x) → q ≡ x
+pub same_scan : (q x : ℕ) → Some (name.Scan q) ≡ Some (name.Scan x) → q ≡ x
 same_scan q x e = cc
 
 same_pass : (q x : ℕ) → Some (name.Pass q) ≡ Some (name.Pass x) → q ≡ x
@@ -273,96 +275,76 @@ same_link q p (Some c) None e = let f : name.After q c ≡ name.First p = e in a
 same_link q p None (Some d) e = let f : name.First q ≡ name.After p d = e in absurd (cc)
 same_link q p None None e = (cc, refl)
 
-not_pend : (a : Activity) (s : ℕ) (b : Bool) (l : Local) (q t : ℕ) → IsReached a → (WritesOwnEntry a → q ≡ l.row → t ≡ s → ⊥) → (IsHelp a → q ≡ l.row → t ≡ l.looked → ⊥) → writes a s b l ≢ Some (name.Pend q t)
-not_pend (Freeze i) s b l q t o f g e = absurd o
-not_pend (WritePend i) s b l q t o f g e = absurd o
-not_pend Replace s b l q t o f g e = absurd o
-not_pend Announce s b l q t o f g e = let x = same_pend l.row s q t e in f tt (sym x.0) (sym x.1)
-not_pend Stamp s b l q t o f g e = let x = same_pend l.row s q t e in f tt (sym x.0) (sym x.1)
-not_pend PutClear s b l q t o f g e = let x = same_pend l.row s q t e in f tt (sym x.0) (sym x.1)
-not_pend LookHelp s b l q t o f g e = let x = same_pend l.row l.looked q t e in g tt (sym x.0) (sym x.1)
-not_pend Insert s b l q t o f g e = no_link l.row l.link (name.Pend q t) refl e
-not_pend Walk s true l q t o f g e = let x : Some (name.Scan s) ≡ Some (name.Pend q t) = e in cc
-not_pend Walk s false l q t o f g e = let x : None ≡ Some (name.Pend q t) = e in cc
-not_pend _ s b l q t o f g e = cc
+not_pass : (z : Sizes) (a : Activity) (s : ℕ) (b : Bool) (l : Local) (t : ℕ) → IsReached z a → (WritesPass a → t ≡ s → ⊥) → writes a s b l ≢ Some (name.Pass t)
+not_pass z Again s b l t o f e = f tt (sym (same_pass s t e))
+not_pass z Replace s b l t o f e = absurd o
+not_pass z Enter s b l t o f e = f tt (sym (same_pass s t e))
+not_pass z (Leave answer) s b l t o f e = f tt (sym (same_pass s t e))
+not_pass z Insert s b l t o f e = no_link l.row l.link (name.Pass t) refl e
+not_pass z Walk s true l t o f e = let x : Some (name.Scan s) ≡ Some (name.Pass t) = e in cc
+not_pass z Walk s false l t o f e = let x : None ≡ Some (name.Pass t) = e in cc
+not_pass z _ s b l t o f e = cc
 
-not_count : (a : Activity) (s : ℕ) (b : Bool) (l : Local) (q : ℕ) → IsReached a → (WritesCount a → q ≡ l.row → ⊥) → writes a s b l ≢ Some (name.Count q)
-not_count FreezeCount s b l q o f e = absurd o
-not_count WriteCount s b l q o f e = absurd o
-not_count Replace s b l q o f e = absurd o
-not_count PutAdd s b l q o f e = f tt (sym (same_count l.row q e))
-not_count Insert s b l q o f e = no_link l.row l.link (name.Count q) refl e
-not_count Walk s true l q o f e = let x : Some (name.Scan s) ≡ Some (name.Count q) = e in cc
-not_count Walk s false l q o f e = let x : None ≡ Some (name.Count q) = e in cc
-not_count _ s b l q o f e = cc
+not_state : (z : Sizes) (a : Activity) (s : ℕ) (b : Bool) (l : Local) (q : ℕ) → IsReached z a → (WritesState a → q ≡ l.row → ⊥) → writes a s b l ≢ Some (name.State q)
+not_state z (BalNormal seat) s b l q o f e = f tt (sym (same_state l.row q e))
+not_state z Engage s b l q o f e = f tt (sym (same_state l.row q e))
+not_state z (Decide count) s b l q o f e = f tt (sym (same_state l.row q e))
+not_state z TakeRow s b l q o f e = absurd o
+not_state z GiveBack s b l q o f e = absurd o
+not_state z Replace s b l q o f e = absurd o
+not_state z Normalise s b l q o f e = absurd o
+not_state z Retire s b l q o f e = absurd o
+not_state z Insert s b l q o f e = no_link l.row l.link (name.State q) refl e
+not_state z Walk s true l q o f e = let x : Some (name.Scan s) ≡ Some (name.State q) = e in cc
+not_state z Walk s false l q o f e = let x : None ≡ Some (name.State q) = e in cc
+not_state z _ s b l q o f e = cc
 
-not_clock : (a : Activity) (s : ℕ) (b : Bool) (l : Local) → IsReached a → (WritesClock a → ⊥) → writes a s b l ≢ Some name.Clock
-not_clock (HelpDraw i) s b l o f e = absurd o
-not_clock Replace s b l o f e = absurd o
-not_clock ScanDraw s b l o f e = f tt
-not_clock Insert s b l o f e = no_link l.row l.link (name.Clock) refl e
-not_clock Walk s true l o f e = let x : Some (name.Scan s) ≡ Some name.Clock = e in cc
-not_clock Walk s false l o f e = let x : None ≡ Some name.Clock = e in cc
-not_clock _ s b l o f e = cc
+not_next : (z : Sizes) (a : Activity) (s : ℕ) (b : Bool) (l : Local) (q : ℕ) → IsReached z a → (WritesNext a → q ≡ l.row → ⊥) → writes a s b l ≢ Some (name.Next q)
+not_next z (MarkLink count) s b l q o f e = f tt (sym (same_next l.row q e))
+not_next z WriteNext s b l q o f e = absurd o
+not_next z Replace s b l q o f e = absurd o
+not_next z Insert s b l q o f e = no_link l.row l.link (name.Next q) refl e
+not_next z Walk s true l q o f e = let x : Some (name.Scan s) ≡ Some (name.Next q) = e in cc
+not_next z Walk s false l q o f e = let x : None ≡ Some (name.Next q) = e in cc
+not_next z _ s b l q o f e = cc
 
-not_scan : (a : Activity) (s : ℕ) (b : Bool) (l : Local) (t : ℕ) → IsReached a → t ≢ s → writes a s b l ≢ Some (name.Scan t)
-not_scan (HelpSettle i) s b l t o d e = absurd o
-not_scan Replace s b l t o d e = absurd o
-not_scan ScanWait s b l t o d e = d (sym (same_scan s t e))
-not_scan ScanSettle s b l t o d e = d (sym (same_scan s t e))
-not_scan (ClearScan answer) s b l t o d e = d (sym (same_scan s t e))
-not_scan Insert s b l t o d e = no_link l.row l.link (name.Scan t) refl e
-not_scan Walk s true l t o d e = d (sym (same_scan s t e))
-not_scan Walk s false l t o d e = let x : None ≡ Some (name.Scan t) = e in cc
-not_scan _ s b l t o d e = cc
+not_key : (z : Sizes) (a : Activity) (s : ℕ) (b : Bool) (l : Local) (q c : ℕ) → IsReached z a → (WritesKey a → q ≡ l.row → c ≡ l.cell → ⊥) → writes a s b l ≢ Some (name.Key q c)
+not_key z (WriteKey j) s b l q c o f e = absurd o
+not_key z Replace s b l q c o f e = absurd o
+not_key z PutKey s b l q c o f e = let x = same_key l.row l.cell q c e in f tt (sym x.0) (sym x.1)
+not_key z Insert s b l q c o f e = no_link l.row l.link (name.Key q c) refl e
+not_key z Walk s true l q c o f e = let x : Some (name.Scan s) ≡ Some (name.Key q c) = e in cc
+not_key z Walk s false l q c o f e = let x : None ≡ Some (name.Key q c) = e in cc
+not_key z _ s b l q c o f e = cc
 
-not_pass : (a : Activity) (s : ℕ) (b : Bool) (l : Local) (t : ℕ) → IsReached a → (WritesPass a → t ≡ s → ⊥) → writes a s b l ≢ Some (name.Pass t)
-not_pass Again s b l t o f e = absurd o
-not_pass Replace s b l t o f e = absurd o
-not_pass Enter s b l t o f e = f tt (sym (same_pass s t e))
-not_pass (Leave answer) s b l t o f e = f tt (sym (same_pass s t e))
-not_pass Insert s b l t o f e = no_link l.row l.link (name.Pass t) refl e
-not_pass Walk s true l t o f e = let x : Some (name.Scan s) ≡ Some (name.Pass t) = e in cc
-not_pass Walk s false l t o f e = let x : None ≡ Some (name.Pass t) = e in cc
-not_pass _ s b l t o f e = cc
+not_value : (z : Sizes) (a : Activity) (s : ℕ) (b : Bool) (l : Local) (q c : ℕ) → IsReached z a → (WritesValue a → q ≡ l.row → c ≡ l.cell → ⊥) → writes a s b l ≢ Some (name.Value q c)
+not_value z (WriteValue j) s b l q c o f e = absurd o
+not_value z Replace s b l q c o f e = absurd o
+not_value z PutValue s b l q c o f e = let x = same_value l.row l.cell q c e in f tt (sym x.0) (sym x.1)
+not_value z Insert s b l q c o f e = no_link l.row l.link (name.Value q c) refl e
+not_value z Walk s true l q c o f e = let x : Some (name.Scan s) ≡ Some (name.Value q c) = e in cc
+not_value z Walk s false l q c o f e = let x : None ≡ Some (name.Value q c) = e in cc
+not_value z _ s b l q c o f e = cc
 
-not_key : (a : Activity) (s : ℕ) (b : Bool) (l : Local) (q c : ℕ) → IsReached a → (WritesKey a → q ≡ l.row → c ≡ l.cell → ⊥) → writes a s b l ≢ Some (name.Key q c)
-not_key (WriteKey j) s b l q c o f e = absurd o
-not_key Replace s b l q c o f e = absurd o
-not_key PutKey s b l q c o f e = let x = same_key l.row l.cell q c e in f tt (sym x.0) (sym x.1)
-not_key Insert s b l q c o f e = no_link l.row l.link (name.Key q c) refl e
-not_key Walk s true l q c o f e = let x : Some (name.Scan s) ≡ Some (name.Key q c) = e in cc
-not_key Walk s false l q c o f e = let x : None ≡ Some (name.Key q c) = e in cc
-not_key _ s b l q c o f e = cc
-
-not_value : (a : Activity) (s : ℕ) (b : Bool) (l : Local) (q c : ℕ) → IsReached a → (WritesValue a → q ≡ l.row → c ≡ l.cell → ⊥) → writes a s b l ≢ Some (name.Value q c)
-not_value (WriteValue j) s b l q c o f e = absurd o
-not_value Replace s b l q c o f e = absurd o
-not_value PutValue s b l q c o f e = let x = same_value l.row l.cell q c e in f tt (sym x.0) (sym x.1)
-not_value Insert s b l q c o f e = no_link l.row l.link (name.Value q c) refl e
-not_value Walk s true l q c o f e = let x : Some (name.Scan s) ≡ Some (name.Value q c) = e in cc
-not_value Walk s false l q c o f e = let x : None ≡ Some (name.Value q c) = e in cc
-not_value _ s b l q c o f e = cc
-
-not_version : (a : Activity) (s : ℕ) (b : Bool) (l : Local) (q c : ℕ) → IsReached a → (IsPutVersion a → q ≡ l.row → c ≡ l.cell → ⊥) → writes a s b l ≢ Some (name.Version q c)
-not_version (WriteVersion j) s b l q c o f e = absurd o
-not_version Replace s b l q c o f e = absurd o
-not_version PutVersion s b l q c o f e = let x = same_version l.row l.cell q c e in f tt (sym x.0) (sym x.1)
-not_version Insert s b l q c o f e = no_link l.row l.link (name.Version q c) refl e
-not_version Walk s true l q c o f e = let x : Some (name.Scan s) ≡ Some (name.Version q c) = e in cc
-not_version Walk s false l q c o f e = let x : None ≡ Some (name.Version q c) = e in cc
-not_version _ s b l q c o f e = cc
+not_version : (z : Sizes) (a : Activity) (s : ℕ) (b : Bool) (l : Local) (q c : ℕ) → IsReached z a → (IsPutVersion a → q ≡ l.row → c ≡ l.cell → ⊥) → writes a s b l ≢ Some (name.Version q c)
+not_version z (WriteVersion j) s b l q c o f e = absurd o
+not_version z Replace s b l q c o f e = absurd o
+not_version z PutVersion s b l q c o f e = let x = same_version l.row l.cell q c e in f tt (sym x.0) (sym x.1)
+not_version z Insert s b l q c o f e = no_link l.row l.link (name.Version q c) refl e
+not_version z Walk s true l q c o f e = let x : Some (name.Scan s) ≡ Some (name.Version q c) = e in cc
+not_version z Walk s false l q c o f e = let x : None ≡ Some (name.Version q c) = e in cc
+not_version z _ s b l q c o f e = cc
 
 -- a link between cells is kept, unless the seat stores it or exchanges it
-not_link : (a : Activity) (s : ℕ) (b : Bool) (l : Local) (q : ℕ) (at : Option ℕ) → IsReached a → (IsInsSet a → q ≡ l.row → at ≡ Some l.cell → ⊥) → (IsInsert a → q ≡ l.row → at ≡ l.link → ⊥) → writes a s b l ≢ Some (link_name q at)
-not_link WriteFirst s b l q at o f g e = absurd o
-not_link (WriteAfter j) s b l q at o f g e = absurd o
-not_link Replace s b l q at o f g e = absurd o
-not_link InsSet s b l q at o f g e = let x = same_link l.row q (Some l.cell) at (same_Some (name.After l.row l.cell) (link_name q at) e) in f tt (sym x.0) (sym x.1)
-not_link Insert s b l q at o f g e = let x = same_link l.row q l.link at (same_Some (link_name l.row l.link) (link_name q at) e) in g tt (sym x.0) (sym x.1)
-not_link Walk s true l q at o f g e = not_linked q at _ e refl
-not_link Walk s false l q at o f g e = not_linked q at _ e refl
-not_link _ s b l q at o f g e = not_linked q at _ e refl
+not_link : (z : Sizes) (a : Activity) (s : ℕ) (b : Bool) (l : Local) (q : ℕ) (at : Option ℕ) → IsReached z a → (IsInsSet a → q ≡ l.row → at ≡ Some l.cell → ⊥) → (IsInsert a → q ≡ l.row → at ≡ l.link → ⊥) → writes a s b l ≢ Some (link_name q at)
+not_link z WriteFirst s b l q at o f g e = absurd o
+not_link z (WriteAfter j) s b l q at o f g e = absurd o
+not_link z Replace s b l q at o f g e = absurd o
+not_link z InsSet s b l q at o f g e = let x = same_link l.row q (Some l.cell) at (same_Some (name.After l.row l.cell) (link_name q at) e) in f tt (sym x.0) (sym x.1)
+not_link z Insert s b l q at o f g e = let x = same_link l.row q l.link at (same_Some (link_name l.row l.link) (link_name q at) e) in g tt (sym x.0) (sym x.1)
+not_link z Walk s true l q at o f g e = not_linked q at _ e refl
+not_link z Walk s false l q at o f g e = not_linked q at _ e refl
+not_link z _ s b l q at o f g e = not_linked q at _ e refl
 
 -- one more cell is asked for
 pub given-next : (w : ℕ) (c : Option Counted) → count_of w ≡ c → IsGiven c → given_of (count_of (w + 1)) ≡ given_of (count_of w) + 1
@@ -370,52 +352,27 @@ given-next w (Some c) e g = rw (count_of_next w c e (omega (arith, g)), e) refl
 given-next w None e g = absurd g
 
 module _ {z : Sizes} {r r' : Run} {s : ℕ} {choice : Choice} {l l' : Local} where
-  -- an entry is kept, unless the seat writes its own there or helps
-  pub pend_kept : (a : Activity) → Happens z r r' s choice l l' a → (q t : ℕ) → q < r.world.rows → t < z.seats → (WritesOwnEntry a → q ≡ l.row → t ≡ s → ⊥) → (IsHelp a → q ≡ l.row → t ≡ l.looked → ⊥) → word z r'.world (name.Pend q t) ≡ word z r.world (name.Pend q t)
-  pend_kept a h q t i o f g = unwritten a h (name.Pend q t) (i, o) (not_pend a s (is_stopped choice l) l q t h.reached f g)
-
-  -- a count is kept, unless the seat adds to it
-  pub count_kept : (a : Activity) → Happens z r r' s choice l l' a → (q : ℕ) → q < r.world.rows → (WritesCount a → q ≡ l.row → ⊥) → word z r'.world (name.Count q) ≡ word z r.world (name.Count q)
-  count_kept a h q i f = unwritten a h (name.Count q) i (not_count a s (is_stopped choice l) l q h.reached f)
-
-  -- the clock is kept, unless the seat draws
-  pub clock_kept : (a : Activity) → Happens z r r' s choice l l' a → (WritesClock a → ⊥) → word z r'.world name.Clock ≡ word z r.world name.Clock
-  clock_kept a h f = unwritten a h name.Clock tt (not_clock a s (is_stopped choice l) l h.reached f)
-
-  -- the scan of another seat is kept
-  pub scan_kept : (a : Activity) → Happens z r r' s choice l l' a → (t : ℕ) → t < z.seats → t ≢ s → word z r'.world (name.Scan t) ≡ word z r.world (name.Scan t)
-  scan_kept a h t o d = unwritten a h (name.Scan t) o (not_scan a s (is_stopped choice l) l t h.reached d)
-
   -- a pass is kept, unless its seat enters or leaves
   pub pass_kept : (a : Activity) → Happens z r r' s choice l l' a → (t : ℕ) → t < z.seats → (WritesPass a → t ≡ s → ⊥) → word z r'.world (name.Pass t) ≡ word z r.world (name.Pass t)
-  pass_kept a h t o f = unwritten a h (name.Pass t) o (not_pass a s (is_stopped choice l) l t h.reached f)
+  pass_kept a h t o f = unwritten a h (name.Pass t) o (not_pass z a s (is_stopped choice l) l t h.reached f)
+
+  -- a state is kept, unless the seat exchanges that of its row, and a link between rows unless it marks that of its row
+  pub state_kept : (a : Activity) → Happens z r r' s choice l l' a → (q : ℕ) → q < r.world.rows → (WritesState a → q ≡ l.row → ⊥) → word z r'.world (name.State q) ≡ word z r.world (name.State q)
+  state_kept a h q o f = unwritten a h (name.State q) o (not_state z a s (is_stopped choice l) l q h.reached f)
+
+  pub next_kept : (a : Activity) → Happens z r r' s choice l l' a → (q : ℕ) → q < r.world.rows → (WritesNext a → q ≡ l.row → ⊥) → word z r'.world (name.Next q) ≡ word z r.world (name.Next q)
+  next_kept a h q o f = unwritten a h (name.Next q) o (not_next z a s (is_stopped choice l) l q h.reached f)
 
   -- a key, a value, a version is kept, unless the seat stores it there
   pub key_kept : (a : Activity) → Happens z r r' s choice l l' a → (q c : ℕ) → q < r.world.rows → c < z.cells → (WritesKey a → q ≡ l.row → c ≡ l.cell → ⊥) → word z r'.world (name.Key q c) ≡ word z r.world (name.Key q c)
-  key_kept a h q c i o f = unwritten a h (name.Key q c) (i, o) (not_key a s (is_stopped choice l) l q c h.reached f)
+  key_kept a h q c i o f = unwritten a h (name.Key q c) (i, o) (not_key z a s (is_stopped choice l) l q c h.reached f)
 
   pub value_kept : (a : Activity) → Happens z r r' s choice l l' a → (q c : ℕ) → q < r.world.rows → c < z.cells → (WritesValue a → q ≡ l.row → c ≡ l.cell → ⊥) → word z r'.world (name.Value q c) ≡ word z r.world (name.Value q c)
-  value_kept a h q c i o f = unwritten a h (name.Value q c) (i, o) (not_value a s (is_stopped choice l) l q c h.reached f)
+  value_kept a h q c i o f = unwritten a h (name.Value q c) (i, o) (not_value z a s (is_stopped choice l) l q c h.reached f)
 
   pub version_kept : (a : Activity) → Happens z r r' s choice l l' a → (q c : ℕ) → q < r.world.rows → c < z.cells → (IsPutVersion a → q ≡ l.row → c ≡ l.cell → ⊥) → word z r'.world (name.Version q c) ≡ word z r.world (name.Version q c)
-  version_kept a h q c i o f = unwritten a h (name.Version q c) (i, o) (not_version a s (is_stopped choice l) l q c h.reached f)
+  version_kept a h q c i o f = unwritten a h (name.Version q c) (i, o) (not_version z a s (is_stopped choice l) l q c h.reached f)
 
   -- a link between cells is kept, unless the seat stores it or exchanges it
   pub link_kept : (a : Activity) → Happens z r r' s choice l l' a → (q : ℕ) (at : Option ℕ) → q < r.world.rows → IsCellBelow z.cells at → (IsInsSet a → q ≡ l.row → at ≡ Some l.cell → ⊥) → (IsInsert a → q ≡ l.row → at ≡ l.link → ⊥) → word z r'.world (link_name q at) ≡ word z r.world (link_name q at)
-  link_kept a h q at i o f g = unwritten a h (link_name q at) (link_within z r.world.rows q at o i) (not_link a s (is_stopped choice l) l q at h.reached f g)
-
-  -- the clock does not fall
-  pub clock_grows : (a : Activity) → Happens z r r' s choice l l' a → word z r.world name.Clock ≤ word z r'.world name.Clock
-  clock_grows ScanDraw h = omega (arith, h.changed.same)
-  clock_grows a h = omega (arith, clock_kept a h (λ x. x))
-
-  -- no count falls
-  pub given_grows : (a : Activity) → Happens z r r' s choice l l' a → ((q : ℕ) → q < r.world.rows → IsGiven (count_of (word z r.world (name.Count q)))) → (q : ℕ) → q < r.world.rows → given_in (word z r.world) q ≤ given_in (word z r'.world) q
-  given_grows PutAdd h g q i = which (cases_eq q l.row)
-    where
-      which : (q ≡ l.row) ⊎ (q ≡ l.row → ⊥) → given_in (word z r.world) q ≤ given_in (word z r'.world) q
-      which (inl e) =
-          let x : given_in (word z r'.world) l.row ≡ given_in (word z r.world) l.row + 1 = ap (λ w. given_of (count_of w)) h.changed.same ∙ given-next (word z r.world (name.Count l.row)) _ refl (subst (λ y. IsGiven (count_of (word z r.world (name.Count y)))) e (g q i)) in
-          subst (λ y. given_in (word z r.world) y ≤ given_in (word z r'.world) y) (sym e) (omega (arith, x))
-      which (inr d) = omega (arith, ap (λ w. given_of (count_of w)) (count_kept PutAdd h q i (λ x e. d e)))
-  given_grows a h g q i = omega (arith, ap (λ w. given_of (count_of w)) (count_kept a h q i (λ x e. x)))
+  link_kept a h q at i o f g = unwritten a h (link_name q at) (link_within z r.world.rows q at o i) (not_link z a s (is_stopped choice l) l q at h.reached f g)

@@ -29,7 +29,7 @@ use Rattle.kw_world.proofs.Transitions.{in_table, offered_below}
 use Rattle.kw_core.specs.declared.history.Logged.{Logged}
 use Rattle.kw_core.specs.declared.history.Change.{Change}
 use Rattle.kw_core.specs.Noted.{noted}
-use Rattle.kw_core.specs.Run.{Run, change_of, seat_after, origins_after, logged, noted_by}
+use Rattle.kw_core.specs.Run.{Run, change_of, seat_after, settled_scan, with_settled, origins_after, logged, noted_by}
 use Rattle.kw_core.specs.Words.{Words}
 use Rattle.kw_world.proofs.Skipping.{skipped_offered}
 use Rattle.kw_core.proofs.Events.{IsBegun}
@@ -60,7 +60,7 @@ change_at z r a s choice l = change_of z a s choice l (found_at z (word z r.worl
 pub record Happens (z : Sizes) (r r' : Run) (s : ℕ) (choice : Choice) (l l' : Local) (a : Activity) : Type 0 where
   -- the seat, what it knows, and what it chooses
   pub activity : l.activity ≡ a
-  pub reached : IsReached a
+  pub reached : IsReached z a
   pub knows : slice_get r.world.locals s ≡ Some l
   pub seat : s < z.seats
   pub begins : IsBegun a choice
@@ -76,8 +76,9 @@ pub record Happens (z : Sizes) (r r' : Run) (s : ℕ) (choice : Choice) (l l' : 
   pub next : l' ≡ (followed r.world.rows (transition z a s choice l) (found_at z (word z r.world) a s choice l)).local
   -- the record
   pub history : r'.history ≡ noted r.history (logged s (transition z a s choice l).operation.kind (word z r.world name.Clock)) (change_of z a s choice l (found_at z (word z r.world) a s choice l) (r.seats s) r.origin)
-  pub log : r'.seats s ≡ seat_after z a choice l (found_at z (word z r.world) a s choice l) l'.activity (r.seats s) r.origin r.history
+  pub log : r'.seats s ≡ seat_after z a choice l (found_at z (word z r.world) a s choice l) l'.activity (r.seats s) r.origin r.history (r.settled s)
   pub logs : (t : ℕ) → t ≢ s → r'.seats t ≡ r.seats t
+  pub settled : r'.settled ≡ with_settled (settled_scan a s l (found_at z (word z r.world) a s choice l) (r.seats s)) r.settled
   pub ledger : r'.ledger ≡ ledger_after z a s l (found_at z (word z r.world) a s choice l) (word z r.world) (length r.history.log) r.ledger
   pub listed : r'.listed ≡ listed_after a l (found_at z (word z r.world) a s choice l) r.listed
   pub origin : r'.origin ≡ origins_after z a l (found_at z (word z r.world) a s choice l) r.origin r.history
@@ -95,7 +96,7 @@ begun_offered Idle rows (Guess q) h = met (nat_lt q rows)
 begun_offered Idle rows Stop h = tt
 begun_offered _ rows choice h = tt
 
-pub happens : (z : Sizes) (r : Run) (e : Event) (l : Local) → IsSane z r.world → IsReached l.activity → IsBegun l.activity e.choice → slice_get r.world.locals e.seat ≡ Some l → is_skipped l.activity e.choice ≡ false →
+pub happens : (z : Sizes) (r : Run) (e : Event) (l : Local) → IsSane z r.world → IsReached z l.activity → IsBegun l.activity e.choice → slice_get r.world.locals e.seat ≡ Some l → is_skipped l.activity e.choice ≡ false →
     Happens z r (noted_by z r e l) e.seat (offered r.world.rows e.choice) l (followed r.world.rows (transition z l.activity e.seat (offered r.world.rows e.choice) l) (found_at z (word z r.world) l.activity e.seat (offered r.world.rows e.choice) l)).local l.activity
 unfolding transition_of
 happens z r e l sane reached begins knows moves =
@@ -124,6 +125,7 @@ happens z r e l sane reached begins knows moves =
       history = refl;
       log = rw (eq-eqb e.seat e.seat refl) refl;
       logs = λ t d. rw (ne_eqb t e.seat d) refl;
+      settled = refl;
       ledger = refl;
       listed = refl;
       origin = refl;

@@ -15,8 +15,8 @@ use Rattle.kw_words.specs.Scan.{scan_of}
 use Rattle.kw_words.proofs.ScanWords.{IsScan-scan_of}
 use Rattle.kw_cells.specs.declared.cell.Cell as kw_cell
 use Rattle.kw_cells.specs.Cells.{best_of, value_in, shown_at, pairs_of}
-use Rattle.kw_cells.specs.InOrder.{stands_before, with_cell}
-use Rattle.kw_cells.proofs.InOrder.{with_cell-all}
+use Rattle.kw_cells.specs.InOrder.{with_cell}
+use Rattle.kw_cells.proofs.InOrder.{length-with_cell, with_cell-all}
 use Rattle.kw_cells.specs.Pairs.{with_shown, pairs_along, pairs_between}
 use Rattle.kw_cells.proofs.Best.{best_is}
 use Rattle.kw_model.specs.declared.call.Call.{Call}
@@ -85,16 +85,6 @@ version_of_scan w drawn h = met (scan_of w) refl
 pub with_cell_in_range : (P : kw_cell.Cell → Type 0) (c : kw_cell.Cell) (cells : List kw_cell.Cell) → P c → All P cells → All P (with_cell c cells)
 with_cell_in_range P c cells p h = with_cell-all P c cells p h
 
--- no more than one is put among them
-pub with_cell_few : (c : kw_cell.Cell) (cells : List kw_cell.Cell) → length (with_cell c cells) ≤ length cells + 1
-with_cell_few c [] = omega arith
-with_cell_few c (d ∷ cells) = which (stands_before d c) (stands_before c d) (with_cell_few c cells)
-  where
-    which : (x y : Bool) → length (with_cell c cells) ≤ length cells + 1 → length (if x then d ∷ with_cell c cells else if y then c ∷ d ∷ cells else d ∷ cells) ≤ suc (length cells) + 1
-    which true y i = omega arith
-    which false true i = omega arith
-    which false false i = omega arith
-
 -- what is gathered, whether the cell is put there or not
 pub gathered_in_range : (z : Sizes) (P : kw_cell.Cell → Type 0) (value : Option ℕ) (l : Local) → P (cell_in_hand value l) → All P l.gathered → All P (gathering z value l).gathered
 gathered_in_range z P value l p h = which (nat_lt (length l.gathered) z.cells)
@@ -108,7 +98,7 @@ pub gathered_few : (z : Sizes) (value : Option ℕ) (l : Local) → length l.gat
 gathered_few z value l u = which (nat_lt (length l.gathered) z.cells) refl
   where
     which : (b : Bool) → nat_lt (length l.gathered) z.cells ≡ b → length (if b then with_cell (cell_in_hand value l) l.gathered else l.gathered) ≤ z.cells
-    which true e = let w : length l.gathered < z.cells = grind (arith, nat_tests) in omega (arith, w, with_cell_few (cell_in_hand value l) l.gathered)
+    which true e = let w : length l.gathered < z.cells = grind (arith, nat_tests) in omega (arith, w, length-with_cell (cell_in_hand value l) l.gathered)
     which false e = u
 
 -- what a version shows is a value in range

@@ -8,9 +8,15 @@ pub mod NotedLaws
 pub mod Lasts
 pub mod Events
 pub mod Runs
+pub mod NextBuilt
+pub mod Building
 pub mod Arrows
 pub mod Happens
 pub mod Frame
+pub mod FreezeFrame
+pub mod InfantFrames
+pub mod Fates
+pub mod Copies
 pub mod Beyond
 pub mod Changes
 pub mod SeatLogs

@@ -4,14 +4,20 @@
 --
 -- A row is taken by a seat that builds it (`Infant`), linked into the list (`Live`), unlinked (`Dead`), and may be taken again. A seat
 -- that is in a pass may still read a row that was unlinked after the pass began.
-use Rattle.std.specs.Prelude.{ℕ, zero, suc, ◌==◌, if◌then◌else◌, Option, Some, None}
+use Rattle.std.specs.Prelude.{ℕ, zero, suc, ◌+◌, ◌==◌, Bool, true, false, if◌then◌else◌, Option, Some, None, List, [], ◌∷◌}
+use Rattle.kw_words.specs.declared.layout.Name.TheVariants.{Clock}
+use Rattle.kw_words.specs.declared.state.State.TheVariants as state
+use Rattle.kw_words.specs.Link.{link_word}
+use Rattle.kw_words.specs.State.{state_word}
 use Rattle.kw_rows.specs.Ledger as kw_rows
 use Rattle.kw_world.specs.declared.activity.Activity.{Activity}
-use Rattle.kw_world.specs.declared.activity.Activity.TheVariants.{Enter, ScanWait, Leave}
+use Rattle.kw_world.specs.declared.activity.Activity.TheVariants.{Enter, ScanWait, Leave, Again, TakeRow, GiveBack, Replace, Number}
 use Rattle.kw_world.specs.declared.local.Local.{Local}
 use Rattle.kw_world.specs.declared.opening.Opening.{Opening}
+use Rattle.kw_world.specs.SeekTransitions.{infant}
 use Rattle.kw_world.specs.Sizes.{Sizes}
-use Rattle.kw_core.specs.Words.{Words}
+use Rattle.kw_world.specs.WriteTransitions.{unmarked_link}
+use Rattle.kw_core.specs.Words.{Words, least_in, next_in}
 
 pub record Ledger : Type 0 where
   -- the fates of the rows, where the passes that are on began, and where numbers were drawn
@@ -40,11 +46,57 @@ with_pass g s since = record g { passes = λ t. if t == s then since else g.pass
 abbrev pub with_wait : (ℕ → ℕ) → ℕ → ℕ → ℕ → ℕ
 with_wait waits s now t = if t == s then now else waits t
 
+-- Rows that come and go.
+
+-- the rows' part with the fate of one row set
+abbrev pub with_fate : kw_rows.Ledger → ℕ → kw_rows.Fate → kw_rows.Ledger
+with_fate g x f = record g { fates = λ q. if q == x then f else g.fates q }
+
+-- the row is taken by the seat s, by the event at this position
+abbrev pub fate_taken : ℕ → ℕ → kw_rows.Fate → kw_rows.Fate
+fate_taken s now f = record f { status = kw_rows.Infant; taken = now + 1; owner = s }
+
+-- it is given back
+abbrev pub fate_free : kw_rows.Fate → kw_rows.Fate
+fate_free f = record f { status = kw_rows.Free }
+
+-- the least key of this row, if there is one
+abbrev pub least_of : Words → Option ℕ → Option ℕ
+least_of v (Some q) = Some (least_in v q)
+least_of v None = None
+
+-- the row q is linked: its range ends where that of the next row begins
+abbrev pub fate_live : Words → ℕ → ℕ → kw_rows.Fate → kw_rows.Fate
+fate_live v now q f = record f { status = kw_rows.Live; born = now + 1; upper = least_of v (next_in v q); clock = v Clock }
+
+-- it is unlinked by the seat s
+abbrev pub fate_dead : ℕ → ℕ → kw_rows.Fate → kw_rows.Fate
+fate_dead s now f = record f { status = kw_rows.Dead; gone = now; owner = s }
+
+-- the row is one of these
+abbrev pub is_among : List ℕ → ℕ → Bool
+is_among [] q = false
+is_among (x ∷ xs) q = if q == x then true else is_among xs q
+
+-- the rows' part where the full row is unlinked and those that the seat took are linked
+abbrev pub with_replaced : Words → ℕ → ℕ → Local → kw_rows.Ledger → kw_rows.Ledger
+with_replaced v s now l g = record g { fates = λ q. if q == l.row then fate_dead s now (g.fates q) else if is_among l.rebalance.taken q then fate_live v now q (g.fates q) else g.fates q }
+
+-- the rows' part where this number is drawn
+abbrev pub with_number : kw_rows.Ledger → ℕ → ℕ → kw_rows.Ledger
+with_number g m now = record g { numbered = λ n. if n == m then Some now else g.numbered n }
+
 -- the ledger after the event of an activity, of the seat s that knew l and found this word among these, at the position `now`: a seat
--- that stores its pass is in it from there on, one that clears it is in none, and a scan that stores that it waits does so from there
--- on. No event takes, links or unlinks a row
+-- that stores its pass is in it from there on, one that clears it, to leave or to try again, is in none, and a scan that stores that it waits does so from there
+-- on. A seat that finds a row free takes it; it gives a row back; where it finds the unmarked link to its full row, that row is unlinked
+-- and the taken ones are linked; and the epoch that it finds where it adds to it is the number that it draws
 abbrev pub ledger_after : Sizes → Activity → ℕ → Local → ℕ → Words → ℕ → Ledger → Ledger
 ledger_after z Enter s l found v now g = record g { rows = with_pass g.rows s (Some now) }
 ledger_after z ScanWait s l found v now g = record g { waits = with_wait g.waits s now }
 ledger_after z (Leave answer) s l found v now g = record g { rows = with_pass g.rows s None }
+ledger_after z Again s l found v now g = record g { rows = with_pass g.rows s None }
+ledger_after z TakeRow s l found v now g = if found == state_word state.Free then record g { rows = with_fate g.rows l.rebalance.sought (fate_taken s now (g.rows.fates l.rebalance.sought)) } else g
+ledger_after z GiveBack s l found v now g = record g { rows = with_fate g.rows (infant l) (fate_free (g.rows.fates (infant l))) }
+ledger_after z Replace s l found v now g = if found == link_word (unmarked_link (Some l.row)) then record g { rows = with_replaced v s now l g.rows } else g
+ledger_after z Number s l found v now g = record g { rows = with_number g.rows found now }
 ledger_after z _ s l found v now g = g

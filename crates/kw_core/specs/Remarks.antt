@@ -1,8 +1,10 @@
 -- What an event adds to the log of its seat, known before the event but for whether the seat goes on to a cell of its row.
 use Rattle.std.specs.Prelude.{ℕ, ◌<◌, ◌≤◌, ◌==◌, if◌then◌else◌, None, unwrap_or, [], insert, length}
+use Rattle.kw_words.specs.declared.scan.ScanWord.TheVariants.{Waiting}
+use Rattle.kw_words.specs.Scan.{scan_word}
 use Rattle.kw_words.specs.Count.{count_of}
 use Rattle.kw_world.specs.declared.activity.Activity.{Activity}
-use Rattle.kw_world.specs.declared.activity.Activity.TheVariants.{Idle, ScanClock, ScanDraw, Look, LookClock, ListFrom, ListKey, ListVal, RestKey, RestVal, PutAdd, PutClock}
+use Rattle.kw_world.specs.declared.activity.Activity.TheVariants.{Idle, ScanClock, ScanDraw, Look, LookClock, ListFrom, ListKey, ListVal, RestKey, RestVal, PutAdd, PutClock, BalClock, HelpDraw, ScanSettle}
 use Rattle.kw_world.specs.declared.local.Local.{Local}
 use Rattle.kw_world.specs.declared.event.Choice.{Choice}
 use Rattle.kw_world.specs.declared.event.Choice.TheVariants.{Begin, Go, Guess, Stop}
@@ -20,21 +22,25 @@ remark_begun Go h = Same
 remark_begun (Guess r) h = Same
 remark_begun Stop h = Same
 
--- what the event of an activity adds, where the seat with this choice and local found this word
-abbrev pub remark_of : Sizes → Activity → Choice → Local → ℕ → Origins → History → Remark
-remark_of z Idle choice l found o h = remark_begun choice h
-remark_of z ScanClock choice l found o h = LoadsClock (length h.log)
-remark_of z ScanDraw choice l found o h = DrawsVersion (length h.log)
-remark_of z (Look i) choice l found o h = if i == 0 then LooksFirst (length h.log) else Same
-remark_of z LookClock choice l found o h = LoadsClock (length h.log)
-remark_of z ListFrom choice l found o h = ReadsRow l.row
-remark_of z ListKey choice l found o h = ReadsRow l.row
-remark_of z ListVal choice l found o h = GathersListed (unwrap_or (o l.row l.place) 0) (place_gathered l found)
-remark_of z RestKey choice l found o h = ReadsRow l.row
-remark_of z RestVal choice l found o h = GathersRest (unwrap_or (o l.row l.place) 0) (place_gathered l found) l.row
-remark_of z PutAdd choice l found o h = if has_room z (count_of found) then GetsCell (length h.attempts) else Same
-remark_of z PutClock choice l found o h = LoadsClock (length h.log)
-remark_of z _ choice l found o h = Same
+-- what the event of an activity adds, where the seat with this choice and local found this word, and the version in the word of its scan
+-- was drawn at `settled`
+abbrev pub remark_of : Sizes → Activity → Choice → Local → ℕ → Origins → History → ℕ → Remark
+remark_of z Idle choice l found o h settled = remark_begun choice h
+remark_of z ScanClock choice l found o h settled = LoadsClock (length h.log)
+remark_of z ScanDraw choice l found o h settled = DrawsVersion (length h.log)
+remark_of z ScanSettle choice l found o h settled = if found == scan_word (Waiting l.waiting) then Same else DrawsVersion settled
+remark_of z (Look i) choice l found o h settled = if i == 0 then LooksFirst (length h.log) else Same
+remark_of z LookClock choice l found o h settled = LoadsClock (length h.log)
+remark_of z ListFrom choice l found o h settled = ReadsRow l.row
+remark_of z ListKey choice l found o h settled = ReadsRow l.row
+remark_of z ListVal choice l found o h settled = GathersListed (unwrap_or (o l.row l.place) 0) (place_gathered l found)
+remark_of z RestKey choice l found o h settled = ReadsRow l.row
+remark_of z RestVal choice l found o h settled = GathersRest (unwrap_or (o l.row l.place) 0) (place_gathered l found) l.row
+remark_of z PutAdd choice l found o h settled = if has_room z (count_of found) then GetsCell (length h.attempts) else Same
+remark_of z PutClock choice l found o h settled = LoadsClock (length h.log)
+remark_of z BalClock choice l found o h settled = LoadsClock (length h.log)
+remark_of z (HelpDraw i) choice l found o h settled = DrawsVersion (length h.log)
+remark_of z _ choice l found o h settled = Same
 
 -- the log with what an event adds after which the seat goes on to the activity `next`
 abbrev pub remarked : Remark → Activity → SeatLog → SeatLog

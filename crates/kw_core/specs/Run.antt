@@ -1,15 +1,18 @@
 -- What led to a world: the world, the record of its history, and what the laws alone need beside them, by one fold over the
 -- events.
 --
--- Beside the record stands, for each seat, what it did last, for each cell, to which attempt it was given, the ledger of rows, and which
--- cells are listed. The fold goes by the activity of the acting seat: `change_of` says what its event adds to the record, `seat_after`
+-- Beside the record stands, for each seat, what it did last and where the version in its scan's word was drawn, for each cell, to which
+-- attempt it was given, the ledger of rows, and which cells are listed. The fold goes by the activity of the acting seat: `change_of` says what its event adds to the record, `seat_after`
 -- what it adds to the seat's own log, `origins_after` to which attempt a cell is given, `ledger_after` what becomes of the ledger, and
 -- `listed_after` which cells are listed.
 use Rattle.std.specs.Prelude.{ℕ, ◌+◌, ◌==◌, Bool, true, false, ◌&&◌, if◌then◌else◌, Option, Some, None, unwrap_or, List, [], ◌∷◌, length, insert, slice_get}
 use Rattle.kw_words.specs.declared.layout.Name.TheVariants.{Clock}
 use Rattle.kw_words.specs.declared.kind.Kind.{Kind}
+use Rattle.kw_words.specs.declared.pend.Pend.{Pend}
 use Rattle.kw_words.specs.declared.pend.Pend.TheVariants as pend
 use Rattle.kw_words.specs.Pend.{pend_word}
+use Rattle.kw_words.specs.declared.scan.ScanWord.TheVariants.{Waiting}
+use Rattle.kw_words.specs.Scan.{scan_word}
 use Rattle.kw_words.specs.Count.{count_of}
 use Rattle.kw_words.specs.Plain.{value_of_word}
 use Rattle.kw_cells.specs.declared.cell.Cell as kw_cell
@@ -21,7 +24,7 @@ use Rattle.kw_world.specs.declared.answer.Answer.{Answer}
 use Rattle.kw_world.specs.declared.answer.Answer.TheVariants.{Done, Value, Absent, Pairs, NoRows, Spent, Stopped}
 use Rattle.kw_world.specs.Answers.{reply_of}
 use Rattle.kw_world.specs.declared.activity.Activity.{Activity}
-use Rattle.kw_world.specs.declared.activity.Activity.TheVariants.{Idle, ScanClock, ScanDraw, Look, LookClock, LookHelp, ListFrom, ListKey, ListVer, ListVal, RestKey, RestVal, PutAdd, Announce, PutClock, Stamp, Leave}
+use Rattle.kw_world.specs.declared.activity.Activity.TheVariants.{Idle, ScanClock, ScanDraw, Look, LookClock, LookHelp, ListFrom, ListKey, ListVer, ListVal, RestKey, RestVal, PutAdd, Announce, PutClock, Stamp, Leave, BalClock, Freeze, HelpDraw, WriteVersion, ScanSettle, HelpSettle}
 use Rattle.kw_world.specs.declared.local.Local.{Local}
 use Rattle.kw_world.specs.declared.limits.TheConstants.{NEWEST}
 use Rattle.kw_world.specs.declared.event.Choice.{Choice}
@@ -34,12 +37,16 @@ use Rattle.kw_world.specs.Calls.{first_key, put_value}
 use Rattle.kw_world.specs.Opening.{opened}
 use Rattle.kw_world.specs.PutTransitions.{has_room, given_of}
 use Rattle.kw_world.specs.ReadTransitions.{cell_in_hand}
+use Rattle.kw_world.specs.SeekTransitions.{infant}
 use Rattle.kw_world.specs.WalkTransitions.{offered}
+use Rattle.kw_world.specs.WriteTransitions.{infant_cells}
 use Rattle.kw_world.specs.Step.{word, transition_at, moved_of, followed, is_skipped}
+-- a scan that an event settles, and where its version was drawn
+pub use Rattle.kw_core.specs.declared.change.Settled.{Settled}
 -- what a seat did last
 pub use Rattle.kw_core.specs.declared.seat_log.SeatLog.{SeatLog}
 use Rattle.kw_core.specs.History.{History, Logged, Drawn}
-use Rattle.kw_core.specs.Noted.{Change, Nothing, Begins, Adds, Announces, Stamps, Ends, noted, nothing_yet}
+use Rattle.kw_core.specs.Noted.{Change, Nothing, Begins, Adds, Announces, Loses, Stamps, Ends, noted, nothing_yet}
 use Rattle.kw_core.specs.Ledger.{Ledger, ledger_after, ledger_at_first}
 use Rattle.kw_core.specs.Listed.{Listed, listed_after, none_listed}
 
@@ -52,6 +59,8 @@ pub record Run : Type 0 where
   pub world : WorldView
   pub history : History
   pub seats : ℕ → SeatLog
+  -- of each seat, the position of the draw whose version stands in the word of its scan, where one does
+  pub settled : ℕ → ℕ
   pub origin : Origins
   pub ledger : Ledger
   pub listed : Listed
@@ -63,6 +72,10 @@ with_seat seats s g t = if t == s then g else seats t
 -- the origins with that of one cell set
 abbrev pub with_origin : Origins → ℕ → ℕ → ℕ → Origins
 with_origin o r c p x y = if (x == r) && (y == c) then Some p else o x y
+
+-- the origins where this cell stands for the attempt, or for none
+abbrev pub with_copy : Origins → ℕ → ℕ → Option ℕ → Origins
+with_copy o r c p x y = if (x == r) && (y == c) then p else o x y
 
 -- The attempt beside a cell.
 
@@ -95,6 +108,18 @@ abbrev pub helping : Option ℕ → ℕ → ℕ → Change
 helping (Some p) version load = Stamps p version load
 helping None version load = Nothing
 
+-- the attempt to which the cell was given is lost
+abbrev pub losing : Option ℕ → Change
+losing (Some p) = Loses p
+losing None = Nothing
+
+-- a pending entry of the row is frozen: the attempt of its cell gets no version any more. Any other entry has no attempt to lose
+abbrev pub freezing : Pend → ℕ → Origins → Change
+freezing pend.Idle row o = Nothing
+freezing (pend.Pending cell) row o = losing (o row cell)
+freezing (pend.Stamped cell version) row o = Nothing
+freezing pend.Frozen row o = Nothing
+
 -- the attempt whose value a get answers
 abbrev pub answering : Option Call → Local → SeatLog → Option ℕ
 answering (Some (Put key value)) l g = None
@@ -121,6 +146,7 @@ change_of z PutAdd s choice l found g o = if has_room z (count_of found) then Ad
 change_of z Announce s choice l found g o = if found == pend_word pend.Idle then Announces g.own else Nothing
 change_of z Stamp s choice l found g o = if found == pend_word (pend.Pending l.cell) then Stamps g.own l.version g.loaded else Nothing
 change_of z (Leave answer) s choice l found g o = Ends g.call (reply_of answer l.pairs) (answering l.call l g) (drawing answer l g)
+change_of z (Freeze i) s choice l found g o = if found == pend_word l.rebalance.entry then freezing l.rebalance.entry l.row o else Nothing
 change_of z _ s choice l found g o = Nothing
 
 -- What an event adds to the log of its seat.
@@ -158,25 +184,59 @@ log_gathered p at g = record g { ids = insert g.ids at (unwrap_or p 0) }
 abbrev pub place_gathered : Local → ℕ → ℕ
 place_gathered l found = place_in (cell_in_hand (value_of_word found) l) l.gathered
 
--- the log after the event of an activity, where the seat goes on to the activity `next`
-abbrev pub seat_after : Sizes → Activity → Choice → Local → ℕ → Activity → SeatLog → Origins → History → SeatLog
-seat_after z Idle choice l found next g o h = log_begun choice (length h.calls) g
-seat_after z ScanClock choice l found next g o h = record g { loaded = length h.log }
-seat_after z ScanDraw choice l found next g o h = record g { drawn = length h.log }
-seat_after z (Look i) choice l found next g o h = log_look i (length h.log) g
-seat_after z LookClock choice l found next g o h = record g { loaded = length h.log }
-seat_after z ListFrom choice l found next g o h = log_read next l.row g
-seat_after z ListKey choice l found next g o h = log_read next l.row g
-seat_after z ListVal choice l found next g o h = log_gathered (o l.row l.place) (place_gathered l found) g
-seat_after z RestKey choice l found next g o h = log_read next l.row g
-seat_after z RestVal choice l found next g o h = log_read next l.row (log_gathered (o l.row l.place) (place_gathered l found) g)
-seat_after z PutAdd choice l found next g o h = if has_room z (count_of found) then record g { own = length h.attempts } else g
-seat_after z PutClock choice l found next g o h = record g { loaded = length h.log }
-seat_after z _ choice l found next g o h = g
+-- the log of a scan that found this word when it tried to settle: another seat has drawn for it if it waits no more, and the place of that
+-- draw is known
+abbrev pub log_settled : ℕ → ℕ → ℕ → SeatLog → SeatLog
+log_settled clock found settled g = if found == scan_word (Waiting clock) then g else record g { drawn = settled }
 
--- the origins after the event of an activity
+-- the log after the event of an activity, where the seat goes on to the activity `next`, and the version in the word of its scan was drawn at
+-- `settled`
+abbrev pub seat_after : Sizes → Activity → Choice → Local → ℕ → Activity → SeatLog → Origins → History → ℕ → SeatLog
+seat_after z Idle choice l found next g o h settled = log_begun choice (length h.calls) g
+seat_after z ScanClock choice l found next g o h settled = record g { loaded = length h.log }
+seat_after z ScanDraw choice l found next g o h settled = record g { drawn = length h.log }
+seat_after z ScanSettle choice l found next g o h settled = log_settled l.waiting found settled g
+seat_after z (Look i) choice l found next g o h settled = log_look i (length h.log) g
+seat_after z LookClock choice l found next g o h settled = record g { loaded = length h.log }
+seat_after z ListFrom choice l found next g o h settled = log_read next l.row g
+seat_after z ListKey choice l found next g o h settled = log_read next l.row g
+seat_after z ListVal choice l found next g o h settled = log_gathered (o l.row l.place) (place_gathered l found) g
+seat_after z RestKey choice l found next g o h settled = log_read next l.row g
+seat_after z RestVal choice l found next g o h settled = log_read next l.row (log_gathered (o l.row l.place) (place_gathered l found) g)
+seat_after z PutAdd choice l found next g o h settled = if has_room z (count_of found) then record g { own = length h.attempts } else g
+seat_after z PutClock choice l found next g o h settled = record g { loaded = length h.log }
+seat_after z BalClock choice l found next g o h settled = record g { loaded = length h.log }
+seat_after z (HelpDraw i) choice l found next g o h settled = record g { drawn = length h.log }
+seat_after z _ choice l found next g o h settled = g
+
+-- What an event says of the scans.
+
+-- the scan of a seat is settled, by a seat with this log that found this word, if it still waits since this clock
+abbrev pub settling : ℕ → ℕ → ℕ → SeatLog → Option Settled
+settling seat clock found g = if found == scan_word (Waiting clock) then Some (record { seat = seat; at = g.drawn }) else None
+
+-- which scan the event of an activity settles: its own, or the one that it helps
+abbrev pub settled_scan : Activity → ℕ → Local → ℕ → SeatLog → Option Settled
+settled_scan ScanSettle s l found g = settling s l.waiting found g
+settled_scan (HelpSettle i) s l found g = settling i l.rebalance.waiting found g
+settled_scan _ s l found g = None
+
+-- where the versions of scans were drawn, with that of one that is settled
+abbrev pub with_settled : Option Settled → (ℕ → ℕ) → (ℕ → ℕ)
+with_settled (Some x) settled t = if t == x.seat then x.at else settled t
+with_settled None settled t = settled t
+
+-- the attempt for which the copy of a kept cell stands: that of the cell of the full row at which it was gathered. A place beyond the kept
+-- cells stands for none
+abbrev pub copied : Origins → ℕ → Option kw_cell.Cell → Option ℕ
+copied o row (Some c) = o row c.place
+copied o row None = None
+
+-- the origins after the event of an activity: a cell is given to a put by the sum that asks for it, and stands for a copied attempt from the
+-- event on that writes its version
 abbrev pub origins_after : Sizes → Activity → Local → ℕ → Origins → History → Origins
 origins_after z PutAdd l found o h = if has_room z (count_of found) then with_origin o l.row (given_of (count_of found)) (length h.attempts) else o
+origins_after z (WriteVersion j) l found o h = with_copy o (infant l) j (copied o l.row (slice_get (infant_cells l) j))
 origins_after z _ l found o h = o
 
 -- One event, and lists of events.
@@ -194,7 +254,8 @@ abbrev pub noted_by : Sizes → Run → Event → Local → Run
 noted_by z r e l = record {
   world = (moved_of z r.world e l).world;
   history = noted r.history (logged e.seat (transition_at z r.world e l).operation.kind (word z r.world Clock)) (change_of z l.activity e.seat (offered r.world.rows e.choice) l (found_by z r.world e l) (r.seats e.seat) r.origin);
-  seats = with_seat r.seats e.seat (seat_after z l.activity (offered r.world.rows e.choice) l (found_by z r.world e l) (followed r.world.rows (transition_at z r.world e l) (found_by z r.world e l)).local.activity (r.seats e.seat) r.origin r.history);
+  seats = with_seat r.seats e.seat (seat_after z l.activity (offered r.world.rows e.choice) l (found_by z r.world e l) (followed r.world.rows (transition_at z r.world e l) (found_by z r.world e l)).local.activity (r.seats e.seat) r.origin r.history (r.settled e.seat));
+  settled = with_settled (settled_scan l.activity e.seat l (found_by z r.world e l) (r.seats e.seat)) r.settled;
   origin = origins_after z l.activity l (found_by z r.world e l) r.origin r.history;
   ledger = ledger_after z l.activity e.seat l (found_by z r.world e l) (word z r.world) (length r.history.log) r.ledger;
   listed = listed_after l.activity l (found_by z r.world e l) r.listed;
@@ -220,7 +281,7 @@ no_log = record { call = 0; own = 0; looked = 0; loaded = 0; drawn = 0; ids = []
 
 -- where nothing happened yet
 abbrev pub start : Sizes → Opening → Run
-start z o = record { world = opened z o; history = nothing_yet; seats = λ s. no_log; origin = λ r c. None; ledger = ledger_at_first o; listed = none_listed }
+start z o = record { world = opened z o; history = nothing_yet; seats = λ s. no_log; settled = λ s. 0; origin = λ r c. None; ledger = ledger_at_first o; listed = none_listed }
 
 -- all that led to the world after these events
 unfoldable pub history : Sizes → Opening → List Event → Run

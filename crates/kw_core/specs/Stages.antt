@@ -6,8 +6,9 @@ use Rattle.kw_model.specs.declared.call.Call.{Call}
 use Rattle.kw_model.specs.declared.call.Call.TheVariants.{Put, Del, Get, Scan}
 use Rattle.kw_world.specs.declared.answer.Answer.TheVariants.{Done, Pairs}
 use Rattle.kw_world.specs.declared.activity.Activity.{Activity}
+use Rattle.kw_world.specs.Sizes.{Sizes, IsFreezing, IsRebalancing}
 use Rattle.kw_core.specs.declared.stage.Stage.{Stage}
-use Rattle.kw_core.specs.declared.stage.Stage.TheVariants.{Resting, Entering, Drawing, Walking, Looking, Taking, Clearing, Putting, Rebalancing, Leaving}
+use Rattle.kw_core.specs.declared.stage.Stage.TheVariants.{Resting, Entering, Drawing, Walking, Looking, Taking, Clearing, Putting, Rebalancing, Retrying, Leaving}
 use Rattle.kw_world.specs.declared.activity.Activity.TheVariants.{Idle, Enter, ScanClock, ScanWait, ScanDraw, ScanSettle, Start, Head, GuessMin, Walk, WalkMin, Look, LookKey, LookClock, LookHelp, ListFrom, ListKey, ListVer, ListVal, RestKey, RestVal, ClearScan, PutCount, PutAdd, PutKey, PutValue, Announce, PutClock, Stamp, PutVersion, InsFrom, InsKey, InsVer, InsSet, Insert, PutClear, Leave, Again, AgainEpoch, BalClock, BalEpoch, BalState, BalNormal, Engage, MarkLink, Decide, FreezeCount, FreezeLook, Freeze, ScanLook, HelpDraw, HelpSettle, TakeFrom, TakeKey, TakeVersion, TakeValue, TakeRestKey, TakeRestValue, SeekFirst, Seek, TakeRow, GiveBack, WriteCount, WriteMin, WriteNext, WriteFirst, WritePend, WriteKey, WriteValue, WriteVersion, WriteAfter, Before, BeforeGuess, BeforeHead, BeforeLink, BeforeMin, Replace, Normalise, Number, Retire}
 
 -- Calls.
@@ -61,7 +62,7 @@ stage_of InsSet = Putting
 stage_of Insert = Putting
 stage_of PutClear = Putting
 stage_of (Leave answer) = Leaving
-stage_of Again = Rebalancing
+stage_of Again = Retrying
 stage_of AgainEpoch = Entering
 stage_of BalClock = Rebalancing
 stage_of BalEpoch = Rebalancing
@@ -121,52 +122,53 @@ is_putting_stage _ = false
 abbrev pub is_putting : Activity → Bool
 is_putting a = is_putting_stage (stage_of a)
 
--- a seat may come to this activity: a full row refuses its puts, so that no seat rebalances
-abbrev pub IsReached : Activity → Type 0
-IsReached Again = ⊥
-IsReached AgainEpoch = ⊥
-IsReached BalClock = ⊥
-IsReached BalEpoch = ⊥
-IsReached BalState = ⊥
-IsReached (BalNormal seat) = ⊥
-IsReached Engage = ⊥
-IsReached (MarkLink count) = ⊥
-IsReached (Decide count) = ⊥
-IsReached FreezeCount = ⊥
-IsReached (FreezeLook i) = ⊥
-IsReached (Freeze i) = ⊥
-IsReached (ScanLook i) = ⊥
-IsReached (HelpDraw i) = ⊥
-IsReached (HelpSettle i) = ⊥
-IsReached TakeFrom = ⊥
-IsReached TakeKey = ⊥
-IsReached TakeVersion = ⊥
-IsReached TakeValue = ⊥
-IsReached TakeRestKey = ⊥
-IsReached TakeRestValue = ⊥
-IsReached SeekFirst = ⊥
-IsReached Seek = ⊥
-IsReached TakeRow = ⊥
-IsReached GiveBack = ⊥
-IsReached WriteCount = ⊥
-IsReached WriteMin = ⊥
-IsReached WriteNext = ⊥
-IsReached WriteFirst = ⊥
-IsReached (WritePend i) = ⊥
-IsReached (WriteKey j) = ⊥
-IsReached (WriteValue j) = ⊥
-IsReached (WriteVersion j) = ⊥
-IsReached (WriteAfter j) = ⊥
-IsReached Before = ⊥
-IsReached BeforeGuess = ⊥
-IsReached BeforeHead = ⊥
-IsReached BeforeLink = ⊥
-IsReached BeforeMin = ⊥
-IsReached Replace = ⊥
-IsReached Normalise = ⊥
-IsReached Number = ⊥
-IsReached Retire = ⊥
-IsReached _ = Unit {0}
+-- a seat may come to this activity in a table of these sizes and this form: it rebalances no row where a full one refuses its puts, and
+-- goes as far with it as the form says
+abbrev pub IsReached : Sizes → Activity → Type 0
+IsReached z Again = IsRebalancing z.form
+IsReached z AgainEpoch = IsRebalancing z.form
+IsReached z BalClock = IsRebalancing z.form
+IsReached z BalEpoch = IsRebalancing z.form
+IsReached z BalState = IsRebalancing z.form
+IsReached z (BalNormal seat) = IsRebalancing z.form
+IsReached z Engage = IsRebalancing z.form
+IsReached z (MarkLink count) = IsRebalancing z.form
+IsReached z (Decide count) = IsRebalancing z.form
+IsReached z FreezeCount = IsFreezing z.form
+IsReached z (FreezeLook i) = IsFreezing z.form
+IsReached z (Freeze i) = IsFreezing z.form
+IsReached z (ScanLook i) = IsFreezing z.form
+IsReached z (HelpDraw i) = IsFreezing z.form
+IsReached z (HelpSettle i) = IsFreezing z.form
+IsReached z TakeFrom = IsFreezing z.form
+IsReached z TakeKey = IsFreezing z.form
+IsReached z TakeVersion = IsFreezing z.form
+IsReached z TakeValue = IsFreezing z.form
+IsReached z TakeRestKey = IsFreezing z.form
+IsReached z TakeRestValue = IsFreezing z.form
+IsReached z SeekFirst = ⊥
+IsReached z Seek = ⊥
+IsReached z TakeRow = ⊥
+IsReached z GiveBack = ⊥
+IsReached z WriteCount = ⊥
+IsReached z WriteMin = ⊥
+IsReached z WriteNext = ⊥
+IsReached z WriteFirst = ⊥
+IsReached z (WritePend i) = ⊥
+IsReached z (WriteKey j) = ⊥
+IsReached z (WriteValue j) = ⊥
+IsReached z (WriteVersion j) = ⊥
+IsReached z (WriteAfter j) = ⊥
+IsReached z Before = ⊥
+IsReached z BeforeGuess = ⊥
+IsReached z BeforeHead = ⊥
+IsReached z BeforeLink = ⊥
+IsReached z BeforeMin = ⊥
+IsReached z Replace = ⊥
+IsReached z Normalise = ⊥
+IsReached z Number = ⊥
+IsReached z Retire = ⊥
+IsReached z _ = Unit {0}
 
 abbrev IsBusyStage : Stage → Type 0
 IsBusyStage Resting = ⊥
@@ -176,7 +178,7 @@ IsBusyStage _ = Unit {0}
 abbrev pub IsBusy : Activity → Type 0
 IsBusy a = IsBusyStage (stage_of a)
 
-abbrev IsPassingStage : Stage → Type 0
+abbrev pub IsPassingStage : Stage → Type 0
 IsPassingStage Resting = ⊥
 IsPassingStage Entering = ⊥
 IsPassingStage _ = Unit {0}
@@ -274,6 +276,14 @@ IsCoveringStage _ = ⊥
 -- the seat is on its way, or a get or a scan is at its row
 abbrev pub IsCovering : Activity → Type 0
 IsCovering a = IsCoveringStage (stage_of a)
+
+abbrev pub IsBalancingStage : Stage → Type 0
+IsBalancingStage Rebalancing = Unit {0}
+IsBalancingStage _ = ⊥
+
+-- the seat rebalances its row
+abbrev pub IsBalancing : Activity → Type 0
+IsBalancing a = IsBalancingStage (stage_of a)
 
 abbrev IsLookingStage : Stage → Type 0
 IsLookingStage Looking = Unit {0}

@@ -12,8 +12,8 @@ ghost use Rattle.kw_world.specs.Sizes.{product};
 ghost use Rattle.kw_world.specs.Calls.{first_key, put_value};
 ghost use Rattle.kw_world.specs.PutTransitions.{has_room, given_of};
 ghost use Rattle.kw_world.specs.Answers.{reply_of};
-ghost use Rattle.kw_world.specs.Sane.{IsLocal, IsCall, CanBegin, CanBeginAt, IsSane};
-ghost use Rattle.kw_core.specs.Run.{change_of, beginning, helping, answering, drawing, best_id, id_at};
+ghost use Rattle.kw_world.specs.Sane.{IsLocal, IsCall, IsVersion, CanBegin, CanBeginAt, IsSane};
+ghost use Rattle.kw_core.specs.Run.{change_of, beginning, helping, freezing, losing, settled_scan, settling, answering, drawing, best_id, id_at};
 ghost use Rattle.kw_core.specs.Recording.{origin_in};
 ghost use Rattle.kw_core.specs.Happenings.{happening_at, logged_of};
 
@@ -27,6 +27,7 @@ use kw_step_put::resume_put::room;
 use kw_words::kind::Kind;
 use kw_words::layout::{Layout, Name};
 use kw_words::pend::Pend;
+use kw_words::scan::ScanWord;
 use kw_words::sizes::{CELLS, SEATS};
 use kw_world::activity::Activity;
 use kw_world::answer::Answer;
@@ -84,6 +85,46 @@ impl Happening {
     }
 }
 
+/// A scan that an event settles.
+#[derive(Clone, Copy, Debug, PartialEq, Eq)]
+pub struct Settled {
+    /// Whose scan it is.
+    pub seat: u32,
+    /// The position of the draw of its version.
+    pub at: u64,
+}
+
+/// The scan that the event settles which is made by a seat that knows `local` and whose log is `log`: its own, or one that it
+/// helps. None if the scan does not wait any more.
+pub fn settled_scan(local: &Local, happening: Happening, log: &SeatLog) -> Option<Settled>
+    requires { IsLocal product local.now }
+    ensures { result ≡ settled_scan local.now.activity happening.seat local.now happening.found
+        log.now }
+{
+    match local.activity {
+        Activity::ScanSettle => settling(happening.seat, local.waiting, happening.found, log),
+        Activity::HelpSettle(seat) => {
+            settling(seat, local.rebalance.waiting, happening.found, log)
+        }
+        _ => None,
+    }
+}
+
+/// The scan of a seat is settled, if it still waits since this clock.
+fn settling(seat: u32, clock: u64, found: u64, log: &SeatLog) -> Option<Settled>
+    requires { IsVersion clock }
+    ensures { result ≡ settling seat clock found log.now }
+{
+    if found == ScanWord::Waiting(clock).pack() {
+        Some(Settled {
+            seat,
+            at: log.drawn,
+        })
+    } else {
+        None
+    }
+}
+
 /// What the event adds that is made by a seat that knows `local` and whose log is `log`. `origins` has the attempt to which each
 /// cell was given, row by row. Only the reply of a call that ends takes memory.
 pub fn change_of(
@@ -105,6 +146,7 @@ pub fn change_of(
         Activity::Announce => announcing(happening.found, log),
         Activity::Stamp => stamping(local, happening.found, log),
         Activity::Leave(answer) => ending(local, answer, log)?,
+        Activity::Freeze(_) => freezing(local, happening.found, origins),
         _ => Change::Nothing,
     })
 }
@@ -150,6 +192,33 @@ fn helping(local: &Local, found: u64, log: &SeatLog, origins: &[Option<usize>]) 
             version: local.helping,
             load: log.loaded,
         },
+        None => Change::Nothing,
+    }
+}
+
+/// A rebalance freezes an entry: a put whose cell was pending there loses its attempt.
+fn freezing(local: &Local, found: u64, origins: &[Option<usize>]) -> Change
+    requires ranges { IsLocal product local.now }
+    requires origins { local.now.row * CELLS + CELLS ≤ length origins.now }
+    ensures { result ≡ (if found == pend_word local.now.rebalance.entry
+        then freezing local.now.rebalance.entry local.now.row (origin_in product origins.now)
+        else Change.Nothing) }
+{
+    if found != local.rebalance.entry.pack() {
+        return Change::Nothing;
+    }
+    match local.rebalance.entry {
+        Pend::Pending(cell) => losing(origin_at(origins, local.row, cell)),
+        _ => Change::Nothing,
+    }
+}
+
+/// The attempt to which a cell was given is lost.
+fn losing(origin: Option<usize>) -> Change
+    ensures { result ≡ losing origin }
+{
+    match origin {
+        Some(attempt) => Change::Loses(attempt),
         None => Change::Nothing,
     }
 }

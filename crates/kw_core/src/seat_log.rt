@@ -2,8 +2,10 @@
 //!
 //! A `SeatLog` is not what a seat knows: no event depends on it. It says which call of the history the seat makes, which attempt
 //! is its put's, and at which positions it did what. `Remark` is what one event adds to it.
-ghost use Rattle.std.specs.Prelude.{◌≡◌, ◌<◌, ◌≤◌, ◌+◌, ◌*◌, length};
+ghost use Rattle.std.specs.Prelude.{◌≡◌, ◌==◌, if◌then◌else◌, ◌<◌, ◌≤◌, ◌+◌, ◌*◌, length};
 ghost use Rattle.kw_words.specs.declared.sizes.TheConstants.{CELLS};
+ghost use Rattle.kw_words.specs.declared.scan.ScanWord.TheVariants.{Waiting};
+ghost use Rattle.kw_words.specs.Scan.{scan_word};
 ghost use Rattle.kw_world.specs.Sizes.{product};
 ghost use Rattle.kw_world.specs.Sane.{IsLocal};
 ghost use Rattle.kw_core.specs.Run.{is_at_cell, log_read, no_log, place_gathered};
@@ -16,6 +18,7 @@ use crate::history::History;
 use kw_cells::cell::Cell;
 use kw_step_put::resume_put::room;
 use kw_words::plain::unpack_value;
+use kw_words::scan::ScanWord;
 use kw_words::sizes::CELLS;
 use kw_world::activity::Activity;
 use kw_world::event::Choice;
@@ -24,8 +27,9 @@ use kw_world::local::Local;
 /// What a seat did last.
 ///
 /// `call` is the place of its call in the history and `own` the attempt of its put; `looked`, `loaded` and `drawn` are the
-/// positions at which it looked at the first entry of a row, loaded the clock, and drew. `ids` are the attempts of the cells that
-/// it has gathered, and `read` is the row that it has read, once it has come to the end of its cells.
+/// positions at which it looked at the first entry of a row, loaded the clock, and drew a version, for its own scan or for one
+/// that it helps. `ids` are the attempts of the cells that it has gathered, and `read` is the row that it has read, once it has
+/// come to the end of its cells.
 #[derive(Debug, Drop)]
 pub struct SeatLog {
     pub call: usize,
@@ -48,7 +52,7 @@ pub enum Remark {
     LooksFirst(u64),
     /// The clock is loaded, at this position.
     LoadsClock(u64),
-    /// A version is drawn, at this position.
+    /// The version is drawn, or was drawn by another seat, at this position.
     DrawsVersion(u64),
     /// The row is read, unless the seat goes on to one of its cells.
     ReadsRow(u32),
@@ -118,17 +122,19 @@ impl SeatLog {
 }
 
 impl Remark {
-    /// What the event adds that is made by a seat that knows `local`, with what came before it.
+    /// What the event adds that is made by a seat that knows `local`, with what came before it. The version in the word of the
+    /// seat's scan, if one stands there, was drawn at `settled`.
     pub fn of(
         local: &Local,
         happening: Happening,
         origins: &[Option<usize>],
         history: &History,
+        settled: u64,
     ) -> Remark
         requires ranges { IsLocal product local.now }
         requires origins { local.now.row * CELLS + CELLS ≤ length origins.now }
         ensures { result ≡ remark_of product local.now.activity happening.choice local.now
-            happening.found (origin_in product origins.now) history.now }
+            happening.found (origin_in product origins.now) history.now settled }
     {
         match &local.activity {
             Activity::Idle => match happening.choice {
@@ -136,10 +142,11 @@ impl Remark {
                 _ => Remark::Same,
             },
             Activity::Look(0) => Remark::LooksFirst(history.now()),
-            Activity::ScanClock | Activity::LookClock | Activity::PutClock => {
+            Activity::ScanClock | Activity::LookClock | Activity::PutClock | Activity::BalClock => {
                 Remark::LoadsClock(history.now())
             }
-            Activity::ScanDraw => Remark::DrawsVersion(history.now()),
+            Activity::ScanSettle => tries_to_settle(local, happening.found, settled),
+            Activity::ScanDraw | Activity::HelpDraw(_) => { Remark::DrawsVersion(history.now()) }
             Activity::ListFrom | Activity::ListKey | Activity::RestKey => {
                 Remark::ReadsRow(local.row)
             }
@@ -157,6 +164,19 @@ impl Remark {
             }
             _ => Remark::Same,
         }
+    }
+}
+
+/// A scan tries to settle: another seat that helped it has drawn its version, if it waits no more.
+fn tries_to_settle(local: &Local, found: u64, settled: u64) -> Remark
+    requires { IsLocal product local.now }
+    ensures { result ≡ (if found == scan_word (Waiting local.now.waiting) then Remark.Same
+        else Remark.DrawsVersion settled) }
+{
+    if found == ScanWord::Waiting(local.waiting).pack() {
+        Remark::Same
+    } else {
+        Remark::DrawsVersion(settled)
     }
 }
 

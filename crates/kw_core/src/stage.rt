@@ -37,6 +37,9 @@ pub enum Stage {
     /// It rebalances its row, which is full.
     Rebalancing,
 
+    /// A put or a delete takes its announced epoch back, to try again.
+    Retrying,
+
     /// The call ends.
     Leaving,
 }
@@ -79,8 +82,7 @@ impl Stage {
             | Activity::InsSet
             | Activity::Insert
             | Activity::PutClear => Stage::Putting,
-            Activity::Again
-            | Activity::BalClock
+            Activity::BalClock
             | Activity::BalEpoch
             | Activity::BalState
             | Activity::BalNormal(_)
@@ -121,6 +123,7 @@ impl Stage {
             | Activity::Normalise
             | Activity::Number
             | Activity::Retire => Stage::Rebalancing,
+            Activity::Again => Stage::Retrying,
             Activity::Leave(_) => Stage::Leaving,
         }
     }

@@ -3,7 +3,7 @@
 --
 -- One lemma for each part of the table, over what the seat knows. A record update of the whole computes, so that each line is one
 -- equation, but for the tests that a line makes.
-use Rattle.std.proofs.Common.{ℕ, ◌≡◌, ◌+◌, ◌==◌, ◌&&◌, Bool, true, false, nat_lt, nat_le, if◌then◌else◌, Option, Some, None, List, unwrap_or, refl, ap}
+use Rattle.std.proofs.Common.{ℕ, ◌≡◌, ◌+◌, ◌==◌, ◌&&◌, Bool, true, false, nat_lt, nat_le, if◌then◌else◌, Option, Some, None, unwrap_or, refl, ap}
 use Rattle.kw_words.specs.declared.pend.Pend.{Pend}
 use Rattle.kw_words.specs.declared.pend.Pend.TheVariants as pend
 use Rattle.kw_words.specs.declared.state.State.{State}
@@ -22,18 +22,17 @@ use Rattle.kw_world.specs.declared.activity.Activity.{Activity}
 use Rattle.kw_world.specs.declared.activity.Activity.TheVariants.{Idle, Enter, ScanClock, ScanWait, ScanDraw, ScanSettle, Start, Head, GuessMin, Walk, WalkMin, Look, LookKey, LookClock, LookHelp, ListFrom, ListKey, ListVer, ListVal, RestKey, RestVal, ClearScan, PutCount, PutAdd, PutKey, PutValue, Announce, PutClock, Stamp, PutVersion, InsFrom, InsKey, InsVer, InsSet, Insert, PutClear, Leave, Again, AgainEpoch, BalClock, BalEpoch, BalState, BalNormal, Engage, MarkLink, Decide, FreezeCount, FreezeLook, Freeze, ScanLook, HelpDraw, HelpSettle, TakeFrom, TakeKey, TakeVersion, TakeValue, TakeRestKey, TakeRestValue, SeekFirst, Seek, TakeRow, GiveBack, WriteCount, WriteMin, WriteNext, WriteFirst, WritePend, WriteKey, WriteValue, WriteVersion, WriteAfter, Before, BeforeGuess, BeforeHead, BeforeLink, BeforeMin, Replace, Normalise, Number, Retire}
 use Rattle.kw_world.specs.declared.event.Choice.{Choice}
 use Rattle.kw_world.specs.declared.event.Choice.TheVariants.{Begin, Go, Guess, Stop}
-use Rattle.kw_world.specs.declared.event.StepDone.TheVariants.{Moved}
 use Rattle.kw_world.specs.declared.local.Local.{Local}
 use Rattle.kw_world.specs.Calls.{first_key, is_in_range, is_range_empty, is_scan}
-use Rattle.kw_world.specs.Transition.{Outcome, row_linked, leave}
+use Rattle.kw_world.specs.Transition.{row_linked, leave}
 use Rattle.kw_world.specs.ListTransitions.{insert_from, insert_tried, is_newer}
-use Rattle.kw_world.specs.PutTransitions.{has_room, stamp_met}
+use Rattle.kw_world.specs.PutTransitions.{has_room, full_in, stamp_met}
 use Rattle.kw_world.specs.ReadTransitions.{to_look, look_met, help_met, remembering}
 use Rattle.kw_world.specs.ScanTransitions.{entered, answer_or_stopped, settled, version_settled}
 use Rattle.kw_world.specs.WalkTransitions.{arrive, guess_met, is_stop, is_stopped, link_met, start_transition, walk_min, walk_transition}
 use Rattle.kw_world.specs.SeekTransitions.{seek_first_transition}
 use Rattle.kw_world.specs.ReplaceTransitions.{before_transition}
-use Rattle.kw_world.specs.Sizes.{Sizes}
+use Rattle.kw_world.specs.Sizes.{Form, Refused, Decided, Gathered, Sizes}
 use Rattle.kw_world.specs.Table.{transition}
 use Rattle.kw_follow.specs.Following.{carried}
 use Rattle.kw_follow.proofs.Carries.{Carries, either}
@@ -112,12 +111,17 @@ module _ (c : Choice) where
 
   -- A put at its row.
 
-  stamps : (e : Option Pend) (l : Local) → Carries c l.pairs (stamp_met e l) (stamp_met e (carried l))
-  stamps (Some pend.Idle) l = record { local = refl; done = refl; held = λ g. refl }
-  stamps (Some (pend.Pending cell)) l = either c (cell == l.cell) l.pairs _ _ _ _ (record { local = refl; done = refl; held = λ g. refl }) (record { local = refl; done = refl; held = λ g. refl })
-  stamps (Some (pend.Stamped cell version)) l = either c (cell == l.cell) l.pairs _ _ _ _ (record { local = refl; done = refl; held = λ g. refl }) (record { local = refl; done = refl; held = λ g. refl })
-  stamps (Some pend.Frozen) l = record { local = refl; done = refl; held = λ g. refl }
-  stamps None l = record { local = refl; done = refl; held = λ g. refl }
+  fulls : (f : Form) (l : Local) → Carries c l.pairs (full_in f l) (full_in f (carried l))
+  fulls Refused l = record { local = refl; done = refl; held = λ g. refl }
+  fulls Decided l = record { local = refl; done = refl; held = λ g. refl }
+  fulls Gathered l = record { local = refl; done = refl; held = λ g. refl }
+
+  stamps : (z : Sizes) (e : Option Pend) (l : Local) → Carries c l.pairs (stamp_met z e l) (stamp_met z e (carried l))
+  stamps z (Some pend.Idle) l = fulls z.form l
+  stamps z (Some (pend.Pending cell)) l = either c (cell == l.cell) l.pairs _ _ _ _ (record { local = refl; done = refl; held = λ g. refl }) (fulls z.form l)
+  stamps z (Some (pend.Stamped cell version)) l = either c (cell == l.cell) l.pairs _ _ _ _ (record { local = refl; done = refl; held = λ g. refl }) (fulls z.form l)
+  stamps z (Some pend.Frozen) l = fulls z.form l
+  stamps z None l = fulls z.form l
 
   -- the walk of a put along the row's list, and its exchange
   inserts_from : (z : Sizes) (cell : Option ℕ) (l : Local) → Carries c l.pairs (insert_from z cell l) (insert_from z cell (carried l))
@@ -175,13 +179,13 @@ carries z ListVal s c l rows told u = absurd u
 carries z RestKey s c l rows told u = absurd u
 carries z RestVal s c l rows told u = absurd u
 carries z (ClearScan answer) s c l rows told u = clears c answer l
-carries z PutCount s c l rows told u = either c (has_room z (count_of told)) l.pairs _ _ _ _ (record { local = refl; done = refl; held = λ g. refl }) (record { local = refl; done = refl; held = λ g. refl })
-carries z PutAdd s c l rows told u = either c (has_room z (count_of told)) l.pairs _ _ _ _ (record { local = refl; done = refl; held = λ g. refl }) (record { local = refl; done = refl; held = λ g. refl })
+carries z PutCount s c l rows told u = either c (has_room z (count_of told)) l.pairs _ _ _ _ (record { local = refl; done = refl; held = λ g. refl }) (fulls c z.form l)
+carries z PutAdd s c l rows told u = either c (has_room z (count_of told)) l.pairs _ _ _ _ (record { local = refl; done = refl; held = λ g. refl }) (fulls c z.form l)
 carries z PutKey s c l rows told u = record { local = refl; done = refl; held = λ g. refl }
 carries z PutValue s c l rows told u = record { local = refl; done = refl; held = λ g. refl }
-carries z Announce s c l rows told u = either c (told == pend_word pend.Idle) l.pairs _ _ _ _ (record { local = refl; done = refl; held = λ g. refl }) (record { local = refl; done = refl; held = λ g. refl })
+carries z Announce s c l rows told u = either c (told == pend_word pend.Idle) l.pairs _ _ _ _ (record { local = refl; done = refl; held = λ g. refl }) (fulls c z.form l)
 carries z PutClock s c l rows told u = record { local = refl; done = refl; held = λ g. refl }
-carries z Stamp s c l rows told u = stamps c (pend_of told) l
+carries z Stamp s c l rows told u = stamps c z (pend_of told) l
 carries z PutVersion s c l rows told u = record { local = refl; done = refl; held = λ g. refl }
 carries z InsFrom s c l rows told u = inserts_from c z (cell_of_link_word told) l
 carries z InsKey s c l rows told u = either c (nat_lt (key_of_word told) (first_key l.call)) l.pairs _ _ _ _ (record { local = refl; done = refl; held = λ g. refl }) (either c (key_of_word told == first_key l.call) l.pairs _ _ _ _ (record { local = refl; done = refl; held = λ g. refl }) (record { local = refl; done = refl; held = λ g. refl }))

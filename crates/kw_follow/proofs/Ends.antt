@@ -9,18 +9,16 @@ use Rattle.kw_world.specs.declared.event.Choice.TheVariants.{Begin, Go, Guess, S
 use Rattle.kw_world.specs.declared.event.StepDone.{StepDone}
 use Rattle.kw_world.specs.declared.event.StepDone.TheVariants.{Ended}
 use Rattle.kw_world.specs.declared.local.Local.{Local}
-use Rattle.kw_world.specs.declared.operation.Operation.{Operation}
 use Rattle.kw_world.specs.Local.{resting}
 use Rattle.kw_world.specs.Transition.{Outcome, outcome}
 use Rattle.kw_world.specs.ScanTransitions.{answer_or_stopped}
 use Rattle.kw_world.specs.WalkTransitions.{offered}
 use Rattle.kw_world.specs.Sizes.{product}
-use Rattle.kw_world.specs.Step.{is_skipped, next_of, transition_of}
+use Rattle.kw_world.specs.Step.{next_of, transition_of}
 use Rattle.kw_world.specs.Table.{transition}
-use Rattle.kw_core.specs.Events.{is_call_in_range, may_begin}
 use Rattle.kw_table.specs.declared.pass.Pass.{Pass}
 use Rattle.kw_table.specs.declared.shared.Shared.{Shared}
-use Rattle.kw_table.specs.Passes.{view, Asks, IsPassOf, Makes}
+use Rattle.kw_table.specs.Passes.{view, Makes}
 use Rattle.kw_table.specs.Views.{local_in}
 use Rattle.kw_follow.specs.Following.{Follows, activity_in, carried, held}
 use Rattle.kw_follow.proofs.OneEvent.{Went, seat_goes, follows_from, same_activity}
@@ -35,24 +33,24 @@ unfolding transition_of
 cleared rows c l told answer is = ap (λ a. ((transition product a 0 c l).next rows told).local.activity) is
 
 -- whether it is stopped does not depend on what is offered
-offered_answer : (rows : ℕ) (c : Choice) (answer : Answer) → Leave (answer_or_stopped answer (offered rows c)) ≡ Leave (answer_or_stopped answer c)
-offered_answer rows (Begin call) answer = refl
-offered_answer rows Go answer = refl
-offered_answer rows (Guess r) answer = met (nat_lt r rows)
+pub offered_stopped : (rows : ℕ) (c : Choice) (answer : Answer) → answer_or_stopped answer (offered rows c) ≡ answer_or_stopped answer c
+offered_stopped rows (Begin call) answer = refl
+offered_stopped rows Go answer = refl
+offered_stopped rows (Guess r) answer = met (nat_lt r rows)
   where
-    met : (b : Bool) → Leave (answer_or_stopped answer (if b then Guess r else Go)) ≡ Leave answer
+    met : (b : Bool) → answer_or_stopped answer (if b then Guess r else Go) ≡ answer
     met true = refl
     met false = refl
-offered_answer rows Stop answer = refl
+offered_stopped rows Stop answer = refl
 
 module _ {s : Shared} {p q : Pass} {c : Choice} {l after : Local} {done : StepDone} {told : ℕ} where
   -- of the pass
   pub clear_leaves : Went s p q c l after done told → (answer : Answer) → activity_in p ≡ ClearScan answer → activity_in q ≡ Leave (answer_or_stopped answer c)
-  clear_leaves w answer is = ap (λ (k : Local). k.activity) (seat_goes w) ∙ (cleared (view p).opening.rows (offered (view p).opening.rows c) (local_in (view p)) told answer is ∙ offered_answer (view p).opening.rows c answer)
+  clear_leaves w answer is = ap (λ (k : Local). k.activity) (seat_goes w) ∙ (cleared (view p).opening.rows (offered (view p).opening.rows c) (local_in (view p)) told answer is ∙ ap Leave (offered_stopped (view p).opening.rows c answer))
 
   -- and of the local
   pub clear_activity : Went s p q c l after done told → (answer : Answer) → l.activity ≡ ClearScan answer → after.activity ≡ Leave (answer_or_stopped answer c)
-  clear_activity w answer is = ap (λ (x : Outcome). x.local.activity) w.goes ∙ (cleared (view p).opening.rows (offered (view p).opening.rows c) l told answer is ∙ offered_answer (view p).opening.rows c answer)
+  clear_activity w answer is = ap (λ (x : Outcome). x.local.activity) w.goes ∙ (cleared (view p).opening.rows (offered (view p).opening.rows c) l told answer is ∙ ap Leave (offered_stopped (view p).opening.rows c answer))
 
 -- The end of a call.
 
@@ -88,19 +86,6 @@ begun_local n call epoch = record (resting n) { activity = Enter; call = Some ca
 begun_next : (rows n : ℕ) (call : Call) (told : ℕ) → (next_of product rows (Begin call) (resting n) told).local ≡ begun_local n call told
 unfolding transition_of
 begun_next rows n call told = refl
-
-idle_operation : (n m : ℕ) (c : Choice) (l k : Local) → l.activity ≡ Idle → k.activity ≡ Idle → (transition_of product n c l).operation ≡ (transition_of product m c k).operation
-unfolding transition_of
-idle_operation n m c l k e f = ap (λ a. (transition product a n c l).operation) e ∙ sym (ap (λ a. (transition product a m c k).operation) f)
-
--- an idle pass asks to begin
-pub begin_asks : (s : Shared) (p : Pass) (call : Call) (l : Local) (n : ℕ) (does : Operation) → IsPassOf s p → activity_in p ≡ Idle → is_call_in_range call ≡ true → l ≡ resting 0 → does ≡ (transition_of product n (Begin call) l).operation → Asks s p (Begin call) does
-begin_asks s p call l n does of idle range rests is = record {
-  of_table = of;
-  begins = ap (λ a. may_begin a (Begin call)) idle ∙ range;
-  moves = ap (λ a. is_skipped a (Begin call)) idle;
-  next = idle_operation (view p).number n (Begin call) (local_in (view p)) l idle (ap (λ (k : Local). k.activity) rests) ∙ sym is;
-}
 
 -- the local after the begin
 pub begin_is : {call : Call} {l after : Local} {done : StepDone} {told : ℕ} (rows : ℕ) → l ≡ resting 0 → outcome after done ≡ next_of product rows (Begin call) l told → after ≡ begun_local 0 call told

@@ -20,7 +20,7 @@ use Rattle.kw_table.specs.declared.pass.Pass.{Pass}
 use Rattle.kw_table.specs.declared.shared.Shared.{Shared}
 use Rattle.kw_table.specs.Passes.{view, Makes}
 use Rattle.kw_table.specs.Views.{local_in}
-use Rattle.kw_follow.specs.Calling.{Closes, Keeps, Opens, calls_in, now_in}
+use Rattle.kw_follow.specs.Calling.{Closes, KeepsCalls, Opens, calls_in, now_in}
 use Rattle.kw_follow.specs.Following.{activity_in, held}
 
 -- a list that is added and leaves the length is empty
@@ -95,7 +95,7 @@ stays_after _ c l n cs u = refl
 
 module _ {s : Shared} {p q : Pass} {told : ℕ} where
   -- an event in the middle of a call leaves the calls
-  pub keeps : {c : Choice} → Makes s p c told q → IsStaying (activity_in p) → Keeps p q
+  pub keeps : {c : Choice} → Makes s p c told q → IsStaying (activity_in p) → KeepsCalls p q
   keeps {c} makes u = grows makes ∙ stays_after (activity_in p) c _ _ (calls_in p) u
 
   -- an idle pass begins a call

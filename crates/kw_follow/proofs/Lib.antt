@@ -5,6 +5,7 @@ pub mod Growing
 pub mod Resting
 pub mod OneEvent
 pub mod PutEvents
+pub mod DrawEvents
 pub mod ReadEvents
 pub mod Ends
 pub mod Fronts

@@ -4,7 +4,6 @@ use Rattle.kw_words.specs.declared.kind.Kind.TheVariants as kind
 use Rattle.kw_words.specs.declared.layout.Name.TheVariants.{Epoch}
 use Rattle.kw_words.specs.declared.sizes.TheConstants.{SEATS}
 use Rattle.kw_model.specs.declared.call.Call.{Call}
-use Rattle.kw_world.specs.declared.activity.Activity.{Activity}
 use Rattle.kw_world.specs.declared.activity.Activity.TheVariants.{Idle, Look}
 use Rattle.kw_world.specs.declared.event.Choice.TheVariants.{Begin}
 use Rattle.kw_world.specs.declared.local.Local.{Local}

@@ -16,8 +16,8 @@ abbrev pub now_in : Pass → ℕ
 now_in p = length (view p).seen
 
 -- the pass's calls are as they were
-abbrev pub Keeps : Pass → Pass → Type 0
-Keeps p q = calls_in q ≡ calls_in p
+abbrev pub KeepsCalls : Pass → Pass → Type 0
+KeepsCalls p q = calls_in q ≡ calls_in p
 
 -- a call begins, after what the pass had seen
 pub record Opens (p q : Pass) (call : Call) : Type 0 where

@@ -1,6 +1,6 @@
--- The middle of a call.
+-- The middle of a call, and where in it a scan gets its version.
 use Rattle.kw_world.specs.declared.activity.Activity.{Activity}
-use Rattle.kw_world.specs.declared.activity.Activity.TheVariants.{Idle, ListFrom, ListKey, ListVer, ListVal, RestKey, RestVal, ClearScan, Leave}
+use Rattle.kw_world.specs.declared.activity.Activity.TheVariants.{Idle, ScanClock, ScanWait, ScanDraw, ScanSettle, ListFrom, ListKey, ListVer, ListVal, RestKey, RestVal, ClearScan, Leave}
 
 -- the seat is in the middle of a call, and its next event neither ends the call or a scan nor reads a cell
 abbrev pub IsWithinCall : Activity → Type 0
@@ -14,3 +14,11 @@ IsWithinCall RestVal = ⊥
 IsWithinCall (ClearScan answer) = ⊥
 IsWithinCall (Leave answer) = ⊥
 IsWithinCall _ = Unit {0}
+
+-- a scan gets its version
+abbrev pub IsDrawing : Activity → Type 0
+IsDrawing ScanClock = Unit {0}
+IsDrawing ScanWait = Unit {0}
+IsDrawing ScanDraw = Unit {0}
+IsDrawing ScanSettle = Unit {0}
+IsDrawing _ = ⊥

@@ -12,7 +12,7 @@ ghost use Rattle.kw_world.specs.Step.{next_of};
 ghost use Rattle.kw_world.specs.Transition.{outcome};
 ghost use Rattle.kw_world.specs.declared.event.StepDone.TheVariants.{Moved};
 ghost use Rattle.kw_table.specs.Passes.{view, IsPassOf, Makes};
-ghost use Rattle.kw_follow.specs.Calling.{Keeps};
+ghost use Rattle.kw_follow.specs.Calling.{KeepsCalls};
 ghost use Rattle.kw_follow.specs.Following.{Follows, GoesTo, activity_in, held};
 ghost use Rattle.kw_follow.specs.OwnEvents.{MetAs, MetOnly};
 ghost use Rattle.kw_follow.specs.Within.{IsWithinCall};
@@ -182,7 +182,7 @@ pub fn go_along(shared: &Shared, pass: &mut Pass, local: &mut Local) -> u64
         local.old result }
     ensures met { MetAs pass.old pass.new local.old Choice.Go result }
     ensures only { MetOnly pass.old pass.new local.old.activity result }
-    ensures calls { Keeps pass.old pass.new }
+    ensures calls { KeepsCalls pass.old pass.new }
     ensures held { held pass.new ≡ held pass.old }
 {
     let happened = event_along(shared, pass, local);

@@ -14,12 +14,13 @@ ghost use Rattle.kw_world.specs.Sane.{IsLocal, HasRoom, CanBegin};
 ghost use Rattle.kw_world.specs.Sizes.{product};
 ghost use Rattle.kw_world.specs.Step.{next_of, transition_of};
 ghost use Rattle.kw_table.specs.Passes.{view, Asks, IsPassOf, Makes};
-ghost use Rattle.kw_follow.specs.Calling.{Keeps, Opens, Closes};
+ghost use Rattle.kw_follow.specs.Calling.{KeepsCalls, Opens, Closes};
 ghost use Rattle.kw_follow.specs.Following.{Follows, GoesTo, activity_in, held};
 ghost use Rattle.kw_follow.specs.OwnEvents.{MetAs, MetOnly};
 ghost use Rattle.kw_follow.specs.Within.{IsWithinCall};
 
 use crate::along::{clear_epoch, load_own_epoch};
+use crate::drawing::clear_version;
 use kw_core::step::{operation, resume};
 use kw_model::call::{Call, Reply};
 use kw_table::{Pass, Shared, make};
@@ -103,7 +104,7 @@ pub fn go(shared: &Shared, pass: &mut Pass, local: &mut Local, choice: Choice) -
         (offered (view pass.old).opening.rows choice) local.old result }
     ensures met { MetAs pass.old pass.new local.old choice result }
     ensures only { MetOnly pass.old pass.new local.old.activity result }
-    ensures calls { Keeps pass.old pass.new }
+    ensures calls { KeepsCalls pass.old pass.new }
     ensures held { is_stop choice ≡ false → held pass.new ≡ held pass.old }
 {
     let happened = event(shared, pass, local, choice);
@@ -120,10 +121,13 @@ pub fn clear(shared: &Shared, pass: &mut Pass, local: &mut Local, choice: Choice
         activity_in pass.new ≡ Activity.Leave (answer_or_stopped answer choice) }
     ensures activity { (answer : Answer) → local.old.activity ≡ Activity.ClearScan answer →
         local.new.activity ≡ Activity.Leave (answer_or_stopped answer choice) }
-    ensures calls { Keeps pass.old pass.new }
+    ensures calls { KeepsCalls pass.old pass.new }
     ensures held { is_stop choice ≡ false → held pass.new ≡ held pass.old }
 {
-    event(shared, pass, local, choice);
+    let Activity::ClearScan(answer) = local.activity else {
+        unreachable!()
+    };
+    clear_version(shared, pass, local, answer, choice);
 }
 
 /// Ends the call: its last event. The local is then at rest. The answer is the reply, without the pairs of a scan. Takes no memory.

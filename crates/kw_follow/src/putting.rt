@@ -9,7 +9,7 @@ ghost use Rattle.kw_world.specs.Step.{next_of};
 ghost use Rattle.kw_world.specs.Transition.{outcome};
 ghost use Rattle.kw_world.specs.declared.event.StepDone.TheVariants.{Moved};
 ghost use Rattle.kw_table.specs.Passes.{view, Makes};
-ghost use Rattle.kw_follow.specs.Calling.{Keeps};
+ghost use Rattle.kw_follow.specs.Calling.{KeepsCalls};
 ghost use Rattle.kw_follow.specs.Following.{Follows, GoesTo, held};
 ghost use Rattle.kw_follow.specs.OwnEvents.{MetAs, MetOnly};
 
@@ -292,7 +292,7 @@ pub fn go_put(shared: &Shared, pass: &mut Pass, local: &mut Local) -> u64
         local.old result }
     ensures met { MetAs pass.old pass.new local.old Choice.Go result }
     ensures only { MetOnly pass.old pass.new local.old.activity result }
-    ensures calls { Keeps pass.old pass.new }
+    ensures calls { KeepsCalls pass.old pass.new }
     ensures held { held pass.new ≡ held pass.old }
 {
     let happened = put_event(shared, pass, local);

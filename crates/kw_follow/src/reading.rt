@@ -12,7 +12,7 @@ ghost use Rattle.kw_world.specs.Sizes.{product};
 ghost use Rattle.kw_world.specs.Step.{next_of};
 ghost use Rattle.kw_table.specs.Passes.{view, Makes};
 ghost use Rattle.kw_table.specs.Views.{local_in};
-ghost use Rattle.kw_follow.specs.Calling.{Keeps};
+ghost use Rattle.kw_follow.specs.Calling.{KeepsCalls};
 ghost use Rattle.kw_follow.specs.Following.{Follows, GoesTo, unpaired};
 ghost use Rattle.kw_follow.specs.OwnEvents.{MetAs};
 
@@ -154,7 +154,7 @@ pub fn go_read(shared: &Shared, pass: &mut Pass, local: &mut Local) -> u64
         ≡ (next_of product (view pass.old).opening.rows Choice.Go (local_in (view pass.old))
         result).local }
     ensures met { MetAs pass.old pass.new local.old Choice.Go result }
-    ensures calls { Keeps pass.old pass.new }
+    ensures calls { KeepsCalls pass.old pass.new }
 {
     read_event(shared, pass, local)
 }

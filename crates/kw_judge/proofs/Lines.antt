@@ -1,5 +1,5 @@
 -- The words of a record's lines, and lines that are none.
-use Rattle.std.proofs.Common.{ℕ, ◌≡◌, ◌≢◌, ◌<◌, ◌^◌, List, [], ◌∷◌, ◌++◌, Option, Bool, true, false, MatchOption, codes, refl, sym, ap, ◌∙◌, arith, ◌⊎◌, inl, inr, ◌↔◌, leb}
+use Rattle.std.proofs.Common.{ℕ, ◌≡◌, ◌≢◌, ◌≤◌, ◌<◌, ◌^◌, List, [], ◌∷◌, ◌++◌, Option, Bool, true, false, MatchOption, codes, refl, sym, ap, ◌∙◌, arith, ◌⊎◌, inl, inr, ◌↔◌, leb}
 use Rattle.std.specs.Fmt.{decimal}
 use Rattle.std.specs.Bool.{then_some}
 use Rattle.std.proofs.lemmas.Bool.{cases_lt, le-leb, lt-leb, false≢true}
@@ -11,6 +11,7 @@ use Rattle.kw_model.specs.declared.call.Call.TheVariants as call
 use Rattle.kw_judge.specs.declared.parse.CallVerb.TheVariants as call_verb
 use Rattle.kw_judge.specs.declared.record.Name.{Name}
 use Rattle.kw_judge.specs.declared.record.OpenCall.{OpenCall}
+use Rattle.kw_judge.specs.declared.record.TheConstants.{MOST_POSITION}
 use Rattle.kw_judge.specs.declared.written.Head.{Head}
 use Rattle.kw_judge.specs.Record.{IsName, IsOpen, IsUpdate}
 use Rattle.kw_judge.specs.Written.{IsHead, head_words, open_words}
@@ -27,13 +28,13 @@ ReadsOpen ws o = MatchOption o ((c : OpenCall) → IsOpen c → ws ≢ open_word
 
 -- Before the colon.
 
-pub no_start : (ws : List (List ℕ)) → ((n : Name) (f : ℕ) (left : List (List ℕ)) → IsName n → f < 2 ^ 63 → ws ≢ codes "done" ∷ (name_text n ∷ (decimal f ∷ left))) → (h : Head) → IsHead h → ws ≢ head_words h
+pub no_start : (ws : List (List ℕ)) → ((n : Name) (f : ℕ) (left : List (List ℕ)) → IsName n → f ≤ MOST_POSITION → ws ≢ codes "done" ∷ (name_text n ∷ (decimal f ∷ left))) → (h : Head) → IsHead h → ws ≢ head_words h
 no_start ws none h is e = none h.name h.first (decimal h.last ∷ call_words h.call) is.name (omega (arith, is.rising, is.last)) e
 
 pub no_last : (ws left : List (List ℕ)) (n : Name) (f : ℕ) → ws ≡ codes "done" ∷ (name_text n ∷ (decimal f ∷ left)) → ((v : ℕ) (rest : List (List ℕ)) → v < 2 ^ 63 → left ≢ decimal v ∷ rest) → (h : Head) → IsHead h → ws ≢ head_words h
 no_last ws left n f e none h is g =
     let same : left ≡ decimal h.last ∷ call_words h.call = cc in
-    none h.last (call_words h.call) is.last same
+    none h.last (call_words h.call) (omega (arith, is.last)) same
 
 pub no_head_call : (ws left more : List (List ℕ)) (n : Name) (f l : ℕ) → ws ≡ codes "done" ∷ (name_text n ∷ (decimal f ∷ left)) → left ≡ decimal l ∷ more → ((c : Call) (rest : List (List ℕ)) → FitsCall c → more ≢ call_words c ++ rest) → (h : Head) → IsHead h → ws ≢ head_words h
 no_head_call ws left more n f l e d none h is g =
@@ -41,7 +42,7 @@ no_head_call ws left more n f l e d none h is g =
     let rest : more ≡ call_words h.call = cc in
     none h.call [] is.call (rest ∙ sym (append-nil (call_words h.call)))
 
-pub head_read : (ws left more after : List (List ℕ)) (n : Name) (f l : ℕ) (c : Call) (b e : Bool) → ws ≡ codes "done" ∷ (name_text n ∷ (decimal f ∷ left)) → left ≡ decimal l ∷ more → more ≡ call_words c ++ after → IsName n → f < 2 ^ 63 → l < 2 ^ 63 → FitsCall c → (e ≡ true) ↔ (after ≡ []) → ((e ≡ true) × (b ≡ leb f l)) ⊎ ((e ≡ false) × (b ≡ false)) → ReadsHead ws (then_some b (record { name = n; first = f; last = l; call = c }))
+pub head_read : (ws left more after : List (List ℕ)) (n : Name) (f l : ℕ) (c : Call) (b e : Bool) → ws ≡ codes "done" ∷ (name_text n ∷ (decimal f ∷ left)) → left ≡ decimal l ∷ more → more ≡ call_words c ++ after → IsName n → f ≤ MOST_POSITION → l ≤ MOST_POSITION → FitsCall c → (e ≡ true) ↔ (after ≡ []) → ((e ≡ true) × (b ≡ leb f l)) ⊎ ((e ≡ false) × (b ≡ false)) → ReadsHead ws (then_some b (record { name = n; first = f; last = l; call = c }))
 head_read ws left more after n f l c b e g d k name small last fits h (inr s) = rw s.1 (λ o is q.
     let same : left ≡ decimal o.last ∷ call_words o.call = cc in
     let rest : more ≡ call_words o.call = cc in
@@ -60,7 +61,7 @@ head_read ws left more after n f l c b e g d k name small last fits h (inl s) = 
 
 -- Open calls.
 
-pub no_open_start : (ws : List (List ℕ)) → ((n : Name) (f : ℕ) (left : List (List ℕ)) → IsName n → f < 2 ^ 63 → ws ≢ codes "open" ∷ (name_text n ∷ (decimal f ∷ left))) → (c : OpenCall) → IsOpen c → ws ≢ open_words c
+pub no_open_start : (ws : List (List ℕ)) → ((n : Name) (f : ℕ) (left : List (List ℕ)) → IsName n → f ≤ MOST_POSITION → ws ≢ codes "open" ∷ (name_text n ∷ (decimal f ∷ left))) → (c : OpenCall) → IsOpen c → ws ≢ open_words c
 no_open_start ws none c is e = none c.name c.first (call_words c.call) is.name (omega (arith, is.first)) e
 
 pub no_open_call : (ws left : List (List ℕ)) (n : Name) (f : ℕ) → ws ≡ codes "open" ∷ (name_text n ∷ (decimal f ∷ left)) → ((c : Call) (rest : List (List ℕ)) → FitsCall c → left ≢ call_words c ++ rest) → (c : OpenCall) → IsOpen c → ws ≢ open_words c
@@ -81,7 +82,7 @@ update_word (call.Scan a b) (call.Del j) e u = let w : call_verb_word call_verb.
 update_word (call.Scan a b) (call.Get j) e u = u
 update_word (call.Scan a b) (call.Scan i j) e u = u
 
-pub open_read : (ws left after : List (List ℕ)) (n : Name) (f : ℕ) (c : Call) (b e u : Bool) → ws ≡ codes "open" ∷ (name_text n ∷ (decimal f ∷ left)) → left ≡ call_words c ++ after → IsName n → f < 2 ^ 63 → FitsCall c → (e ≡ true) ↔ (after ≡ []) → (u ≡ true) ↔ IsUpdate c → ((e ≡ true) × (b ≡ u)) ⊎ ((e ≡ false) × (b ≡ false)) → ReadsOpen ws (then_some b (record { name = n; first = f; call = c }))
+pub open_read : (ws left after : List (List ℕ)) (n : Name) (f : ℕ) (c : Call) (b e u : Bool) → ws ≡ codes "open" ∷ (name_text n ∷ (decimal f ∷ left)) → left ≡ call_words c ++ after → IsName n → f ≤ MOST_POSITION → FitsCall c → (e ≡ true) ↔ (after ≡ []) → (u ≡ true) ↔ IsUpdate c → ((e ≡ true) × (b ≡ u)) ⊎ ((e ≡ false) × (b ≡ false)) → ReadsOpen ws (then_some b (record { name = n; first = f; call = c }))
 open_read ws left after n f c b e u g k name small fits h update (inr s) = rw s.1 (λ o is q.
     let rest : left ≡ call_words o.call = cc in
     false≢true (sym s.0 ∙ h.1 (call_left c o.call after (sym k ∙ rest))))
@@ -96,7 +97,7 @@ open_read ws left after n f c b e false g k name small fits h update (inl s) = r
     false≢true (update.1 (update_word c o.call (sym whole ∙ rest) is.update)))
 
 -- a position is missing
-pub no_position : (ws after more : List (List ℕ)) (word one two : List ℕ) → ws ≡ one ∷ after → after ≡ two ∷ more → ((v : ℕ) (rest : List (List ℕ)) → v < 2 ^ 63 → more ≢ decimal v ∷ rest) → (n : Name) (f : ℕ) (left : List (List ℕ)) → IsName n → f < 2 ^ 63 → ws ≢ word ∷ (name_text n ∷ (decimal f ∷ left))
+pub no_position : (ws after more : List (List ℕ)) (word one two : List ℕ) → ws ≡ one ∷ after → after ≡ two ∷ more → ((v : ℕ) (rest : List (List ℕ)) → v < 2 ^ 63 → more ≢ decimal v ∷ rest) → (n : Name) (f : ℕ) (left : List (List ℕ)) → IsName n → f ≤ MOST_POSITION → ws ≢ word ∷ (name_text n ∷ (decimal f ∷ left))
 no_position ws after more word one two a b none n f left is small e =
     let same : more ≡ decimal f ∷ left = cc in
-    none f left small same
+    none f left (omega arith) same

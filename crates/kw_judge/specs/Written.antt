@@ -1,7 +1,7 @@
 -- The lines of a record, one by one.
 use Rattle.std.specs.Prelude.{ℕ, List}
 use Rattle.std.specs.List.{AllByRecursion}
-use Rattle.std.specs.Prelude.{[], ◌∷◌, ◌≢◌, ◌≤◌, ◌<◌, ◌^◌, codes, decimal}
+use Rattle.std.specs.Prelude.{[], ◌∷◌, ◌≢◌, ◌≤◌, codes, decimal}
 use Rattle.kw_line.specs.Line.{FitsCall}
 use Rattle.kw_judge.specs.declared.written.Entry.{Entry}
 use Rattle.kw_judge.specs.declared.written.Entry.TheVariants.{Done, Open, Order}
@@ -12,6 +12,7 @@ use Rattle.kw_model.specs.declared.call.Reply.{Reply}
 use Rattle.kw_model.specs.declared.call.Reply.TheVariants as reply
 use Rattle.kw_judge.specs.declared.record.Name.{Name}
 use Rattle.kw_judge.specs.declared.record.DoneCall.{DoneCall}
+use Rattle.kw_judge.specs.declared.record.TheConstants.{MOST_POSITION}
 use Rattle.kw_judge.specs.declared.record.OpenCall.{OpenCall}
 use Rattle.kw_judge.specs.Record.{IsName, IsDone, IsOpen}
 use Rattle.kw_judge.specs.Texts.{done_text, open_text, order_text, name_text, call_words}
@@ -32,7 +33,7 @@ written_text (Order names) = order_text names.items
 pub record IsHead (h : Head) : Type 0 where
   pub name : IsName h.name
   pub rising : h.first ≤ h.last
-  pub last : h.last < 2 ^ 63
+  pub last : h.last ≤ MOST_POSITION
   pub call : FitsCall h.call
 
 -- its words

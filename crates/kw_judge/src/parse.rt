@@ -14,9 +14,13 @@ use kw_model::call::Call;
 /// The first word of a call.
 #[derive(Clone, Copy, Debug, PartialEq, Eq)]
 pub enum CallVerb {
+    /// `put`, before a key and a value.
     Put,
+    /// `del`, before a key.
     Del,
+    /// `get`, before a key.
     Get,
+    /// `scan`, before the least and the greatest key of a range.
     Scan,
 }
 

@@ -10,6 +10,7 @@ ghost use Rattle.kw_line.specs.Answered.{pair_text, pairs_text};
 ghost use Rattle.kw_judge.specs.declared.record.Name.{Name as AnyName};
 ghost use Rattle.kw_judge.specs.declared.record.DoneCall.{DoneCall as AnyDone};
 ghost use Rattle.kw_judge.specs.declared.record.OpenCall.{OpenCall as AnyOpen};
+ghost use Rattle.kw_judge.specs.declared.record.TheConstants.{MOST_POSITION};
 ghost use Rattle.kw_judge.specs.declared.written.Head.{Head as AnyHead};
 ghost use Rattle.kw_judge.specs.declared.written.Plain.{Plain as AnyPlain};
 ghost use Rattle.kw_judge.specs.Record.{IsName, IsPair, FitsReply, IsDone, IsOpen, IsUpdate};
@@ -30,8 +31,11 @@ use std::alloc::Global;
 /// What is written in a line of a record.
 #[derive(Drop)]
 pub enum Entry {
+    /// A call that was answered.
     Done(DoneCall),
+    /// A put or delete that was not answered and took effect.
     Open(OpenCall),
+    /// The order that is claimed.
     Order(Vec<Name>),
 }
 
@@ -47,11 +51,17 @@ struct Head {
 /// A reply that is printed as words: each but a value and pairs.
 #[derive(Clone, Copy, Debug, PartialEq, Eq)]
 enum Plain {
+    /// `ok`.
     Done,
+    /// `none`.
     Absent,
+    /// `empty`, of pairs.
     Empty,
+    /// `no rows`.
     NoRows,
+    /// `spent`.
     Spent,
+    /// `stopped`.
     Stopped,
 }
 
@@ -140,9 +150,9 @@ fn is_update(call: &Call) -> bool
 /// Takes this word, a name and a position, where these are the next words.
 fn name_and_first(words: &mut Words, word: &[u8]) -> Option<(Name, u64)>
     ensures { MatchOption result
-        ((name : AnyName) (first : ℕ) (left : List (List ℕ)) → IsName name → first < 2 ^ 63
+        ((name : AnyName) (first : ℕ) (left : List (List ℕ)) → IsName name → first ≤ MOST_POSITION
         → words.old ≢ word.now ∷ name_text name ∷ decimal first ∷ left)
-        (λ p. IsName p.0 × (p.1 < 2 ^ 63)
+        (λ p. IsName p.0 × (p.1 ≤ MOST_POSITION)
         × (words.old ≡ word.now ∷ name_text p.0 ∷ decimal p.1 ∷ words.new)) }
 {
     if words.next()? != word {

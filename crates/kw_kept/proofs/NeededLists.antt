@@ -1,7 +1,7 @@
 -- What is needed only shrinks, and a list that a rebuild makes while other seats go on covers what is needed.
 use Rattle.std.proofs.Common.{ℕ, ◌≡◌, ◌⊎◌, inl, inr, ◌<◌, ◌≤◌, arith, subst}
 use Rattle.kw_kept.specs.Puts.{Puts}
-use Rattle.kw_kept.specs.Kept.{Kept}
+use Rattle.kw_kept.specs.Kept.{Rows, Kept}
 use Rattle.kw_kept.specs.Needed.{IsNeeded, Moves, IsCovered, IsLate, Passes}
 
 module _ (clock clock' : ℕ) (waits waits' : ℕ → ℕ) (through through' : ℕ → ℕ → Type 0) (m : Moves clock clock' waits waits' through through') where
@@ -57,5 +57,5 @@ all_covered clock through passed listed most u l f c (inl n) = inr (omega (arith
 all_covered clock through passed listed most u l f c (inr (i, t)) = c i u (f i u t) t
 
 -- rows that have kept what was needed have kept what still is
-pub kept_of_fewer : (puts : Puts) (in_row : ℕ → ℕ → Type 0) (stamped : ℕ → Type 0) (holds : ℕ → ℕ → Type 0) (needed needed' : ℕ → Type 0) → ((u : ℕ) → needed' u → needed u) → Kept puts in_row stamped holds needed → Kept puts in_row stamped holds needed'
-kept_of_fewer puts in_row stamped holds needed needed' f h q k u m n = h q k u m (f u n)
+pub kept_of_fewer : (puts : Puts) (rows : Rows) (needed needed' : ℕ → Type 0) → ((u : ℕ) → needed' u → needed u) → Kept puts rows needed → Kept puts rows needed'
+kept_of_fewer puts rows needed needed' f h q k u m n = h q k u m (f u n)

@@ -2,7 +2,7 @@
 -- is listed, and what the newest shows; a version that is not listed is at least all of the old row, so it shows the same as the newest.
 use Rattle.std.proofs.Common.{ℕ, ◌≡◌, ◌⊎◌, inl, inr, ◌≤◌, Option, arith}
 use Rattle.kw_kept.specs.Puts.{Puts, Greatest, Shows}
-use Rattle.kw_kept.specs.Kept.{Kept, Rebuilds, IsAsBefore, Replaces}
+use Rattle.kw_kept.specs.Kept.{Rows, Kept, Rebuilds, IsAsBefore, Replaces}
 use Rattle.kw_kept.proofs.GreatestPut.{greatest_of_same}
 use Rattle.kw_kept.proofs.Shown.{shows_through}
 
@@ -25,10 +25,14 @@ rebuild_shown puts old new stamped listed k u most newest r m c h = shows_throug
 pub as_before_shown : (puts : Puts) (old new stamped : ℕ → Type 0) (k u : ℕ) → IsAsBefore puts old new k → Shows puts old stamped k u → Shows puts new stamped k u
 as_before_shown puts old new stamped k u s h b t x y = h b t (greatest_of_same puts new old k u u b (λ p e i l. (s.had p i e, l)) (λ p e i l. (s.has p i e, l)) x) y
 
+-- what a set shows of the stamped puts it shows of them where they are the same
+stamped_shown : (puts : Puts) (P Q Q' : ℕ → Type 0) (k u : ℕ) → ((p : ℕ) → Q' p → Q p) → ((p : ℕ) → Q p → Q' p) → Shows puts P Q k u → Shows puts P Q' k u
+stamped_shown puts P Q Q' k u was still h b t x y = h b t x (greatest_of_same puts Q' Q k u u t (λ p e i l. (was p i, l)) (λ p e i l. (still p i, l)) y)
+
 -- rows that have kept what is needed still have after some are replaced
-pub replace_kept : (puts : Puts) (in_row in_row' : ℕ → ℕ → Type 0) (stamped : ℕ → Type 0) (holds holds' : ℕ → ℕ → Type 0) (needed listed : ℕ → Type 0) (most newest : ℕ) → Replaces puts in_row in_row' holds holds' needed listed most newest → Kept puts in_row stamped holds needed → Kept puts in_row' stamped holds' needed
-replace_kept puts in_row in_row' stamped holds holds' needed listed most newest r h q k u m n = which (r.rows q k m)
+pub replace_kept : (puts : Puts) (rows rows' : Rows) (needed listed : ℕ → Type 0) (most newest : ℕ) → Replaces puts rows rows' needed listed most newest → Kept puts rows needed → Kept puts rows' needed
+replace_kept puts rows rows' needed listed most newest r h q k u m n = stamped_shown puts (rows'.in_row q) rows.stamped rows'.stamped k u r.was r.still (which (r.each q k m))
   where
-    which : (holds q k × IsAsBefore puts (in_row q) (in_row' q) k) ⊎ (g : ℕ) × holds g k × Rebuilds puts (in_row g) (in_row' q) listed k most newest → Shows puts (in_row' q) stamped k u
-    which (inl s) = as_before_shown puts (in_row q) (in_row' q) stamped k u s.1 (h q k u s.0 n)
-    which (inr s) = rebuild_shown puts (in_row s.0) (in_row' q) stamped listed k u most newest s.2 r.beyond (r.covered u n) (h s.0 k u s.1 n)
+    which : (rows.holds q k × IsAsBefore puts (rows.in_row q) (rows'.in_row q) k) ⊎ (g : ℕ) × rows.holds g k × Rebuilds puts (rows.in_row g) (rows'.in_row q) listed k most newest → Shows puts (rows'.in_row q) rows.stamped k u
+    which (inl s) = as_before_shown puts (rows.in_row q) (rows'.in_row q) rows.stamped k u s.1 (h q k u s.0 n)
+    which (inr s) = rebuild_shown puts (rows.in_row s.0) (rows'.in_row q) rows.stamped listed k u most newest s.2 r.beyond (r.covered u n) (h s.0 k u s.1 n)

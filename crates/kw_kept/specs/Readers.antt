@@ -1,7 +1,7 @@
 -- What a reader of a row knows at its end. A row may have dropped a tombstone under which there is no older cell, so the put whose
 -- gap the reader answers from may have no cell there.
-use Rattle.std.specs.Prelude.{ℕ, ◌≡◌, ◌⊎◌, ◌<◌, ◌≤◌, Option, Some}
-use Rattle.kw_kept.specs.Puts.{Puts, StandsBefore, StandsUpTo, Greatest, HasGreatest, Same, Shows}
+use Rattle.std.specs.Prelude.{ℕ, ◌≡◌, ◌⊎◌, ◌<◌, ◌≤◌, Bool, Option, Some}
+use Rattle.kw_kept.specs.Puts.{Puts, On, StandsBefore, StandsUpTo, Greatest, HasGreatest, Same, Shows}
 
 -- stamped before a position
 abbrev pub Before : Puts → (ℕ → Type 0) → ℕ → ℕ → Type 0
@@ -19,30 +19,54 @@ pub record GoesOn (puts puts' : Puts) (in_row in_row' stamped stamped' : ℕ →
   pub row_old : (p : ℕ) → in_row p → stamped p → in_row' p
   pub row_was : (p : ℕ) → in_row' p → stamped p → in_row p
 
--- what a reader has of a row, for one key at one version: `before` are the puts that were stamped before it looked, or before the row
--- was unlinked; `gathered` those of which it has gathered a cell, `best` the greatest of them; `early` the attempts that were announced
--- before its first event, `here` those that were made in the row, `lost` those that lost their cell
-pub record Reads (puts : Puts) (in_row gathered stamped before here early lost : ℕ → Type 0) (k v : ℕ) (best : Option ℕ) : Type 0 where
-  pub best_is : Greatest puts gathered k v best
-  pub front : HasGreatest puts (λ p. in_row p × before p) k v
-  pub top : HasGreatest puts before k v
-  pub shows : Shows puts (λ p. in_row p × before p) before k v
+-- the sets of which a reader of a row knows: the puts of the row, those of which it has gathered a cell, all stamped puts, those that were
+-- stamped before it looked, or before the row was unlinked; the attempts that were made in the row, those that were announced before its first
+-- event, and those that lost their cell
+pub record Sets : Type 1 where
+  pub in_row : ℕ → Type 0
+  pub gathered : ℕ → Type 0
+  pub stamped : ℕ → Type 0
+  pub before : ℕ → Type 0
+  pub here : ℕ → Type 0
+  pub early : ℕ → Type 0
+  pub lost : ℕ → Type 0
+
+-- the tests that pick them out
+pub record Tests : Type 0 where
+  pub in_row : ℕ → Bool
+  pub gathered : ℕ → Bool
+  pub stamped : ℕ → Bool
+  pub before : ℕ → Bool
+  pub here : ℕ → Bool
+  pub early : ℕ → Bool
+  pub lost : ℕ → Bool
+
+-- what the tests pick out
+abbrev pub on_sets : Tests → Sets
+on_sets t = record { in_row = On t.in_row; gathered = On t.gathered; stamped = On t.stamped; before = On t.before; here = On t.here; early = On t.early; lost = On t.lost }
+
+-- what a reader has of a row, for one key at one version: `best` is the greatest that it has gathered
+pub record Reads (puts : Puts) (s : Sets) (k v : ℕ) (best : Option ℕ) : Type 0 where
+  pub best_is : Greatest puts s.gathered k v best
+  pub front : HasGreatest puts (λ p. s.in_row p × s.before p) k v
+  pub top : HasGreatest puts s.before k v
+  pub shows : Shows puts (λ p. s.in_row p × s.before p) s.before k v
   -- what is gathered is of the row and stamped, and all of the row that was stamped before is gathered
-  pub of_row : (p : ℕ) → gathered p → in_row p × stamped p
-  pub all : (p : ℕ) → in_row p → before p → gathered p
-  pub stamps : (p : ℕ) → before p → stamped p
-  pub known : (p : ℕ) → before p ⊎ (before p → ⊥)
+  pub of_row : (p : ℕ) → s.gathered p → s.in_row p × s.stamped p
+  pub all : (p : ℕ) → s.in_row p → s.before p → s.gathered p
+  pub stamps : (p : ℕ) → s.before p → s.stamped p
+  pub known : (p : ℕ) → s.before p ⊎ (s.before p → ⊥)
   -- what was stamped later stands after all of its key that was stamped before elsewhere
-  pub later : (p q : ℕ) → gathered p → (before p → ⊥) → before q → (puts q).key ≡ (puts p).key → in_row q ⊎ StandsBefore puts q p
+  pub later : (p q : ℕ) → s.gathered p → (s.before p → ⊥) → s.before q → (puts q).key ≡ (puts p).key → s.in_row q ⊎ StandsBefore puts q p
   -- attempts made here are lost or gathered, those made elsewhere lost or stamped before
-  pub where_made : (q : ℕ) → here q ⊎ (here q → ⊥)
-  pub own : (q : ℕ) → early q → (puts q).key ≡ k → here q → lost q ⊎ gathered q
-  pub other : (q : ℕ) → early q → (puts q).key ≡ k → (here q → ⊥) → lost q ⊎ before q
+  pub where_made : (q : ℕ) → s.here q ⊎ (s.here q → ⊥)
+  pub own : (q : ℕ) → s.early q → (puts q).key ≡ k → s.here q → s.lost q ⊎ s.gathered q
+  pub other : (q : ℕ) → s.early q → (puts q).key ≡ k → (s.here q → ⊥) → s.lost q ⊎ s.before q
 
 -- what it answers is what a gap shows, behind a stamped put of the key or behind none; where it answers a value, the gap is behind the put
 -- of its cell. Each early attempt is lost, or stamped and, if its version is in bound, not after the gap
-pub record Knows (puts : Puts) (stamped early lost : ℕ → Type 0) (k v : ℕ) (best : Option ℕ) : Type 0 where
+pub record Knows (puts : Puts) (s : Sets) (k v : ℕ) (best : Option ℕ) : Type 0 where
   pub gap : Option ℕ
-  pub of_key : (p : ℕ) → gap ≡ Some p → stamped p × ((puts p).key ≡ k) × ((puts p).version ≤ v)
+  pub of_key : (p : ℕ) → gap ≡ Some p → s.stamped p × ((puts p).key ≡ k) × ((puts p).version ≤ v)
   pub shows : Same puts gap best
-  pub knows : (q : ℕ) → early q → (puts q).key ≡ k → lost q ⊎ stamped q × ((puts q).version ≤ v → StandsUpTo puts gap q)
+  pub knows : (q : ℕ) → s.early q → (puts q).key ≡ k → s.lost q ⊎ s.stamped q × ((puts q).version ≤ v → StandsUpTo puts gap q)

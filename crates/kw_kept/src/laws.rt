@@ -1,12 +1,13 @@
 //! The laws of what rows keep.
 //!
 //! Nothing runs here: the functions' clauses are the statements. A contract can quantify over tests of numbers and not over sets, so
-//! each set is given by a test (`On`, `OnEach`); the lemmas behind the clauses take any sets.
+//! each set is given by a test (`On`, `OnEach`), and the sets of a law by one record of tests (`RowTests`, `Tests`); the lemmas behind the
+//! clauses take any sets.
 ghost use Rattle.std.specs.Prelude.{◌≡◌, ◌<◌, ◌≤◌, ◌⊎◌, true, ℕ, Bool, Option};
 ghost use Rattle.kw_kept.specs.Puts.{Put, On, OnEach, AreApart, Greatest, HasGreatest, Shows};
-ghost use Rattle.kw_kept.specs.Kept.{Kept, Stamps, Rebuilds, Replaces};
+ghost use Rattle.kw_kept.specs.Kept.{RowTests, on_rows, Kept, Stamps, Rebuilds, Replaces};
 ghost use Rattle.kw_kept.specs.Needed.{IsNeeded, Moves, IsCovered, IsLate, Passes};
-ghost use Rattle.kw_kept.specs.Readers.{Before, Front, GoesOn, Reads, Knows};
+ghost use Rattle.kw_kept.specs.Readers.{Before, Front, GoesOn, Tests, on_sets, Reads, Knows};
 
 /// A finite set of puts that were given their cells at different events has a greatest for each key and version. Two greatest of
 /// one set are one. What a set shows goes from set to set, through one that has a greatest.
@@ -22,13 +23,12 @@ pub fn greatest_laws()
 /// Rows that have kept what is needed still have after a stamp. At a version that shows the new put its row shows what all stamped
 /// puts show, whatever it had kept before.
 pub fn stamp_laws()
-    ensures own { (puts later : ℕ → Put) (a b : ℕ → ℕ → Bool) (c d : ℕ → Bool) (e f : ℕ → ℕ → Bool)
-        (row o u : ℕ) → Stamps puts later (OnEach a) (OnEach b) (On c) (On d) (OnEach e) (OnEach f)
-        row o → (later o).version ≤ u → Shows later (OnEach b row) (On d) (later o).key u }
-    ensures kept { (puts later : ℕ → Put) (a b : ℕ → ℕ → Bool) (c d : ℕ → Bool) (e f : ℕ → ℕ → Bool)
-        (needed : ℕ → Bool) (row o : ℕ) → Stamps puts later (OnEach a) (OnEach b) (On c) (On d)
-        (OnEach e) (OnEach f) row o → Kept puts (OnEach a) (On c) (OnEach e) (On needed) →
-        Kept later (OnEach b) (On d) (OnEach f) (On needed) }
+    ensures own { (puts later : ℕ → Put) (a b : RowTests) (row o u : ℕ) →
+        Stamps puts later (on_rows a) (on_rows b) row o → (later o).version ≤ u →
+        Shows later (OnEach b.in_row row) (On b.stamped) (later o).key u }
+    ensures kept { (puts later : ℕ → Put) (a b : RowTests) (needed : ℕ → Bool) (row o : ℕ) →
+        Stamps puts later (on_rows a) (on_rows b) row o → Kept puts (on_rows a) (On needed) →
+        Kept later (on_rows b) (On needed) }
 {}
 
 /// A row that was built of another shows what that showed, at each version that is listed or at least every version in it. So rows
@@ -37,11 +37,9 @@ pub fn replace_laws()
     ensures rebuilt { (puts : ℕ → Put) (old new stamped listed : ℕ → Bool) (k u most newest : ℕ) →
         Rebuilds puts (On old) (On new) (On listed) k most newest → most ≤ newest → On listed u
         ⊎ (most ≤ u) → Shows puts (On old) (On stamped) k u → Shows puts (On new) (On stamped) k u }
-    ensures kept { (puts : ℕ → Put) (a b : ℕ → ℕ → Bool) (stamped : ℕ → Bool) (e f : ℕ → ℕ → Bool)
-        (needed listed : ℕ → Bool) (most newest : ℕ) →
-        Replaces puts (OnEach a) (OnEach b) (OnEach e) (OnEach f) (On needed) (On listed) most
-        newest → Kept puts (OnEach a) (On stamped) (OnEach e) (On needed) →
-        Kept puts (OnEach b) (On stamped) (OnEach f) (On needed) }
+    ensures kept { (puts : ℕ → Put) (a b : RowTests) (needed listed : ℕ → Bool) (most newest : ℕ) →
+        Replaces puts (on_rows a) (on_rows b) (On needed) (On listed) most newest →
+        Kept puts (on_rows a) (On needed) → Kept puts (on_rows b) (On needed) }
 {}
 
 /// What is needed was needed before, so rows that have kept what was needed still have. What a rebuild has listed covers what is
@@ -50,10 +48,9 @@ pub fn needed_laws()
     ensures shrinks { (clock later : ℕ) (waits after : ℕ → ℕ) (a b : ℕ → ℕ → Bool) (u : ℕ) →
         Moves clock later waits after (OnEach a) (OnEach b) → IsNeeded later (OnEach b) u →
         IsNeeded clock (OnEach a) u }
-    ensures kept { (puts : ℕ → Put) (a : ℕ → ℕ → Bool) (stamped : ℕ → Bool) (e : ℕ → ℕ → Bool)
-        (before now : ℕ → Bool) → ((u : ℕ) → On now u → On before u) →
-        Kept puts (OnEach a) (On stamped) (OnEach e) (On before) →
-        Kept puts (OnEach a) (On stamped) (OnEach e) (On now) }
+    ensures kept { (puts : ℕ → Put) (a : RowTests) (before now : ℕ → Bool) →
+        ((u : ℕ) → On now u → On before u) → Kept puts (on_rows a) (On before) →
+        Kept puts (on_rows a) (On now) }
     ensures covered { (clock later : ℕ) (waits after : ℕ → ℕ) (a b : ℕ → ℕ → Bool)
         (passed listed : ℕ → Bool) (most : ℕ) → Moves clock later waits after (OnEach a) (OnEach b)
         → most ≤ clock → IsCovered (OnEach a) (On passed) (On listed) most →
@@ -88,7 +85,6 @@ pub fn front_laws()
 /// What a reader of a row knows at its end: it answers what a gap shows, and of the attempts that were announced before it began each
 /// is lost, or stamped and not after that gap.
 pub fn reader_laws()
-    ensures { (puts : ℕ → Put) (row gathered stamped before here early lost : ℕ → Bool) (k v : ℕ)
-        (best : Option ℕ) → Reads puts (On row) (On gathered) (On stamped) (On before) (On here)
-        (On early) (On lost) k v best → Knows puts (On stamped) (On early) (On lost) k v best }
+    ensures { (puts : ℕ → Put) (a : Tests) (k v : ℕ) (best : Option ℕ) →
+        Reads puts (on_sets a) k v best → Knows puts (on_sets a) k v best }
 {}

@@ -3,11 +3,13 @@ use Rattle.std.proofs.Common.{ℕ, suc, ◌≡◌, ◌+◌, ◌*◌, ◌<◌, �
 use Rattle.std.proofs.lemmas.Option.{slice_get_within}
 use Rattle.kw_words.specs.declared.pend.Pend.TheVariants as pend
 use Rattle.kw_words.specs.Pend.{pend_word}
+use Rattle.kw_words.specs.declared.scan.ScanWord.TheVariants.{Waiting}
+use Rattle.kw_words.specs.Scan.{scan_word}
 use Rattle.kw_words.specs.Count.{count_of}
 use Rattle.kw_cells.specs.declared.cell.Cell as kw_cell
 use Rattle.kw_model.specs.declared.call.Call.{Call}
 use Rattle.kw_world.specs.declared.activity.Activity.{Activity}
-use Rattle.kw_world.specs.declared.activity.Activity.TheVariants.{Idle, Look, LookHelp, ListVal, RestVal, PutAdd, Announce, Stamp}
+use Rattle.kw_world.specs.declared.activity.Activity.TheVariants.{Idle, Look, LookHelp, ListVal, RestVal, PutAdd, Announce, Stamp, Freeze, ScanSettle}
 use Rattle.kw_world.specs.declared.local.Local.{Local}
 use Rattle.kw_world.specs.declared.event.Event.{Event}
 use Rattle.kw_world.specs.declared.event.Choice.{Choice}
@@ -25,7 +27,7 @@ use Rattle.kw_core.specs.Noted.{IsWithin, MayNote}
 use Rattle.kw_core.specs.Step.{Keeps}
 use Rattle.kw_core.specs.Appended.{appended}
 use Rattle.kw_reads.specs.Inv.{Inv}
-use Rattle.kw_core.specs.Run.{Run, Origins, change_of, found_by, beginning, helping, noted_by}
+use Rattle.kw_core.specs.Run.{Run, Origins, change_of, found_by, beginning, helping, noted_by, freezing, settled_scan}
 use Rattle.kw_core.specs.declared.seat_log.SeatLog.{SeatLog}
 use Rattle.kw_lists.specs.Rows.{Row}
 use Rattle.kw_cells.proofs.InOrder.{place_in-within}
@@ -36,12 +38,12 @@ use Rattle.kw_reads.proofs.ApartKeeps.{hand_fresh, gather_room}
 use Rattle.kw_core.specs.Stages.{IsTaking}
 use Rattle.kw_core.specs.Recording.{Recording, origin_in}
 use Rattle.kw_core.specs.Remarks.{remark_of, HasRoomFor}
-use Rattle.kw_laws.specs.Recorder.{Records, CanSettle, IsInTable, log_of, happening_at, logged_of, entry_of}
+use Rattle.kw_laws.specs.Recorder.{Records, CanSettle, IsInTable, log_of, happening_at, logged_of, entry_of, draw_of, IsScanBelow}
 use Rattle.kw_core.proofs.Events.{IsBegun}
 use Rattle.kw_core.proofs.Happens.{happens}
 use Rattle.kw_reads.proofs.HistoryKeeps.{may_note}
 use Rattle.kw_core.proofs.Appended.{within_appended}
-use Rattle.kw_laws.proofs.Recorded.{GivesNone, none_of, none_helping, place_within, room_given, prepared, change_recorded}
+use Rattle.kw_laws.proofs.Recorded.{GivesNone, none_of, none_helping, place_within, room_given, prepared, change_recorded, none_freezing, scan_below}
 
 -- a change that may happen names calls and attempts that are there
 within_of : (h : History) (e : Logged) (c : Change) → Keeps h → MayNote h e c → IsWithin h c
@@ -86,6 +88,7 @@ given_below z Idle s choice l found g o rows below = begins choice
 given_below z LookHelp s choice l found g o rows below = none_below z (rows * z.cells) _ (none_of (found == pend_word (pend.Pending l.met)) (helping (o l.row l.met) l.helping g.loaded) Nothing (none_helping (o l.row l.met) l.helping g.loaded) tt)
 given_below z Announce s choice l found g o rows below = none_below z (rows * z.cells) _ (none_of (found == pend_word pend.Idle) (Announces g.own) Nothing tt tt)
 given_below z Stamp s choice l found g o rows below = none_below z (rows * z.cells) _ (none_of (found == pend_word (pend.Pending l.cell)) (Stamps g.own l.version g.loaded) Nothing tt tt)
+given_below z (Freeze i) s choice l found g o rows below = none_below z (rows * z.cells) _ (none_of (found == pend_word l.rebalance.entry) (freezing l.rebalance.entry l.row o) Nothing (none_freezing l.rebalance.entry l.row o) tt)
 given_below z _ s choice l found g o rows below = tt
 
 -- a cell of the table that is given has its attempt at the end of the history
@@ -126,24 +129,29 @@ gathering_room z row RestVal l x k m w = gather_room z row RestVal l None m w (m
 gathering_room z row _ l x k m w = absurd x
 
 -- only the load of a value gathers a cell
-room_for : (z : Sizes) (a : Activity) (choice : Choice) (l : Local) (found : ℕ) (o : Origins) (h : History) (g : SeatLog) → (Gathering a → (length g.ids < z.cells) × (length l.gathered ≡ length g.ids)) → HasRoomFor z.cells (remark_of z a choice l found o h) g
-room_for z ListVal choice l found o h g f = let x = f tt in (x.0, omega (arith, place_in-within (cell_in_hand (value_of_word found) l) l.gathered, x.1))
-room_for z RestVal choice l found o h g f = let x = f tt in (x.0, omega (arith, place_in-within (cell_in_hand (value_of_word found) l) l.gathered, x.1))
-room_for z Idle (Begin call) l found o h g f = tt
-room_for z Idle Go l found o h g f = tt
-room_for z Idle (Guess r) l found o h g f = tt
-room_for z Idle Stop l found o h g f = tt
-room_for z (Look i) choice l found o h g f = met (i == 0) refl
+room_for : (z : Sizes) (a : Activity) (choice : Choice) (l : Local) (found : ℕ) (o : Origins) (h : History) (settled : ℕ) (g : SeatLog) → (Gathering a → (length g.ids < z.cells) × (length l.gathered ≡ length g.ids)) → HasRoomFor z.cells (remark_of z a choice l found o h settled) g
+room_for z ListVal choice l found o h settled g f = let x = f tt in (x.0, omega (arith, place_in-within (cell_in_hand (value_of_word found) l) l.gathered, x.1))
+room_for z RestVal choice l found o h settled g f = let x = f tt in (x.0, omega (arith, place_in-within (cell_in_hand (value_of_word found) l) l.gathered, x.1))
+room_for z Idle (Begin call) l found o h settled g f = tt
+room_for z Idle Go l found o h settled g f = tt
+room_for z Idle (Guess r) l found o h settled g f = tt
+room_for z Idle Stop l found o h settled g f = tt
+room_for z ScanSettle choice l found o h settled g f = met (found == scan_word (Waiting l.waiting)) refl
   where
-    met : (b : Bool) → (i == 0) ≡ b → HasRoomFor z.cells (remark_of z (Look i) choice l found o h) g
+    met : (b : Bool) → (found == scan_word (Waiting l.waiting)) ≡ b → HasRoomFor z.cells (remark_of z ScanSettle choice l found o h settled) g
     met true e = rw e tt
     met false e = rw e tt
-room_for z PutAdd choice l found o h g f = met (has_room z (count_of found)) refl
+room_for z (Look i) choice l found o h settled g f = met (i == 0) refl
   where
-    met : (b : Bool) → has_room z (count_of found) ≡ b → HasRoomFor z.cells (remark_of z PutAdd choice l found o h) g
+    met : (b : Bool) → (i == 0) ≡ b → HasRoomFor z.cells (remark_of z (Look i) choice l found o h settled) g
     met true e = rw e tt
     met false e = rw e tt
-room_for z _ choice l found o h g f = tt
+room_for z PutAdd choice l found o h settled g f = met (has_room z (count_of found)) refl
+  where
+    met : (b : Bool) → has_room z (count_of found) ≡ b → HasRoomFor z.cells (remark_of z PutAdd choice l found o h settled) g
+    met true e = rw e tt
+    met false e = rw e tt
+room_for z _ choice l found o h settled g f = tt
 
 -- All of it.
 
@@ -155,7 +163,8 @@ can_settle z k r e l i inv begins knows moves = record {
   some = omega (arith, length-append k.history.log (at ∷ []));
   within = within_appended k.history at _ (subst (λ (h : History). IsWithin h change) (sym i.history) (subst (IsWithin r.history) (sym (change_recorded z k r e l i inv.shape.sane knows)) (within_of r.history at _ inv.history may)));
   seat = omega (arith, slice_get_within r.world.locals e.seat l knows, i.seats);
-  room = room_for z l.activity (offered r.world.rows e.choice) l (found_by z r.world e l) (origin_in z k.origins) k.history (log_of k e.seat) taken;
+  room = room_for z l.activity (offered r.world.rows e.choice) l (found_by z r.world e l) (origin_in z k.origins) k.history (draw_of k e.seat) (log_of k e.seat) taken;
+  scan = subst (λ (n : ℕ). IsScanBelow n (settled_scan l.activity e.seat l (found_by z r.world e l) (log_of k e.seat))) (sym i.scans) (scan_below z l.activity e.seat l (found_by z r.world e l) (log_of k e.seat) (omega (arith, slice_get_within r.world.locals e.seat l knows, inv.shape.sane.seats)) known.ranges.activity);
   origin = in_table z k at _ (subst (λ (n : ℕ). IsGivenBelow z n change) (sym i.cells) (given_below z l.activity e.seat (offered r.world.rows e.choice) l (found_by z r.world e l) (log_of k e.seat) (origin_in z k.origins) r.world.rows known.below.row));
 }
   where

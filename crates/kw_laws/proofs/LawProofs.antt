@@ -1,11 +1,10 @@
 -- The laws, from what every event keeps.
-use Rattle.std.proofs.Common.{ℕ, zero, suc, ◌≡◌, ◌+◌, ◌<◌, ◌≤◌, true, false, Option, Some, None, List, [], ◌∷◌, get_or, arith, refl, sym, ◌∙◌, subst, slice_get, length}
+use Rattle.std.proofs.Common.{ℕ, zero, suc, ◌≡◌, ◌⊎◌, inl, inr, ◌+◌, ◌<◌, ◌≤◌, true, false, Some, None, List, [], ◌∷◌, get_or, arith, refl, sym, ◌∙◌, subst, slice_get, length}
 use Rattle.std.specs.Prelude.{Contains}
 use Rattle.kw_words.specs.declared.layout.Name.TheVariants as name
-use Rattle.kw_words.specs.declared.pend.Pend.{Pend}
-use Rattle.kw_words.specs.declared.pend.Pend.TheVariants.{Idle, Pending, Stamped, Frozen}
-use Rattle.kw_words.specs.Scan.{scan_of}
-use Rattle.kw_words.proofs.ScanWords.{scan_of-Waiting}
+use Rattle.kw_words.specs.declared.scan.ScanWord.TheVariants.{Waiting, Drawn}
+use Rattle.kw_words.specs.Scan.{scan_of, scan_word}
+use Rattle.kw_words.proofs.ScanWords.{scan_of-Waiting, scan_of-scan_word}
 use Rattle.kw_cells.specs.declared.cell.Cell as kw_cell
 use Rattle.kw_model.specs.Map.{RisesFrom}
 use Rattle.kw_world.specs.declared.activity.Activity.{Activity}
@@ -33,18 +32,19 @@ use Rattle.kw_lists.proofs.Putting.{put_lost}
 use Rattle.kw_lists.proofs.Inserting.{at_next}
 use Rattle.kw_lists.proofs.Walking.{walk_goes_on, walked_most, walked_fewer}
 use Rattle.kw_puts.specs.Lists.{list_in, Inserts, WalksList}
+use Rattle.kw_puts.specs.Positions.{IsHelped}
 use Rattle.kw_puts.proofs.ListWords.{link_is}
 use Rattle.kw_reads.specs.Readers.{IsDue, ReadsList, IsCopyOf, AreCopies}
 use Rattle.kw_reads.proofs.WalksKeep.{has_met}
 use Rattle.kw_reads.specs.Replies.{RisesBelow}
 use Rattle.kw_reads.specs.Inv.{Inv}
-use Rattle.kw_laws.specs.Unfrozen.{HasCellOfOwn, IsUnfrozen}
-use Rattle.kw_laws.specs.Laws.{IsIdleOrFrozen, HasCellOrFrozen, IsWaitingOrDrawn, IsGathered, KeepsLaws}
+use Rattle.kw_laws.specs.Unfrozen.{FreezesNone, IsUnfrozen}
+use Rattle.kw_laws.specs.Laws.{IsWaitingOrDrawn, IsGathered, KeepsLaws}
 use Rattle.kw_core.proofs.Attempts.{in_range}
 use Rattle.kw_reads.proofs.Keeps.{inv_holds}
 use Rattle.kw_shape.proofs.Walking.{past}
-use Rattle.kw_laws.proofs.Unfrozen.{counts_hold, unfrozen}
-use Rattle.kw_core.specs.Stages.{HasDrawn}
+use Rattle.kw_laws.proofs.Unfrozen.{finds_own, finds_idle, unfrozen_holds}
+use Rattle.kw_core.specs.Stages.{HasDrawn, IsPublished}
 use Rattle.kw_reads.specs.Replies.{IsCovered}
 use Rattle.kw_puts.proofs.OwnScans.{covering_draws}
 
@@ -71,17 +71,6 @@ beside h q l (c ∷ cells) (x ∷ ids) p a n = which (λ m. beside h q l cells i
     which : (Contains ids p → (d : kw_cell.Cell) × Contains cells d × IsCopyOf h q l.call d p) → (k : ℕ) → k < length (x ∷ ids) → get_or (x ∷ ids) k p ≡ p → (d : kw_cell.Cell) × Contains (c ∷ cells) d × IsCopyOf h q l.call d p
     which f zero o e = (c, (0, omega arith, refl), subst (IsCopyOf h q l.call c) e a.0)
     which f (suc k) o e = further (f (k, omega (arith, o), e))
-
--- an idle entry, and one with a cell
-idle_or_frozen : (p : Option Pend) → p ≡ Some Idle → IsIdleOrFrozen p
-idle_or_frozen p e = subst IsIdleOrFrozen (sym e) tt
-
-cell_or_frozen : (own : ℕ) (p : Option Pend) → HasCellOfOwn own p → HasCellOrFrozen own p
-cell_or_frozen own (Some Idle) h = h
-cell_or_frozen own (Some (Pending cell)) h = h
-cell_or_frozen own (Some (Stamped cell version)) h = h
-cell_or_frozen own (Some Frozen) h = absurd h
-cell_or_frozen own None h = h
 
 -- a put that has met a cell stands at a link before it
 meets_behind : (z : Sizes) (row : Row) (a : Activity) (l : Local) → IsMeeting a → WalksList z.cells row a l → IsBehind row l.link l.place
@@ -113,7 +102,7 @@ reader_less z row l c s e w =
     omega (arith, walked_most z.cells row (Some c) (l.walked + 1) (walk_goes_on z.cells row l.link l.walked c (s.below c next.listed) next.listed next.behind w))
 
 -- the laws of a run in which all of it holds
-laws_from : (z : Sizes) (r : Run) → Inv z r → IsUnfrozen z r.world → KeepsLaws z r
+laws_from : (z : Sizes) (r : Run) → Inv z r → (FreezesNone z → IsUnfrozen z r.world) → KeepsLaws z r
 laws_from z r i u = record {
   sane = i.shape.sane;
   rows = i.shape.rows;
@@ -135,8 +124,8 @@ laws_from z r i u = record {
   covered = λ t l g s a. let d = i.positions.draws t l g in let x : HasDrawn l.activity = subst HasDrawn (sym a) tt in record { drawn = d.drawn s x; drawn_first = d.drawn_first s x; covers = subst (λ q. IsCovered q r.history l (r.seats t)) a (i.replies.pairs t l g).covered };
   early = λ t l g. (i.replies.pairs t l g).early;
   unfrozen = u;
-  announces = λ t l g a. idle_or_frozen _ (u.announces t l g a);
-  stamps = λ t l g a. cell_or_frozen l.cell _ (u.stamps t l g a);
+  announces = finds_idle z r i;
+  stamps = λ t l g a. finds_own z r i t l g (subst IsPublished (sym a) tt);
   settles = settles;
   meets = λ t l g m. meets_behind z _ l.activity l m (i.lists.walks t l g);
   walked = λ t l g a. walked_less z _ l ((i.lists.own t l g).unlisted (subst IsUnlisted (sym a) tt)) (i.shape.sane.locals t l g).ranges.cell (subst (λ q. WalksList z.cells (list_in (word z r.world) r.listed l.row) q l) a (i.lists.walks t l g));
@@ -155,9 +144,11 @@ laws_from z r i u = record {
     above q u t f e = above_least (rows_in (word z r.world)) r.ledger.rows i.shape.rows.closed q u (held_by r.ledger.rows t q f) e
 
     settles : (t : ℕ) (l : Local) → slice_get r.world.locals t ≡ Some l → l.activity ≡ ScanSettle → IsWaitingOrDrawn l.waiting (scan_of (word z r.world (name.Scan t)))
-    settles t l g a =
-        let w = (i.shape.sane.locals t l g).ranges.waiting in
-        rw ((i.positions.draws t l g).waits (subst IsWaiting (sym a) tt), scan_of-Waiting l.waiting w.0 w.1) refl
+    settles t l g a = which ((i.positions.draws t l g).waits (subst IsWaiting (sym a) tt))
+      where
+        which : (word z r.world (name.Scan t) ≡ scan_word (Waiting l.waiting)) ⊎ IsHelped (word z r.world) r.history t (r.ledger.waits t) (r.settled t) → IsWaitingOrDrawn l.waiting (scan_of (word z r.world (name.Scan t)))
+        which (inl e) = let w = (i.shape.sane.locals t l g).ranges.waiting in rw (e, scan_of-Waiting l.waiting w.0 w.1) refl
+        which (inr n) = rw (n.word, scan_of-scan_word (Drawn n.version) n.range) tt
 
     seen : (t : ℕ) (l : Local) → slice_get r.world.locals t ≡ Some l → IsKeeping l.activity → (q : ℕ) → (r.seats t).read ≡ Some q → (p : ℕ) → IsDue r.history q l.call (r.seats t).looked p → IsGathered r q l p
     seen t l g y q e p d =
@@ -169,4 +160,4 @@ laws_from z r i u = record {
 pub laws_hold : (z : Sizes) (o : Opening) → IsOpening z o → (es : List Event) → is_valid z o es ≡ true → KeepsLaws z (history z o es)
 laws_hold z o i es v =
     let all = inv_holds z o i es v in
-    laws_from z (history z o es) all (unfrozen z (history z o es) all (counts_hold z o i es v))
+    laws_from z (history z o es) all (λ n. unfrozen_holds z n o i es v)

@@ -13,6 +13,7 @@ pub mod MirrorSeats
 pub mod MirrorAttempts
 pub mod MirrorCalls
 pub mod MirrorStamps
+pub mod MirrorScans
 pub mod MirrorReads
 pub mod MirrorKeeps
 pub mod SeatLists

@@ -34,5 +34,5 @@ lives z o i es v t l g a = record {
         let r = history z o es in
         let e = history-world z o es in
         let at = (s.walks t l (subst (λ w. slice_get w.locals t ≡ Some l) (sym e) g)).at a in
-        let live = still_live (word z r.world) r.ledger.rows l.row (s.still l.row) (fresh_linked r.ledger.rows t l.row at.fresh) in
+        let live = still_live r.ledger.rows l.row (s.still l.row) (fresh_linked r.ledger.rows t l.row at.fresh) in
         subst (λ w. IsMet (word z w) l.row) e (live_met (word z r.world) r.ledger.rows s.rows.chain l.row live)

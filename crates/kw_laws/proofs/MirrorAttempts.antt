@@ -30,7 +30,7 @@ use Rattle.kw_reads.proofs.Relying.{goes_on_by}
 use Rattle.kw_core.proofs.Steps.{old_call, none_some}
 use Rattle.kw_reads.proofs.HistoryKeeps.{history_step}
 use Rattle.kw_puts.proofs.NewAttempts.{IsNew, attempt_was}
-use Rattle.kw_laws.proofs.Over.{AttemptOver, stays, is_announced, is_stamped, is_helped, attempt_over, CallOver, goes_on, is_ended, call_over}
+use Rattle.kw_laws.proofs.Over.{AttemptOver, stays, is_announced, is_stamped, is_helped, attempt_over, CallOver, goes_on, is_ended, call_over, is_lost}
 use Rattle.kw_laws.proofs.Occurs.{acts_lasts, takes_lasts, stamped_lasts, no_load_lasts}
 use Rattle.kw_laws.proofs.Mirroring.{Kept, acts_here}
 
@@ -62,6 +62,7 @@ module _ (z : Sizes) (o : Opening) (es : List Event) (e : Event) (r r' : Run) (l
       subst AnnouncedSo (sym f) (λ x. rw (row, cell, seat) (acts_here z o es e r r' l l' a h k Announce (announcing l.row e.seat l.cell) _ is refl idle))
   announced_so p w (is_stamped is own pending f) = subst AnnouncedSo (sym f) (λ x. acts_lasts z o es e _ _ Announce _ _ ((k.mirrors.attempts p w).announced x))
   announced_so p w (is_helped is origin pending f) = subst AnnouncedSo (sym f) (λ x. acts_lasts z o es e _ _ Announce _ _ ((k.mirrors.attempts p w).announced x))
+  announced_so p w (is_lost j c is entry origin pending f) = subst AnnouncedSo (sym f) (λ x. acts_lasts z o es e _ _ Announce _ _ ((k.mirrors.attempts p w).announced x))
 
   -- what a stamp says, of an attempt with the same row, seat, cell and stamp
   restamped : (q p : Attempt) → StampedAt z o (es ++ e ∷ []) q → p.row ≡ q.row → p.seat ≡ q.seat → p.cell ≡ q.cell → p.version ≡ q.version → p.load ≡ q.load → p.at ≡ q.at → StampedAt z o (es ++ e ∷ []) p
@@ -71,6 +72,7 @@ module _ (z : Sizes) (o : Opening) (es : List Event) (e : Event) (r r' : Run) (l
   stamped_so : (p : ℕ) → p < length r.history.attempts → AttemptOver (word z r.world) r.history r'.history e.seat l (r.seats e.seat) r.origin a p → StampedSo (attempt r'.history p)
   stamped_so p w (stays f) = subst StampedSo (sym f) (λ x. stamped_lasts z o es e _ ((k.mirrors.attempts p w).stamped x))
   stamped_so p w (is_announced is own idle f) = subst StampedSo (sym f) (λ x. restamped _ _ (stamped_lasts z o es e _ ((k.mirrors.attempts p w).stamped x)) refl refl refl refl refl refl)
+  stamped_so p w (is_lost j c is entry origin pending f) = subst StampedSo (sym f) (λ x. restamped _ _ (stamped_lasts z o es e _ ((k.mirrors.attempts p w).stamped x)) refl refl refl refl refl refl)
   stamped_so p w (is_stamped is own pending f) =
       let q = own_here (subst IsPutting (sym is) tt) in
       let row : (attempt r.history p).row ≡ l.row = ap (λ x. (attempt r.history x).row) own ∙ q.row in

@@ -1,5 +1,5 @@
--- That the record says of draws and answers what the events say, kept along a list: beside the mirror, of each seat whose scan has drawn
--- or settled where it did, and of each busy seat where it read the cells that it has gathered.
+-- That the record says of draws and answers what the events say, kept along a list: beside the mirror, where each scan drew and settled, and
+-- of each busy seat where it read the cells that it has gathered.
 use Rattle.std.proofs.Common.{ℕ, ◌≡◌, ◌⊎◌, inl, inr, ◌<◌, ◌==◌, Bool, true, false, Option, Some, None, List, [], ◌∷◌, ◌++◌, arith, refl, sym, ◌∙◌, ap, subst, length, slice_get, if◌then◌else◌, unwrap_or, Contains}
 use Rattle.std.specs.Prelude.{insert}
 use Rattle.kw_core.proofs.Marks.{contains_back}
@@ -41,7 +41,8 @@ use Rattle.kw_core.proofs.Happens.{Happens, each_seat}
 use Rattle.kw_shape.specs.Shape.{IsKind, IsAnswerOf}
 use Rattle.kw_puts.specs.Puts.{HasCell}
 use Rattle.kw_puts.specs.Positions.{Calling}
-use Rattle.kw_puts.proofs.OwnScans.{drawn_from, not_idle_drawn, draws_no_more, drawn_underway, settling_no_draw, settling_waits, was_scan, drawn_kept, settle, has_drawn}
+use Rattle.kw_core.proofs.SeatLogs.{settled_same}
+use Rattle.kw_puts.proofs.OwnScans.{drawn_from, not_idle_drawn, draws_no_more, drawn_underway, settling_waits, was_scan, drawn_kept, settle, has_drawn}
 use Rattle.kw_puts.proofs.Rely.{GoesOn}
 use Rattle.kw_reads.specs.Inv.{Inv, lower}
 use Rattle.kw_reads.specs.Readers.{IsInHand}
@@ -50,6 +51,7 @@ use Rattle.kw_reads.proofs.Relying.{goes_on_by}
 use Rattle.kw_laws.specs.Mirror.{Acts, operation}
 use Rattle.kw_laws.specs.MirrorReads.{HasSettled, IsLoadingValue, HasRead, MirrorsReads, settling}
 use Rattle.kw_laws.proofs.Mirroring.{Kept, acts_here}
+use Rattle.kw_laws.proofs.MirrorScans.{KeptScans, settled_lasts, scans_keep, scans_start}
 use Rattle.kw_laws.proofs.Occurs.{occurs_within, acts_lasts}
 use Rattle.kw_laws.proofs.Over.{CallOver, goes_on, is_ended, IsCallNow, call_over, call_was}
 use Rattle.std.proofs.Common.{suc}
@@ -57,7 +59,8 @@ use Rattle.kw_core.specs.Words.{Words}
 use Rattle.kw_core.specs.Step.{Step}
 use Rattle.kw_core.specs.Run.{start}
 use Rattle.kw_core.specs.Stages.{IsWaiting}
-use Rattle.kw_core.proofs.Arrows.{Arrow, begins, leaves}
+use Rattle.kw_core.proofs.Building.{never_built}
+use Rattle.kw_core.proofs.Arrows.{builds, Arrow, begins, leaves}
 use Rattle.kw_core.proofs.Happens.{found_at, log_entry}
 use Rattle.kw_puts.proofs.OwnScans.{call_first}
 use Rattle.kw_puts.proofs.Rely.{SameAttempt}
@@ -68,27 +71,14 @@ use Rattle.kw_core.specs.declared.history.End.{End}
 use Rattle.kw_core.specs.HistoryLaws.{HistoryLaws, Got, shows, answer_of}
 use Rattle.kw_laws.specs.MirrorReads.{AnswersFrom, GetsRead}
 
--- the draws and the answers of the record; of a scan that is to settle the draw, of one that has settled both; and of a busy seat the
--- loads of the values that it has gathered
+-- the draws and the answers of the record; the draws and the settles of the scans; and of a busy seat the loads of the values that it has
+-- gathered
 pub record KeptReads (z : Sizes) (o : Opening) (es : List Event) (r : Run) : Type 0 where
   pub mirrors : MirrorsReads z o es r.history
-  pub drawing : (t : ℕ) (l : Local) → slice_get r.world.locals t ≡ Some l → IsSettling l.activity → Acts z o es (r.seats t).drawn t ScanDraw (operation kind.Draw name.Clock (Add 1)) l.drawn
-  pub settled : (t : ℕ) (l : Local) → slice_get r.world.locals t ≡ Some l → is_scan l.call ≡ true → HasDrawn l.activity → HasSettled z o es t (r.seats t).drawn l.version
+  pub scans : KeptScans z o es r
   pub reads : (t : ℕ) (l : Local) → slice_get r.world.locals t ≡ Some l → IsBusy l.activity → (p : ℕ) → Contains (r.seats t).ids p → HasRead z o es r.history t (called r.history (r.seats t).call).first (length es) p
 
 -- What lasts.
-
-settled_lasts : (z : Sizes) (o : Opening) (es : List Event) (e : Event) (s at version : ℕ) → HasSettled z o es s at version → HasSettled z o (es ++ e ∷ []) s at version
-settled_lasts z o es e s at version t = record {
-  drew = t.drew;
-  draws = acts_lasts z o es e at s _ _ _ t.draws;
-  settle = t.settle;
-  after = t.after;
-  clock = t.clock;
-  found = t.found;
-  settles = acts_lasts z o es e t.settle s _ _ _ t.settles;
-  entry = t.entry;
-}
 
 read_lasts : (z : Sizes) (o : Opening) (es : List Event) (e : Event) (h h' : History) (og og' : Origins) (s first last till p : ℕ) → last ≤ till → GoesOn h h' og og' → HasRead z o es h s first last p → HasRead z o (es ++ e ∷ []) h' s first till p
 read_lasts z o es e h h' og og' s first last till p w g t =
@@ -139,9 +129,9 @@ left ids false x y p q = q
 
 -- what an event leaves of them: none where a call begins or a row is looked at anew, all of them, or one more, at its place, where the
 -- value of a cell is loaded
-module _ (z : Sizes) (choice : Choice) (l : Local) (found : ℕ) (next : Activity) (g : SeatLog) (o : Origins) (h : History) where
+module _ (z : Sizes) (choice : Choice) (l : Local) (found : ℕ) (next : Activity) (g : SeatLog) (o : Origins) (h : History) (settled : ℕ) where
   abbrev after : Activity → SeatLog
-  after a = seat_after z a choice l found next g o h
+  after a = seat_after z a choice l found next g o h settled
 
   abbrev Ids : Activity → Type 0
   Ids a = ((after a).ids ≡ []) ⊎ (IsBusy a × ((after a).ids ≡ g.ids)) ⊎ IsLoadingValue a × ((after a).ids ≡ insert g.ids (place_gathered l found) (unwrap_or (o l.row l.place) 0))
@@ -149,7 +139,7 @@ module _ (z : Sizes) (choice : Choice) (l : Local) (found : ℕ) (next : Activit
   ids_after : (a : Activity) → is_skipped a choice ≡ false → Ids a
   ids_after Idle m = begun choice m
     where
-      begun : (c : Choice) → is_skipped Idle c ≡ false → ((seat_after z Idle c l found next g o h).ids ≡ []) ⊎ (⊥ × ((seat_after z Idle c l found next g o h).ids ≡ g.ids)) ⊎ ⊥ × ((seat_after z Idle c l found next g o h).ids ≡ insert g.ids (place_gathered l found) (unwrap_or (o l.row l.place) 0))
+      begun : (c : Choice) → is_skipped Idle c ≡ false → ((seat_after z Idle c l found next g o h settled).ids ≡ []) ⊎ (⊥ × ((seat_after z Idle c l found next g o h settled).ids ≡ g.ids)) ⊎ ⊥ × ((seat_after z Idle c l found next g o h settled).ids ≡ insert g.ids (place_gathered l found) (unwrap_or (o l.row l.place) 0))
       begun (Begin call) n = inl refl
       begun Go n = let x : true ≡ false = n in absurd (cc)
       begun (Guess q) n = let x : true ≡ false = n in absurd (cc)
@@ -164,19 +154,16 @@ module _ (z : Sizes) (choice : Choice) (l : Local) (found : ℕ) (next : Activit
   ids_after ListVal m = inr (inr (tt, refl))
   ids_after RestKey m = inr (inl (tt, left g.ids (is_at_cell next) g (record g { read = Some l.row }) refl refl))
   ids_after RestVal m = let k = log_gathered (o l.row l.place) (place_gathered l found) g in inr (inr (tt, left k.ids (is_at_cell next) k (record k { read = Some l.row }) refl refl))
+  ids_after ScanSettle m = inr (inl (tt, settled_same (λ (q : SeatLog). q.ids) l.waiting found settled g refl))
   ids_after PutAdd m = inr (inl (tt, left g.ids (has_room z (count_of found)) (record g { own = length h.attempts }) g refl refl))
   ids_after _ m = inr (inl (tt, refl))
 
 -- a seat that makes a call before and after its event is in it
 stays_busy : (z : Sizes) (v : Words) (s : ℕ) (choice : Choice) (l : Local) (a : Activity) (k : Local) → Arrow z v s choice l a k → IsBusy a → IsBusy k.activity → IsUnderway a
+stays_busy z v s choice l a k (builds act next y o t) b c = never_built z act y o
 stays_busy z v s choice l a k (begins call e m) b c = absurd b
 stays_busy z v s choice l a k (leaves answer) b c = absurd c
 stays_busy z v s choice l a k _ b c = tt
-
--- the activity of a scan that settles
-settling_is : (a : Activity) → IsSettling a → a ≡ ScanSettle
-settling_is ScanSettle x = refl
-settling_is _ x = absurd x
 
 -- pairs are the answer of a scan
 pairs_of_scan : (c : Option Call) → IsAnswerOf c Pairs → is_scan c ≡ true
@@ -215,51 +202,6 @@ module _ (z : Sizes) (o : Opening) (es : List Event) (e : Event) (r r' : Run) (l
   -- the list is longer
   longer : length es ≤ length (es ++ e ∷ [])
   longer = omega (arith, length-append es (e ∷ []))
-
-  -- The draw of a scan.
-
-  drawing_own : IsSettling l'.activity → Acts z o (es ++ e ∷ []) (r'.seats e.seat).drawn e.seat ScanDraw (operation kind.Draw name.Clock (Add 1)) l'.drawn
-  drawing_own x =
-      let d = has_drawn z r r' e.seat (offered r.world.rows e.choice) l a l' h.arrow h (lower i) step x in
-      rw (d.2, d.1) (acts_here z o es e r r' l l' a h k ScanDraw (operation kind.Draw name.Clock (Add 1)) (word z r.world name.Clock) d.0 refl refl)
-
-  pub drawing_keeps : (t : ℕ) (m : Local) → slice_get r'.world.locals t ≡ Some m → IsSettling m.activity → Acts z o (es ++ e ∷ []) (r'.seats t).drawn t ScanDraw (operation kind.Draw name.Clock (Add 1)) m.drawn
-  drawing_keeps = each_seat h (λ t m. IsSettling m.activity → Acts z o (es ++ e ∷ []) (r'.seats t).drawn t ScanDraw (operation kind.Draw name.Clock (Add 1)) m.drawn) drawing_own
-      (λ t m d g x. rw (h.logs t d) (acts_lasts z o es e (r.seats t).drawn t _ _ _ (n.drawing t m g x)))
-
-  -- Its settle.
-
-  settled_own : is_scan l'.call ≡ true → HasDrawn l'.activity → HasSettled z o (es ++ e ∷ []) e.seat (r'.seats e.seat).drawn l'.version
-  settled_own f x = which (drawn_from z (word z r.world) e.seat (offered r.world.rows e.choice) l a l' h.arrow f x)
-    where
-      u : IsUnderway a
-      u = drawn_underway z (word z r.world) e.seat (offered r.world.rows e.choice) l a l' h.arrow x
-
-      was : is_scan l.call ≡ true
-      was = was_scan z r r' e.seat (offered r.world.rows e.choice) l a l' h.arrow h (lower i) step u f
-
-      which : HasDrawn a ⊎ IsSettling a → HasSettled z o (es ++ e ∷ []) e.seat (r'.seats e.seat).drawn l'.version
-      which (inl y) =
-          rw (drawn_kept z r r' e.seat (offered r.world.rows e.choice) l a l' h.arrow h (lower i) step (draws_no_more a y), not_idle_drawn z (word z r.world) e.seat (offered r.world.rows e.choice) l a l' h.arrow y x)
-          (settled_lasts z o es e e.seat _ _ (n.settled e.seat l h.knows was (subst HasDrawn (sym h.activity) y)))
-      which (inr y) =
-          let drew = n.drawing e.seat l h.knows (subst IsSettling (sym h.activity) y) in
-          let waits = (i.positions.draws e.seat l h.knows).waits (subst IsWaiting (sym h.activity) (settling_waits a y)) in
-          let v = settle z r r' e.seat (offered r.world.rows e.choice) l a l' h.arrow h (lower i) step y in
-          rw (drawn_kept z r r' e.seat (offered r.world.rows e.choice) l a l' h.arrow h (lower i) step (settling_no_draw a y), v.0) (record {
-            drew = l.drawn;
-            draws = acts_lasts z o es e (r.seats e.seat).drawn e.seat _ _ _ drew;
-            settle = length r.history.log;
-            after = omega (arith, occurs_within z o es (r.seats e.seat).drawn drew.before _ drew.occurs, k.mirrors.events);
-            clock = l.waiting;
-            found = scan_word (Waiting l.waiting);
-            settles = acts_here z o es e r r' l l' a h k ScanSettle (settling e.seat l.waiting l.drawn) (scan_word (Waiting l.waiting)) (settling_is a y) refl waits;
-            entry = inl (refl, refl);
-          })
-
-  pub settled_keeps : (t : ℕ) (m : Local) → slice_get r'.world.locals t ≡ Some m → is_scan m.call ≡ true → HasDrawn m.activity → HasSettled z o (es ++ e ∷ []) t (r'.seats t).drawn m.version
-  settled_keeps = each_seat h (λ t m. is_scan m.call ≡ true → HasDrawn m.activity → HasSettled z o (es ++ e ∷ []) t (r'.seats t).drawn m.version) settled_own
-      (λ t m d g f x. rw (h.logs t d) (settled_lasts z o es e t _ _ (n.settled t m g f x)))
 
   -- The loads of values.
 
@@ -301,16 +243,16 @@ module _ (z : Sizes) (o : Opening) (es : List Event) (e : Event) (r r' : Run) (l
       calling = i.positions.calling e.seat l h.knows (subst IsBusy (sym h.activity) (loading_calls a is).0)
 
   reads_own : IsBusy l'.activity → (p : ℕ) → Contains (r'.seats e.seat).ids p → HasRead z o (es ++ e ∷ []) r'.history e.seat (called r'.history (r'.seats e.seat).call).first (length (es ++ e ∷ [])) p
-  reads_own b p c = which (ids_after z (offered r.world.rows e.choice) l (found_at z (word z r.world) a e.seat (offered r.world.rows e.choice) l) l'.activity (r.seats e.seat) r.origin r.history a h.moves)
+  reads_own b p c = which (ids_after z (offered r.world.rows e.choice) l (found_at z (word z r.world) a e.seat (offered r.world.rows e.choice) l) l'.activity (r.seats e.seat) r.origin r.history (r.settled e.seat) a h.moves)
     where
-      has : Contains (seat_after z a (offered r.world.rows e.choice) l (found_at z (word z r.world) a e.seat (offered r.world.rows e.choice) l) l'.activity (r.seats e.seat) r.origin r.history).ids p
+      has : Contains (seat_after z a (offered r.world.rows e.choice) l (found_at z (word z r.world) a e.seat (offered r.world.rows e.choice) l) l'.activity (r.seats e.seat) r.origin r.history (r.settled e.seat)).ids p
       has = subst (λ (g : SeatLog). Contains g.ids p) h.log c
 
       cases : IsLoadingValue a → (unwrap_or (r.origin l.row l.place) 0 ≡ p) ⊎ Contains (r.seats e.seat).ids p → HasRead z o (es ++ e ∷ []) r'.history e.seat (called r'.history (r'.seats e.seat).call).first (length (es ++ e ∷ [])) p
       cases is (inr x) = read_before (loading_calls a is).1 (loading_calls a is).0 p x
       cases is (inl x) = read_now is p x
 
-      which : Ids z (offered r.world.rows e.choice) l (found_at z (word z r.world) a e.seat (offered r.world.rows e.choice) l) l'.activity (r.seats e.seat) r.origin r.history a → HasRead z o (es ++ e ∷ []) r'.history e.seat (called r'.history (r'.seats e.seat).call).first (length (es ++ e ∷ [])) p
+      which : Ids z (offered r.world.rows e.choice) l (found_at z (word z r.world) a e.seat (offered r.world.rows e.choice) l) l'.activity (r.seats e.seat) r.origin r.history (r.settled e.seat) a → HasRead z o (es ++ e ∷ []) r'.history e.seat (called r'.history (r'.seats e.seat).call).first (length (es ++ e ∷ [])) p
       which (inl f) = let x = subst (λ ids. Contains ids p) f has in absurd (omega (arith, x.1))
       which (inr (inl f)) = read_before (stays_busy z (word z r.world) e.seat (offered r.world.rows e.choice) l a l' h.arrow f.0 b) f.0 p (subst (λ ids. Contains ids p) f.1 has)
       which (inr (inr f)) = cases f.0 (contains_back (r.seats e.seat).ids _ (unwrap_or (r.origin l.row l.place) 0) p (subst (λ ids. Contains ids p) f.1 has))
@@ -338,7 +280,7 @@ module _ (z : Sizes) (o : Opening) (es : List Event) (e : Event) (r r' : Run) (l
   drew_at_end Pairs d is g =
       let kind : IsAnswerOf l.call Pairs = subst (λ q. IsKind q l) (h.activity ∙ is) (i.shape.kinds e.seat l h.knows).kind in
       subst (λ (q : history.Drawn). HasSettled z o (es ++ e ∷ []) e.seat q.at q.version) (same_Some _ d g)
-      (settled_lasts z o es e e.seat _ _ (n.settled e.seat l h.knows (pairs_of_scan l.call kind) (subst HasDrawn (sym (h.activity ∙ is)) tt)))
+      (settled_lasts z o es e e.seat _ _ (n.scans.settled e.seat l h.knows (pairs_of_scan l.call kind) (subst HasDrawn (sym (h.activity ∙ is)) tt)))
   drew_at_end Done d is g = let x : None ≡ Some d = g in absurd (cc)
   drew_at_end (Value v) d is g = let x : None ≡ Some d = g in absurd (cc)
   drew_at_end Absent d is g = let x : None ≡ Some d = g in absurd (cc)
@@ -378,14 +320,13 @@ module _ (z : Sizes) (o : Opening) (es : List Event) (e : Event) (r r' : Run) (l
   -- All of it.
 
   pub kept_reads : KeptReads z o (es ++ e ∷ []) r'
-  kept_reads = record { mirrors = record { draws = draws_keep; answers = answers_keep }; drawing = drawing_keeps; settled = settled_keeps; reads = reads_keep }
+  kept_reads = record { mirrors = record { draws = draws_keep; answers = answers_keep }; scans = scans_keep z o es e r r' l l' a h i k n.scans; reads = reads_keep }
 
 -- no event
 pub reads_start : (z : Sizes) (o : Opening) → KeptReads z o [] (start z o)
 reads_start z o = record {
   mirrors = record { draws = λ x d w. absurd (omega (arith, w)); answers = λ x p d w. absurd (omega (arith, w)) };
-  drawing = λ t l g u. absurd (subst (λ (m : Local). IsSettling m.activity) (all_resting o.seats t l g) u);
-  settled = λ t l g f u. absurd (subst (λ (m : Local). HasDrawn m.activity) (all_resting o.seats t l g) u);
+  scans = scans_start z o;
   reads = λ t l g u. absurd (subst (λ (m : Local). IsBusy m.activity) (all_resting o.seats t l g) u);
 }
 

@@ -8,7 +8,7 @@ use Rattle.kw_words.specs.declared.layout.Name.TheVariants as name
 use Rattle.kw_model.specs.declared.call.Call.{Call}
 use Rattle.kw_world.specs.Answers.{reply_of}
 use Rattle.kw_world.specs.declared.activity.Activity.{Activity}
-use Rattle.kw_world.specs.declared.activity.Activity.TheVariants.{Idle, ScanClock, Start, Walk, Look, LookClock, ListFrom, ListKey, RestKey, RestVal, PutAdd, PutClock, Leave, BalClock, SeekFirst, Before}
+use Rattle.kw_world.specs.declared.activity.Activity.TheVariants.{Idle, ScanClock, Start, Walk, Look, LookClock, ListFrom, ListKey, RestKey, RestVal, PutAdd, PutClock, Leave, BalClock, SeekFirst, Before, ScanSettle}
 use Rattle.kw_world.specs.declared.local.Local.{Local}
 use Rattle.kw_world.specs.declared.event.Choice.{Choice}
 use Rattle.kw_world.specs.declared.event.Choice.TheVariants.{Begin, Go, Guess, Stop}
@@ -32,11 +32,12 @@ use Rattle.kw_core.specs.Words.{Words}
 use Rattle.kw_laws.specs.Mirror.{Occurs, Acts, NoLoad, operation, is_begun, begins_by, begun_from, begun}
 use Rattle.kw_core.proofs.Happens.{Happens, each_seat, found_at, knows_next, knows_other}
 use Rattle.kw_core.proofs.Changes.{made}
-use Rattle.kw_core.proofs.Arrows.{Arrow, NextLook, looks, lists, NextRest, rests, answers, ends_scan, scans_on}
+use Rattle.kw_core.proofs.Building.{never_built}
+use Rattle.kw_core.proofs.Arrows.{builds, Arrow, NextLook, looks, lists, NextRest, rests, answers, ends_scan, scans_on}
 use Rattle.kw_core.proofs.Arrows.{begins, loads_to_help, loads_clock, meets_stamped, meets_neither, is_passed, helps, finds_stamped, finds_other, list_ends, key_above, rest_passed, gathers_rest, leaves}
 use Rattle.kw_shape.proofs.NextCalls.{cell_call}
 use Rattle.kw_core.proofs.Steps.{none_some}
-use Rattle.kw_core.proofs.SeatLogs.{either, call_kept}
+use Rattle.kw_core.proofs.SeatLogs.{either, call_kept, settled_same}
 use Rattle.kw_laws.proofs.Occurs.{acts_lasts, occurs_was}
 use Rattle.kw_laws.proofs.Over.{CallOver, goes_on, is_ended, call_over, IsCallNow, call_was}
 use Rattle.kw_laws.proofs.Mirroring.{Kept, acts_here, kind_here, ended_here}
@@ -72,6 +73,7 @@ begun_offered _ rows choice = refl
 
 -- a seat counts the calls that it begins
 arrow_counts : (z : Sizes) (v : Words) (s : ℕ) (choice : Choice) (l : Local) (a : Activity) (k : Local) → Arrow z v s choice l a k → k.number ≡ l.number + (if is_begun a choice then 1 else 0)
+arrow_counts z v s choice l a k (builds b next y o t) = never_built z b y o
 arrow_counts z v s choice l a k (begins call e b) = rw e refl
 arrow_counts z v s choice l a k (list_ends next e n) = let x = cell_call _ _ n in omega (arith, x.1)
 arrow_counts z v s choice l a k (key_above next e n) = let x = cell_call _ _ n in omega (arith, x.1)
@@ -97,6 +99,7 @@ next_look_busy z j next (lists w) = tt
 
 -- a seat that does not leave is in a call afterwards
 pub arrow_busy : (z : Sizes) (v : Words) (s : ℕ) (choice : Choice) (l : Local) (a : Activity) (k : Local) → Arrow z v s choice l a k → IsStaying a → IsBusy k.activity
+arrow_busy z v s choice l a k (builds b next y o t) u = never_built z b y o
 arrow_busy z v s choice l a k (leaves answer) u = absurd u
 arrow_busy z v s choice l a k (meets_stamped i c version next e n) u = next_look_busy z _ next n
 arrow_busy z v s choice l a k (meets_neither i next e n) u = next_look_busy z _ next n
@@ -128,6 +131,7 @@ rest_stamp l k (scans_on q w e f g) (inr x) = absurd x
 
 -- a seat that is to stamp has just loaded its version
 arrow_stamp : (z : Sizes) (v : Words) (s : ℕ) (choice : Choice) (l : Local) (a : Activity) (k : Local) → Arrow z v s choice l a k → IsStamp k.activity → (a ≡ PutClock) × (k.version ≡ v name.Clock)
+arrow_stamp z v s choice l a k (builds b next y o t) u = never_built z b y o
 arrow_stamp z v s choice l a k loads_clock u = (refl, refl)
 arrow_stamp z v s choice l a k (meets_stamped i c version next e n) u = look_stamp z _ next n (inl u)
 arrow_stamp z v s choice l a k (meets_neither i next e n) u = look_stamp z _ next n (inl u)
@@ -143,6 +147,7 @@ arrow_stamp z v s choice l a k _ u = absurd u
 
 -- so has a seat that is to help
 arrow_help : (z : Sizes) (v : Words) (s : ℕ) (choice : Choice) (l : Local) (a : Activity) (k : Local) → Arrow z v s choice l a k → IsHelp k.activity → (a ≡ LookClock) × (k.helping ≡ v name.Clock)
+arrow_help z v s choice l a k (builds b next y o t) u = never_built z b y o
 arrow_help z v s choice l a k loads_to_help u = (refl, refl)
 arrow_help z v s choice l a k (meets_stamped i c version next e n) u = look_stamp z _ next n (inr u)
 arrow_help z v s choice l a k (meets_neither i next e n) u = look_stamp z _ next n (inr u)
@@ -159,42 +164,43 @@ arrow_help z v s choice l a k _ u = absurd u
 -- Where a seat loaded the clock last.
 
 -- the event loads no clock and leaves this, or it is set to now
-abbrev LoadedOver : Sizes → ℕ → Choice → Local → ℕ → Activity → SeatLog → Origins → History → Activity → Type 0
-LoadedOver z s choice l found next g o h a = ((seat_after z a choice l found next g o h).loaded ≡ g.loaded) × ((transition z a s choice l).operation.kind ≢ kind.LoadClock) ⊎ ((seat_after z a choice l found next g o h).loaded ≡ length h.log)
+abbrev LoadedOver : Sizes → ℕ → Choice → Local → ℕ → Activity → SeatLog → Origins → History → ℕ → Activity → Type 0
+LoadedOver z s choice l found next g o h settled a = ((seat_after z a choice l found next g o h settled).loaded ≡ g.loaded) × ((transition z a s choice l).operation.kind ≢ kind.LoadClock) ⊎ ((seat_after z a choice l found next g o h settled).loaded ≡ length h.log)
 
-loaded_over : (z : Sizes) (s : ℕ) (choice : Choice) (l : Local) (found : ℕ) (next : Activity) (g : SeatLog) (o : Origins) (h : History) (a : Activity) → IsReached a → LoadedOver z s choice l found next g o h a
-loaded_over z s choice l found next g o h Idle w = inl (begun choice, λ e. cc)
+loaded_over : (z : Sizes) (s : ℕ) (choice : Choice) (l : Local) (found : ℕ) (next : Activity) (g : SeatLog) (o : Origins) (h : History) (settled : ℕ) (a : Activity) → IsReached z a → LoadedOver z s choice l found next g o h settled a
+loaded_over z s choice l found next g o h settled Idle w = inl (begun choice, λ e. cc)
   where
     begun : (c : Choice) → (log_begun c (length h.calls) g).loaded ≡ g.loaded
     begun (Begin call) = refl
     begun Go = refl
     begun (Guess q) = refl
     begun Stop = refl
-loaded_over z s choice l found next g o h ScanClock w = inr refl
-loaded_over z s choice l found next g o h LookClock w = inr refl
-loaded_over z s choice l found next g o h PutClock w = inr refl
-loaded_over z s choice l found next g o h Start w = inl (refl, starts choice)
+loaded_over z s choice l found next g o h settled ScanClock w = inr refl
+loaded_over z s choice l found next g o h settled LookClock w = inr refl
+loaded_over z s choice l found next g o h settled PutClock w = inr refl
+loaded_over z s choice l found next g o h settled Start w = inl (refl, starts choice)
   where
     starts : (c : Choice) → (start_transition c l).operation.kind ≢ kind.LoadClock
     starts (Begin call) e = cc
     starts Go e = cc
     starts (Guess q) e = cc
     starts Stop e = cc
-loaded_over z s choice l found next g o h Walk w = inl (refl, walks (is_stopped choice l))
+loaded_over z s choice l found next g o h settled Walk w = inl (refl, walks (is_stopped choice l))
   where
     walks : (b : Bool) → (walk_transition b s l).operation.kind ≢ kind.LoadClock
     walks true e = cc
     walks false e = cc
-loaded_over z s choice l found next g o h (Look i) w = inl (either (λ (q : SeatLog). q.loaded) (i == 0) (record g { looked = length h.log; ids = []; read = None }) g g.loaded refl refl, λ e. cc)
-loaded_over z s choice l found next g o h ListFrom w = inl (either (λ (q : SeatLog). q.loaded) (is_at_cell next) g (record g { read = Some l.row }) g.loaded refl refl, λ e. cc)
-loaded_over z s choice l found next g o h ListKey w = inl (either (λ (q : SeatLog). q.loaded) (is_at_cell next) g (record g { read = Some l.row }) g.loaded refl refl, λ e. cc)
-loaded_over z s choice l found next g o h RestKey w = inl (either (λ (q : SeatLog). q.loaded) (is_at_cell next) g (record g { read = Some l.row }) g.loaded refl refl, λ e. cc)
-loaded_over z s choice l found next g o h RestVal w = let k = log_gathered (o l.row l.place) (place_gathered l found) g in inl (either (λ (q : SeatLog). q.loaded) (is_at_cell next) k (record k { read = Some l.row }) g.loaded refl refl, λ e. cc)
-loaded_over z s choice l found next g o h PutAdd w = inl (either (λ (q : SeatLog). q.loaded) (has_room z (count_of found)) (record g { own = length h.attempts }) g g.loaded refl refl, λ e. cc)
-loaded_over z s choice l found next g o h BalClock w = absurd w
-loaded_over z s choice l found next g o h SeekFirst w = absurd w
-loaded_over z s choice l found next g o h Before w = absurd w
-loaded_over z s choice l found next g o h a w = inl (refl, λ e. cc)
+loaded_over z s choice l found next g o h settled (Look i) w = inl (either (λ (q : SeatLog). q.loaded) (i == 0) (record g { looked = length h.log; ids = []; read = None }) g g.loaded refl refl, λ e. cc)
+loaded_over z s choice l found next g o h settled ListFrom w = inl (either (λ (q : SeatLog). q.loaded) (is_at_cell next) g (record g { read = Some l.row }) g.loaded refl refl, λ e. cc)
+loaded_over z s choice l found next g o h settled ListKey w = inl (either (λ (q : SeatLog). q.loaded) (is_at_cell next) g (record g { read = Some l.row }) g.loaded refl refl, λ e. cc)
+loaded_over z s choice l found next g o h settled RestKey w = inl (either (λ (q : SeatLog). q.loaded) (is_at_cell next) g (record g { read = Some l.row }) g.loaded refl refl, λ e. cc)
+loaded_over z s choice l found next g o h settled RestVal w = let k = log_gathered (o l.row l.place) (place_gathered l found) g in inl (either (λ (q : SeatLog). q.loaded) (is_at_cell next) k (record k { read = Some l.row }) g.loaded refl refl, λ e. cc)
+loaded_over z s choice l found next g o h settled PutAdd w = inl (either (λ (q : SeatLog). q.loaded) (has_room z (count_of found)) (record g { own = length h.attempts }) g g.loaded refl refl, λ e. cc)
+loaded_over z s choice l found next g o h settled ScanSettle w = inl (settled_same (λ (q : SeatLog). q.loaded) l.waiting found settled g refl, λ e. cc)
+loaded_over z s choice l found next g o h settled BalClock w = inr refl
+loaded_over z s choice l found next g o h settled SeekFirst w = absurd w
+loaded_over z s choice l found next g o h settled Before w = absurd w
+loaded_over z s choice l found next g o h settled a w = inl (refl, λ e. cc)
 
 -- One more event.
 
@@ -230,9 +236,9 @@ module _ (z : Sizes) (o : Opening) (es : List Event) (e : Event) (r r' : Run) (l
 
   -- the acting seat's last load
   loads_own : NoLoad z o (es ++ e ∷ []) e.seat (r'.seats e.seat).loaded (length (es ++ e ∷ []))
-  loads_own u w choice f g t c = which (loaded_over z e.seat (offered r.world.rows e.choice) l (found_at z (word z r.world) a e.seat (offered r.world.rows e.choice) l) l'.activity (r.seats e.seat) r.origin r.history a h.reached)
+  loads_own u w choice f g t c = which (loaded_over z e.seat (offered r.world.rows e.choice) l (found_at z (word z r.world) a e.seat (offered r.world.rows e.choice) l) l'.activity (r.seats e.seat) r.origin r.history (r.settled e.seat) a h.reached)
     where
-      which : LoadedOver z e.seat (offered r.world.rows e.choice) l (found_at z (word z r.world) a e.seat (offered r.world.rows e.choice) l) l'.activity (r.seats e.seat) r.origin r.history a → ⊥
+      which : LoadedOver z e.seat (offered r.world.rows e.choice) l (found_at z (word z r.world) a e.seat (offered r.world.rows e.choice) l) l'.activity (r.seats e.seat) r.origin r.history (r.settled e.seat) a → ⊥
       which (inl x) = was (occurs_was z o es e u w (event e.seat choice) t)
         where
           same : (r'.seats e.seat).loaded ≡ (r.seats e.seat).loaded
@@ -262,7 +268,7 @@ module _ (z : Sizes) (o : Opening) (es : List Event) (e : Event) (r r' : Run) (l
   stamp_own : IsStamp l'.activity → Acts z o (es ++ e ∷ []) (r'.seats e.seat).loaded e.seat PutClock (operation kind.LoadClock name.Clock Load) l'.version
   stamp_own u =
       let x = arrow_stamp z (word z r.world) e.seat (offered r.world.rows e.choice) l a l' h.arrow u in
-      let y : (r'.seats e.seat).loaded ≡ length r.history.log = ap (λ (q : SeatLog). q.loaded) (subst (λ b. r'.seats e.seat ≡ seat_after z b (offered r.world.rows e.choice) l (found_at z (word z r.world) a e.seat (offered r.world.rows e.choice) l) l'.activity (r.seats e.seat) r.origin r.history) x.0 h.log) in
+      let y : (r'.seats e.seat).loaded ≡ length r.history.log = ap (λ (q : SeatLog). q.loaded) (subst (λ b. r'.seats e.seat ≡ seat_after z b (offered r.world.rows e.choice) l (found_at z (word z r.world) a e.seat (offered r.world.rows e.choice) l) l'.activity (r.seats e.seat) r.origin r.history (r.settled e.seat)) x.0 h.log) in
       subst (λ q. Acts z o (es ++ e ∷ []) q e.seat PutClock (operation kind.LoadClock name.Clock Load) l'.version) (sym y)
       (acts_here z o es e r r' l l' a h k PutClock _ l'.version x.0 refl (sym x.1))
 
@@ -274,7 +280,7 @@ module _ (z : Sizes) (o : Opening) (es : List Event) (e : Event) (r r' : Run) (l
   help_own : IsHelp l'.activity → Acts z o (es ++ e ∷ []) (r'.seats e.seat).loaded e.seat LookClock (operation kind.LoadClock name.Clock Load) l'.helping
   help_own u =
       let x = arrow_help z (word z r.world) e.seat (offered r.world.rows e.choice) l a l' h.arrow u in
-      let y : (r'.seats e.seat).loaded ≡ length r.history.log = ap (λ (q : SeatLog). q.loaded) (subst (λ b. r'.seats e.seat ≡ seat_after z b (offered r.world.rows e.choice) l (found_at z (word z r.world) a e.seat (offered r.world.rows e.choice) l) l'.activity (r.seats e.seat) r.origin r.history) x.0 h.log) in
+      let y : (r'.seats e.seat).loaded ≡ length r.history.log = ap (λ (q : SeatLog). q.loaded) (subst (λ b. r'.seats e.seat ≡ seat_after z b (offered r.world.rows e.choice) l (found_at z (word z r.world) a e.seat (offered r.world.rows e.choice) l) l'.activity (r.seats e.seat) r.origin r.history (r.settled e.seat)) x.0 h.log) in
       subst (λ q. Acts z o (es ++ e ∷ []) q e.seat LookClock (operation kind.LoadClock name.Clock Load) l'.helping) (sym y)
       (acts_here z o es e r r' l l' a h k LookClock _ l'.helping x.0 refl (sym x.1))
 
@@ -313,7 +319,7 @@ module _ (z : Sizes) (o : Opening) (es : List Event) (e : Event) (r r' : Run) (l
               let y = k.running x e.seat l v (sym c.end ∙ n) (sym c.seat ∙ s ∙ i) h.knows in
               let u = stays x v n y.0 y.1 in
               own x (arrow_busy z (word z r.world) e.seat (offered r.world.rows e.choice) l a l' h.arrow u.1)
-              (ap (λ (q : SeatLog). q.call) h.log ∙ call_kept z (offered r.world.rows e.choice) l (found_at z (word z r.world) a e.seat (offered r.world.rows e.choice) l) l'.activity (r.seats e.seat) r.origin r.history a u.0 ∙ y.1) i
+              (ap (λ (q : SeatLog). q.call) h.log ∙ call_kept z (offered r.world.rows e.choice) l (found_at z (word z r.world) a e.seat (offered r.world.rows e.choice) l) l'.activity (r.seats e.seat) r.origin r.history (r.settled e.seat) a u.0 ∙ y.1) i
           which (inr d) =
               let y = k.running x t m v (sym c.end ∙ n) (sym c.seat ∙ s) (sym (knows_other h t d) ∙ g) in
               (y.0, ap (λ (q : SeatLog). q.call) (h.logs t d) ∙ y.1)
@@ -321,7 +327,7 @@ module _ (z : Sizes) (o : Opening) (es : List Event) (e : Event) (r r' : Run) (l
       -- a call that begins
       begun_now : IsCallNow r.history r'.history e.seat (offered r.world.rows e.choice) l a x → IsBusy m.activity × ((r'.seats t).call ≡ x)
       begun_now y =
-          let f = subst (λ b. r'.seats e.seat ≡ seat_after z b (offered r.world.rows e.choice) l (found_at z (word z r.world) a e.seat (offered r.world.rows e.choice) l) l'.activity (r.seats e.seat) r.origin r.history) y.idle h.log in
+          let f = subst (λ b. r'.seats e.seat ≡ seat_after z b (offered r.world.rows e.choice) l (found_at z (word z r.world) a e.seat (offered r.world.rows e.choice) l) l'.activity (r.seats e.seat) r.origin r.history (r.settled e.seat)) y.idle h.log in
           let c = subst (λ b. r'.seats e.seat ≡ log_begun b (length r.history.calls) (r.seats e.seat)) y.begins f in
           own x (arrow_busy z (word z r.world) e.seat (offered r.world.rows e.choice) l a l' h.arrow (subst IsStaying (sym y.idle) tt)) (ap (λ (q : SeatLog). q.call) c ∙ sym y.place) (sym s ∙ ap (λ (q : CallLog). q.seat) y.is)
 

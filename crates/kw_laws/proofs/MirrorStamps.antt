@@ -48,69 +48,80 @@ same_exchange p w q u e = cc
 pending_apart : (c : ℕ) → pend_word pend.Idle ≡ pend_word (pend.Pending c) → ⊥
 pending_apart c e = omega (arith, e)
 
--- only a put that stamps its cell, or a reader that helps, exchanges a pending entry
-stamp_line : (z : Sizes) (v : Words) (s : ℕ) (choice : Choice) (l : Local) (a : Activity) (q t c w : ℕ) → IsReached a → (transition z a s choice l).operation.name ≡ name.Pend q t → (transition z a s choice l).operation.action ≡ Exchange (pend_word (pend.Pending c)) w → v (name.Pend q t) ≡ pend_word (pend.Pending c) →
-    (a ≡ Stamp) × (v (name.Pend l.row s) ≡ pend_word (pend.Pending l.cell)) ⊎ (a ≡ LookHelp) × (v (name.Pend l.row l.looked) ≡ pend_word (pend.Pending l.met))
-stamp_line z v s choice l Stamp q t c w k n x f = inl (refl, ap v n ∙ f ∙ sym (same_exchange _ _ _ _ x))
-stamp_line z v s choice l LookHelp q t c w k n x f = inr (refl, ap v n ∙ f ∙ sym (same_exchange _ _ _ _ x))
-stamp_line z v s choice l Announce q t c w k n x f = absurd (pending_apart c (same_exchange _ _ _ _ x))
-stamp_line z v s choice l ScanSettle q t c w k n x f = let y : name.Scan s ≡ name.Pend q t = n in absurd (cc)
-stamp_line z v s choice l Start q t c w k n x f = absurd (starts choice x)
-  where
-    starts : (d : Choice) → (start_transition d l).operation.action ≡ Exchange (pend_word (pend.Pending c)) w → ⊥
-    starts (Begin call) y = cc
-    starts Go y = cc
-    starts (Guess u) y = cc
-    starts Stop y = cc
-stamp_line z v s choice l Walk q t c w k n x f = absurd (walks (is_stopped choice l) x)
-  where
-    walks : (b : Bool) → (walk_transition b s l).operation.action ≡ Exchange (pend_word (pend.Pending c)) w → ⊥
-    walks true y = cc
-    walks false y = cc
-stamp_line z v s choice l Insert q t c w k n x f = no_link l.row l.link (name.Pend q t) refl (ap Some n)
-stamp_line z v s choice l (BalNormal seat) q t c w k n x f = absurd k
-stamp_line z v s choice l Engage q t c w k n x f = absurd k
-stamp_line z v s choice l (Decide count) q t c w k n x f = absurd k
-stamp_line z v s choice l (Freeze i) q t c w k n x f = absurd k
-stamp_line z v s choice l (HelpSettle i) q t c w k n x f = absurd k
-stamp_line z v s choice l TakeRow q t c w k n x f = absurd k
-stamp_line z v s choice l SeekFirst q t c w k n x f = absurd k
-stamp_line z v s choice l Before q t c w k n x f = absurd k
-stamp_line z v s choice l Replace q t c w k n x f = absurd k
-stamp_line z v s choice l Normalise q t c w k n x f = absurd k
-stamp_line z v s choice l a q t c w k n x f = absurd (cc)
+-- nor is a frozen one a pending or a stamped one
+frozen_apart : (c : ℕ) → pend_word pend.Frozen ≡ pend_word (pend.Pending c) → ⊥
+frozen_apart c e = omega (arith, e)
 
--- only a put that announces its cell exchanges an idle entry
-announce_line : (z : Sizes) (v : Words) (s : ℕ) (choice : Choice) (l : Local) (a : Activity) (q t w : ℕ) → IsReached a → (transition z a s choice l).operation.name ≡ name.Pend q t → (transition z a s choice l).operation.action ≡ Exchange (pend_word pend.Idle) w → v (name.Pend q t) ≡ pend_word pend.Idle →
-    (a ≡ Announce) × (v (name.Pend l.row s) ≡ pend_word pend.Idle)
-announce_line z v s choice l Announce q t w k n x f = (refl, ap v n ∙ f)
-announce_line z v s choice l Stamp q t w k n x f = absurd (pending_apart l.cell (sym (same_exchange _ _ _ _ x)))
-announce_line z v s choice l LookHelp q t w k n x f = absurd (pending_apart l.met (sym (same_exchange _ _ _ _ x)))
-announce_line z v s choice l ScanSettle q t w k n x f = let y : name.Scan s ≡ name.Pend q t = n in absurd (cc)
-announce_line z v s choice l Start q t w k n x f = absurd (starts choice x)
+stamped_apart : (c version : ℕ) → pend_word pend.Frozen ≡ pend_word (pend.Stamped c version) → ⊥
+stamped_apart c version e = omega (arith, e)
+
+-- what an exchange stores
+same_stored : (p w q u : ℕ) → Exchange p w ≡ Exchange q u → w ≡ u
+same_stored p w q u e = cc
+
+-- only a put that stamps its cell, or a reader that helps, exchanges a pending entry for a stamped one
+stamp_line : (z : Sizes) (v : Words) (s : ℕ) (choice : Choice) (l : Local) (a : Activity) (q t c version : ℕ) → IsReached z a → (transition z a s choice l).operation.name ≡ name.Pend q t → (transition z a s choice l).operation.action ≡ Exchange (pend_word (pend.Pending c)) (pend_word (pend.Stamped c version)) → v (name.Pend q t) ≡ pend_word (pend.Pending c) →
+    (a ≡ Stamp) × (v (name.Pend l.row s) ≡ pend_word (pend.Pending l.cell)) ⊎ (a ≡ LookHelp) × (v (name.Pend l.row l.looked) ≡ pend_word (pend.Pending l.met))
+stamp_line z v s choice l Stamp q t c u k n x f = inl (refl, ap v n ∙ f ∙ sym (same_exchange _ _ _ _ x))
+stamp_line z v s choice l LookHelp q t c u k n x f = inr (refl, ap v n ∙ f ∙ sym (same_exchange _ _ _ _ x))
+stamp_line z v s choice l Announce q t c u k n x f = absurd (pending_apart c (same_exchange _ _ _ _ x))
+stamp_line z v s choice l ScanSettle q t c u k n x f = let y : name.Scan s ≡ name.Pend q t = n in absurd (cc)
+stamp_line z v s choice l Start q t c u k n x f = absurd (starts choice x)
   where
-    starts : (d : Choice) → (start_transition d l).operation.action ≡ Exchange (pend_word pend.Idle) w → ⊥
+    starts : (d : Choice) → (start_transition d l).operation.action ≡ Exchange (pend_word (pend.Pending c)) (pend_word (pend.Stamped c u)) → ⊥
+    starts (Begin call) y = cc
+    starts Go y = cc
+    starts (Guess d) y = cc
+    starts Stop y = cc
+stamp_line z v s choice l Walk q t c u k n x f = absurd (walks (is_stopped choice l) x)
+  where
+    walks : (b : Bool) → (walk_transition b s l).operation.action ≡ Exchange (pend_word (pend.Pending c)) (pend_word (pend.Stamped c u)) → ⊥
+    walks true y = cc
+    walks false y = cc
+stamp_line z v s choice l Insert q t c u k n x f = no_link l.row l.link (name.Pend q t) refl (ap Some n)
+stamp_line z v s choice l (BalNormal seat) q t c u k n x f = let y : name.State l.row ≡ name.Pend q t = n in absurd (cc)
+stamp_line z v s choice l Engage q t c u k n x f = let y : name.State l.row ≡ name.Pend q t = n in absurd (cc)
+stamp_line z v s choice l (Decide count) q t c u k n x f = let y : name.State l.row ≡ name.Pend q t = n in absurd (cc)
+stamp_line z v s choice l (Freeze i) q t c u k n x f = absurd (stamped_apart c u (same_stored _ _ _ _ x))
+stamp_line z v s choice l (HelpSettle i) q t c u k n x f = let y : name.Scan i ≡ name.Pend q t = n in absurd (cc)
+stamp_line z v s choice l TakeRow q t c u k n x f = absurd k
+stamp_line z v s choice l SeekFirst q t c u k n x f = absurd k
+stamp_line z v s choice l Before q t c u k n x f = absurd k
+stamp_line z v s choice l Replace q t c u k n x f = absurd k
+stamp_line z v s choice l Normalise q t c u k n x f = absurd k
+stamp_line z v s choice l a q t c u k n x f = absurd (cc)
+
+-- only a put that announces its cell exchanges an idle entry for a pending one
+announce_line : (z : Sizes) (v : Words) (s : ℕ) (choice : Choice) (l : Local) (a : Activity) (q t c : ℕ) → IsReached z a → (transition z a s choice l).operation.name ≡ name.Pend q t → (transition z a s choice l).operation.action ≡ Exchange (pend_word pend.Idle) (pend_word (pend.Pending c)) → v (name.Pend q t) ≡ pend_word pend.Idle →
+    (a ≡ Announce) × (v (name.Pend l.row s) ≡ pend_word pend.Idle)
+announce_line z v s choice l Announce q t c k n x f = (refl, ap v n ∙ f)
+announce_line z v s choice l Stamp q t c k n x f = absurd (pending_apart l.cell (sym (same_exchange _ _ _ _ x)))
+announce_line z v s choice l LookHelp q t c k n x f = absurd (pending_apart l.met (sym (same_exchange _ _ _ _ x)))
+announce_line z v s choice l ScanSettle q t c k n x f = let y : name.Scan s ≡ name.Pend q t = n in absurd (cc)
+announce_line z v s choice l Start q t c k n x f = absurd (starts choice x)
+  where
+    starts : (d : Choice) → (start_transition d l).operation.action ≡ Exchange (pend_word pend.Idle) (pend_word (pend.Pending c)) → ⊥
     starts (Begin call) y = cc
     starts Go y = cc
     starts (Guess u) y = cc
     starts Stop y = cc
-announce_line z v s choice l Walk q t w k n x f = absurd (walks (is_stopped choice l) x)
+announce_line z v s choice l Walk q t c k n x f = absurd (walks (is_stopped choice l) x)
   where
-    walks : (b : Bool) → (walk_transition b s l).operation.action ≡ Exchange (pend_word pend.Idle) w → ⊥
+    walks : (b : Bool) → (walk_transition b s l).operation.action ≡ Exchange (pend_word pend.Idle) (pend_word (pend.Pending c)) → ⊥
     walks true y = cc
     walks false y = cc
-announce_line z v s choice l Insert q t w k n x f = no_link l.row l.link (name.Pend q t) refl (ap Some n)
-announce_line z v s choice l (BalNormal seat) q t w k n x f = absurd k
-announce_line z v s choice l Engage q t w k n x f = absurd k
-announce_line z v s choice l (Decide count) q t w k n x f = absurd k
-announce_line z v s choice l (Freeze i) q t w k n x f = absurd k
-announce_line z v s choice l (HelpSettle i) q t w k n x f = absurd k
-announce_line z v s choice l TakeRow q t w k n x f = absurd k
-announce_line z v s choice l SeekFirst q t w k n x f = absurd k
-announce_line z v s choice l Before q t w k n x f = absurd k
-announce_line z v s choice l Replace q t w k n x f = absurd k
-announce_line z v s choice l Normalise q t w k n x f = absurd k
-announce_line z v s choice l a q t w k n x f = absurd (cc)
+announce_line z v s choice l Insert q t c k n x f = no_link l.row l.link (name.Pend q t) refl (ap Some n)
+announce_line z v s choice l (BalNormal seat) q t c k n x f = let y : name.State l.row ≡ name.Pend q t = n in absurd (cc)
+announce_line z v s choice l Engage q t c k n x f = let y : name.State l.row ≡ name.Pend q t = n in absurd (cc)
+announce_line z v s choice l (Decide count) q t c k n x f = let y : name.State l.row ≡ name.Pend q t = n in absurd (cc)
+announce_line z v s choice l (Freeze i) q t c k n x f = absurd (frozen_apart c (same_stored _ _ _ _ x))
+announce_line z v s choice l (HelpSettle i) q t c k n x f = let y : name.Scan i ≡ name.Pend q t = n in absurd (cc)
+announce_line z v s choice l TakeRow q t c k n x f = absurd k
+announce_line z v s choice l SeekFirst q t c k n x f = absurd k
+announce_line z v s choice l Before q t c k n x f = absurd k
+announce_line z v s choice l Replace q t c k n x f = absurd k
+announce_line z v s choice l Normalise q t c k n x f = absurd k
+announce_line z v s choice l a q t c k n x f = absurd (cc)
 
 -- One more event.
 

@@ -9,7 +9,7 @@ use Rattle.kw_model.specs.declared.call.Call.{Call}
 use Rattle.kw_world.specs.declared.answer.Answer.{Answer}
 use Rattle.kw_world.specs.Answers.{reply_of}
 use Rattle.kw_world.specs.declared.activity.Activity.{Activity}
-use Rattle.kw_world.specs.declared.activity.Activity.TheVariants.{Idle, LookHelp, Announce, Stamp, Leave}
+use Rattle.kw_world.specs.declared.activity.Activity.TheVariants.{Idle, LookHelp, Announce, Stamp, Leave, Freeze}
 use Rattle.kw_world.specs.declared.local.Local.{Local}
 use Rattle.kw_world.specs.declared.event.Choice.{Choice}
 use Rattle.kw_world.specs.declared.event.Choice.TheVariants.{Begin}
@@ -21,16 +21,17 @@ use Rattle.kw_core.specs.declared.history.Logged.{Logged}
 use Rattle.kw_core.specs.declared.history.Attempt.{Attempt}
 use Rattle.kw_core.specs.declared.history.CallLog.{CallLog}
 use Rattle.kw_core.specs.declared.history.Change.{Change}
-use Rattle.kw_core.specs.declared.history.Change.TheVariants.{Nothing, Begins, Adds, Announces, Stamps, Ends}
+use Rattle.kw_core.specs.declared.history.Change.TheVariants.{Nothing, Begins, Adds, Announces, Stamps, Ends, Loses}
 use Rattle.kw_core.specs.Noted.{noted}
 use Rattle.kw_core.specs.declared.seat_log.SeatLog.{SeatLog}
 use Rattle.kw_core.specs.Run.{Origins, answering, drawing}
 use Rattle.kw_core.specs.Words.{Words}
 use Rattle.kw_core.proofs.NotedLaws.{attempt_set_same, called_set_same, called_set_other, called_push_old, called_push_new, called_same}
 use Rattle.kw_puts.proofs.RelyEntry.{attempt_left}
-use Rattle.kw_core.proofs.Changes.{Makes, makes_nothing, makes_begin, makes_add, makes_announce, makes_stamp, makes_help, makes_end}
+use Rattle.kw_core.proofs.Changes.{Makes, makes_nothing, makes_begin, makes_add, makes_announce, makes_stamp, makes_help, makes_end, makes_lose}
 
--- an attempt over an event of seat s: it is as it was; or it is the seat's own and is announced or stamped; or it is helped
+-- an attempt over an event of seat s: it is as it was; or it is the seat's own and is announced or stamped; or it is helped; or the
+-- seat freezes its entry, and it is lost
 pub data AttemptOver (v : Words) (h h' : History) (s : ℕ) (l : Local) (g : SeatLog) (o : Origins) (a : Activity) (p : ℕ) : Type 0 where
   stays : attempt h' p ≡ attempt h p → AttemptOver v h h' s l g o a p
   is_announced : a ≡ Announce → p ≡ g.own → v (name.Pend l.row s) ≡ pend_word pend.Idle →
@@ -39,6 +40,8 @@ pub data AttemptOver (v : Words) (h h' : History) (s : ℕ) (l : Local) (g : Sea
       attempt h' p ≡ record (attempt h p) { is_stamped = true; version = l.version; load = g.loaded; at = length h.log } → AttemptOver v h h' s l g o a p
   is_helped : a ≡ LookHelp → o l.row l.met ≡ Some p → v (name.Pend l.row l.looked) ≡ pend_word (pend.Pending l.met) →
       attempt h' p ≡ record (attempt h p) { is_stamped = true; version = l.helping; load = g.loaded; at = length h.log } → AttemptOver v h h' s l g o a p
+  is_lost : (i c : ℕ) → a ≡ Freeze i → l.rebalance.entry ≡ pend.Pending c → o l.row c ≡ Some p → v (name.Pend l.row i) ≡ pend_word (pend.Pending c) →
+      attempt h' p ≡ record (attempt h p) { is_lost = true } → AttemptOver v h h' s l g o a p
 
 -- the new attempt of a set list
 set_now : (h h' : History) (p q : ℕ) (a : Attempt) → h'.attempts ≡ set h.attempts q a → p ≡ q → p < length h.attempts → attempt h' p ≡ a
@@ -63,6 +66,11 @@ attempt_over h h' e z v s choice l g o a c (makes_help q m k) n p w = which (cas
     which : (p ≡ q) ⊎ (p ≡ q → ⊥) → AttemptOver v h h' s l g o LookHelp p
     which (inl i) = is_helped refl (k ∙ ap Some (sym i)) m (set_now h h' p q _ (ap (λ (x : History). x.attempts) n) i w ∙ ap (λ x. record (attempt h x) { is_stamped = true; version = l.helping; load = g.loaded; at = length h.log }) (sym i))
     which (inr d) = stays (attempt_left h h' e p (Stamps q l.helping g.loaded) d n w)
+attempt_over h h' e z v s choice l g o a c (makes_lose j cell q y m k) n p w = which (cases_eq p q)
+  where
+    which : (p ≡ q) ⊎ (p ≡ q → ⊥) → AttemptOver v h h' s l g o (Freeze j) p
+    which (inl i) = is_lost j cell refl y (k ∙ ap Some (sym i)) m (set_now h h' p q _ (ap (λ (x : History). x.attempts) n) i w ∙ ap (λ x. record (attempt h x) { is_lost = true }) (sym i))
+    which (inr d) = stays (attempt_left h h' e p (Loses q) d n w)
 attempt_over h h' e z v s choice l g o a c (makes_end answer) n p w = stays (attempt_left h h' e p (Ends g.call (reply_of answer l.pairs) (answering l.call l g) (drawing answer l g)) tt n w)
 
 -- all of a call but its put is as it was
@@ -102,6 +110,7 @@ call_over h h' e z v s choice l g o a c (makes_add m) n x w = goes_on (same_log 
 call_over h h' e z v s choice l g o a c (makes_announce m) n x w = goes_on (same_log _ _ (called_same h h' x (ap (λ (y : History). y.calls) n)))
 call_over h h' e z v s choice l g o a c (makes_stamp m) n x w = goes_on (with_put h h' x _ _ (ap (λ (y : History). y.calls) n) w)
 call_over h h' e z v s choice l g o a c (makes_help q m k) n x w = goes_on (with_put h h' x _ _ (ap (λ (y : History). y.calls) n) w)
+call_over h h' e z v s choice l g o a c (makes_lose j cell q y m k) n x w = goes_on (same_log _ _ (called_same h h' x (ap (λ (y : History). y.calls) n)))
 call_over h h' e z v s choice l g o a c (makes_end answer) n x w = which (cases_eq x g.call)
   where
     which : (x ≡ g.call) ⊎ (x ≡ g.call → ⊥) → CallOver h h' l g (Leave answer) x
@@ -134,4 +143,5 @@ call_was h h' e z v s choice l g o a c (makes_add m) n x w = inl (omega (arith, 
 call_was h h' e z v s choice l g o a c (makes_announce m) n x w = inl (omega (arith, w, ap (λ (y : History). length y.calls) n))
 call_was h h' e z v s choice l g o a c (makes_stamp m) n x w = inl (omega (arith, w, ap (λ (y : History). length y.calls) n, length-set {A = CallLog}))
 call_was h h' e z v s choice l g o a c (makes_help q m k) n x w = inl (omega (arith, w, ap (λ (y : History). length y.calls) n, length-set {A = CallLog}))
+call_was h h' e z v s choice l g o a c (makes_lose j cell q y m k) n x w = inl (omega (arith, w, ap (λ (y : History). length y.calls) n))
 call_was h h' e z v s choice l g o a c (makes_end answer) n x w = inl (omega (arith, w, ap (λ (y : History). length y.calls) n, length-set {A = CallLog}))

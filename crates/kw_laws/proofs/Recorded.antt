@@ -6,11 +6,14 @@ use Rattle.std.proofs.lemmas.Bool.{cases_eq}
 use borrow.Author.Tests.{ltb-true}
 use Rattle.std.proofs.lemmas.Option.{slice_get_within, same_Some}
 use Rattle.kw_words.specs.declared.count.Count.{Count}
+use Rattle.kw_words.specs.declared.pend.Pend.{Pend}
 use Rattle.kw_words.specs.declared.pend.Pend.TheVariants as pend
 use Rattle.kw_words.specs.Pend.{pend_word}
+use Rattle.kw_words.specs.declared.scan.ScanWord.TheVariants.{Waiting}
+use Rattle.kw_words.specs.Scan.{scan_word}
 use Rattle.kw_words.specs.Count.{count_of}
 use Rattle.kw_world.specs.declared.activity.Activity.{Activity}
-use Rattle.kw_world.specs.declared.activity.Activity.TheVariants.{Idle, Look, LookHelp, ListVal, RestVal, PutAdd, Announce, Stamp}
+use Rattle.kw_world.specs.declared.activity.Activity.TheVariants.{Idle, Look, LookHelp, ListVal, RestVal, PutAdd, Announce, Stamp, Freeze, WriteVersion, ScanSettle, HelpSettle}
 use Rattle.kw_world.specs.declared.local.Local.{Local}
 use Rattle.kw_world.specs.declared.event.Event.{Event}
 use Rattle.kw_world.specs.declared.event.Choice.{Choice}
@@ -18,7 +21,7 @@ use Rattle.kw_world.specs.declared.event.Choice.TheVariants.{Begin, Go, Guess, S
 use Rattle.kw_world.specs.Sizes.{Sizes}
 use Rattle.kw_world.specs.PutTransitions.{has_room, given_of}
 use Rattle.kw_world.specs.WalkTransitions.{offered}
-use Rattle.kw_world.specs.Sane.{IsSane, IsKnown}
+use Rattle.kw_world.specs.Sane.{IsSane, IsKnown, IsEntry, IsActivity}
 use Rattle.kw_world.specs.Step.{followed, transition_at, is_skipped, step, Stepped, stepped, moved_of}
 use Rattle.kw_world.specs.declared.event.StepDone.{StepDone}
 use Rattle.kw_world.specs.WorldView.{WorldView}
@@ -31,45 +34,60 @@ use Rattle.kw_core.specs.declared.history.Change.{Change}
 use Rattle.kw_core.specs.declared.history.Change.TheVariants.{Nothing, Begins, Adds, Announces, Loses, Stamps, Ends}
 use Rattle.kw_core.specs.Noted.{noted}
 use Rattle.kw_core.specs.Appended.{appended}
-use Rattle.kw_core.specs.Run.{Run, Origins, change_of, seat_after, origins_after, with_seat, with_origin, found_by, beginning, helping, noted_by, no_log, goes_on}
+use Rattle.kw_core.specs.Stages.{IsReached}
+use Rattle.kw_core.specs.Run.{Run, Origins, change_of, seat_after, origins_after, with_seat, with_origin, found_by, beginning, helping, noted_by, no_log, goes_on, freezing, losing, settled_scan, with_settled}
+use Rattle.kw_core.specs.declared.change.Settled.{Settled}
 use Rattle.kw_core.specs.declared.seat_log.SeatLog.{SeatLog}
 use Rattle.kw_core.specs.Recording.{Recording, origin_in}
 use Rattle.kw_core.specs.Remarks.{remark_of, remarked}
-use Rattle.kw_laws.specs.Recorder.{Records, log_of, happening_at, logged_of, entry_of, origins_with, settled_by}
+use Rattle.kw_laws.specs.Recorder.{Records, log_of, happening_at, logged_of, entry_of, origins_with, settled_by, draw_of, draws_with, IsScanBelow}
 use Rattle.kw_core.proofs.Appended.{settled_noted}
 
 -- The log of the seat.
 
 -- a remark made before the event is what the event adds to the log
-remarked_after : (z : Sizes) (a : Activity) (choice : Choice) (l : Local) (found : ℕ) (next : Activity) (g : SeatLog) (o : Origins) (h : History) → remarked (remark_of z a choice l found o h) next g ≡ seat_after z a choice l found next g o h
-remarked_after z Idle (Begin call) l found next g o h = refl
-remarked_after z Idle Go l found next g o h = refl
-remarked_after z Idle (Guess r) l found next g o h = refl
-remarked_after z Idle Stop l found next g o h = refl
-remarked_after z (Look i) choice l found next g o h = met (i == 0) refl
+remarked_after : (z : Sizes) (a : Activity) (choice : Choice) (l : Local) (found : ℕ) (next : Activity) (g : SeatLog) (o : Origins) (h : History) (settled : ℕ) → remarked (remark_of z a choice l found o h settled) next g ≡ seat_after z a choice l found next g o h settled
+remarked_after z Idle (Begin call) l found next g o h settled = refl
+remarked_after z Idle Go l found next g o h settled = refl
+remarked_after z Idle (Guess r) l found next g o h settled = refl
+remarked_after z Idle Stop l found next g o h settled = refl
+remarked_after z ScanSettle choice l found next g o h settled = met (found == scan_word (Waiting l.waiting)) refl
   where
-    met : (b : Bool) → (i == 0) ≡ b → remarked (remark_of z (Look i) choice l found o h) next g ≡ seat_after z (Look i) choice l found next g o h
+    met : (b : Bool) → (found == scan_word (Waiting l.waiting)) ≡ b → remarked (remark_of z ScanSettle choice l found o h settled) next g ≡ seat_after z ScanSettle choice l found next g o h settled
     met true e = rw e refl
     met false e = rw e refl
-remarked_after z PutAdd choice l found next g o h = met (has_room z (count_of found)) refl
+remarked_after z (Look i) choice l found next g o h settled = met (i == 0) refl
   where
-    met : (b : Bool) → has_room z (count_of found) ≡ b → remarked (remark_of z PutAdd choice l found o h) next g ≡ seat_after z PutAdd choice l found next g o h
+    met : (b : Bool) → (i == 0) ≡ b → remarked (remark_of z (Look i) choice l found o h settled) next g ≡ seat_after z (Look i) choice l found next g o h settled
     met true e = rw e refl
     met false e = rw e refl
-remarked_after z _ choice l found next g o h = refl
+remarked_after z PutAdd choice l found next g o h settled = met (has_room z (count_of found)) refl
+  where
+    met : (b : Bool) → has_room z (count_of found) ≡ b → remarked (remark_of z PutAdd choice l found o h settled) next g ≡ seat_after z PutAdd choice l found next g o h settled
+    met true e = rw e refl
+    met false e = rw e refl
+remarked_after z _ choice l found next g o h settled = refl
 
 -- the log depends on the origin of the cell that is gathered alone
-seat_after_same : (z : Sizes) (a : Activity) (choice : Choice) (l : Local) (found : ℕ) (next : Activity) (g : SeatLog) (o p : Origins) (h : History) → o l.row l.place ≡ p l.row l.place → seat_after z a choice l found next g o h ≡ seat_after z a choice l found next g p h
-seat_after_same z ListVal choice l found next g o p h e = rw e refl
-seat_after_same z RestVal choice l found next g o p h e = rw e refl
-seat_after_same z _ choice l found next g o p h e = refl
+seat_after_same : (z : Sizes) (a : Activity) (choice : Choice) (l : Local) (found : ℕ) (next : Activity) (g : SeatLog) (o p : Origins) (h : History) (settled : ℕ) → o l.row l.place ≡ p l.row l.place → seat_after z a choice l found next g o h settled ≡ seat_after z a choice l found next g p h settled
+seat_after_same z ListVal choice l found next g o p h settled e = rw e refl
+seat_after_same z RestVal choice l found next g o p h settled e = rw e refl
+seat_after_same z _ choice l found next g o p h settled e = refl
 
 -- The change.
 
--- the change depends on the origin of the cell that was met alone
-change_same : (z : Sizes) (a : Activity) (s : ℕ) (choice : Choice) (l : Local) (found : ℕ) (g : SeatLog) (o p : Origins) → o l.row l.met ≡ p l.row l.met → change_of z a s choice l found g o ≡ change_of z a s choice l found g p
-change_same z LookHelp s choice l found g o p e = rw e refl
-change_same z _ s choice l found g o p e = refl
+-- what is lost with an entry depends on the origin of its cell alone
+freezing_same : (x : Pend) (row : ℕ) (o p : Origins) → ((c : ℕ) → x ≡ pend.Pending c → o row c ≡ p row c) → freezing x row o ≡ freezing x row p
+freezing_same pend.Idle row o p e = refl
+freezing_same (pend.Pending c) row o p e = ap losing (e c refl)
+freezing_same (pend.Stamped c version) row o p e = refl
+freezing_same pend.Frozen row o p e = refl
+
+-- the change depends on the origins of the cell that was met and of that of the entry at hand alone
+change_same : (z : Sizes) (a : Activity) (s : ℕ) (choice : Choice) (l : Local) (found : ℕ) (g : SeatLog) (o p : Origins) → o l.row l.met ≡ p l.row l.met → ((c : ℕ) → l.rebalance.entry ≡ pend.Pending c → o l.row c ≡ p l.row c) → change_of z a s choice l found g o ≡ change_of z a s choice l found g p
+change_same z LookHelp s choice l found g o p e f = rw e refl
+change_same z (Freeze i) s choice l found g o p e f = rw (freezing_same l.rebalance.entry l.row o p f) refl
+change_same z _ s choice l found g o p e f = refl
 
 -- The origins.
 
@@ -117,10 +135,20 @@ pub none_helping : (o : Option ℕ) (version load : ℕ) → GivesNone (helping 
 none_helping (Some p) version load = tt
 none_helping None version load = tt
 
+pub none_freezing : (x : Pend) (row : ℕ) (o : Origins) → GivesNone (freezing x row o)
+none_freezing pend.Idle row o = tt
+none_freezing (pend.Pending c) row o = lost (o row c)
+  where
+    lost : (x : Option ℕ) → GivesNone (losing x)
+    lost (Some p) = tt
+    lost None = tt
+none_freezing (pend.Stamped c version) row o = tt
+none_freezing pend.Frozen row o = tt
+
 -- the origins with what the change adds, where the attempt p is the next one
-origins_noted : (z : Sizes) (a : Activity) (s : ℕ) (choice : Choice) (l : Local) (found : ℕ) (g : SeatLog) (o p : Origins) (h : History) (n : ℕ) (xs : List (Option ℕ)) (rows : ℕ) → n ≡ length h.attempts → length xs ≡ rows * z.cells → l.row < rows →
+origins_noted : (z : Sizes) (a : Activity) (s : ℕ) (choice : Choice) (l : Local) (found : ℕ) (g : SeatLog) (o p : Origins) (h : History) (n : ℕ) (xs : List (Option ℕ)) (rows : ℕ) → n ≡ length h.attempts → length xs ≡ rows * z.cells → l.row < rows → IsReached z a →
     ((q c : ℕ) → q < rows → c < z.cells → origin_in z xs q c ≡ p q c) → (q c : ℕ) → q < rows → c < z.cells → origin_in z (origins_with z (change_of z a s choice l found g o) n xs) q c ≡ origins_after z a l found p h q c
-origins_noted z PutAdd s choice l found g o p h n xs rows is len below same q c v w = met (has_room z (count_of found)) refl
+origins_noted z PutAdd s choice l found g o p h n xs rows is len below reached same q c v w = met (has_room z (count_of found)) refl
   where
     given : ℕ
     given = given_of (count_of found)
@@ -140,20 +168,53 @@ origins_noted z PutAdd s choice l found g o p h n xs rows is len below same q c 
     met : (b : Bool) → has_room z (count_of found) ≡ b → origin_in z (origins_with z (change_of z PutAdd s choice l found g o) n xs) q c ≡ origins_after z PutAdd l found p h q c
     met true e = rw e (where_at (cases_eq (q * z.cells + c) (l.row * z.cells + given)) (room_given z (count_of found) e))
     met false e = rw e (same q c v w)
-origins_noted z Idle s choice l found g o p h n xs rows is len below same q c v w = begins choice
+origins_noted z Idle s choice l found g o p h n xs rows is len below reached same q c v w = begins choice
   where
     begins : (x : Choice) → origin_in z (origins_with z (beginning x s l) n xs) q c ≡ p q c
     begins (Begin call) = same q c v w
     begins Go = same q c v w
     begins (Guess r) = same q c v w
     begins Stop = same q c v w
-origins_noted z LookHelp s choice l found g o p h n xs rows is len below same q c v w =
+origins_noted z LookHelp s choice l found g o p h n xs rows is len below reached same q c v w =
     rw (none_given z (if found == pend_word (pend.Pending l.met) then helping (o l.row l.met) l.helping g.loaded else Nothing) n xs (none_of (found == pend_word (pend.Pending l.met)) _ Nothing (none_helping (o l.row l.met) l.helping g.loaded) tt)) (same q c v w)
-origins_noted z Announce s choice l found g o p h n xs rows is len below same q c v w =
+origins_noted z Announce s choice l found g o p h n xs rows is len below reached same q c v w =
     rw (none_given z (if found == pend_word pend.Idle then Announces g.own else Nothing) n xs (none_of (found == pend_word pend.Idle) (Announces g.own) Nothing tt tt)) (same q c v w)
-origins_noted z Stamp s choice l found g o p h n xs rows is len below same q c v w =
+origins_noted z Stamp s choice l found g o p h n xs rows is len below reached same q c v w =
     rw (none_given z (if found == pend_word (pend.Pending l.cell) then Stamps g.own l.version g.loaded else Nothing) n xs (none_of (found == pend_word (pend.Pending l.cell)) (Stamps g.own l.version g.loaded) Nothing tt tt)) (same q c v w)
-origins_noted z _ s choice l found g o p h n xs rows is len below same q c v w = same q c v w
+origins_noted z (Freeze i) s choice l found g o p h n xs rows is len below reached same q c v w =
+    rw (none_given z (if found == pend_word l.rebalance.entry then freezing l.rebalance.entry l.row o else Nothing) n xs (none_of (found == pend_word l.rebalance.entry) _ Nothing (none_freezing l.rebalance.entry l.row o) tt)) (same q c v w)
+origins_noted z (WriteVersion j) s choice l found g o p h n xs rows is len below reached same q c v w = absurd reached
+origins_noted z _ s choice l found g o p h n xs rows is len below reached same q c v w = same q c v w
+
+-- Where the versions of scans were drawn.
+
+-- the event settles a scan of one of the seats
+pub scan_below : (z : Sizes) (a : Activity) (s : ℕ) (l : Local) (found : ℕ) (g : SeatLog) → s < z.seats → IsActivity z a → IsScanBelow z.seats (settled_scan a s l found g)
+scan_below z ScanSettle s l found g w i = settles (found == scan_word (Waiting l.waiting))
+  where
+    settles : (b : Bool) → IsScanBelow z.seats (if b then Some (record { seat = s; at = g.drawn }) else None)
+    settles true = w
+    settles false = tt
+scan_below z (HelpSettle t) s l found g w i = settles (found == scan_word (Waiting l.rebalance.waiting))
+  where
+    settles : (b : Bool) → IsScanBelow z.seats (if b then Some (record { seat = t; at = g.drawn }) else None)
+    settles true = i
+    settles false = tt
+scan_below z _ s l found g w i = tt
+
+-- the draws with that of a scan that is settled are those of the run
+draws_noted : (n : ℕ) (xs : List ℕ) (draws : ℕ → ℕ) (x : Option Settled) → length xs ≡ n → IsScanBelow n x → ((s : ℕ) → s < n → get_or xs s 0 ≡ draws s) → (s : ℕ) → s < n → get_or (draws_with x xs) s 0 ≡ with_settled x draws s
+draws_noted n xs draws None e w same s v = same s v
+draws_noted n xs draws (Some x) e w same s v = which (cases_eq s x.seat)
+  where
+    which : (s ≡ x.seat) ⊎ (s ≢ x.seat) → get_or (set xs x.seat x.at) s 0 ≡ (if s == x.seat then x.at else draws s)
+    which (inl is) = rw (eq-eqb s x.seat is, is) (get_or-set_same xs x.seat x.at 0 (omega (arith, w, e)))
+    which (inr ne) = rw (ne_eqb s x.seat ne, get_or-set_other xs x.seat s x.at 0 ne) (same s v)
+
+-- and as many
+draws_long : (x : Option Settled) (xs : List ℕ) → length (draws_with x xs) ≡ length xs
+draws_long (Some x) xs = length-set xs x.seat x.at
+draws_long None xs = refl
 
 -- The whole record.
 
@@ -200,17 +261,21 @@ change_recorded z k r e l i sane knows =
     let known = sane.locals e.seat l knows in
     ap (λ (g : SeatLog). change_of z l.activity e.seat (offered r.world.rows e.choice) l (found_by z r.world e l) g (origin_in z k.origins)) (i.logs e.seat (slice_get_within r.world.locals e.seat l knows)) ∙
     change_same z l.activity e.seat (offered r.world.rows e.choice) l (found_by z r.world e l) (r.seats e.seat) (origin_in z k.origins) r.origin (i.origins l.row l.met known.below.row known.ranges.met)
+    (λ c x. i.origins l.row c known.below.row (subst (λ y. IsEntry z (Some y)) x known.ranges.rebalance.entry))
 
 -- the record with what the event adds is that of the run with the event
-pub records_on : (z : Sizes) (k : Recording) (r : Run) (e : Event) (l : Local) → Records z k r → IsSane z r.world → slice_get r.world.locals e.seat ≡ Some l →
+pub records_on : (z : Sizes) (k : Recording) (r : Run) (e : Event) (l : Local) → Records z k r → IsSane z r.world → IsReached z l.activity → slice_get r.world.locals e.seat ≡ Some l →
     Records z (settled_by z (prepared z k r e l) (entry_of z k l (happening_at z r.world e l)) (next_activity z r e l)) (noted_by z r e l)
-records_on z k r e l i sane knows = record {
+records_on z k r e l i sane reached knows = record {
   history = settled_noted k.history (appended k.history at change) _ at change refl refl refl refl ∙ ap (λ (h : History). noted h at change) i.history ∙ ap (λ (c : Change). noted r.history at c) (change_recorded z k r e l i sane knows);
   seats = length-set k.logs e.seat _ ∙ i.seats ∙ sym (length-set r.world.locals e.seat _);
+  scans = draws_long (settled_scan l.activity e.seat l found (log_of k e.seat)) k.settled ∙ i.scans;
   cells = origins_long z change _ k.origins ∙ i.cells;
   logs = λ s w. logs_set k.logs r.seats e.seat _ _ (omega (arith, inside, i.seats)) log (λ t u. i.logs t (omega (arith, u, i.seats))) s (omega (arith, w, i.seats, length-set r.world.locals e.seat (followed r.world.rows (transition_at z r.world e l) found).local));
+  settled = λ s w. draws_noted z.seats k.settled r.settled (settled_scan l.activity e.seat l found (log_of k e.seat)) i.scans (scan_below z l.activity e.seat l found (log_of k e.seat) seat known.ranges.activity) i.settled s w ∙
+      ap (λ (g : SeatLog). with_settled (settled_scan l.activity e.seat l found g) r.settled s) (i.logs e.seat inside);
   origins = λ q c v w. ap (λ (xs : List (Option ℕ)). origin_in z xs q c) (origins_last z k.history at change k.origins) ∙
-      origins_noted z l.activity e.seat choice l found (log_of k e.seat) (origin_in z k.origins) r.origin r.history (length k.history.attempts) k.origins r.world.rows (ap (λ (h : History). length h.attempts) i.history) i.cells known.below.row i.origins q c v w;
+      origins_noted z l.activity e.seat choice l found (log_of k e.seat) (origin_in z k.origins) r.origin r.history (length k.history.attempts) k.origins r.world.rows (ap (λ (h : History). length h.attempts) i.history) i.cells known.below.row reached i.origins q c v w;
 }
   where
     choice : Choice
@@ -231,11 +296,15 @@ records_on z k r e l i sane knows = record {
     known : IsKnown z r.world.rows l
     known = sane.locals e.seat l knows
 
-    log : remarked (remark_of z l.activity choice l found (origin_in z k.origins) k.history) (next_activity z r e l) (log_of k e.seat) ≡ seat_after z l.activity choice l found (next_activity z r e l) (r.seats e.seat) r.origin r.history
-    log = remarked_after z l.activity choice l found (next_activity z r e l) (log_of k e.seat) (origin_in z k.origins) k.history ∙
-        seat_after_same z l.activity choice l found (next_activity z r e l) (log_of k e.seat) (origin_in z k.origins) r.origin k.history (i.origins l.row l.place known.below.row known.ranges.place) ∙
-        ap (λ (g : SeatLog). seat_after z l.activity choice l found (next_activity z r e l) g r.origin k.history) (i.logs e.seat inside) ∙
-        ap (λ (h : History). seat_after z l.activity choice l found (next_activity z r e l) (r.seats e.seat) r.origin h) i.history
+    seat : e.seat < z.seats
+    seat = omega (arith, inside, sane.seats)
+
+    log : remarked (remark_of z l.activity choice l found (origin_in z k.origins) k.history (draw_of k e.seat)) (next_activity z r e l) (log_of k e.seat) ≡ seat_after z l.activity choice l found (next_activity z r e l) (r.seats e.seat) r.origin r.history (r.settled e.seat)
+    log = remarked_after z l.activity choice l found (next_activity z r e l) (log_of k e.seat) (origin_in z k.origins) k.history (draw_of k e.seat) ∙
+        seat_after_same z l.activity choice l found (next_activity z r e l) (log_of k e.seat) (origin_in z k.origins) r.origin k.history (draw_of k e.seat) (i.origins l.row l.place known.below.row known.ranges.place) ∙
+        ap (λ (g : SeatLog). seat_after z l.activity choice l found (next_activity z r e l) g r.origin k.history (draw_of k e.seat)) (i.logs e.seat inside) ∙
+        ap (λ (h : History). seat_after z l.activity choice l found (next_activity z r e l) (r.seats e.seat) r.origin h (draw_of k e.seat)) i.history ∙
+        ap (λ (d : ℕ). seat_after z l.activity choice l found (next_activity z r e l) (r.seats e.seat) r.origin r.history d) (i.settled e.seat seat)
 
 -- an event that is skipped leaves the run
 pub goes_on-skipped : (z : Sizes) (r : Run) (e : Event) (l : Local) → slice_get r.world.locals e.seat ≡ Some l → is_skipped l.activity e.choice ≡ true → goes_on z r e ≡ r

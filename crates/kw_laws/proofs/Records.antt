@@ -18,8 +18,10 @@ pub records_start : (z : Sizes) (o : Opening) → Records z (opening_record z o.
 records_start z o = record {
   history = refl;
   seats = length-replicate o.seats no_log ∙ sym (length-replicate o.seats (resting 0));
+  scans = length-replicate z.seats 0;
   cells = let none : Option ℕ = None in length-replicate (o.rows * z.cells) none;
   logs = λ s w. get_or-replicate o.seats s no_log no_log (omega (arith, w, length-replicate o.seats (resting 0)));
+  settled = λ s w. get_or-replicate z.seats s 0 0 w;
   origins = λ q c v w. let none : Option ℕ = None in get_or-replicate (o.rows * z.cells) (q * z.cells + c) none none (place_within z.cells q c o.rows v w);
 }
 

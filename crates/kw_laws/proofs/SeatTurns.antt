@@ -28,7 +28,7 @@ use Rattle.kw_puts.specs.Positions.{Calling}
 use Rattle.kw_reads.specs.Inv.{Inv}
 use Rattle.kw_laws.specs.SeatCalls.{CallSeen, seen, begun_at, ended_at, end_last, seen_after, AreInTurn, HasLast, KeepsTurns, AreStill}
 use Rattle.kw_core.proofs.Happens.{Happens, each_seat, found_at}
-use Rattle.kw_core.proofs.Changes.{Makes, made, makes_nothing, makes_begin, makes_add, makes_announce, makes_stamp, makes_help, makes_end}
+use Rattle.kw_core.proofs.Changes.{Makes, made, makes_nothing, makes_begin, makes_add, makes_announce, makes_stamp, makes_help, makes_end, makes_lose}
 use Rattle.kw_laws.proofs.MirrorSeats.{arrow_busy}
 use Rattle.kw_shape.proofs.NextCalls.{arrow_call}
 use Rattle.kw_laws.proofs.Over.{CallOver, goes_on, is_ended, SameLog, call_over, IsCallNow, call_was}
@@ -58,6 +58,7 @@ same_number h h' e z v s choice l g o a c (makes_add m) u n = ap (λ (y : Histor
 same_number h h' e z v s choice l g o a c (makes_announce m) u n = ap (λ (y : History). length y.calls) n
 same_number h h' e z v s choice l g o a c (makes_stamp m) u n = ap (λ (y : History). length y.calls) n ∙ length-set h.calls _ _
 same_number h h' e z v s choice l g o a c (makes_help q m k) u n = ap (λ (y : History). length y.calls) n ∙ length-set h.calls _ _
+same_number h h' e z v s choice l g o a c (makes_lose j cell q y m k) u n = ap (λ (y : History). length y.calls) n
 same_number h h' e z v s choice l g o a c (makes_end answer) u n = ap (λ (y : History). length y.calls) n ∙ length-set h.calls _ _
 
 -- a call that got a put at most looks the same
@@ -169,7 +170,7 @@ module _ (z : Sizes) (r r' : Run) (s : ℕ) (choice : Choice) (l l' : Local) (a 
         where
           stays : (b : Activity) → a ≡ b → IsUnderway b → IsBusy b → y ≤ (r'.seats s).call
           stays b j k v =
-              let c = ap (λ (q : SeatLog). q.call) h.log ∙ call_kept z choice l (found_at z (word z r.world) a s choice l) l'.activity (r.seats s) r.origin r.history a (subst IsUnderway (sym j) k) in
+              let c = ap (λ (q : SeatLog). q.call) h.log ∙ call_kept z choice l (found_at z (word z r.world) a s choice l) l'.activity (r.seats s) r.origin r.history (r.settled s) a (subst IsUnderway (sym j) k) in
               old c (was y w)
             where
               old : (r'.seats s).call ≡ (r.seats s).call → (y < length r.history.calls) ⊎ IsCallNow r.history r'.history s choice l a y → y ≤ (r'.seats s).call
@@ -179,7 +180,7 @@ module _ (z : Sizes) (r r' : Run) (s : ℕ) (choice : Choice) (l l' : Local) (a 
           which : (b : Activity) → a ≡ b → y ≤ (r'.seats s).call
           which Idle j =
               let c = begins_call choice (subst (λ b. is_skipped b choice ≡ false) j h.moves) in
-              let f = subst (λ b. r'.seats s ≡ seat_after z b choice l (found_at z (word z r.world) a s choice l) l'.activity (r.seats s) r.origin r.history) j h.log in
+              let f = subst (λ b. r'.seats s ≡ seat_after z b choice l (found_at z (word z r.world) a s choice l) l'.activity (r.seats s) r.origin r.history (r.settled s)) j h.log in
               let k = subst (λ b. r'.seats s ≡ log_begun b (length r.history.calls) (r.seats s)) c.1 f in
               let n = ap (λ (q : SeatLog). q.call) k in
               let m = ap length (calls_begun c.0 j c.1) ∙ length-append r.history.calls (new c.0 ∷ []) in

@@ -29,11 +29,11 @@ use Rattle.kw_rows.specs.Structure.{Structure}
 use Rattle.kw_shape.specs.Passes.{Numbers, Passes}
 use Rattle.kw_shape.specs.RowsIn.{rows_in}
 use Rattle.kw_shape.specs.Shape.{HoldsKey, IsStill, Walks}
+use Rattle.kw_puts.specs.Positions.{IsDrawnAt}
 use Rattle.kw_reads.specs.Readers.{IsDue, IsCopyOf}
 use Rattle.kw_reads.specs.Replies.{RisesBelow, Covers}
 use Rattle.kw_world.specs.declared.answer.Answer.TheVariants.{Pairs}
-use Rattle.kw_words.specs.declared.kind.Kind.TheVariants.{Draw}
-use Rattle.kw_laws.specs.Unfrozen.{IsUnfrozen}
+use Rattle.kw_laws.specs.Unfrozen.{FreezesNone, IsUnfrozen}
 
 -- the entry is idle or frozen
 abbrev pub IsIdleOrFrozen : Option Pend → Type 0
@@ -78,10 +78,10 @@ pub record IsBelowWanted (l : Local) : Type 0 where
   pub from : first_key l.call ≤ l.want
   pub upto : l.want ≤ last_key l.call
 
--- what a scan has: it drew its version in its call, and the pairs are what the map has at this version for the keys of its range below
--- a bound
+-- what a scan has: its version was drawn in its call, by its own seat or by one that helped it, and the pairs are what the map has at this
+-- version for the keys of its range below a bound
 pub record IsDrawnCover (r : Run) (t : ℕ) (l : Local) (bound : ℕ) (pairs : List (ℕ × ℕ)) : Type 0 where
-  pub drawn : Stands r.history (r.seats t).drawn Draw l.version
+  pub drawn : IsDrawnAt r.history (r.seats t).drawn l.version
   pub drawn_first : (called r.history (r.seats t).call).first < (r.seats t).drawn
   pub covers : Covers r.history (first_key l.call) l.version (r.seats t).drawn bound pairs
 
@@ -94,7 +94,7 @@ pub record KeepsLaws (z : Sizes) (r : Run) : Type 0 where
   pub rows : Structure (rows_in (word z r.world)) r.ledger.rows (length r.history.log)
   pub beyond : (q : ℕ) → r.world.rows ≤ q → (r.ledger.rows.fates q).status ≡ Free
   -- as long as no row is rebalanced, none is unlinked: a row is in the list and normal, or free
-  pub still : (q : ℕ) → IsStill (word z r.world) r.ledger.rows q
+  pub still : (q : ℕ) → IsStill r.ledger.rows q
   -- a seat is in a pass as long as its word says so, of an epoch that is not above the present one; numbers are drawn in order
   pub passes : (t : ℕ) (l : Local) → slice_get r.world.locals t ≡ Some l → Passes (word z r.world) r.ledger.rows t l.activity l
   pub numbers : Numbers (word z r.world) r.ledger.rows
@@ -120,8 +120,8 @@ pub record KeepsLaws (z : Sizes) (r : Run) : Type 0 where
   pub covered : (t : ℕ) (l : Local) → slice_get r.world.locals t ≡ Some l → is_scan l.call ≡ true → l.activity ≡ ClearScan Pairs → IsDrawnCover r t l (last_key l.call + 1) l.pairs
   -- a call that has read no row has no pairs
   pub early : (t : ℕ) (l : Local) → slice_get r.world.locals t ≡ Some l → IsEarly l.activity → l.pairs ≡ []
-  -- no count is frozen and no entry, as long as no row is rebalanced
-  pub unfrozen : IsUnfrozen z r.world
+  -- no count is frozen and no entry, in a table of a form in which no row is
+  pub unfrozen : FreezesNone z → IsUnfrozen z r.world
   -- a seat that is to announce a cell finds its entry idle or frozen
   pub announces : (t : ℕ) (l : Local) → slice_get r.world.locals t ≡ Some l → l.activity ≡ Announce → IsIdleOrFrozen (pend_of (word z r.world (name.Pend l.row t)))
   -- a seat that is to stamp its cell finds its entry pending or stamped with it, or frozen
@@ -140,7 +140,8 @@ pub record KeepsLaws (z : Sizes) (r : Run) : Type 0 where
   pub reads_on : (t : ℕ) (l : Local) → slice_get r.world.locals t ≡ Some l → l.activity ≡ ListFrom → (c : ℕ) → cell_of_link_word (word z r.world (link_name l.row l.link)) ≡ Some c → l.walked < z.cells
   -- each stamped put loaded its clock between its announcement and its stamp
   pub stamped : (p : ℕ) → IsPut r.history p → IsStampedInOrder r.history p
-  -- of a row that a seat has read, each attempt that was announced before it looked, and whose key it reads, is stamped and gathered
+  -- of a row that a seat has read, each attempt that was announced before it looked, and whose key it reads, is lost, or stamped and
+  -- gathered
   pub seen : (t : ℕ) (l : Local) → slice_get r.world.locals t ≡ Some l → IsKeeping l.activity → (q : ℕ) → (r.seats t).read ≡ Some q → (p : ℕ) → IsDue r.history q l.call (r.seats t).looked p → IsGathered r q l p
   -- a seat that is at the row of its key is at a row that is in the list, or was so in its pass, and which may hold the key
   pub live : (t : ℕ) (l : Local) → slice_get r.world.locals t ≡ Some l → IsAtRow l.activity → IsFresh r.ledger.rows t l.row

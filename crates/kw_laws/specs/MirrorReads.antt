@@ -1,5 +1,5 @@
--- What a scan drew and what a get answered, in the words of the events: the seat's own draw and the settle by which it has its version,
--- and the load of the cell whose value is answered.
+-- What a scan drew and what a get answered, in the words of the events: the seat's own draw and the settle by which it has its version, with
+-- the draw and the settle of the seat that helped it if one did, and the load of the cell whose value is answered.
 use Rattle.std.specs.Prelude.{ℕ, ◌≡◌, ◌⊎◌, ◌<◌, Some, List, length}
 use Rattle.kw_words.specs.declared.kind.Kind.TheVariants as kind
 use Rattle.kw_words.specs.declared.layout.Name.TheVariants as name
@@ -7,7 +7,7 @@ use Rattle.kw_words.specs.declared.scan.ScanWord.TheVariants.{Waiting, Drawn}
 use Rattle.kw_words.specs.Plain.{value_of_word}
 use Rattle.kw_words.specs.Scan.{scan_word}
 use Rattle.kw_world.specs.declared.activity.Activity.{Activity}
-use Rattle.kw_world.specs.declared.activity.Activity.TheVariants.{ListVal, RestVal, ScanDraw, ScanSettle}
+use Rattle.kw_world.specs.declared.activity.Activity.TheVariants.{ListVal, RestVal, ScanDraw, ScanSettle, HelpDraw, HelpSettle}
 use Rattle.kw_world.specs.declared.event.Event.{Event}
 use Rattle.kw_world.specs.declared.opening.Opening.{Opening}
 use Rattle.kw_world.specs.declared.operation.Action.TheVariants.{Load, Add, Exchange}
@@ -23,17 +23,32 @@ use Rattle.kw_laws.specs.Mirror.{Acts, operation}
 abbrev pub settling : ℕ → ℕ → ℕ → Operation
 settling seat clock version = operation kind.Settle (name.Scan seat) (Exchange (scan_word (Waiting clock)) (scan_word (Drawn version)))
 
--- the scan of this seat has its version: the seat drew at this position, and after that an exchange of its entry either won, and left
--- the version that it drew, or found that its entry had the version
-pub record HasSettled (z : Sizes) (o : Opening) (es : List Event) (s at version : ℕ) : Type 0 where
-  pub drew : ℕ
-  pub draws : Acts z o es at s ScanDraw (operation kind.Draw name.Clock (Add 1)) drew
+-- the exchange by which a seat settles for a version the scan of another one, which waits with this clock
+abbrev pub helping : ℕ → ℕ → ℕ → Operation
+helping seat clock version = operation kind.HelpSettle (name.Scan seat) (Exchange (scan_word (Waiting clock)) (scan_word (Drawn version)))
+
+-- another seat drew this version for the scan of this seat, at this position, and after that, before the last position, it settled the scan,
+-- which still waited with this clock
+pub record WasHelped (z : Sizes) (o : Opening) (es : List Event) (s clock at version till : ℕ) : Type 0 where
+  pub helper : ℕ
+  pub draws : Acts z o es at helper (HelpDraw s) (operation kind.HelpDraw name.Clock (Add 1)) version
   pub settle : ℕ
   pub after : at < settle
+  pub before : settle < till
+  pub settles : Acts z o es settle helper (HelpSettle s) (helping s clock version) (scan_word (Waiting clock))
+
+-- the scan of this seat has its version, which was drawn at this position: the seat drew, and after that an exchange of its entry either
+-- won, and left the version that it drew, or found there the version that another seat had drawn for it
+pub record HasSettled (z : Sizes) (o : Opening) (es : List Event) (s at version : ℕ) : Type 0 where
+  pub draw : ℕ
+  pub drew : ℕ
+  pub draws : Acts z o es draw s ScanDraw (operation kind.Draw name.Clock (Add 1)) drew
+  pub settle : ℕ
+  pub after : draw < settle
   pub clock : ℕ
   pub found : ℕ
   pub settles : Acts z o es settle s ScanSettle (settling s clock drew) found
-  pub entry : (drew ≡ version) × (found ≡ scan_word (Waiting clock)) ⊎ (found ≡ scan_word (Drawn version))
+  pub entry : (draw ≡ at) × (drew ≡ version) × (found ≡ scan_word (Waiting clock)) ⊎ (found ≡ scan_word (Drawn version)) × WasHelped z o es s clock at version settle
 
 -- a reader loads the value of the cell in hand
 abbrev pub IsLoadingValue : Activity → Type 0
@@ -62,7 +77,7 @@ pub record AnswersFrom (z : Sizes) (o : Opening) (es : List Event) (h : History)
 
 -- the record says of draws and answers what the events say
 pub record MirrorsReads (z : Sizes) (o : Opening) (es : List Event) (h : History) : Type 0 where
-  -- a scan drew by its own seat, and settled for the version that it ended with
+  -- a scan settled for the version that it ended with, which its own seat drew, or one that helped it
   pub draws : (x : ℕ) (d : history.Drawn) → x < length h.calls → (called h x).draw ≡ Some d → HasSettled z o es (called h x).seat d.at d.version
   -- a call that ended with the answer of an attempt has read the attempt's cell
   pub answers : (x p : ℕ) (e : End) → x < length h.calls → (called h x).end ≡ Some e → (called h x).answer ≡ Some p → HasRead z o es h (called h x).seat (called h x).first e.at p

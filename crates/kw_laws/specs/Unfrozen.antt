@@ -1,5 +1,5 @@
--- What holds as long as no row is rebalanced: no count is frozen, and no entry. A rebalance freezes both, and so takes these laws
--- away.
+-- What holds in a table of a form in which no row is frozen: no count is frozen, and no entry. A rebalance that goes further freezes
+-- both, and so takes these laws away.
 --
 -- By them a put that is refused at a row has the one cause that is left: the row has given all its cells.
 use Rattle.std.specs.Prelude.{ℕ, ◌≡◌, ◌<◌, ◌≤◌, false, Option, Some, None, slice_get}
@@ -11,11 +11,15 @@ use Rattle.kw_words.specs.Count.{count_of}
 use Rattle.kw_words.specs.Pend.{pend_of}
 use Rattle.kw_world.specs.declared.activity.Activity.TheVariants.{Announce, Stamp}
 use Rattle.kw_world.specs.declared.local.Local.{Local}
-use Rattle.kw_world.specs.Sizes.{Sizes}
+use Rattle.kw_world.specs.Sizes.{Sizes, IsFreezing}
 use Rattle.kw_world.specs.WorldView.{WorldView}
 use Rattle.kw_world.specs.PutTransitions.{has_room}
 use Rattle.kw_world.specs.Step.{word}
 use Rattle.kw_core.specs.Words.{given_in}
+
+-- in a table of this form no seat freezes a row
+abbrev pub FreezesNone : Sizes → Type 0
+FreezesNone z = IsFreezing z.form → ⊥
 
 -- the count is one, and not frozen
 abbrev pub IsUnfrozenCount : Option Count → Type 0
@@ -42,10 +46,14 @@ HasCellOfOwn own None = ⊥
 abbrev pub AreCountsUnfrozen : Sizes → WorldView → Type 0
 AreCountsUnfrozen z w = (q : ℕ) → q < w.rows → IsUnfrozenCount (count_of (word z w (name.Count q)))
 
+-- no entry is frozen
+abbrev pub AreEntriesUnfrozen : Sizes → WorldView → Type 0
+AreEntriesUnfrozen z w = (q t : ℕ) → q < w.rows → t < z.seats → IsUnfrozenEntry (pend_of (word z w (name.Pend q t)))
+
 -- no count and no entry is frozen
 pub record IsUnfrozen (z : Sizes) (w : WorldView) : Type 0 where
   pub counts : AreCountsUnfrozen z w
-  pub entries : (q t : ℕ) → q < w.rows → t < z.seats → IsUnfrozenEntry (pend_of (word z w (name.Pend q t)))
+  pub entries : AreEntriesUnfrozen z w
   -- a row that has no room has given all its cells
   pub full : (q : ℕ) → q < w.rows → has_room z (count_of (word z w (name.Count q))) ≡ false → z.cells ≤ given_in (word z w) q
   -- a seat that is to announce a cell finds its entry idle, and so is not refused

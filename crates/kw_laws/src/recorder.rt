@@ -1,11 +1,11 @@
 //! The record of a world's events, kept while they are made.
 //!
 //! A `Recorder` holds the history of the events so far and, beside it, what is needed to say what the next event adds to it: what
-//! each seat did last, and to which attempt each cell was given. `step_recorded` makes an event and notes it. What an event
+//! each seat did last, where the version in each seat's scan was drawn, and to which attempt each cell was given. `step_recorded` makes an event and notes it. What an event
 //! adds is settled before it is made, as `Entry`, for the seat forgets what it knew; all memory is taken then, so that an event
 //! that was made is always noted, and one that was not made leaves no trace.
 ghost use Rattle.std.specs.Prelude.{◌≡◌, ◌<◌, ◌≤◌, ◌+◌, ◌*◌, None, IfOk, OnOk, OnErr, length, replicate};
-ghost use Rattle.kw_words.specs.declared.sizes.TheConstants.{CELLS};
+ghost use Rattle.kw_words.specs.declared.sizes.TheConstants.{CELLS, SEATS};
 ghost use Rattle.kw_world.specs.Sizes.{product};
 ghost use Rattle.kw_world.specs.Sane.{IsLocal, CanBegin, IsSane, CanStep};
 ghost use Rattle.kw_world.specs.Step.{step, stepped};
@@ -14,14 +14,14 @@ ghost use Rattle.kw_core.specs.Appended.{appended};
 ghost use Rattle.kw_core.specs.Run.{Run, goes_on};
 ghost use Rattle.kw_reads.specs.Inv.{Inv};
 ghost use Rattle.kw_core.specs.Recording.{Recording};
-ghost use Rattle.kw_laws.specs.Recorder.{Records, CanSettle, opening_record, entry_of, settled_by, logged_of};
+ghost use Rattle.kw_laws.specs.Recorder.{Records, CanSettle, IsScanBelow, draws_with, opening_record, entry_of, settled_by, logged_of};
 
-use kw_core::change::{Happening, change_of};
+use kw_core::change::{Happening, Settled, change_of, settled_scan};
 use kw_core::history::{Change, History, Logged};
 use kw_core::seat_log::{Remark, SeatLog};
 use kw_core::step::step;
 use kw_model::memory::Memory;
-use kw_words::sizes::CELLS;
+use kw_words::sizes::{CELLS, SEATS};
 use kw_world::activity::Activity;
 use kw_world::event::{Event, StepDone};
 use kw_world::local::Local;
@@ -35,13 +35,16 @@ pub struct Entry {
     seat: u32,
     change: Change,
     remark: Remark,
+    scan: Option<Settled>,
 }
 
-/// The history of the events so far, what each seat did last, and to which attempt each cell of each row was given.
+/// The history of the events so far, what each seat did last, where the version in each seat's scan was drawn, and to which attempt
+/// each cell of each row was given.
 #[derive(Drop)]
 pub struct Recorder {
     history: History,
     logs: Vec<SeatLog>,
+    settled: Vec<u64>,
     origins: Vec<Option<usize>>,
 }
 
@@ -53,6 +56,7 @@ impl Model for Recorder {
     ghost view = { λ recorder. record {
       history = recorder.history;
       logs = recorder.logs.items;
+      settled = recorder.settled.items;
       origins = recorder.origins.items;
     } };
 }
@@ -69,6 +73,7 @@ impl Recorder {
         Ok(Recorder {
             history: History::new(alloc),
             logs,
+            settled: no_draws(alloc)?,
             origins: no_origins(alloc, rows as usize * CELLS)?,
         })
     }
@@ -85,6 +90,7 @@ impl Recorder {
         requires seat { happening.seat < length self.old.logs }
         requires ranges { IsLocal product local.now }
         requires begin { CanBegin happening.choice local.now }
+        requires scans { happening.seat < length self.old.settled }
         requires origins { local.now.row * CELLS + CELLS ≤ length self.old.origins }
         ensures entry { IfOk result (λ entry. entry ≡ entry_of product self.old local.now happening) }
         ensures ok { OnOk result (self.new ≡ record self.old {
@@ -95,12 +101,15 @@ impl Recorder {
     {
         let log = &self.logs[happening.seat as usize];
         let change = change_of(local, happening, log, &self.origins)?;
-        let remark = Remark::of(local, happening, &self.origins, &self.history);
+        let settled = self.settled[happening.seat as usize];
+        let remark = Remark::of(local, happening, &self.origins, &self.history, settled);
+        let scan = settled_scan(local, happening, log);
         self.history.append(happening.logged(), &change)?;
         Ok(Entry {
             seat: happening.seat,
             change,
             remark,
+            scan,
         })
     }
 
@@ -114,6 +123,7 @@ impl Recorder {
             self.origins[*row as usize * CELLS + *cell as usize] = Some(attempt);
         }
         self.logs[entry.seat as usize].note(entry.remark, next);
+        note_draw(&mut self.settled, entry.scan);
         self.history.settle(entry.change);
     }
 
@@ -161,6 +171,27 @@ pub fn step_recorded(
             Err(error)
         }
     }
+}
+
+// Notes where the version of a scan was drawn that is settled.
+fn note_draw(draws: &mut Vec<u64>, scan: Option<Settled>)
+    requires { IsScanBelow (length draws.old.items) scan }
+    ensures { draws.new.items ≡ draws_with scan draws.old.items }
+{
+    if let Some(scan) = scan {
+        draws[scan.seat as usize] = scan.at;
+    }
+}
+
+// Where the versions of the seats' scans were drawn, before any was.
+fn no_draws(alloc: Global) -> Result<Vec<u64>, Memory>
+    ensures { IfOk result (λ draws. draws.items ≡ replicate SEATS 0) }
+{
+    let mut draws = Vec::new(alloc);
+    for _seat in 0..SEATS {
+        draws.push(0)?;
+    }
+    Ok(draws)
 }
 
 // The origins of so many cells, none of which was given.

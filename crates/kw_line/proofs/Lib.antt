@@ -3,4 +3,3 @@ pub mod Parts
 pub mod Texts
 pub mod Joins
 pub mod Unique
-pub mod Replied

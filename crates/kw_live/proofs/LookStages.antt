@@ -19,7 +19,7 @@ use Rattle.kw_world.specs.Table.{transition}
 use Rattle.kw_puts.proofs.Owners.{true_false}
 use Rattle.kw_table.specs.declared.pass.Pass.{Pass}
 use Rattle.kw_table.specs.declared.shared.Shared.{Shared}
-use Rattle.kw_follow.specs.Calling.{Keeps}
+use Rattle.kw_follow.specs.Calling.{KeepsCalls}
 use Rattle.kw_follow.specs.Following.{Follows, GoesTo, held}
 use Rattle.kw_live.specs.Reading.{LooksOn, is_looking}
 
@@ -90,6 +90,6 @@ looks_trans l m n a b = record { call = b.call ∙ a.call; want = b.want ∙ a.w
 pub record IsLookingOn (s : Shared) (o : Pass) (l : Local) (p : Pass) (m : Local) : Type 0 where
   pub goes : GoesTo s o p
   pub follows : Follows s p m
-  pub calls : Keeps o p
+  pub calls : KeepsCalls o p
   pub held : held p ≡ held o
   pub looks : LooksOn l m

@@ -32,7 +32,7 @@ use Rattle.kw_table.specs.declared.pass.Pass.{Pass}
 use Rattle.kw_table.specs.declared.shared.Shared.{Shared}
 use Rattle.kw_table.specs.Passes.{view}
 use Rattle.kw_table.proofs.Prefixes.{prefix_trans}
-use Rattle.kw_follow.specs.Calling.{Keeps}
+use Rattle.kw_follow.specs.Calling.{KeepsCalls}
 use Rattle.kw_follow.specs.Following.{Follows, GoesTo, held}
 use Rattle.kw_follow.specs.OwnEvents.{MetIn, Met, MetAs, MetOnly}
 use Rattle.kw_live.specs.Meeting.{AsksBelow, AsksNone, IsAsking, MetCount, MetFull, MetRoom}
@@ -158,22 +158,22 @@ count_full : (s : Shared) (p q : Pass) (a : Activity) (told : ℕ) → GoesTo s 
     → has_room product (count_of told) ≡ false → CELLS ≤ given_of (count_of told)
 count_full s p q a told goes m is none =
     subst (λ w. CELLS ≤ given_of (count_of w)) (sym is)
-    ((met_laws s p q a Go told goes m).unfrozen.full (local_at p m.front).row (met_row_below s p q a Go told goes m) (subst (λ w. has_room product (count_of w) ≡ false) is none))
+    (((met_laws s p q a Go told goes m).unfrozen (λ x. x)).full (local_at p m.front).row (met_row_below s p q a Go told goes m) (subst (λ w. has_room product (count_of w) ≡ false) is none))
 
 -- a put that is to announce finds its entry idle
 finds_idle : (s : Shared) (p q : Pass) (told : ℕ) → GoesTo s p q → (m : Met p q Announce Go told) → told ≡ pend_word Idle
 finds_idle s p q told goes m =
     let is = met_told p q Announce Go told m _ refl in
-    is ∙ sym (pend_word_of _ Idle ((met_laws s p q Announce Go told goes m).unfrozen.announces (view p).number (local_at p m.front) (met_local p q Announce Go told m) m.activity))
+    is ∙ sym (pend_word_of _ Idle (((met_laws s p q Announce Go told goes m).unfrozen (λ x. x)).announces (view p).number (local_at p m.front) (met_local p q Announce Go told m) m.activity))
 
 -- a put that is to stamp finds its entry with its own cell
 finds_own : (s : Shared) (p q : Pass) (told : ℕ) → GoesTo s p q → (m : Met p q Stamp Go told) → HasCellOfOwn (local_at p m.front).cell (pend_of told)
 finds_own s p q told goes m =
     let is = met_told p q Stamp Go told m _ refl in
-    subst (λ w. HasCellOfOwn (local_at p m.front).cell (pend_of w)) (sym is) ((met_laws s p q Stamp Go told goes m).unfrozen.stamps (view p).number (local_at p m.front) (met_local p q Stamp Go told m) m.activity)
+    subst (λ w. HasCellOfOwn (local_at p m.front).cell (pend_of w)) (sym is) (((met_laws s p q Stamp Go told goes m).unfrozen (λ x. x)).stamps (view p).number (local_at p m.front) (met_local p q Stamp Go told m) m.activity)
 
 -- and so goes on
-stamps_own : (l : Local) (own : ℕ) (e : Option Pend) → own ≡ l.cell → HasCellOfOwn own e → (stamp_met e l).local.activity ≡ PutVersion
+stamps_own : (l : Local) (own : ℕ) (e : Option Pend) → own ≡ l.cell → HasCellOfOwn own e → (stamp_met product e l).local.activity ≡ PutVersion
 stamps_own l own (Some Idle) is has = absurd has
 stamps_own l own (Some (Pending cell)) is has = rw (eq-eqb cell l.cell (has ∙ is)) refl
 stamps_own l own (Some (Stamped cell version)) is has = rw (eq-eqb cell l.cell (has ∙ is)) refl
@@ -207,7 +207,7 @@ module _ (s : Shared) (o p q : Pass) (l m : Local) (rows told : ℕ) (was : Goes
   here : (a : Activity) → l.activity ≡ a → Met p q a Go told
   here a is = record { front = met.met.front; later = met.met.later; here = met.met.here; activity = met.met.activity ∙ is; tells = met.met.tells }
 
-  asks : (b : Bool) → has_room product (count_of told) ≡ b → l.activity ≡ PutCount → AsksNone o p → m.activity ≡ (let x : Outcome = if b then to PutAdd l else full l in x).local.activity → GoesOn o q m (put_ahead PutCount l.walked l.lost)
+  asks : (b : Bool) → has_room product (count_of told) ≡ b → l.activity ≡ PutCount → AsksNone o p → m.activity ≡ (let x : Outcome = if b then to PutAdd l else full product l in x).local.activity → GoesOn o q m (put_ahead PutCount l.walked l.lost)
   asks true h is before next = goes_on o q m PutAdd _ next (record {
     given = given_of (count_of told);
     asked = count_from s o p q PutCount told was (here PutCount is);
@@ -222,7 +222,7 @@ module _ (s : Shared) (o p q : Pass) (l m : Local) (rows told : ℕ) (was : Goes
     full = count_full s p q PutCount told goes (here PutCount is) (met_told p q PutCount Go told (here PutCount is) _ refl) h;
   }) (omega arith)
 
-  adds : (b : Bool) → has_room product (count_of told) ≡ b → l.activity ≡ PutAdd → HasAsked o p → m.activity ≡ (let x : Outcome = if b then to PutKey (record l { cell = given_of (count_of told) }) else full l in x).local.activity → GoesOn o q m (put_ahead PutAdd l.walked l.lost)
+  adds : (b : Bool) → has_room product (count_of told) ≡ b → l.activity ≡ PutAdd → HasAsked o p → m.activity ≡ (let x : Outcome = if b then to PutKey (record l { cell = given_of (count_of told) }) else full product l in x).local.activity → GoesOn o q m (put_ahead PutAdd l.walked l.lost)
   adds true h is asked next = goes_on o q m PutKey _ next (record {
     given = asked.given;
     asked = count_on s o p q PutCount asked.given goes asked.asked;
@@ -284,7 +284,7 @@ module _ (s : Shared) (o p q : Pass) (l m : Local) (rows told : ℕ) (was : Goes
   event PutValue is put found = goes_on o q m Announce _ (next_is rows PutValue l m told is line) (room_on s o p q was goes (none PutValue is (λ h. h)) found) (omega arith)
   event Announce is put found =
       let idle : (told == pend_word Idle) ≡ true = eq-eqb told (pend_word Idle) (finds_idle s p q told goes (here Announce is)) in
-      goes_on o q m PutClock _ (next_is rows Announce l m told is line ∙ ap (λ b. (let x : Outcome = if b then to PutClock l else full l in x).local.activity) idle) (room_on s o p q was goes (none Announce is (λ h. h)) found) (omega arith)
+      goes_on o q m PutClock _ (next_is rows Announce l m told is line ∙ ap (λ b. (let x : Outcome = if b then to PutClock l else full product l in x).local.activity) idle) (room_on s o p q was goes (none Announce is (λ h. h)) found) (omega arith)
   event PutClock is put found = goes_on o q m Stamp _ (next_is rows PutClock l m told is line) (room_on s o p q was goes (none PutClock is (λ h. h)) found) (omega arith)
   event Stamp is put found =
       let own = stamps_own l (local_at p met.met.front).cell (pend_of told) (ap (λ (k : Local). k.cell) met.knew) (finds_own s p q told goes (here Stamp is)) in
@@ -307,7 +307,7 @@ module _ (s : Shared) (o p q : Pass) (l m : Local) (rows told : ℕ) (was : Goes
 pub record IsTrying (s : Shared) (o p : Pass) (l : Local) : Type 0 where
   pub goes : GoesTo s o p
   pub follows : Follows s p l
-  pub calls : Keeps o p
+  pub calls : KeepsCalls o p
   pub held : held p ≡ held o
   pub found : HasFound o p l.activity
 
@@ -316,7 +316,7 @@ pub record Tries (s : Shared) (o q : Pass) (m : Local) (ahead : ℕ) : Type 0 wh
   pub trying : IsTrying s o q m
   pub fewer : put_ahead m.activity m.walked m.lost < ahead
 
-pub tries_on : (s : Shared) (o p q : Pass) (l m : Local) (rows told : ℕ) → IsTrying s o p l → is_putting l.activity ≡ true → GoesTo s p q → Follows s q m → Keeps p q → held q ≡ held p → MetAs p q l Go told → MetOnly p q l.activity told → outcome m Moved ≡ next_of product rows Go l told
+pub tries_on : (s : Shared) (o p q : Pass) (l m : Local) (rows told : ℕ) → IsTrying s o p l → is_putting l.activity ≡ true → GoesTo s p q → Follows s q m → KeepsCalls p q → held q ≡ held p → MetAs p q l Go told → MetOnly p q l.activity told → outcome m Moved ≡ next_of product rows Go l told
     → Tries s o q m (put_ahead l.activity l.walked l.lost)
 tries_on s o p q l m rows told t put goes follows calls held met only line =
     let on = put_goes s o p q l m rows told t.goes goes met only line put t.found in

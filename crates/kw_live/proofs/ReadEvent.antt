@@ -23,7 +23,7 @@ use Rattle.kw_table.specs.declared.pass.Pass.{Pass}
 use Rattle.kw_table.specs.declared.shared.Shared.{Shared}
 use Rattle.kw_table.specs.Passes.{view}
 use Rattle.kw_table.specs.Views.{local_in}
-use Rattle.kw_follow.specs.Calling.{Keeps}
+use Rattle.kw_follow.specs.Calling.{KeepsCalls}
 use Rattle.kw_follow.specs.Following.{Follows, GoesTo, activity_in, carried, held}
 use Rattle.kw_follow.specs.OwnEvents.{Met, MetAs}
 use Rattle.kw_follow.proofs.Fronts.{local_at, met_laws, met_local, met_told}
@@ -160,7 +160,7 @@ module _ (s : Shared) (p q : Pass) (l m : Local) (told : ℕ) (f : Follows s p l
 pub record IsReadingOn (s : Shared) (o : Pass) (l : Local) (p : Pass) (m : Local) : Type 0 where
   pub goes : GoesTo s o p
   pub follows : Follows s p m
-  pub calls : Keeps o p
+  pub calls : KeepsCalls o p
   pub call : m.call ≡ l.call
   pub version : m.version ≡ l.version
   pub on : is_reading_list m.activity ≡ true → (m.want ≡ l.want) × (held p ≡ held o)

@@ -27,7 +27,7 @@ use Rattle.kw_table.specs.declared.pass.Pass.{Pass}
 use Rattle.kw_table.specs.declared.shared.Shared.{Shared}
 use Rattle.kw_table.specs.Passes.{view}
 use Rattle.kw_table.proofs.Prefixes.{prefix_trans}
-use Rattle.kw_follow.specs.Calling.{Keeps}
+use Rattle.kw_follow.specs.Calling.{KeepsCalls}
 use Rattle.kw_follow.specs.Following.{Follows, GoesTo, held}
 use Rattle.kw_follow.specs.OwnEvents.{Met, MetAs}
 use Rattle.kw_live.specs.Meeting.{AsksNone, BeginsWith}
@@ -144,7 +144,7 @@ walks_trans l m n a b = record {
 pub record IsWalkingOn (s : Shared) (o : Pass) (l : Local) (p : Pass) (m : Local) : Type 0 where
   pub goes : GoesTo s o p
   pub follows : Follows s p m
-  pub calls : Keeps o p
+  pub calls : KeepsCalls o p
   pub held : held p ≡ held o
   pub walks : WalksOn l m
   pub none : AsksNone o p

@@ -12,7 +12,7 @@ use Rattle.kw_world.specs.declared.local.Local.{Local}
 use Rattle.kw_world.specs.Sizes.{Sizes, product}
 use Rattle.kw_table.specs.declared.pass.Pass.{Pass}
 use Rattle.kw_table.specs.declared.shared.Shared.{Shared}
-use Rattle.kw_follow.specs.Calling.{Keeps}
+use Rattle.kw_follow.specs.Calling.{KeepsCalls}
 use Rattle.kw_follow.specs.Following.{Follows, GoesTo, held}
 
 -- the reader looks at the entries of the row
@@ -79,7 +79,7 @@ reads_ahead l = read_ahead product l.activity l.walked (length l.remembered)
 pub record ReadsOn (s : Shared) (p : Pass) (l : Local) (q : Pass) (m : Local) : Type 0 where
   pub goes : GoesTo s p q
   pub follows : Follows s q m
-  pub calls : Keeps p q
+  pub calls : KeepsCalls p q
   pub call : m.call ≡ l.call
   pub version : m.version ≡ l.version
   pub on : is_reading_list m.activity ≡ true → (m.want ≡ l.want) × (held q ≡ held p)

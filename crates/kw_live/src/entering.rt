@@ -6,12 +6,12 @@ ghost use Rattle.kw_world.specs.Calls.{is_scan};
 ghost use Rattle.kw_world.specs.Local.{resting};
 ghost use Rattle.kw_core.specs.Events.{is_call_in_range};
 ghost use Rattle.kw_table.specs.Passes.{view, IsPassOf};
-ghost use Rattle.kw_follow.specs.Calling.{Keeps, Opens, Closes};
+ghost use Rattle.kw_follow.specs.Calling.{KeepsCalls, Opens, Closes};
 ghost use Rattle.kw_follow.specs.Following.{Follows, GoesTo, activity_in, held};
 ghost use Rattle.kw_live.specs.Meeting.{AsksNone, MetClock};
 ghost use Rattle.kw_live.specs.Stages.{HasEntered};
 
-use kw_follow::{begin, clear, end, go, go_along};
+use kw_follow::{begin, clear, end, go, go_along, go_draw};
 use kw_model::call::{Call, Reply};
 use kw_table::{Pass, Shared};
 use kw_world::activity::Activity;
@@ -57,17 +57,17 @@ fn draw(shared: &Shared, pass: &mut Pass, local: &mut Local)
     ensures entered { IfSome local.old.call (λ call. HasEntered call local.new.activity) }
     ensures call { local.new.call ≡ local.old.call }
     ensures unread { local.new.has_read ≡ local.old.has_read }
-    ensures calls { Keeps pass.old pass.new }
+    ensures calls { KeepsCalls pass.old pass.new }
     ensures held { held pass.new ≡ held pass.old }
     ensures none { AsksNone pass.old pass.new }
     ensures spent { (clock : _) × MetClock pass.old pass.new clock
         × ((local.new.activity ≡ Activity.Leave Answer.Spent) ↔ (SPENT ≤ clock)) }
 {
-    go(shared, pass, local, Choice::Go);
+    go_draw(shared, pass, local);
     if let Activity::ScanWait = local.activity {
-        go(shared, pass, local, Choice::Go);
-        go(shared, pass, local, Choice::Go);
-        go(shared, pass, local, Choice::Go);
+        go_draw(shared, pass, local);
+        go_draw(shared, pass, local);
+        go_draw(shared, pass, local);
     }
 }
 
@@ -81,7 +81,7 @@ pub fn end_scan(shared: &Shared, pass: &mut Pass, local: &mut Local)
         activity_in pass.new ≡ Activity.Leave answer }
     ensures activity { (answer : Answer) → local.old.activity ≡ Activity.ClearScan answer →
         local.new.activity ≡ Activity.Leave answer }
-    ensures calls { Keeps pass.old pass.new }
+    ensures calls { KeepsCalls pass.old pass.new }
     ensures held { held pass.new ≡ held pass.old }
 {
     clear(shared, pass, local, Choice::Go);
@@ -97,7 +97,7 @@ pub fn stop_scan(shared: &Shared, pass: &mut Pass, local: &mut Local)
     ensures follows { Follows shared.now pass.new local.new }
     ensures leaves { activity_in pass.new ≡ Activity.Leave Answer.Stopped }
     ensures activity { local.new.activity ≡ Activity.Leave Answer.Stopped }
-    ensures calls { Keeps pass.old pass.new }
+    ensures calls { KeepsCalls pass.old pass.new }
 {
     if let Activity::ClearScan(_) = local.activity {
         clear(shared, pass, local, Choice::Stop);

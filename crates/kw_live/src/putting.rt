@@ -1,7 +1,7 @@
 //! The events of a put or a delete at its row.
 ghost use Rattle.std.specs.Prelude.{◌≡◌};
 ghost use Rattle.kw_words.specs.declared.sizes.TheConstants.{CELLS};
-ghost use Rattle.kw_follow.specs.Calling.{Keeps};
+ghost use Rattle.kw_follow.specs.Calling.{KeepsCalls};
 ghost use Rattle.kw_follow.specs.Following.{Follows, GoesTo, held};
 ghost use Rattle.kw_live.specs.Meeting.{MetFull, MetRoom};
 ghost use Rattle.kw_live.specs.Putting.{Tried, answer_of};
@@ -34,7 +34,7 @@ pub fn try_put(shared: &Shared, pass: &mut Pass, local: &mut Local) -> TryPut
     ensures follows { Follows shared.now pass.new local.new }
     ensures leaves { local.new.activity ≡ Activity.Leave (answer_of result) }
     ensures cause { Tried CELLS pass.old pass.new local.old.row result }
-    ensures calls { Keeps pass.old pass.new }
+    ensures calls { KeepsCalls pass.old pass.new }
     ensures held { held pass.new ≡ held pass.old }
 {
     let row = local.row;

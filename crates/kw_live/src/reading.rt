@@ -1,7 +1,7 @@
 //! The events of a get or a scan at a row.
 ghost use Rattle.std.specs.Prelude.{◌≡◌, All, true};
 ghost use Rattle.kw_words.specs.Plain.{IsValue};
-ghost use Rattle.kw_follow.specs.Calling.{Keeps};
+ghost use Rattle.kw_follow.specs.Calling.{KeepsCalls};
 ghost use Rattle.kw_follow.specs.Following.{Follows, GoesTo, held};
 ghost use Rattle.kw_live.specs.Reading.{HasRead, LooksOn, ReadsOn, is_looking, is_reading_list};
 
@@ -27,7 +27,7 @@ pub fn read_row(shared: &Shared, pass: &mut Pass, local: &mut Local)
     ensures version { local.new.version ≡ local.old.version }
     ensures read { HasRead local.old local.new (held pass.old) (held pass.new) }
     ensures cells { All (λ cell. IsValue cell.value) local.new.gathered }
-    ensures calls { Keeps pass.old pass.new }
+    ensures calls { KeepsCalls pass.old pass.new }
 {
     look_at_entries(shared, pass, local);
     read_list(shared, pass, local);
@@ -41,7 +41,7 @@ fn look_at_entries(shared: &Shared, pass: &mut Pass, local: &mut Local)
     ensures follows { Follows shared.now pass.new local.new }
     ensures looks { LooksOn local.old local.new }
     ensures activity { local.new.activity ≡ Activity.ListFrom }
-    ensures calls { Keeps pass.old pass.new }
+    ensures calls { KeepsCalls pass.old pass.new }
     ensures held { held pass.new ≡ held pass.old }
 {
     while is_looking(&local.activity) {
@@ -58,7 +58,7 @@ fn read_list(shared: &Shared, pass: &mut Pass, local: &mut Local)
     ensures call { local.new.call ≡ local.old.call }
     ensures version { local.new.version ≡ local.old.version }
     ensures read { HasRead local.old local.new (held pass.old) (held pass.new) }
-    ensures calls { Keeps pass.old pass.new }
+    ensures calls { KeepsCalls pass.old pass.new }
 {
     while is_reading_list(&local.activity) {
         read_cell(shared, pass, local);

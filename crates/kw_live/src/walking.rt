@@ -2,7 +2,7 @@
 ghost use Rattle.std.specs.Prelude.{◌≡◌, Some};
 ghost use Rattle.kw_core.specs.Stages.{IsGoing};
 ghost use Rattle.kw_table.specs.Passes.{view};
-ghost use Rattle.kw_follow.specs.Calling.{Keeps};
+ghost use Rattle.kw_follow.specs.Calling.{KeepsCalls};
 ghost use Rattle.kw_follow.specs.Following.{Follows, GoesTo, held};
 ghost use Rattle.kw_live.specs.Meeting.{AsksNone, BeginsWith};
 ghost use Rattle.kw_live.specs.Stages.{arrived, guessing};
@@ -33,7 +33,7 @@ pub fn locate(shared: &Shared, pass: &mut Pass, local: &mut Local, guess: Option
     ensures has_read { local.new.has_read ≡ local.old.has_read }
     ensures guess { local.old.activity ≡ Activity.Start →
         BeginsWith pass.old pass.new (guessing guess) }
-    ensures calls { Keeps pass.old pass.new }
+    ensures calls { KeepsCalls pass.old pass.new }
     ensures held { held pass.new ≡ held pass.old }
     ensures none { AsksNone pass.old pass.new }
 {
@@ -51,7 +51,7 @@ pub(crate) fn set_out(shared: &Shared, pass: &mut Pass, local: &mut Local, guess
     ensures follows { Follows shared.now pass.new local.new }
     ensures walks { WalksOn local.old local.new }
     ensures guess { BeginsWith pass.old pass.new (guessing guess) }
-    ensures calls { Keeps pass.old pass.new }
+    ensures calls { KeepsCalls pass.old pass.new }
     ensures held { held pass.new ≡ held pass.old }
     ensures none { AsksNone pass.old pass.new }
 {
@@ -73,7 +73,7 @@ fn walk(shared: &Shared, pass: &mut Pass, local: &mut Local)
     ensures follows { Follows shared.now pass.new local.new }
     ensures walks { WalksOn local.old local.new }
     ensures arrived { local.new.activity ≡ arrived local.old.call }
-    ensures calls { Keeps pass.old pass.new }
+    ensures calls { KeepsCalls pass.old pass.new }
     ensures held { held pass.new ≡ held pass.old }
     ensures none { AsksNone pass.old pass.new }
 {

@@ -26,7 +26,7 @@ use Rattle.kw_table.specs.declared.shared.Shared.{Shared}
 use Rattle.kw_table.specs.Passes.{view}
 use Rattle.kw_table.specs.Views.{local_in}
 use Rattle.kw_table.proofs.Prefixes.{prefix_trans}
-use Rattle.kw_follow.specs.Calling.{Keeps}
+use Rattle.kw_follow.specs.Calling.{KeepsCalls}
 use Rattle.kw_follow.specs.Following.{Follows, GoesTo, held}
 use Rattle.kw_follow.proofs.OneEvent.{same_activity}
 use Rattle.kw_follow.proofs.Resting.{stands}
@@ -56,15 +56,21 @@ rose_later a b c le (inr is) = inr is
 
 -- From row to row.
 
+-- a gatherer's words: the last key that it took, what it stands for, and how often it stopped
+pub record GathererWords (S : Type 0) : Type 1 where
+  pub last : S → Option ℕ
+  pub stands : S → Pairs → Type 0
+  pub stops : S → ℕ
+
 -- what stays while the rows of a scan are read
-pub record IsGathering {S : Type 0} (last : S → Option ℕ) (stands : S → Pairs → Type 0) (stops : S → ℕ) (s : Shared) (o p : Pass) (first l : Local) (old new : S) : Type 0 where
+pub record IsGathering {S : Type 0} (w : GathererWords S) (s : Shared) (o p : Pass) (first l : Local) (old new : S) : Type 0 where
   pub goes : GoesTo s o p
   pub follows : Follows s p l
   pub asks : l.call ≡ first.call
-  pub calls : Keeps o p
-  pub takes : Takes last stands old (held p) new
-  pub counts : stops old ≤ stops new
-  pub between : IsBetween last new l
+  pub calls : KeepsCalls o p
+  pub takes : Takes w.last w.stands old (held p) new
+  pub counts : w.stops old ≤ w.stops new
+  pub between : IsBetween w.last new l
 
 -- how far the rows may go on
 abbrev pub rows_ahead : Bool → ℕ → ℕ → ℕ

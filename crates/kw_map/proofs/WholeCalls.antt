@@ -21,7 +21,7 @@ use Rattle.kw_table.specs.declared.shared.Shared.{Shared}
 use Rattle.kw_table.specs.Passes.{IsFresh}
 use Rattle.kw_map.specs.declared.kiwi.Kiwi.{Kiwi}
 use Rattle.kw_map.specs.Kiwi.{IsIdle}
-use Rattle.kw_follow.specs.Calling.{Opens, Keeps, Closes, Calls, calls_in}
+use Rattle.kw_follow.specs.Calling.{Opens, KeepsCalls, Closes, Calls, calls_in}
 use Rattle.kw_follow.specs.Following.{Follows, GoesTo, activity_in}
 use Rattle.kw_follow.specs.OwnEvents.{Met}
 use Rattle.kw_live.specs.Meeting.{AsksNone, MetClock, MetCount, MetFull, MetRoom}
@@ -40,7 +40,7 @@ fresh_idle m n p fresh = record { of_map = fresh.of_table; idle = ap (λ (l : Lo
 -- The call.
 
 -- a call that begins, goes on and ends is a whole call
-pub whole : {p q r t : Pass} {call : Call} {reply : Reply} → Opens p q call → Keeps q r → Closes r t reply → Calls p t call reply
+pub whole : {p q r t : Pass} {call : Call} {reply : Reply} → Opens p q call → KeepsCalls q r → Closes r t reply → Calls p t call reply
 whole {p} {q} {r} {t} {call} {reply} o k c = record {
   first = o.first;
   last = c.last;

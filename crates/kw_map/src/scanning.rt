@@ -6,7 +6,7 @@ ghost use Rattle.std.specs.Prelude.{◌≡◌, ◌⊎◌, ◌≤◌, ◌++◌, �
 ghost use Rattle.kw_cells.specs.Cells.{pairs_of};
 ghost use Rattle.kw_core.specs.Stages.{IsGoing};
 ghost use Rattle.kw_model.specs.Counts.{CountRose};
-ghost use Rattle.kw_follow.specs.Calling.{Keeps};
+ghost use Rattle.kw_follow.specs.Calling.{KeepsCalls};
 ghost use Rattle.kw_follow.specs.Following.{Follows, GoesTo, held};
 ghost use Rattle.kw_live.specs.Reading.{GoesOn};
 ghost use Rattle.kw_map.specs.Gather.{IsBelow, Takes, TakesPrefix};
@@ -38,7 +38,7 @@ pub(crate) fn gather_rows<G: Gather>(
     requires none { held pass.old ≡ [] }
     ensures goes { GoesTo shared.now pass.old pass.new }
     ensures follows { Follows shared.now pass.new local.new }
-    ensures calls { Keeps pass.old pass.new }
+    ensures calls { KeepsCalls pass.old pass.new }
     ensures leaves { MatchResult result
         (λ done. local.new.activity ≡ Activity.Leave Answer.Pairs)
         (λ stop. local.new.activity ≡ Activity.Leave Answer.Stopped) }
@@ -75,7 +75,7 @@ fn gather_row<G: Gather>(
     ensures goes { GoesTo shared.now pass.old pass.new }
     ensures follows { Follows shared.now pass.new local.new }
     ensures call { local.new.call ≡ local.old.call }
-    ensures calls { Keeps pass.old pass.new }
+    ensures calls { KeepsCalls pass.old pass.new }
     ensures held { held pass.new ≡ held pass.old
         ++ pairs_of local.new.gathered local.old.want upto local.old.version }
     ensures stage { GoesOn local.old.want upto local.old.version local.new

@@ -1,5 +1,5 @@
 -- Every event keeps what holds of the cells of attempts: which attempt has which cell, and what stands there.
-use Rattle.std.proofs.Common.{ℕ, ◌≡◌, ◌≢◌, ◌⊎◌, inl, inr, ◌+◌, ◌<◌, ◌≤◌, true, Some, None, arith, refl, sym, ◌∙◌, ap, subst, length}
+use Rattle.std.proofs.Common.{ℕ, ◌≡◌, ◌≢◌, ◌⊎◌, inl, inr, ◌+◌, ◌<◌, ◌≤◌, Bool, true, false, Option, Some, None, arith, refl, sym, ◌∙◌, ap, subst, length}
 use Rattle.std.proofs.lemmas.Bool.{cases_eq, cases_lt}
 use Rattle.std.proofs.lemmas.Option.{same_Some}
 use Rattle.kw_words.specs.declared.layout.Name.TheVariants as name
@@ -11,7 +11,7 @@ use Rattle.kw_world.specs.declared.local.Local.{Local}
 use Rattle.kw_world.specs.declared.event.Choice.{Choice}
 use Rattle.kw_world.specs.Sizes.{Sizes}
 use Rattle.kw_world.specs.Calls.{first_key}
-use Rattle.kw_world.specs.PutTransitions.{has_room, given_of}
+use Rattle.kw_world.specs.PutTransitions.{has_room}
 use Rattle.kw_world.specs.Step.{word}
 use Rattle.kw_core.specs.History.{History, attempt}
 use Rattle.kw_core.specs.declared.history.Attempt.{Attempt}
@@ -22,12 +22,14 @@ use Rattle.kw_rows.specs.Ledger.{Fate, Ledger}
 use Rattle.kw_rows.specs.Rows.{WasLinked}
 use Rattle.kw_shape.specs.Shape.{HoldsKey, Shape}
 use Rattle.kw_puts.specs.Puts.{IsGivenCell, HasCell, Places, Rises, HasBody, OwnsAttempt, key_in, value_in}
+use Rattle.kw_puts.specs.Freezes.{IsFrozen}
 use Rattle.kw_puts.specs.Below.{Below}
 use Rattle.kw_core.specs.Step.{Step}
 use Rattle.kw_core.proofs.Happens.{log_entry}
 use Rattle.kw_core.proofs.Happens.{Happens}
 use Rattle.kw_core.proofs.Arrows.{Arrow}
-use Rattle.kw_core.proofs.Frame.{key_kept, value_kept, version_kept, given_grows}
+use Rattle.kw_core.proofs.Frame.{key_kept, value_kept, version_kept}
+use Rattle.kw_core.proofs.FreezeFrame.{given_never_falls}
 use Rattle.kw_core.proofs.RoomBelow.{room_below}
 use Rattle.kw_puts.proofs.Owners.{true_false, is_own}
 use Rattle.kw_puts.proofs.Rely.{SameAttempt, GoesOn}
@@ -35,7 +37,7 @@ use Rattle.kw_puts.proofs.RelyProof.{key_puts, value_puts, version_puts, goes_on
 use Rattle.kw_shape.proofs.RowsKeep.{fates_kept, least_kept}
 use Rattle.kw_shape.proofs.RowsStay.{fresh_linked, holds_first, holds_stays, linked_stays, was_below}
 use Rattle.kw_puts.proofs.OwnAttempts.{acting_own}
-use Rattle.kw_puts.proofs.NewAttempts.{IsGiving, IsNew, attempt_was, announced_was, one_more_is, one_more_within, count_was, given_more, origin_new, origin_was, room_next}
+use Rattle.kw_puts.proofs.NewAttempts.{IsGiving, IsNew, attempt_was, announced_was, one_more_is, one_more_within, given_was, given_more, origin_new, origin_was, no_room_frozen, stays_frozen}
 
 -- the cell of an attempt, by what the attempt is of
 cell_from : (z : Sizes) (rows : ℕ) (v : Words) (g : Ledger) (h : History) (o : Origins) (p t q c k : ℕ) → (attempt h p).seat ≡ t → (attempt h p).row ≡ q → (attempt h p).cell ≡ c → (attempt h p).key ≡ k →
@@ -77,7 +79,7 @@ given_keeps z r r' s choice l a l' b h i st after p o = subst (λ n. IsGivenCell
         c.below
         (linked_stays a h (attempt r.history p).row c.linked)
         c.cell
-        (omega (arith, c.given, given_grows a h (λ q u. i.shape.sane.each (name.Count q) u) (attempt r.history p).row c.below))
+        (omega (arith, c.given, given_never_falls a h (attempt r.history p).row c.below (i.shape.sane.each (name.Count (attempt r.history p).row) c.below)))
         (y.origin (attempt r.history p).row (attempt r.history p).cell p c.origin)
         (holds (attempt r.history p).row (attempt r.history p).key c.holds)
     which (inr n) = fresh n
@@ -90,7 +92,7 @@ module _ (z : Sizes) (r r' : Run) (s : ℕ) (choice : Choice) (l : Local) (a : A
   goes = goes_on_by z r r' s choice l a l' h i st
 
   grows : (q : ℕ) → q < r.world.rows → given_in (word z r.world) q ≤ given_in (word z r'.world) q
-  grows = given_grows a h (λ q u. i.shape.sane.each (name.Count q) u)
+  grows q u = given_never_falls a h q u (i.shape.sane.each (name.Count q) u)
 
   -- a seat that asks for a cell adds one to the count of its row
   taken_given : a ≡ PutAdd → given_in (word z r'.world) l.row ≡ given_in (word z r.world) l.row + 1
@@ -113,20 +115,34 @@ module _ (z : Sizes) (r r' : Run) (s : ℕ) (choice : Choice) (l : Local) (a : A
           record { within = omega (arith, w.within, goes.more_attempts); row = same.row ∙ w.row; cell = same.cell ∙ w.cell }
       which (inr x) = fresh x.0 x.1 x.2 (same_Some p (length r.history.attempts) (sym e ∙ x.3))
 
-  -- a cell that is given has an origin
-  place_keeps : (q c : ℕ) → q < r.world.rows → c < z.cells → c < given_in (word z r'.world) q → (p : ℕ) × (r'.origin q c ≡ Some p)
-  place_keeps q c w o g = which (cases_lt c (given_in (word z r.world) q)) (count_was a h q w)
+  -- a frozen row stays frozen
+  freeze_lasts : (q : ℕ) → q < r.world.rows → IsFrozen (word z r.world) q → IsFrozen (word z r'.world) q
+  freeze_lasts q w f = stays_frozen a h q w (i.shape.sane.each (name.Count q) w) f
+
+  -- a cell that is given has an origin, or its row is frozen
+  place_keeps : (q c : ℕ) → q < r.world.rows → c < z.cells → c < given_in (word z r'.world) q → ((p : ℕ) × (r'.origin q c ≡ Some p)) ⊎ IsFrozen (word z r'.world) q
+  place_keeps q c w o g = which (cases_lt c (given_in (word z r.world) q)) (given_was a h q w (λ x u. i.shape.sane.each (name.Count x) u))
     where
-      which : (c < given_in (word z r.world) q) ⊎ (given_in (word z r.world) q ≤ c) → (word z r'.world (name.Count q) ≡ word z r.world (name.Count q)) ⊎ (a ≡ PutAdd) × (q ≡ l.row) × (word z r'.world (name.Count l.row) ≡ word z r.world (name.Count l.row) + 1) → (p : ℕ) × (r'.origin q c ≡ Some p)
-      which (inl x) y = let was = i.puts.places.given q c w o x in (was.0, goes.origin q c was.0 was.1)
-      which (inr x) (inl y) = absurd (omega (arith, x, g, ap (λ k. given_of (count_of k)) y))
+      stays : ((p : ℕ) × (r.origin q c ≡ Some p)) ⊎ IsFrozen (word z r.world) q → ((p : ℕ) × (r'.origin q c ≡ Some p)) ⊎ IsFrozen (word z r'.world) q
+      stays (inl was) = inl (was.0, goes.origin q c was.0 was.1)
+      stays (inr f) = inr (freeze_lasts q w f)
+
+      -- the row is asked for the cell: it gives it, or is frozen
+      asked : a ≡ PutAdd → q ≡ l.row → c ≡ given_in (word z r.world) l.row → (b : Bool) → has_room z (count_of (word z r.world (name.Count l.row))) ≡ b → ((p : ℕ) × (r'.origin q c ≡ Some p)) ⊎ IsFrozen (word z r'.world) q
+      asked e f u true m = inl (length r.history.attempts, rw (f, u) (origin_new (subst (λ k. Happens z r r' s choice l l' k) e h) m))
+      asked e f u false m =
+          let below = (i.shape.sane.locals s l h.knows).below.row in
+          let less : given_in (word z r.world) l.row < z.cells = omega (arith, u, o) in
+          inr (rw f (freeze_lasts l.row below (no_room_frozen z (count_of (word z r.world (name.Count l.row))) (i.shape.sane.each (name.Count l.row) below) m less)))
+
+      which : (c < given_in (word z r.world) q) ⊎ (given_in (word z r.world) q ≤ c) → (given_in (word z r'.world) q ≡ given_in (word z r.world) q) ⊎ (a ≡ PutAdd) × (q ≡ l.row) → ((p : ℕ) × (r'.origin q c ≡ Some p)) ⊎ IsFrozen (word z r'.world) q
+      which (inl x) y = stays (i.puts.places.given q c w o x)
+      which (inr x) (inl y) = absurd (omega (arith, x, g, y))
       which (inr x) (inr y) =
           let more = taken_given y.0 in
           let f : given_in (word z r.world) l.row ≤ c = rw y.1 at x in
           let k : c < given_in (word z r'.world) l.row = rw y.1 at g in
-          let u : c ≡ given_in (word z r.world) l.row = omega (arith, f, k, more) in
-          let below : given_in (word z r.world) l.row < z.cells = omega (arith, u, o) in
-          (length r.history.attempts, rw (y.1, u) (origin_new (subst (λ k. Happens z r r' s choice l l' k) y.0 h) (i.puts.places.room l.row (i.shape.sane.locals s l h.knows).below.row below)))
+          asked y.0 y.1 (omega (arith, f, k, more)) _ refl
 
   -- a cell that is not given is nobody's
   nobody_keeps : (q c : ℕ) → q < r.world.rows → c < z.cells → given_in (word z r'.world) q ≤ c → r'.origin q c ≡ None
@@ -138,39 +154,32 @@ module _ (z : Sizes) (r r' : Run) (s : ℕ) (choice : Choice) (l : Local) (a : A
           let f : given_in (word z r'.world) l.row ≤ given_in (word z r.world) l.row = rw (x.1, x.2) at g in
           absurd (omega (arith, f, taken_given x.0.takes))
 
+  -- what is nobody's was so
+  nobody_was : (q c : ℕ) → r'.origin q c ≡ None → r.origin q c ≡ None
+  nobody_was q c e = by (r.origin q c) refl
+    where
+      by : (x : Option ℕ) → r.origin q c ≡ x → r.origin q c ≡ None
+      by (Some p) f = let y : Some p ≡ None = sym (goes.origin q c p f) ∙ e in absurd (cc)
+      by None f = f
+
   -- and has no version
-  unstored_keeps : (q c : ℕ) → q < r.world.rows → c < z.cells → given_in (word z r'.world) q ≤ c → word z r'.world (name.Version q c) ≡ 0
-  unstored_keeps q c w o g = version_kept a h q c w o (λ x e f. stores x e f) ∙ i.puts.places.unstored q c w o (omega (arith, g, grows q w))
+  unstored_keeps : (q c : ℕ) → q < r.world.rows → c < z.cells → r'.origin q c ≡ None → word z r'.world (name.Version q c) ≡ 0
+  unstored_keeps q c w o n = version_kept a h q c w o (λ x e f. stores x e f) ∙ i.puts.places.unstored q c w o (nobody_was q c n)
     where
       stores : IsPutVersion a → q ≡ l.row → c ≡ l.cell → ⊥
       stores x e f =
           let own = i.puts.owns s l h.knows (subst IsPutting (sym h.activity) (version_puts a x)) in
-          let cell = i.puts.given (r.seats s).own own.within in
-          let k : l.cell < given_in (word z r.world) l.row = rw (own.row, own.cell) at cell.given in
-          let j : given_in (word z r.world) l.row ≤ l.cell = rw (e, f) at (let y : given_in (word z r.world) q ≤ c = omega (arith, g, grows q w) in y) in
-          omega (arith, k, j)
+          let origin : r.origin l.row l.cell ≡ Some (r.seats s).own = rw (own.row, own.cell) at (i.puts.given (r.seats s).own own.within).origin in
+          let none : r.origin l.row l.cell ≡ None = rw (e, f) at (nobody_was q c n) in
+          let y : Some (r.seats s).own ≡ None = sym origin ∙ none in cc
 
-  -- a row that has not given all its cells has room
-  room_keeps : (q : ℕ) → q < r.world.rows → given_in (word z r'.world) q < z.cells → has_room z (count_of (word z r'.world (name.Count q))) ≡ true
-  room_keeps q w g = which (count_was a h q w)
-    where
-      which : (word z r'.world (name.Count q) ≡ word z r.world (name.Count q)) ⊎ (a ≡ PutAdd) × (q ≡ l.row) × (word z r'.world (name.Count l.row) ≡ word z r.world (name.Count l.row) + 1) → has_room z (count_of (word z r'.world (name.Count q))) ≡ true
-      which (inl x) = subst (λ k. has_room z (count_of k) ≡ true) (sym x) (i.puts.places.room q w (subst (λ k. given_of (count_of k) < z.cells) x g))
-      which (inr x) =
-          let f : given_in (word z r'.world) l.row < z.cells = rw x.1 at g in
-          let below = (i.shape.sane.locals s l h.knows).below.row in
-          let more = taken_given x.0 in
-          let room = i.puts.places.room l.row below (omega (arith, f, more)) in
-          rw (x.1, x.2) (room_next z (word z r.world (name.Count l.row)) _ refl (i.shape.sane.each (name.Count l.row) below) room (omega (arith, f, more)))
-
--- each cell that a row has given is that of an attempt, and no other cell is anybody's
+-- each cell that a row which is not frozen has given is that of an attempt, and no cell that is not given is anybody's
 pub places_keep : (z : Sizes) (r r' : Run) (s : ℕ) (choice : Choice) (l : Local) (a : Activity) (l' : Local) → Arrow z (word z r.world) s choice l a l' → Happens z r r' s choice l l' a → Below z r → Step r.history r'.history (log_entry z r a s choice l) → Shape z r' → Places z r'.world.rows (word z r'.world) r'.history r'.origin
 places_keep z r r' s choice l a l' b h i st after = subst (λ n. Places z n (word z r'.world) r'.history r'.origin) (sym h.rows) (record {
   owner = owner_keeps z r r' s choice l a l' h i st;
   given = place_keeps z r r' s choice l a l' h i st;
   nobody = nobody_keeps z r r' s choice l a l' h i st;
   unstored = unstored_keeps z r r' s choice l a l' h i st;
-  room = room_keeps z r r' s choice l a l' h i st;
 })
 
 -- of two attempts of one row the later one has the greater cell
@@ -297,7 +306,7 @@ body_keeps z r r' s choice l a l' b h i st p o = which (attempt_was a h p o)
         let below = (i.shape.sane.locals s l h.knows).below.row in
         let cell = room_below z (count_of (word z r.world (name.Count l.row))) n.gives.room in
         subst (λ (x : Attempt). word z r'.world (name.Version x.row x.cell) ≡ 0) (sym n.is)
-        (version_kept PutAdd taking l.row (given_in (word z r.world) l.row) below cell (λ x e f. x) ∙ i.puts.places.unstored l.row (given_in (word z r.world) l.row) below cell (omega arith))
+        (version_kept PutAdd taking l.row (given_in (word z r.world) l.row) below cell (λ x e f. x) ∙ i.puts.places.unstored l.row (given_in (word z r.world) l.row) below cell (i.puts.places.nobody l.row (given_in (word z r.world) l.row) below cell (omega arith)))
 
     which : (p < length r.history.attempts) ⊎ IsNew z r r' s l a p → HasBody (word z r'.world) r'.history p
     which (inl w) = body_stays z r r' s choice l a l' h i st p w

@@ -1,11 +1,7 @@
 -- The call of a busy seat over its own event: it runs on, and what it has for a put is its own attempt.
-use Rattle.std.proofs.Common.{ℕ, ◌≡◌, ◌⊎◌, inl, inr, ◌+◌, ◌<◌, Bool, true, false, Option, Some, None, [], ◌∷◌, ◌++◌, arith, refl, sym, ◌∙◌, ap, subst, length, length-append, slice_get}
+use Rattle.std.proofs.Common.{ℕ, ◌≡◌, ◌⊎◌, inl, inr, ◌+◌, ◌<◌, false, Option, Some, None, [], ◌∷◌, ◌++◌, arith, refl, sym, ◌∙◌, ap, subst, length, length-append}
 use Rattle.std.proofs.lemmas.Option.{same_Some}
 use Rattle.kw_words.specs.declared.layout.Name.TheVariants as name
-use Rattle.kw_words.specs.declared.pend.Pend.TheVariants as pend
-use Rattle.kw_words.specs.declared.sizes.TheConstants.{MOST_CELLS}
-use Rattle.kw_words.specs.Pend.{pend_of, pend_word}
-use Rattle.kw_words.proofs.PendWords.{pend_of-Pending, pend_of-Stamped}
 use Rattle.kw_model.specs.declared.call.Call.{Call}
 use Rattle.kw_model.specs.declared.call.Call.TheVariants.{Put, Del, Get, Scan}
 use Rattle.kw_world.specs.declared.activity.Activity.{Activity}
@@ -15,7 +11,7 @@ use Rattle.kw_world.specs.declared.event.Choice.{Choice}
 use Rattle.kw_world.specs.declared.event.Choice.TheVariants.{Begin}
 use Rattle.kw_world.specs.Sizes.{Sizes}
 use Rattle.kw_world.specs.Step.{word}
-use Rattle.kw_core.specs.History.{History, LoadClock, attempt, called}
+use Rattle.kw_core.specs.History.{History, attempt, called}
 use Rattle.kw_core.specs.declared.history.Logged.{Logged}
 use Rattle.kw_core.specs.declared.history.CallLog.{CallLog}
 use Rattle.kw_core.specs.HistoryLaws.{Makes as MakesPut}
@@ -26,17 +22,18 @@ use Rattle.kw_core.specs.Run.{Run, Origins, beginning, log_begun}
 use Rattle.kw_core.specs.declared.seat_log.SeatLog.{SeatLog}
 use Rattle.kw_core.specs.Stages.{IsBusy, IsPutting, IsPublished, IsStamp, IsStamped, IsPutClear, IsDone, IsHelp, IsUnderway}
 use Rattle.kw_shape.specs.Shape.{IsReadCall, IsKind}
-use Rattle.kw_puts.specs.Puts.{OwnsAttempt, entry_of}
 use Rattle.kw_puts.specs.Positions.{Calling}
 use Rattle.kw_puts.specs.Below.{Below}
 use Rattle.kw_core.specs.Step.{Step}
 use Rattle.kw_core.proofs.Attempts.{in_range}
 use Rattle.kw_core.proofs.NotedLaws.{called_set_same, called_push_old, called_push_new, called_same}
 use Rattle.kw_core.proofs.Steps.{old_call}
-use Rattle.kw_core.proofs.Changes.{Makes, made, makes_nothing, makes_begin, makes_add, makes_announce, makes_stamp, makes_help, makes_end}
+use Rattle.kw_core.proofs.Changes.{Makes, made, makes_nothing, makes_begin, makes_add, makes_announce, makes_stamp, makes_help, makes_end, makes_lose}
 use Rattle.kw_core.proofs.Happens.{log_entry}
 use Rattle.kw_puts.proofs.RelyEntry.{put_runs}
 use Rattle.kw_puts.proofs.RelyProof.{goes_on_by}
+use Rattle.kw_puts.proofs.Owners.{true_false}
+use Rattle.kw_puts.proofs.OwnAttempts.{lost_entry}
 use Rattle.kw_puts.proofs.Rely.{SameCall}
 use Rattle.kw_core.proofs.Happens.{Happens}
 use Rattle.kw_core.proofs.Arrows.{Arrow, IsNotOwn}
@@ -87,6 +84,7 @@ runs_on h h' e z v s choice l g o a c (makes_add m) u n x w = ap (λ (q : CallLo
 runs_on h h' e z v s choice l g o a c (makes_announce m) u n x w = ap (λ (q : CallLog). q.end) (called_same h h' x (ap (λ (y : History). y.calls) n))
 runs_on h h' e z v s choice l g o a c (makes_stamp m) u n x w = put_runs h h' x (attempt h g.own).call _ (ap (λ (y : History). y.calls) n) w
 runs_on h h' e z v s choice l g o a c (makes_help q m k) u n x w = put_runs h h' x (attempt h q).call _ (ap (λ (y : History). y.calls) n) w
+runs_on h h' e z v s choice l g o a c (makes_lose j cell q y m k) u n x w = ap (λ (q : CallLog). q.end) (called_same h h' x (ap (λ (y : History). y.calls) n))
 runs_on h h' e z v s choice l g o a c (makes_end answer) u n x w = absurd u
 
 -- the put that a seat's call has after its event is the one that it had, or the seat has stamped it
@@ -101,29 +99,8 @@ put_after h h' e z v s choice l g o a c (makes_stamp m) n w f r p q =
     let y : (called h' g.call).put ≡ Some g.own = subst (λ y. (called h' y).put ≡ Some g.own) (f tt) (ap (λ (y : CallLog). y.put) x) in
     inr (tt, same_Some g.own p (sym y ∙ q))
 put_after h h' e z v s choice l g o a c (makes_help j m k) n w f r p q = absurd (r tt p q)
+put_after h h' e z v s choice l g o a c (makes_lose i cell j x m k) n w f r p q = inl (ap (λ (y : CallLog). y.put) (sym (called_same h h' g.call (ap (λ (y : History). y.calls) n))) ∙ q)
 put_after h h' e z v s choice l g o a c (makes_end answer) n w f r p q = inl (ap (λ (y : CallLog). y.put) (sym (called_set_same h h' g.call _ (ap (λ (y : History). y.calls) n) w)) ∙ q)
-
--- the entry of a seat that is about to stamp is its own
-pub own_entry : (z : Sizes) (r : Run) (s : ℕ) (l : Local) → Below z r → slice_get r.world.locals s ≡ Some l → l.activity ≡ Stamp → IsNotOwn l.cell (word z r.world (name.Pend l.row s)) → ⊥
-own_entry z r s l i k a n = which (attempt r.history (r.seats s).own).is_stamped refl
-  where
-    own : OwnsAttempt (word z r.world) r.history s l.activity l (r.seats s)
-    own = i.puts.owns s l k (subst IsPutting (sym a) tt)
-
-    entry : word z r.world (name.Pend l.row s) ≡ entry_of (attempt r.history (r.seats s).own)
-    entry = own.entry (subst IsPublished (sym a) tt)
-
-    cell : l.cell < MOST_CELLS
-    cell = omega (arith, own.cell, (i.puts.given (r.seats s).own own.within).cell, i.shape.sane.sized.few_cells)
-
-    which : (b : Bool) → (attempt r.history (r.seats s).own).is_stamped ≡ b → ⊥
-    which true st =
-        let x : word z r.world (name.Pend l.row s) ≡ pend_word (pend.Stamped l.cell (attempt r.history (r.seats s).own).version) = rw (st, own.cell) at entry in
-        let stands = i.history.laws.loaded (r.seats s).own st in
-        n.stamped (attempt r.history (r.seats s).own).version (ap pend_of x ∙ pend_of-Stamped l.cell _ cell (i.positions.clocked.positive _ LoadClock _ stands) (omega (arith, i.positions.clocked.past _ LoadClock _ stands, (i.shape.sane.each name.Clock tt).1)))
-    which false st =
-        let x : word z r.world (name.Pend l.row s) ≡ pend_word (pend.Pending l.cell) = rw (st, own.cell) at entry in
-        n.pending (ap pend_of x ∙ pend_of-Pending l.cell cell)
 
 -- The call after the event.
 
@@ -163,7 +140,7 @@ module _ (z : Sizes) (r r' : Run) (s : ℕ) (choice : Choice) (l : Local) (a : A
 
   -- the seat's call is the same
   pub same_call : (r'.seats s).call ≡ (r.seats s).call
-  same_call = ap (λ (q : SeatLog). q.call) h.log ∙ call_kept z choice l _ l'.activity (r.seats s) r.origin r.history a u
+  same_call = ap (λ (q : SeatLog). q.call) h.log ∙ call_kept z choice l _ l'.activity (r.seats s) r.origin r.history (r.settled s) a u
 
   -- what the call is of has not changed
   same : SameCall r.history r'.history (r.seats s).call
@@ -199,6 +176,14 @@ module _ (z : Sizes) (r r' : Run) (s : ℕ) (choice : Choice) (l : Local) (a : A
       which (inr y) = absurd (done_ends a (subst IsDone h.activity y) u)
   is_published p (inr e) = (stamp_published a e.0, e.1)
 
+  -- an attempt that is the put of the call was not lost, so its seat finds its entry its own where it is about to stamp
+  not_lost : (p : ℕ) → (called r'.history (r.seats s).call).put ≡ Some p → (r.seats s).own ≡ p → a ≡ Stamp → IsNotOwn l.cell (word z r.world (name.Pend l.row s)) → ⊥
+  not_lost p q e stamp n =
+      let own = i.puts.owns s l h.knows (subst IsPutting (sym (h.activity ∙ stamp)) tt) in
+      let lost = lost_entry z r s l i own h.knows (h.activity ∙ stamp) n in
+      let goes = goes_on_by z r r' s choice l a l' h i st in
+      true_false ((goes.grows.old (r.seats s).own own.within).lost lost) (subst (λ x. (attempt r'.history x).is_lost ≡ false) (sym e) (k.laws.kept p (k.laws.is_put (r.seats s).call p q).0))
+
   -- a put that clears its entry is the put of its call
   done_put : IsPutClear a → (called r'.history (r.seats s).call).put ≡ Some (r.seats s).own
   done_put y =
@@ -219,9 +204,9 @@ module _ (z : Sizes) (r r' : Run) (s : ℕ) (choice : Choice) (l : Local) (a : A
         runs = rw same_call (runs_on r.history r'.history _ z (word z r.world) s choice l (r.seats s) r.origin a _ (made z (word z r.world) s choice l (r.seats s) r.origin a) u h.history (r.seats s).call x.within ∙ x.runs);
         own = λ p q.
             let y = is_published p (its_put p (subst (λ c. (called r'.history c).put ≡ Some p) same_call q)) in
-            ap (λ (q : SeatLog). q.own) h.log ∙ own_kept z choice l _ l'.activity (r.seats s) r.origin r.history a y.0 ∙ y.1;
+            ap (λ (q : SeatLog). q.own) h.log ∙ own_kept z choice l _ l'.activity (r.seats s) r.origin r.history (r.settled s) a y.0 ∙ y.1;
         published = λ p q.
             let y = is_published p (its_put p (subst (λ c. (called r'.history c).put ≡ Some p) same_call q)) in
-            arrow_published z (word z r.world) s choice l a l' b (λ n e. own_entry z r s l i h.knows (h.activity ∙ e) n) y.0;
+            arrow_published z (word z r.world) s choice l a l' b (λ n e. not_lost p (subst (λ c. (called r'.history c).put ≡ Some p) same_call q) y.1 e n) y.0;
         done = λ d. ((r.seats s).own, rw same_call (done_put (arrow_done z (word z r.world) s choice l a l' b kind d)));
       }

@@ -8,7 +8,7 @@ use Rattle.kw_words.specs.Pend.{pend_word}
 use Rattle.kw_words.specs.Plain.{key_of_word}
 use Rattle.kw_words.proofs.PendWords.{pend_word_of}
 use Rattle.kw_world.specs.declared.activity.Activity.{Activity}
-use Rattle.kw_world.specs.declared.activity.Activity.TheVariants.{Look, LookKey, LookClock, LookHelp, Announce, Stamp, PutClear}
+use Rattle.kw_world.specs.declared.activity.Activity.TheVariants.{Look, LookKey, LookClock, LookHelp, Announce, Stamp, PutClear, Freeze}
 use Rattle.kw_world.specs.declared.local.Local.{Local}
 use Rattle.kw_world.specs.declared.event.Choice.{Choice}
 use Rattle.kw_world.specs.Sizes.{Sizes}
@@ -17,80 +17,116 @@ use Rattle.kw_world.specs.Sane.{IsActivity}
 use Rattle.kw_world.specs.Step.{word}
 use Rattle.kw_core.specs.History.{attempt}
 use Rattle.kw_core.specs.Run.{Run}
-use Rattle.kw_core.specs.Stages.{IsPublished, HasMet, IsToHelp}
+use Rattle.kw_core.specs.Stages.{IsPublished, IsStamped, IsPutClear, HasMet, IsToHelp}
 use Rattle.kw_puts.specs.Puts.{OwnsAttempt, HasCell, Helps, IsPublishedAt}
+use Rattle.kw_puts.specs.Freezes.{IsToFreeze}
 use Rattle.kw_puts.specs.Below.{Below}
 use Rattle.kw_core.specs.Step.{Step}
 use Rattle.kw_core.proofs.Happens.{log_entry}
 use Rattle.kw_core.proofs.Steps.{new_stands}
 use Rattle.kw_core.proofs.Happens.{Happens, knows_next, knows_other, not_exchanged}
-use Rattle.kw_core.proofs.Arrows.{Arrow, NextLook, looks, lists, NextRest, rests, answers, ends_scan, scans_on}
+use Rattle.kw_core.proofs.Building.{never_built}
+use Rattle.kw_core.proofs.Arrows.{builds, Arrow, NextLook, looks, lists, NextRest, rests, answers, ends_scan, scans_on, announces_full, stamps_full, IsNotOwn}
 use Rattle.kw_core.proofs.Arrows.{meets_pending, meets_stamped, meets_neither, is_wanted, is_passed, loads_to_help, helps, finds_stamped, finds_other, list_ends, key_above, rest_passed, gathers_rest, announces, is_refused, loads_clock, stamps, is_stamped, is_not_own, stores_version, meets_cell, meets_none, key_before, key_same, key_after, version_before, version_after, stores_after, inserts, loses, clears}
-use Rattle.kw_core.proofs.Frame.{pend_kept}
+use Rattle.kw_core.proofs.FreezeFrame.{entry_stays, entry_frozen, entry_left, frozen_entry_lasts}
 use Rattle.kw_puts.proofs.Owners.{IsPendingOf, entry_owner, published_puts}
 use Rattle.kw_puts.proofs.Rely.{SameAttempt, GoesOn}
 use Rattle.kw_puts.proofs.RelyProof.{goes_on_by}
-use Rattle.kw_puts.proofs.OwnAttempts.{acting_own, idle_entry, own_entry}
+use Rattle.kw_puts.proofs.OwnAttempts.{acting_own, entry_stamped, lost_frozen}
 
 -- The entries.
 
--- an entry that is idle stays so, unless its own seat announces
-idle_stays : (z : Sizes) (r r' : Run) (s : ℕ) (choice : Choice) (l : Local) (a : Activity) (l' : Local) → Happens z r r' s choice l l' a → Below z r → (q j : ℕ) → q < r.world.rows → j < z.seats → (a ≡ Announce → q ≡ l.row → j ≡ s → ⊥) → word z r.world (name.Pend q j) ≡ pend_word pend.Idle → word z r'.world (name.Pend q j) ≡ pend_word pend.Idle
+-- an entry that is idle stays so or is frozen, unless its own seat announces
+pub idle_stays : (z : Sizes) (r r' : Run) (s : ℕ) (choice : Choice) (l : Local) (a : Activity) (l' : Local) → Happens z r r' s choice l l' a → Below z r → (q j : ℕ) → q < r.world.rows → j < z.seats → (a ≡ Announce → q ≡ l.row → j ≡ s → ⊥) → word z r.world (name.Pend q j) ≡ pend_word pend.Idle → (word z r'.world (name.Pend q j) ≡ pend_word pend.Idle) ⊎ (word z r'.world (name.Pend q j) ≡ pend_word pend.Frozen)
 idle_stays z r r' s choice l LookHelp l' h i q j w o n e = which (cases_eq q l.row) (cases_eq j l.looked)
   where
-    which : (q ≡ l.row) ⊎ (q ≡ l.row → ⊥) → (j ≡ l.looked) ⊎ (j ≡ l.looked → ⊥) → word z r'.world (name.Pend q j) ≡ pend_word pend.Idle
+    which : (q ≡ l.row) ⊎ (q ≡ l.row → ⊥) → (j ≡ l.looked) ⊎ (j ≡ l.looked → ⊥) → (word z r'.world (name.Pend q j) ≡ pend_word pend.Idle) ⊎ (word z r'.world (name.Pend q j) ≡ pend_word pend.Frozen)
     which (inl f) (inl g) =
         let was : word z r.world (name.Pend l.row l.looked) ≡ pend_word pend.Idle = rw (f, g) at e in
         let lost : word z r.world (name.Pend l.row l.looked) ≢ pend_word (pend.Pending l.met) = λ k. let x : pend_word pend.Idle ≡ pend_word (pend.Pending l.met) = sym was ∙ k in omega (arith, x) in
-        rw (f, g) (not_exchanged _ _ _ _ h.changed.same lost ∙ was)
-    which (inr d) g = pend_kept LookHelp h q j w o (λ x f k. x) (λ x f k. d f) ∙ e
-    which (inl f) (inr d) = pend_kept LookHelp h q j w o (λ x k g. x) (λ x k g. d g) ∙ e
+        inl (rw (f, g) (not_exchanged _ _ _ _ h.changed.same lost ∙ was))
+    which (inr d) g = inl (entry_stays LookHelp h q j w o (λ x f k. x) (λ x f k. d f) (λ x f. x) ∙ e)
+    which (inl f) (inr d) = inl (entry_stays LookHelp h q j w o (λ x k g. x) (λ x k g. d g) (λ x f. x) ∙ e)
 idle_stays z r r' s choice l Stamp l' h i q j w o n e = which (cases_eq q l.row) (cases_eq j s)
   where
-    which : (q ≡ l.row) ⊎ (q ≡ l.row → ⊥) → (j ≡ s) ⊎ (j ≡ s → ⊥) → word z r'.world (name.Pend q j) ≡ pend_word pend.Idle
+    which : (q ≡ l.row) ⊎ (q ≡ l.row → ⊥) → (j ≡ s) ⊎ (j ≡ s → ⊥) → (word z r'.world (name.Pend q j) ≡ pend_word pend.Idle) ⊎ (word z r'.world (name.Pend q j) ≡ pend_word pend.Frozen)
     which (inl f) (inl g) =
         let was : word z r.world (name.Pend l.row s) ≡ pend_word pend.Idle = rw (f, g) at e in
         let lost : word z r.world (name.Pend l.row s) ≢ pend_word (pend.Pending l.cell) = λ k. let x : pend_word pend.Idle ≡ pend_word (pend.Pending l.cell) = sym was ∙ k in omega (arith, x) in
-        rw (f, g) (not_exchanged _ _ _ _ h.changed.same lost ∙ was)
-    which (inr d) g = pend_kept Stamp h q j w o (λ x f k. d f) (λ x f k. x) ∙ e
-    which (inl f) (inr d) = pend_kept Stamp h q j w o (λ x k g. d g) (λ x k g. x) ∙ e
+        inl (rw (f, g) (not_exchanged _ _ _ _ h.changed.same lost ∙ was))
+    which (inr d) g = inl (entry_stays Stamp h q j w o (λ x f k. d f) (λ x f k. x) (λ x f. x) ∙ e)
+    which (inl f) (inr d) = inl (entry_stays Stamp h q j w o (λ x k g. d g) (λ x k g. x) (λ x f. x) ∙ e)
 idle_stays z r r' s choice l PutClear l' h i q j w o n e = which (cases_eq q l.row) (cases_eq j s)
   where
-    which : (q ≡ l.row) ⊎ (q ≡ l.row → ⊥) → (j ≡ s) ⊎ (j ≡ s → ⊥) → word z r'.world (name.Pend q j) ≡ pend_word pend.Idle
-    which (inl f) (inl g) = rw (f, g) h.changed.same
-    which (inr d) g = pend_kept PutClear h q j w o (λ x f k. d f) (λ x f k. x) ∙ e
-    which (inl f) (inr d) = pend_kept PutClear h q j w o (λ x k g. d g) (λ x k g. x) ∙ e
-idle_stays z r r' s choice l Announce l' h i q j w o n e = pend_kept Announce h q j w o (λ x f g. n refl f g) (λ x f g. x) ∙ e
-idle_stays z r r' s choice l a l' h i q j w o n e = pend_kept a h q j w o (λ x f g. x) (λ x f g. x) ∙ e
+    which : (q ≡ l.row) ⊎ (q ≡ l.row → ⊥) → (j ≡ s) ⊎ (j ≡ s → ⊥) → (word z r'.world (name.Pend q j) ≡ pend_word pend.Idle) ⊎ (word z r'.world (name.Pend q j) ≡ pend_word pend.Frozen)
+    which (inl f) (inl g) = inl (rw (f, g) h.changed.same)
+    which (inr d) g = inl (entry_stays PutClear h q j w o (λ x f k. d f) (λ x f k. x) (λ x f. x) ∙ e)
+    which (inl f) (inr d) = inl (entry_stays PutClear h q j w o (λ x k g. d g) (λ x k g. x) (λ x f. x) ∙ e)
+idle_stays z r r' s choice l (Freeze k) l' h i q j w o n e = which (cases_eq q l.row) (cases_eq j k)
+  where
+    which : (q ≡ l.row) ⊎ (q ≡ l.row → ⊥) → (j ≡ k) ⊎ (j ≡ k → ⊥) → (word z r'.world (name.Pend q j) ≡ pend_word pend.Idle) ⊎ (word z r'.world (name.Pend q j) ≡ pend_word pend.Frozen)
+    which (inl f) (inl g) = tried (cases_eq (word z r.world (name.Pend l.row k)) (pend_word l.rebalance.entry))
+      where
+        tried : (word z r.world (name.Pend l.row k) ≡ pend_word l.rebalance.entry) ⊎ (word z r.world (name.Pend l.row k) ≡ pend_word l.rebalance.entry → ⊥) → (word z r'.world (name.Pend q j) ≡ pend_word pend.Idle) ⊎ (word z r'.world (name.Pend q j) ≡ pend_word pend.Frozen)
+        tried (inl x) = inr (rw (f, g) (entry_frozen k h x))
+        tried (inr x) = inl (rw (f, g) (entry_left k h x ∙ rw (f, g) at e))
+    which (inr d) g = inl (entry_stays (Freeze k) h q j w o (λ x f k. x) (λ x f k. x) (λ x f. d f) ∙ e)
+    which (inl f) (inr d) = inl (entry_stays (Freeze k) h q j w o (λ x f k. x) (λ x f k. x) (λ x k. d x) ∙ e)
+idle_stays z r r' s choice l Announce l' h i q j w o n e = inl (entry_stays Announce h q j w o (λ x f g. n refl f g) (λ x f g. x) (λ x f. x) ∙ e)
+idle_stays z r r' s choice l a l' h i q j w o n e = inl (entry_stays a h q j w o (λ x f g. x) (λ x f g. x) (λ x f. x) ∙ e)
 
--- a seat that announces has announced a cell of its row then
-announces_now : (z : Sizes) (r r' : Run) (s : ℕ) (choice : Choice) (l : Local) (a : Activity) (l' : Local) → Arrow z (word z r.world) s choice l a l' → Happens z r r' s choice l l' a → Below z r → a ≡ Announce → IsPublished l'.activity × (l'.row ≡ l.row)
-announces_now z r r' s choice l a l' (announces x) h i e = (tt, refl)
-announces_now z r r' s choice l a l' (is_refused n) h i e = absurd (n (idle_entry z r s l i h.seat h.knows h.activity))
-announces_now z r r' s choice l a l' _ h i e = absurd (cc)
+-- a frozen entry stays so: a seat that is to clear its entry was stamped, and its entry says so
+pub frozen_stays : (z : Sizes) (r r' : Run) (s : ℕ) (choice : Choice) (l : Local) (a : Activity) (l' : Local) → Happens z r r' s choice l l' a → Below z r → (q j : ℕ) → q < r.world.rows → j < z.seats → word z r.world (name.Pend q j) ≡ pend_word pend.Frozen → word z r'.world (name.Pend q j) ≡ pend_word pend.Frozen
+frozen_stays z r r' s choice l PutClear l' h i q j w o e = frozen_entry_lasts PutClear h q j w o stamped e
+  where
+    own : OwnsAttempt (word z r.world) r.history s l.activity l (r.seats s)
+    own = acting_own z r r' s choice l PutClear l' h i tt
 
--- a seat that has announced a cell goes on with it, or clears its entry
-published_goes : (z : Sizes) (r r' : Run) (s : ℕ) (choice : Choice) (l : Local) (a : Activity) (l' : Local) → Arrow z (word z r.world) s choice l a l' → Happens z r r' s choice l l' a → Below z r → IsPublished a → (word z r'.world (name.Pend l.row s) ≡ pend_word pend.Idle) ⊎ IsPublished l'.activity × (l'.row ≡ l.row)
-published_goes z r r' s choice l a l' loads_clock h i p = inr (tt, refl)
-published_goes z r r' s choice l a l' (stamps e) h i p = inr (tt, refl)
-published_goes z r r' s choice l a l' (is_stamped version e) h i p = inr (tt, refl)
-published_goes z r r' s choice l a l' (is_not_own n) h i p = absurd (own_entry z r s l i (acting_own z r r' s choice l Stamp l' h i tt) h.knows h.activity n)
-published_goes z r r' s choice l a l' stores_version h i p = inr (tt, refl)
-published_goes z r r' s choice l a l' (meets_cell c y) h i p = inr (tt, refl)
-published_goes z r r' s choice l a l' (meets_none y) h i p = inr (tt, refl)
-published_goes z r r' s choice l a l' (key_before y) h i p = inr (tt, refl)
-published_goes z r r' s choice l a l' (key_same y) h i p = inr (tt, refl)
-published_goes z r r' s choice l a l' (key_after y) h i p = inr (tt, refl)
-published_goes z r r' s choice l a l' (version_before y) h i p = inr (tt, refl)
-published_goes z r r' s choice l a l' (version_after y) h i p = inr (tt, refl)
-published_goes z r r' s choice l a l' stores_after h i p = inr (tt, refl)
-published_goes z r r' s choice l a l' (inserts y) h i p = inr (tt, refl)
-published_goes z r r' s choice l a l' (loses y) h i p = inr (tt, refl)
+    stamped : IsPutClear PutClear → q ≡ l.row → j ≡ s → ⊥
+    stamped x f g =
+        let at : IsStamped l.activity = subst IsStamped (sym h.activity) tt in
+        let was : word z r.world (name.Pend l.row s) ≡ pend_word pend.Frozen = rw (f, g) at e in
+        let entry = own.entry (subst IsPublished (sym h.activity) tt) ∙ entry_stamped (attempt r.history (r.seats s).own) (own.kept at) (own.stamped at) in
+        let y : pend_word pend.Frozen ≡ pend_word (pend.Stamped (attempt r.history (r.seats s).own).cell (attempt r.history (r.seats s).own).version) = sym was ∙ entry in
+        omega (arith, y)
+frozen_stays z r r' s choice l a l' h i q j w o e = frozen_entry_lasts a h q j w o (λ x f g. x) e
+
+-- a seat whose entry is idle when it announces has announced a cell of its row then
+announces_now : (z : Sizes) (r r' : Run) (s : ℕ) (choice : Choice) (l : Local) (a : Activity) (l' : Local) → Arrow z (word z r.world) s choice l a l' → Happens z r r' s choice l l' a → Below z r → a ≡ Announce → word z r.world (name.Pend l.row s) ≡ pend_word pend.Idle → IsPublished l'.activity × (l'.row ≡ l.row)
+announces_now z r r' s choice l a l' (builds b next y o t) h i e f = never_built z b y o
+announces_now z r r' s choice l a l' (announces x) h i e y = (tt, refl)
+announces_now z r r' s choice l a l' (is_refused n f) h i e y = absurd (n y)
+announces_now z r r' s choice l a l' (announces_full n f) h i e y = absurd (n y)
+announces_now z r r' s choice l a l' _ h i e y = absurd (cc)
+
+-- the entry of a seat that finds it not its own is frozen
+unstamped_frozen : (z : Sizes) (r r' : Run) (s : ℕ) (choice : Choice) (l : Local) (l' : Local) → IsNotOwn l.cell (word z r.world (name.Pend l.row s)) → Happens z r r' s choice l l' Stamp → Below z r → word z r'.world (name.Pend l.row s) ≡ pend_word pend.Frozen
+unstamped_frozen z r r' s choice l l' n h i = frozen_stays z r r' s choice l Stamp l' h i l.row s (i.shape.sane.locals s l h.knows).below.row h.seat (lost_frozen z r s l i (acting_own z r r' s choice l Stamp l' h i tt) h.knows h.activity n)
+
+-- a seat that has announced a cell goes on with it, or clears its entry, or finds it frozen
+published_goes : (z : Sizes) (r r' : Run) (s : ℕ) (choice : Choice) (l : Local) (a : Activity) (l' : Local) → Arrow z (word z r.world) s choice l a l' → Happens z r r' s choice l l' a → Below z r → IsPublished a → (word z r'.world (name.Pend l.row s) ≡ pend_word pend.Idle) ⊎ (word z r'.world (name.Pend l.row s) ≡ pend_word pend.Frozen) ⊎ IsPublished l'.activity × (l'.row ≡ l.row)
+published_goes z r r' s choice l a l' (builds b next y o t) h i p = never_built z b y o
+published_goes z r r' s choice l a l' loads_clock h i p = inr (inr (tt, refl))
+published_goes z r r' s choice l a l' (stamps e) h i p = inr (inr (tt, refl))
+published_goes z r r' s choice l a l' (is_stamped version e) h i p = inr (inr (tt, refl))
+published_goes z r r' s choice l a l' (is_not_own n e) h i p = inr (inl (unstamped_frozen z r r' s choice l l' n h i))
+published_goes z r r' s choice l a l' (stamps_full n e) h i p = inr (inl (unstamped_frozen z r r' s choice l l' n h i))
+published_goes z r r' s choice l a l' stores_version h i p = inr (inr (tt, refl))
+published_goes z r r' s choice l a l' (meets_cell c y) h i p = inr (inr (tt, refl))
+published_goes z r r' s choice l a l' (meets_none y) h i p = inr (inr (tt, refl))
+published_goes z r r' s choice l a l' (key_before y) h i p = inr (inr (tt, refl))
+published_goes z r r' s choice l a l' (key_same y) h i p = inr (inr (tt, refl))
+published_goes z r r' s choice l a l' (key_after y) h i p = inr (inr (tt, refl))
+published_goes z r r' s choice l a l' (version_before y) h i p = inr (inr (tt, refl))
+published_goes z r r' s choice l a l' (version_after y) h i p = inr (inr (tt, refl))
+published_goes z r r' s choice l a l' stores_after h i p = inr (inr (tt, refl))
+published_goes z r r' s choice l a l' (inserts y) h i p = inr (inr (tt, refl))
+published_goes z r r' s choice l a l' (loses y) h i p = inr (inr (tt, refl))
 published_goes z r r' s choice l a l' clears h i p = inl h.changed.same
 published_goes z r r' s choice l a l' _ h i p = absurd p
 
--- an entry is idle, or its seat has announced a cell there
-pub entry_keeps : (z : Sizes) (r r' : Run) (s : ℕ) (choice : Choice) (l : Local) (a : Activity) (l' : Local) → Arrow z (word z r.world) s choice l a l' → Happens z r r' s choice l l' a → Below z r → (q j : ℕ) → q < r'.world.rows → j < z.seats → (word z r'.world (name.Pend q j) ≡ pend_word pend.Idle) ⊎ IsPublishedAt (slice_get r'.world.locals) q j
+-- an entry is idle or frozen, or its seat has announced a cell there
+pub entry_keeps : (z : Sizes) (r r' : Run) (s : ℕ) (choice : Choice) (l : Local) (a : Activity) (l' : Local) → Arrow z (word z r.world) s choice l a l' → Happens z r r' s choice l l' a → Below z r → (q j : ℕ) → q < r'.world.rows → j < z.seats → (word z r'.world (name.Pend q j) ≡ pend_word pend.Idle) ⊎ (word z r'.world (name.Pend q j) ≡ pend_word pend.Frozen) ⊎ IsPublishedAt (slice_get r'.world.locals) q j
 entry_keeps z r r' s choice l a l' b h i q j o e = which (cases_eq j s) (i.puts.entry q j below e)
   where
     below : q < r.world.rows
@@ -100,17 +136,21 @@ entry_keeps z r r' s choice l a l' b h i q j o e = which (cases_eq j s) (i.puts.
     here : j ≡ s → IsPublished l'.activity → l'.row ≡ q → IsPublishedAt (slice_get r'.world.locals) q j
     here f p k = record { local = l'; knows = rw f (knows_next h); published = p; row = k }
 
+    idle_or_frozen : (word z r'.world (name.Pend q j) ≡ pend_word pend.Idle) ⊎ (word z r'.world (name.Pend q j) ≡ pend_word pend.Frozen) → (word z r'.world (name.Pend q j) ≡ pend_word pend.Idle) ⊎ (word z r'.world (name.Pend q j) ≡ pend_word pend.Frozen) ⊎ IsPublishedAt (slice_get r'.world.locals) q j
+    idle_or_frozen (inl y) = inl y
+    idle_or_frozen (inr y) = inr (inl y)
+
     -- its entry was idle, and it announces or not
-    idle : word z r.world (name.Pend q j) ≡ pend_word pend.Idle → (k : Activity) → a ≡ k → (word z r'.world (name.Pend q j) ≡ pend_word pend.Idle) ⊎ IsPublishedAt (slice_get r'.world.locals) q j
+    idle : word z r.world (name.Pend q j) ≡ pend_word pend.Idle → (k : Activity) → a ≡ k → (word z r'.world (name.Pend q j) ≡ pend_word pend.Idle) ⊎ (word z r'.world (name.Pend q j) ≡ pend_word pend.Frozen) ⊎ IsPublishedAt (slice_get r'.world.locals) q j
     idle x Announce f = at (cases_eq q l.row) (cases_eq j s)
       where
-        at : (q ≡ l.row) ⊎ (q ≡ l.row → ⊥) → (j ≡ s) ⊎ (j ≡ s → ⊥) → (word z r'.world (name.Pend q j) ≡ pend_word pend.Idle) ⊎ IsPublishedAt (slice_get r'.world.locals) q j
-        at (inl g) (inl k) = let p = announces_now z r r' s choice l a l' b h i f in inr (here k p.0 (p.1 ∙ sym g))
-        at (inr d) k = inl (idle_stays z r r' s choice l a l' h i q j below e (λ u g m. d g) x)
-        at (inl g) (inr d) = inl (idle_stays z r r' s choice l a l' h i q j below e (λ u g m. d m) x)
-    idle x k f = inl (idle_stays z r r' s choice l a l' h i q j below e (λ u g m. let y : k ≡ Announce = sym f ∙ u in absurd (cc)) x)
+        at : (q ≡ l.row) ⊎ (q ≡ l.row → ⊥) → (j ≡ s) ⊎ (j ≡ s → ⊥) → (word z r'.world (name.Pend q j) ≡ pend_word pend.Idle) ⊎ (word z r'.world (name.Pend q j) ≡ pend_word pend.Frozen) ⊎ IsPublishedAt (slice_get r'.world.locals) q j
+        at (inl g) (inl k) = let p = announces_now z r r' s choice l a l' b h i f (rw (g, k) at x) in inr (inr (here k p.0 (p.1 ∙ sym g)))
+        at (inr d) k = idle_or_frozen (idle_stays z r r' s choice l a l' h i q j below e (λ u g m. d g) x)
+        at (inl g) (inr d) = idle_or_frozen (idle_stays z r r' s choice l a l' h i q j below e (λ u g m. d m) x)
+    idle x k f = idle_or_frozen (idle_stays z r r' s choice l a l' h i q j below e (λ u g m. let y : k ≡ Announce = sym f ∙ u in absurd (cc)) x)
 
-    mine : j ≡ s → IsPublishedAt (slice_get r.world.locals) q j → (word z r'.world (name.Pend q j) ≡ pend_word pend.Idle) ⊎ IsPublishedAt (slice_get r'.world.locals) q j
+    mine : j ≡ s → IsPublishedAt (slice_get r.world.locals) q j → (word z r'.world (name.Pend q j) ≡ pend_word pend.Idle) ⊎ (word z r'.world (name.Pend q j) ≡ pend_word pend.Frozen) ⊎ IsPublishedAt (slice_get r'.world.locals) q j
     mine f p = met (published_goes z r r' s choice l a l' b h i (subst IsPublished h.activity (subst (λ (x : Local). IsPublished x.activity) is p.published)))
       where
         is : p.local ≡ l
@@ -119,14 +159,43 @@ entry_keeps z r r' s choice l a l' b h i q j o e = which (cases_eq j s) (i.puts.
         row : l.row ≡ q
         row = ap (λ x. x.row) (sym is) ∙ p.row
 
-        met : (word z r'.world (name.Pend l.row s) ≡ pend_word pend.Idle) ⊎ IsPublished l'.activity × (l'.row ≡ l.row) → (word z r'.world (name.Pend q j) ≡ pend_word pend.Idle) ⊎ IsPublishedAt (slice_get r'.world.locals) q j
+        met : (word z r'.world (name.Pend l.row s) ≡ pend_word pend.Idle) ⊎ (word z r'.world (name.Pend l.row s) ≡ pend_word pend.Frozen) ⊎ IsPublished l'.activity × (l'.row ≡ l.row) → (word z r'.world (name.Pend q j) ≡ pend_word pend.Idle) ⊎ (word z r'.world (name.Pend q j) ≡ pend_word pend.Frozen) ⊎ IsPublishedAt (slice_get r'.world.locals) q j
         met (inl x) = inl (rw (← row, f) x)
-        met (inr x) = inr (here f x.0 (x.1 ∙ row))
+        met (inr (inl x)) = inr (inl (rw (← row, f) x))
+        met (inr (inr x)) = inr (inr (here f x.0 (x.1 ∙ row)))
 
-    which : (j ≡ s) ⊎ (j ≡ s → ⊥) → (word z r.world (name.Pend q j) ≡ pend_word pend.Idle) ⊎ IsPublishedAt (slice_get r.world.locals) q j → (word z r'.world (name.Pend q j) ≡ pend_word pend.Idle) ⊎ IsPublishedAt (slice_get r'.world.locals) q j
+    which : (j ≡ s) ⊎ (j ≡ s → ⊥) → (word z r.world (name.Pend q j) ≡ pend_word pend.Idle) ⊎ (word z r.world (name.Pend q j) ≡ pend_word pend.Frozen) ⊎ IsPublishedAt (slice_get r.world.locals) q j → (word z r'.world (name.Pend q j) ≡ pend_word pend.Idle) ⊎ (word z r'.world (name.Pend q j) ≡ pend_word pend.Frozen) ⊎ IsPublishedAt (slice_get r'.world.locals) q j
     which f (inl x) = idle x a refl
-    which (inl f) (inr p) = mine f p
-    which (inr d) (inr p) = inr (record { local = p.local; knows = knows_other h j d ∙ p.knows; published = p.published; row = p.row })
+    which f (inr (inl x)) = inr (inl (frozen_stays z r r' s choice l a l' h i q j below e x))
+    which (inl f) (inr (inr p)) = mine f p
+    which (inr d) (inr (inr p)) = inr (inr (record { local = p.local; knows = knows_other h j d ∙ p.knows; published = p.published; row = p.row }))
+
+-- The entry that a seat is to freeze.
+
+look_tries : (z : Sizes) (j : ℕ) (a : Activity) (k : Local) → NextLook z j a → IsToFreeze a k
+look_tries z j a k (looks o) = tt
+look_tries z j a k (lists o) = tt
+
+rest_tries : (l : Local) (n : Local) → NextRest l n → IsToFreeze n.activity n
+rest_tries l n (rests m o) = tt
+rest_tries l n (answers o e) = tt
+rest_tries l n (ends_scan o e f) = tt
+rest_tries l n (scans_on q o e f g) = tt
+
+-- the acting seat is to freeze an entry only where it found it idle or pending
+pub tries_own : (z : Sizes) (r r' : Run) (s : ℕ) (choice : Choice) (l : Local) (a : Activity) (l' : Local) → Arrow z (word z r.world) s choice l a l' → IsToFreeze l'.activity l'
+tries_own z r r' s choice l a l' (builds b next y o t) = never_built z b y o
+tries_own z r r' s choice l a l' (meets_stamped j c version next e n) = look_tries z _ next _ n
+tries_own z r r' s choice l a l' (meets_neither j next e n) = look_tries z _ next _ n
+tries_own z r r' s choice l a l' (is_passed next e n) = look_tries z _ next _ n
+tries_own z r r' s choice l a l' (helps next e n) = look_tries z _ next _ n
+tries_own z r r' s choice l a l' (finds_stamped c version next e n) = look_tries z _ next _ n
+tries_own z r r' s choice l a l' (finds_other next e n) = look_tries z _ next _ n
+tries_own z r r' s choice l a l' (list_ends next e n) = rest_tries _ next n
+tries_own z r r' s choice l a l' (key_above next e n) = rest_tries _ next n
+tries_own z r r' s choice l a l' (rest_passed next e n) = rest_tries _ next n
+tries_own z r r' s choice l a l' (gathers_rest next n) = rest_tries _ next n
+tries_own z r r' s choice l a l' _ = tt
 
 -- The attempt that a reader is to help.
 
@@ -221,6 +290,7 @@ loaded_to_help z r r' s choice l h i st =
 
 -- the attempt that the acting seat is to help
 pub helps_own : (z : Sizes) (r r' : Run) (s : ℕ) (choice : Choice) (l : Local) (a : Activity) (l' : Local) → Arrow z (word z r.world) s choice l a l' → Happens z r r' s choice l l' a → Below z r → Step r.history r'.history (log_entry z r a s choice l) → HasMet l'.activity → Helps r'.history r'.origin l'.activity l' (r'.seats s)
+helps_own z r r' s choice l a l' (builds b next y o t) h i st p = never_built z b y o
 helps_own z r r' s choice l a l' (meets_pending j c e) h i st p = pending_met z r r' s choice l j c (sym (pend_word_of _ _ e)) h i st
 helps_own z r r' s choice l a l' (is_wanted e) h i st p = key_wanted z r r' s choice l e h i st
 helps_own z r r' s choice l a l' loads_to_help h i st p = loaded_to_help z r r' s choice l h i st

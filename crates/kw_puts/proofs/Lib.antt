@@ -10,9 +10,12 @@ pub mod OwnAttempts
 pub mod AttemptCells
 pub mod DoneAttempts
 pub mod Entries
+pub mod Freezes
+pub mod Marking
 pub mod PutsKeep
 pub mod Callings
 pub mod OwnScans
+pub mod Helpers
 pub mod PositionsKeep
 pub mod OwnInserts
 pub mod OwnListed

@@ -15,7 +15,7 @@ use Rattle.kw_lists.proofs.Agreeing.{agreeing_sound}
 use Rattle.kw_lists.proofs.Inserting.{inserted_sound}
 use Rattle.kw_lists.proofs.Putting.{put_inserts}
 use Rattle.kw_world.specs.declared.activity.Activity.{Activity}
-use Rattle.kw_world.specs.declared.activity.Activity.TheVariants.{PutKey, PutVersion, InsSet, Insert}
+use Rattle.kw_world.specs.declared.activity.Activity.TheVariants.{PutKey, PutVersion, InsSet, Insert, WriteCount, WriteAfter}
 use Rattle.kw_world.specs.declared.local.Local.{Local}
 use Rattle.kw_world.specs.declared.event.Choice.{Choice}
 use Rattle.kw_world.specs.ListTransitions.{link_name}
@@ -170,6 +170,8 @@ module _ (z : Sizes) (r r' : Run) (s : ℕ) (choice : Choice) (l : Local) (l' : 
 -- what an event leaves of the list of a row that is or was linked
 pub list_step : (z : Sizes) (r r' : Run) (s : ℕ) (choice : Choice) (l : Local) (a : Activity) (l' : Local) → Happens z r r' s choice l l' a → Below z r → (q : ℕ) → WasLinked r.ledger.rows q → ListStep z.cells (list_in (word z r.world) r.listed q) (list_in (word z r'.world) r'.listed q)
 list_step z r r' s choice l Insert l' h i q k = insert_step z r r' s choice l l' h i q k
+list_step z r r' s choice l WriteCount l' h i q k = absurd h.reached
+list_step z r r' s choice l (WriteAfter j) l' h i q k = absurd h.reached
 list_step z r r' s choice l a l' h i q k = subst (λ f. ListStep z.cells (list_in (word z r.world) r.listed q) (row_in (word z r'.world) q f)) (sym (ap (λ f. f q) h.listed))
     (stays (keeping_agrees (word z r.world) (word z r'.world) q (r.listed q) (list_kept z r r' s choice l a l' h i q k (λ at x e g. x))))
 
@@ -185,6 +187,8 @@ listed_was z r r' s choice l Insert l' h q c t = which (cases_eq (word z r.world
         met : (c ≡ l.cell) ⊎ (r.listed l.row c ≡ true) → (r.listed q c ≡ true) ⊎ (Insert ≡ Insert) × (q ≡ l.row) × (c ≡ l.cell)
         met (inl x) = inr (refl, f, x)
         met (inr x) = inl (rw f x)
+listed_was z r r' s choice l WriteCount l' h q c t = absurd h.reached
+listed_was z r r' s choice l (WriteAfter j) l' h q c t = absurd h.reached
 listed_was z r r' s choice l a l' h q c t = inl (sym (ap (λ f. f q c) h.listed) ∙ t)
 
 -- a cell that is listed stays listed
@@ -195,4 +199,6 @@ listed_stays z r r' s choice l Insert l' h q c t = which (cases_eq (word z r.wor
     which (inr n) f = ap (λ f. f q c) (h.listed ∙ not_chosen _ _ _ _ n) ∙ t
     which (inl e) (inr d) = ap (λ f. f c) (ap (λ f. f q) (h.listed ∙ chosen _ _ _ _ e) ∙ with_listed_else r.listed l.row l.cell q d) ∙ t
     which (inl e) (inl f) = rw f (ap (λ f. f c) (ap (λ f. f l.row) (h.listed ∙ chosen _ _ _ _ e) ∙ with_listed_here r.listed l.row l.cell) ∙ cell_old (r.listed l.row) l.cell c (subst (λ x. r.listed x c ≡ true) f t))
+listed_stays z r r' s choice l WriteCount l' h q c t = absurd h.reached
+listed_stays z r r' s choice l (WriteAfter j) l' h q c t = absurd h.reached
 listed_stays z r r' s choice l a l' h q c t = ap (λ f. f q c) h.listed ∙ t

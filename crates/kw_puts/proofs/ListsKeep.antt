@@ -19,7 +19,7 @@ use Rattle.kw_core.specs.Stages.{IsStamped, IsStored, IsPutClear, IsInserting}
 use Rattle.kw_core.specs.Step.{Step}
 use Rattle.kw_core.proofs.Happens.{Happens, log_entry, each_seat}
 use Rattle.kw_shape.proofs.ShapeOpens.{each_rests, opens, shape_starts}
-use Rattle.kw_puts.specs.Puts.{IsCurrent, Puts}
+use Rattle.kw_puts.specs.Puts.{IsCurrent, IsOver, Puts}
 use Rattle.kw_rows.specs.Rows.{WasLinked}
 use Rattle.kw_shape.proofs.RowsStay.{fresh_linked, linked_was, was_below}
 use Rattle.kw_puts.specs.Lists.{list_in, IsListedCell, IsOwnListed, Inserts, WalksList, Lists}
@@ -28,7 +28,7 @@ use Rattle.kw_puts.proofs.Rely.{GoesOn, Rely}
 use Rattle.kw_puts.proofs.RelyProof.{goes_on_by, rely}
 use Rattle.kw_puts.proofs.NewAttempts.{IsNew, attempt_was}
 use Rattle.kw_puts.proofs.OwnAttempts.{acting_own}
-use Rattle.kw_puts.proofs.DoneAttempts.{new_current, current_goes}
+use Rattle.kw_puts.proofs.DoneAttempts.{new_current, current_goes, over_goes}
 use Rattle.kw_puts.proofs.ListSteps.{list_step, stays_sound, listed_was, listed_stays, listed_words, not_listed, insert_words}
 use Rattle.kw_puts.proofs.OwnInserts.{inserts_stay, walks_stay, inserts_if, walks_if, inserting_at, inserting_unlisted, inserts_own, walks_own}
 use Rattle.kw_puts.proofs.OwnListed.{own_listed}
@@ -74,24 +74,25 @@ module _ (z : Sizes) (r r' : Run) (s : ℕ) (choice : Choice) (l : Local) (a : A
           let stored = (insert_words z r r' s choice l l' inserting i l.row l.cell known.below.row known.ranges.cell).version ∙ own.stored (subst IsStored (sym inserting.activity) tt) in
           rw (x.1, x.2) (stamped_cell l.row l.cell (r.seats s).own origin (own.stamped (subst IsStamped (sym inserting.activity) tt)) stored)
 
-  -- an attempt is current, or its cell is listed
-  old_listed : (p : ℕ) → p < length r'.history.attempts → IsCurrent (slice_get r'.world.locals) r'.seats r'.history p ⊎ (r'.listed (attempt r'.history p).row (attempt r'.history p).cell ≡ true)
+  -- an attempt is current, or its cell is listed, or it never gets a version
+  old_listed : (p : ℕ) → p < length r'.history.attempts → IsCurrent (slice_get r'.world.locals) r'.seats r'.history p ⊎ (r'.listed (attempt r'.history p).row (attempt r'.history p).cell ≡ true) ⊎ IsOver r'.history p
   old_listed p o = which (attempt_was a h p o)
     where
       stays : (p : ℕ) → p < length r.history.attempts → r.listed (attempt r.history p).row (attempt r.history p).cell ≡ true → r'.listed (attempt r'.history p).row (attempt r'.history p).cell ≡ true
       stays p w x = let same = goes.attempts p w in rw (same.row, same.cell) (listed_stays z r r' s choice l a l' h (attempt r.history p).row (attempt r.history p).cell x)
 
-      cleared : a ≡ PutClear → r'.listed (attempt r'.history (r.seats s).own).row (attempt r'.history (r.seats s).own).cell ≡ true
+      cleared : a ≡ PutClear → (r'.listed (attempt r'.history (r.seats s).own).row (attempt r'.history (r.seats s).own).cell ≡ true) ⊎ IsOver r'.history (r.seats s).own
       cleared e =
           let clearing = subst (λ b. Happens z r r' s choice l l' b) e h in
           let own = acting_own z r r' s choice l PutClear l' clearing i tt in
-          stays (r.seats s).own own.within (rw (own.row, own.cell) ((i.lists.own s l h.knows).listed (subst IsPutClear (sym clearing.activity) tt)))
+          inl (stays (r.seats s).own own.within (rw (own.row, own.cell) ((i.lists.own s l h.knows).listed (subst IsPutClear (sym clearing.activity) tt))))
 
-      was : p < length r.history.attempts → IsCurrent (slice_get r.world.locals) r.seats r.history p ⊎ (r.listed (attempt r.history p).row (attempt r.history p).cell ≡ true) → IsCurrent (slice_get r'.world.locals) r'.seats r'.history p ⊎ (r'.listed (attempt r'.history p).row (attempt r'.history p).cell ≡ true)
-      was w (inl k) = current_goes z r r' s choice l a l' h i st (λ p. r'.listed (attempt r'.history p).row (attempt r'.history p).cell ≡ true) cleared p w k
-      was w (inr x) = inr (stays p w x)
+      was : p < length r.history.attempts → IsCurrent (slice_get r.world.locals) r.seats r.history p ⊎ (r.listed (attempt r.history p).row (attempt r.history p).cell ≡ true) ⊎ IsOver r.history p → IsCurrent (slice_get r'.world.locals) r'.seats r'.history p ⊎ (r'.listed (attempt r'.history p).row (attempt r'.history p).cell ≡ true) ⊎ IsOver r'.history p
+      was w (inl k) = current_goes z r r' s choice l a l' h i st (λ p. (r'.listed (attempt r'.history p).row (attempt r'.history p).cell ≡ true) ⊎ IsOver r'.history p) cleared (λ x. inr x) p w k
+      was w (inr (inl x)) = inr (inl (stays p w x))
+      was w (inr (inr x)) = over_goes z r r' s choice l a l' h i st (λ p. (r'.listed (attempt r'.history p).row (attempt r'.history p).cell ≡ true) ⊎ IsOver r'.history p) cleared (λ q x. inr x) p w x
 
-      which : (p < length r.history.attempts) ⊎ IsNew z r r' s l a p → IsCurrent (slice_get r'.world.locals) r'.seats r'.history p ⊎ (r'.listed (attempt r'.history p).row (attempt r'.history p).cell ≡ true)
+      which : (p < length r.history.attempts) ⊎ IsNew z r r' s l a p → IsCurrent (slice_get r'.world.locals) r'.seats r'.history p ⊎ (r'.listed (attempt r'.history p).row (attempt r'.history p).cell ≡ true) ⊎ IsOver r'.history p
       which (inl w) = was w (i.lists.old p w)
       which (inr n) = inl (new_current z r r' s choice l a l' h i st p n)
 

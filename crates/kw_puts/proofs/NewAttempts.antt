@@ -5,9 +5,8 @@ use Rattle.std.proofs.lemmas.Bool.{cases_eq, cases_lt, and_parts, lt-ltb}
 use Rattle.kw_words.specs.declared.layout.Name.TheVariants as name
 use Rattle.kw_words.specs.declared.count.Count.{Count as Counted}
 use Rattle.kw_words.specs.Count.{count_of}
-use Rattle.kw_words.proofs.CountWords.{count_of_next}
 use Rattle.kw_world.specs.declared.activity.Activity.{Activity}
-use Rattle.kw_world.specs.declared.activity.Activity.TheVariants.{Announce, PutAdd}
+use Rattle.kw_world.specs.declared.activity.Activity.TheVariants.{Announce, PutAdd, WriteVersion, FreezeCount}
 use Rattle.kw_world.specs.declared.local.Local.{Local}
 use Rattle.kw_world.specs.declared.event.Choice.{Choice}
 use Rattle.kw_world.specs.Sizes.{Sizes}
@@ -20,15 +19,21 @@ use Rattle.kw_core.specs.History.{History, attempt}
 use Rattle.kw_core.specs.declared.history.Logged.{Logged}
 use Rattle.kw_core.specs.declared.history.Attempt.{Attempt}
 use Rattle.kw_core.specs.declared.history.Change.{Change}
-use Rattle.kw_core.specs.declared.history.Change.TheVariants.{Nothing, Begins, Adds, Announces, Stamps, Ends}
+use Rattle.kw_core.specs.declared.history.Change.TheVariants.{Nothing, Begins, Adds, Announces, Loses, Stamps, Ends}
 use Rattle.kw_core.specs.Noted.{noted}
 use Rattle.kw_core.specs.Run.{Run, Origins, with_origin, answering, drawing}
 use Rattle.kw_core.specs.Words.{Words, given_in}
 use Rattle.kw_core.proofs.NotedLaws.{attempt_set_same, attempt_push_new}
 use Rattle.kw_core.proofs.Arrows.{eq_from}
-use Rattle.kw_core.proofs.Happens.{Happens}
-use Rattle.kw_core.proofs.Frame.{count_kept, given-next}
-use Rattle.kw_core.proofs.Changes.{Makes, makes_nothing, makes_begin, makes_add, makes_announce, makes_stamp, makes_help, makes_end, made}
+use Rattle.kw_core.proofs.Happens.{Happens, log_entry}
+use Rattle.kw_core.specs.Step.{Step, AttemptStep, as_it_was, is_added, is_announced, is_lost, is_stamped}
+use Rattle.kw_shape.specs.RowsIn.{has_frozen}
+use Rattle.kw_puts.specs.Freezes.{IsFrozen}
+use Rattle.kw_puts.specs.Puts.{IsOver}
+use Rattle.kw_puts.proofs.Owners.{true_false}
+use Rattle.kw_core.proofs.Frame.{given-next}
+use Rattle.kw_core.proofs.FreezeFrame.{count_stays, freezes_given, frozen_lasts}
+use Rattle.kw_core.proofs.Changes.{Makes, makes_nothing, makes_begin, makes_add, makes_announce, makes_stamp, makes_help, makes_end, made, makes_lose}
 use Rattle.kw_puts.proofs.RelyEntry.{attempt_left}
 
 -- the attempt of a seat that is given a cell
@@ -63,6 +68,7 @@ old_or_new z r r' s choice l a c e (makes_add m) n p w = which (cases_lt p (leng
 old_or_new z r r' s choice l a c e (makes_announce m) n p w = inl (subst (λ x. p < x) (ap (λ x. length x.attempts) n ∙ length-set r.history.attempts (r.seats s).own _) w)
 old_or_new z r r' s choice l a c e (makes_stamp m) n p w = inl (subst (λ x. p < x) (ap (λ x. length x.attempts) n ∙ length-set r.history.attempts (r.seats s).own _) w)
 old_or_new z r r' s choice l a c e (makes_help q m k) n p w = inl (subst (λ x. p < x) (ap (λ x. length x.attempts) n ∙ length-set r.history.attempts q _) w)
+old_or_new z r r' s choice l a c e (makes_lose j cell q x m k) n p w = inl (subst (λ x. p < x) (ap (λ x. length x.attempts) n ∙ length-set r.history.attempts q _) w)
 old_or_new z r r' s choice l a c e (makes_end answer) n p w = inl (subst (λ x. p < length x.attempts) n w)
 
 -- a stamp announces nothing
@@ -74,6 +80,16 @@ stamped_was h h' e q version load n p w x = which (cases_eq p q)
         let u : p < length h.attempts → (attempt h' p).is_announced ≡ (attempt h p).is_announced = subst (λ k. k < length h.attempts → (attempt h' k).is_announced ≡ (attempt h k).is_announced) (sym y) (λ v. ap (λ k. k.is_announced) (attempt_set_same h h' q _ (ap (λ k. k.attempts) n) v)) in
         sym (u w) ∙ x
     which (inr y) = sym (ap (λ k. k.is_announced) (attempt_left h h' e p (Stamps q version load) y n w)) ∙ x
+
+-- nor does a loss
+lost_was : (h h' : History) (e : Logged) (q : ℕ) → h' ≡ noted h e (Loses q) → (p : ℕ) → p < length h.attempts → (attempt h' p).is_announced ≡ true → (attempt h p).is_announced ≡ true
+lost_was h h' e q n p w x = which (cases_eq p q)
+  where
+    which : (p ≡ q) ⊎ (p ≡ q → ⊥) → (attempt h p).is_announced ≡ true
+    which (inl y) =
+        let u : p < length h.attempts → (attempt h' p).is_announced ≡ (attempt h p).is_announced = subst (λ k. k < length h.attempts → (attempt h' k).is_announced ≡ (attempt h k).is_announced) (sym y) (λ v. ap (λ k. k.is_announced) (attempt_set_same h h' q _ (ap (λ k. k.attempts) n) v)) in
+        sym (u w) ∙ x
+    which (inr y) = sym (ap (λ k. k.is_announced) (attempt_left h h' e p (Loses q) y n w)) ∙ x
 
 -- over a change: an attempt that is announced was so, or is the seat's own and is announced now
 announced_or_now : (z : Sizes) (r r' : Run) (s : ℕ) (choice : Choice) (l : Local) (a : Activity) (c : Change) (e : Logged) → Makes z (word z r.world) s choice l (r.seats s) r.origin a c → r'.history ≡ noted r.history e c → (p : ℕ) → p < length r.history.attempts → (attempt r'.history p).is_announced ≡ true → ((attempt r.history p).is_announced ≡ true) ⊎ (a ≡ Announce) × (p ≡ (r.seats s).own)
@@ -87,16 +103,22 @@ announced_or_now z r r' s choice l a c e (makes_announce m) n p w x = which (cas
     which (inr y) = inl (sym (ap (λ k. k.is_announced) (attempt_left r.history r'.history e p (Announces (r.seats s).own) y n w)) ∙ x)
 announced_or_now z r r' s choice l a c e (makes_stamp m) n p w x = inl (stamped_was r.history r'.history e (r.seats s).own l.version (r.seats s).loaded n p w x)
 announced_or_now z r r' s choice l a c e (makes_help q m k) n p w x = inl (stamped_was r.history r'.history e q l.helping (r.seats s).loaded n p w x)
+announced_or_now z r r' s choice l a c e (makes_lose j cell q y m k) n p w x = inl (lost_was r.history r'.history e q n p w x)
 announced_or_now z r r' s choice l a c e (makes_end answer) n p w x = inl (sym (ap (λ k. k.is_announced) (attempt_left r.history r'.history e p (Ends (r.seats s).call (reply_of answer l.pairs) (answering l.call l (r.seats s)) (drawing answer l (r.seats s))) tt n w)) ∙ x)
 
--- a row that has room for one more cell after the next one has room then
-pub room_next : (z : Sizes) (w : ℕ) (c : Option Counted) → count_of w ≡ c → IsGiven c → has_room z c ≡ true → given_of c + 1 < z.cells → has_room z (count_of (w + 1)) ≡ true
-room_next z w (Some c) e g h o = rw (count_of_next w c e (omega (arith, g))) (met c.frozen h)
+-- a frozen count, as what it says
+frozen_count : (x : Option Counted) → has_frozen x ≡ true → (c : Counted) × (x ≡ Some c) × (c.frozen ≡ true)
+frozen_count (Some c) e = (c, refl, e)
+frozen_count None e = let y : false ≡ true = e in absurd (cc)
+
+-- a row that gives no cell though it has not given all is frozen
+pub no_room_frozen : (z : Sizes) (x : Option Counted) → IsGiven x → has_room z x ≡ false → given_of x < z.cells → has_frozen x ≡ true
+no_room_frozen z (Some c) g e o = met c.frozen e
   where
-    met : (b : Bool) → (if b then false else nat_lt c.given z.cells) ≡ true → (if b then false else nat_lt (c.given + 1) z.cells) ≡ true
-    met true x = let y : false ≡ true = x in absurd (cc)
-    met false x = lt-ltb (c.given + 1) z.cells o
-room_next z w None e g h o = absurd g
+    met : (b : Bool) → (if b then false else nat_lt c.given z.cells) ≡ false → b ≡ true
+    met true y = refl
+    met false y = let w : true ≡ false = sym (lt-ltb c.given z.cells o) ∙ y in absurd (cc)
+no_room_frozen z None g e o = absurd g
 
 -- one more cell of a row is asked for
 pub given_more : (w w' : ℕ) → w' ≡ w + 1 → IsGiven (count_of w) → given_of (count_of w') ≡ given_of (count_of w) + 1
@@ -123,14 +145,54 @@ module _ {z : Sizes} {r r' : Run} {s : ℕ} {choice : Choice} {l l' : Local} whe
   pub one_more_within : Happens z r r' s choice l l' PutAdd → has_room z (count_of (word z r.world (name.Count l.row))) ≡ true → length r.history.attempts < length r'.history.attempts
   one_more_within h m = omega (arith, ap length (one_more h m), length-append r.history.attempts (added r (word z r.world) s l ∷ []))
 
-  -- a count is as it was, or one more is asked for
-  pub count_was : (a : Activity) → Happens z r r' s choice l l' a → (q : ℕ) → q < r.world.rows → (word z r'.world (name.Count q) ≡ word z r.world (name.Count q)) ⊎ (a ≡ PutAdd) × (q ≡ l.row) × (word z r'.world (name.Count l.row) ≡ word z r.world (name.Count l.row) + 1)
-  count_was PutAdd h q w = which (cases_eq q l.row)
+  -- as many cells were asked for as before, or one more is
+  pub given_was : (a : Activity) → Happens z r r' s choice l l' a → (q : ℕ) → q < r.world.rows → ((x : ℕ) → x < r.world.rows → IsGiven (count_of (word z r.world (name.Count x)))) →
+      (given_in (word z r'.world) q ≡ given_in (word z r.world) q) ⊎ (a ≡ PutAdd) × (q ≡ l.row)
+  given_was PutAdd h q w g = which (cases_eq q l.row)
     where
-      which : (q ≡ l.row) ⊎ (q ≡ l.row → ⊥) → (word z r'.world (name.Count q) ≡ word z r.world (name.Count q)) ⊎ (PutAdd ≡ PutAdd) × (q ≡ l.row) × (word z r'.world (name.Count l.row) ≡ word z r.world (name.Count l.row) + 1)
-      which (inl e) = inr (refl, e, h.changed.same)
-      which (inr d) = inl (count_kept PutAdd h q w (λ x e. d e))
-  count_was a h q w = inl (count_kept a h q w (λ x e. x))
+      which : (q ≡ l.row) ⊎ (q ≡ l.row → ⊥) → (given_in (word z r'.world) q ≡ given_in (word z r.world) q) ⊎ (PutAdd ≡ PutAdd) × (q ≡ l.row)
+      which (inl e) = inr (refl, e)
+      which (inr d) = inl (ap (λ k. given_of (count_of k)) (count_stays PutAdd h q w (λ x e. d e)))
+  given_was FreezeCount h q w g = inl (which (cases_eq q l.row))
+    where
+      frozen : (x : Option Counted) → count_of (word z r.world (name.Count l.row)) ≡ x → IsGiven x → given_in (word z r'.world) l.row ≡ given_in (word z r.world) l.row
+      frozen (Some c) e y = ap given_of (freezes_given h c e) ∙ ap given_of (sym e)
+      frozen None e y = absurd y
+
+      which : (q ≡ l.row) ⊎ (q ≡ l.row → ⊥) → given_in (word z r'.world) q ≡ given_in (word z r.world) q
+      which (inl e) = rw e (frozen _ refl (g l.row (subst (λ x. x < r.world.rows) e w)))
+      which (inr d) = ap (λ k. given_of (count_of k)) (count_stays FreezeCount h q w (λ x e. d e))
+  given_was a h q w g = inl (ap (λ k. given_of (count_of k)) (count_stays a h q w (λ x e. x)))
+
+  -- a frozen row stays frozen
+  pub stays_frozen : (a : Activity) → Happens z r r' s choice l l' a → (q : ℕ) → q < r.world.rows → IsGiven (count_of (word z r.world (name.Count q))) → IsFrozen (word z r.world) q → IsFrozen (word z r'.world) q
+  stays_frozen a h q w g f =
+      let c = frozen_count (count_of (word z r.world (name.Count q))) f in
+      let d = frozen_lasts a h q c.0 w g c.1 c.2 in
+      rw d.1 d.2
+
+  -- an attempt that never gets a version is so still, or is the seat's own and is announced now
+  pub over_stays : (a : Activity) → Happens z r r' s choice l l' a → Step r.history r'.history (log_entry z r a s choice l) → (p : ℕ) → p < length r.history.attempts → IsOver r.history p → IsOver r'.history p ⊎ (a ≡ Announce) × (p ≡ (r.seats s).own)
+  over_stays a h st p w o = which (st.attempts p (omega (arith, w, st.more_attempts)))
+    where
+      announced : (attempt r'.history p).is_stamped ≡ false → (attempt r'.history p).is_announced ≡ true → ((attempt r.history p).is_lost ≡ true → (attempt r'.history p).is_lost ≡ true) → ((attempt r.history p).is_lost ≡ true) ⊎ ((attempt r.history p).is_announced ≡ false) → IsOver r'.history p ⊎ (a ≡ Announce) × (p ≡ (r.seats s).own)
+      announced n x f (inl y) = inl (record { unstamped = n; over = inl (f y) })
+      announced n x f (inr y) = by (announced_was a h p w x)
+        where
+          by : ((attempt r.history p).is_announced ≡ true) ⊎ (a ≡ Announce) × (p ≡ (r.seats s).own) → IsOver r'.history p ⊎ (a ≡ Announce) × (p ≡ (r.seats s).own)
+          by (inl v) = true_false v y
+          by (inr v) = inr v
+
+      never : (attempt r.history p).is_announced ≡ true → (attempt r.history p).is_lost ≡ false → ((attempt r.history p).is_lost ≡ true) ⊎ ((attempt r.history p).is_announced ≡ false) → ⊥
+      never x y (inl v) = true_false v y
+      never x y (inr v) = true_false x v
+
+      which : AttemptStep r.history r'.history p → IsOver r'.history p ⊎ (a ≡ Announce) × (p ≡ (r.seats s).own)
+      which (as_it_was v e) = inl (record { unstamped = rw e o.unstamped; over = rw e o.over })
+      which (is_added x n e c y m u v j) = absurd (omega (arith, w, n))
+      which (is_announced v n e) = announced (rw e o.unstamped) (rw e refl) (λ x. rw e x) o.over
+      which (is_lost v n e) = inl (record { unstamped = rw e n; over = inl (rw e refl) })
+      which (is_stamped version load v x n y u m b e put) = absurd (never x y o.over)
 
   -- the cell is given to the new attempt
   pub origin_new : Happens z r r' s choice l l' PutAdd → has_room z (count_of (word z r.world (name.Count l.row))) ≡ true → r'.origin l.row (given_in (word z r.world) l.row) ≡ Some (length r.history.attempts)
@@ -147,4 +209,5 @@ module _ {z : Sizes} {r r' : Run} {s : ℕ} {choice : Choice} {l l' : Local} whe
       met : (b : Bool) → has_room z (count_of (word z r.world (name.Count l.row))) ≡ b → ((let o : Origins = if b then with_origin r.origin l.row (given_in (word z r.world) l.row) (length r.history.attempts) else r.origin in o) q c ≡ r.origin q c) ⊎ IsGiving z r l PutAdd × (q ≡ l.row) × (c ≡ given_in (word z r.world) l.row) × ((let o : Origins = if b then with_origin r.origin l.row (given_in (word z r.world) l.row) (length r.history.attempts) else r.origin in o) q c ≡ Some (length r.history.attempts))
       met true m = at _ refl m
       met false m = inl refl
+  origin_was (WriteVersion j) h q c = absurd h.reached
   origin_was a h q c = inl (ap (λ o. o q c) h.origin)

@@ -12,7 +12,7 @@ use Rattle.kw_words.proofs.PlainWords.{key_of_word-key_word, value_of_word-value
 use Rattle.kw_model.specs.declared.call.Call.{Call}
 use Rattle.kw_model.specs.declared.call.Call.TheVariants.{Put, Del, Get, Scan}
 use Rattle.kw_world.specs.declared.activity.Activity.{Activity}
-use Rattle.kw_world.specs.declared.activity.Activity.TheVariants.{PutAdd, PutKey, PutValue, Announce, PutClock, Stamp, PutVersion, InsFrom, InsKey, InsVer, InsSet, Insert, PutClear}
+use Rattle.kw_world.specs.declared.activity.Activity.TheVariants.{PutAdd, PutKey, PutValue, Announce, PutClock, Stamp, PutVersion, InsFrom, InsKey, InsVer, InsSet, Insert, PutClear, Freeze}
 use Rattle.kw_world.specs.declared.local.Local.{Local}
 use Rattle.kw_world.specs.declared.event.Choice.{Choice}
 use Rattle.kw_world.specs.Sizes.{Sizes}
@@ -36,10 +36,13 @@ use Rattle.kw_core.specs.Step.{Step}
 use Rattle.kw_core.proofs.NotedLaws.{attempt_set_same}
 use Rattle.kw_core.proofs.Steps.{new_stands}
 use Rattle.kw_core.proofs.Happens.{Happens, chosen, not_chosen, exchanged, not_exchanged}
-use Rattle.kw_core.proofs.Arrows.{Arrow, NextLook, looks, lists, NextRest, rests, answers, ends_scan, scans_on, IsNotOwn}
+use Rattle.kw_core.proofs.Building.{never_built}
+use Rattle.kw_core.proofs.Arrows.{builds, Arrow, NextLook, looks, lists, NextRest, rests, answers, ends_scan, scans_on, IsNotOwn}
 use Rattle.kw_core.proofs.Arrows.{meets_stamped, meets_neither, is_passed, helps, finds_stamped, finds_other, list_ends, key_above, rest_passed, gathers_rest, takes_cell, stores_key, stores_value, announces, loads_clock, stamps, is_stamped, stores_version, meets_cell, meets_none, key_before, key_same, key_after, version_before, version_after, stores_after, inserts, loses}
-use Rattle.kw_core.proofs.Frame.{WritesOwnEntry, key_kept, pend_kept, version_kept}
+use Rattle.kw_core.proofs.Frame.{WritesOwnEntry, key_kept, version_kept}
+use Rattle.kw_core.proofs.FreezeFrame.{FreezesEntry, entry_stays}
 use Rattle.kw_core.proofs.Happens.{log_entry}
+use Rattle.kw_puts.proofs.Owners.{pending_kept}
 use Rattle.kw_puts.proofs.Rely.{GoesOn}
 use Rattle.kw_puts.proofs.RelyEntry.{attempt_left}
 use Rattle.kw_puts.proofs.RelyProof.{goes_on_by}
@@ -78,6 +81,11 @@ inserting_stored InsSet m = tt
 inserting_stored Insert m = tt
 inserting_stored _ m = absurd m
 
+-- it freezes no entry
+inserting_freezes : (t : ℕ) (a : Activity) → IsInserting a → FreezesEntry t a → ⊥
+inserting_freezes t (Freeze i) m x = m
+inserting_freezes t _ m x = x
+
 -- What a seat with a cell knows, and what it meets.
 
 -- its own attempt
@@ -88,41 +96,54 @@ acting_own z r r' s choice l a l' h i p = i.puts.owns s l h.knows (subst IsPutti
 pub positive : (z : Sizes) (r : Run) → Below z r → (p : ℕ) → (attempt r.history p).is_stamped ≡ true → 1 ≤ (attempt r.history p).version
 positive z r i p x = i.positions.clocked.positive (attempt r.history p).load LoadClock (attempt r.history p).version (i.history.laws.loaded p x)
 
-below_end : (z : Sizes) (r : Run) → Below z r → (p : ℕ) → (attempt r.history p).is_stamped ≡ true → (attempt r.history p).version < VERSION_END
+pub below_end : (z : Sizes) (r : Run) → Below z r → (p : ℕ) → (attempt r.history p).is_stamped ≡ true → (attempt r.history p).version < VERSION_END
 below_end z r i p x =
     let y = i.positions.clocked.past (attempt r.history p).load LoadClock (attempt r.history p).version (i.history.laws.loaded p x) in
     let c = i.shape.sane.each name.Clock tt in
     omega (arith, y, c.1)
 
--- its entry is idle where it is about to announce its cell
-pub idle_entry : (z : Sizes) (r : Run) (s : ℕ) (l : Local) → Below z r → s < z.seats → slice_get r.world.locals s ≡ Some l → l.activity ≡ Announce → word z r.world (name.Pend l.row s) ≡ pend_word pend.Idle
-idle_entry z r s l i o k e = which (i.puts.entry l.row s (i.shape.sane.locals s l k).below.row o)
+-- its entry is idle or frozen where it is about to announce its cell
+pub idle_or_frozen : (z : Sizes) (r : Run) (s : ℕ) (l : Local) → Below z r → s < z.seats → slice_get r.world.locals s ≡ Some l → l.activity ≡ Announce → (word z r.world (name.Pend l.row s) ≡ pend_word pend.Idle) ⊎ (word z r.world (name.Pend l.row s) ≡ pend_word pend.Frozen)
+idle_or_frozen z r s l i o k e = which (i.puts.entry l.row s (i.shape.sane.locals s l k).below.row o)
   where
-    which : (word z r.world (name.Pend l.row s) ≡ pend_word pend.Idle) ⊎ IsPublishedAt (slice_get r.world.locals) l.row s → word z r.world (name.Pend l.row s) ≡ pend_word pend.Idle
-    which (inl x) = x
-    which (inr p) =
+    which : (word z r.world (name.Pend l.row s) ≡ pend_word pend.Idle) ⊎ (word z r.world (name.Pend l.row s) ≡ pend_word pend.Frozen) ⊎ IsPublishedAt (slice_get r.world.locals) l.row s → (word z r.world (name.Pend l.row s) ≡ pend_word pend.Idle) ⊎ (word z r.world (name.Pend l.row s) ≡ pend_word pend.Frozen)
+    which (inl x) = inl x
+    which (inr (inl x)) = inr x
+    which (inr (inr p)) =
         let same : p.local ≡ l = same_Some p.local l (sym p.knows ∙ k) in
         let x : IsPublished Announce = subst IsPublished e (subst (λ (q : Local). IsPublished q.activity) same p.published) in
         absurd x
 
--- the entry of an attempt that is stamped, or is not
-entry_stamped : (p : Attempt) → p.is_stamped ≡ true → entry_of p ≡ pend_word (pend.Stamped p.cell p.version)
-entry_stamped p x = rw x refl
+-- so it is frozen where the announcement fails
+pub refused_frozen : (z : Sizes) (r : Run) (s : ℕ) (l : Local) → Below z r → s < z.seats → slice_get r.world.locals s ≡ Some l → l.activity ≡ Announce → word z r.world (name.Pend l.row s) ≢ pend_word pend.Idle → word z r.world (name.Pend l.row s) ≡ pend_word pend.Frozen
+refused_frozen z r s l i o k e n = which (idle_or_frozen z r s l i o k e)
+  where
+    which : (word z r.world (name.Pend l.row s) ≡ pend_word pend.Idle) ⊎ (word z r.world (name.Pend l.row s) ≡ pend_word pend.Frozen) → word z r.world (name.Pend l.row s) ≡ pend_word pend.Frozen
+    which (inl x) = absurd (n x)
+    which (inr x) = x
 
-entry_pending : (p : Attempt) → p.is_stamped ≡ false → entry_of p ≡ pend_word (pend.Pending p.cell)
-entry_pending p x = rw x refl
+-- the entry of an attempt that is lost, is stamped, or is neither
+pub entry_lost : (p : Attempt) → p.is_lost ≡ true → entry_of p ≡ pend_word pend.Frozen
+entry_lost p x = rw x refl
+
+pub entry_stamped : (p : Attempt) → p.is_lost ≡ false → p.is_stamped ≡ true → entry_of p ≡ pend_word (pend.Stamped p.cell p.version)
+entry_stamped p k x = rw (k, x) refl
+
+pub entry_pending : (p : Attempt) → p.is_lost ≡ false → p.is_stamped ≡ false → entry_of p ≡ pend_word (pend.Pending p.cell)
+entry_pending p k x = rw (k, x) refl
 
 -- an attempt whose entry is stamped is so with the version of the entry
 stamped_entry : (p : Attempt) (c version : ℕ) → p.cell ≡ c → entry_of p ≡ pend_word (pend.Stamped c version) → (p.is_stamped ≡ true) × (p.version ≡ version)
-stamped_entry p c version f e = met p.is_stamped refl
+stamped_entry p c version f e = met p.is_lost p.is_stamped refl refl
   where
-    met : (b : Bool) → p.is_stamped ≡ b → (p.is_stamped ≡ true) × (p.version ≡ version)
-    met true y = let x : pend_word (pend.Stamped p.cell p.version) ≡ pend_word (pend.Stamped c version) = rw y at e in (y, omega (arith, x, f))
-    met false y = let x : pend_word (pend.Pending p.cell) ≡ pend_word (pend.Stamped c version) = rw y at e in absurd (omega (arith, x))
+    met : (a b : Bool) → p.is_lost ≡ a → p.is_stamped ≡ b → (p.is_stamped ≡ true) × (p.version ≡ version)
+    met true b k y = let x : pend_word pend.Frozen ≡ pend_word (pend.Stamped c version) = rw k at e in absurd (omega (arith, x))
+    met false true k y = let x : pend_word (pend.Stamped p.cell p.version) ≡ pend_word (pend.Stamped c version) = rw (k, y) at e in (y, omega (arith, x, f))
+    met false false k y = let x : pend_word (pend.Pending p.cell) ≡ pend_word (pend.Stamped c version) = rw (k, y) at e in absurd (omega (arith, x))
 
--- and is its own where it is about to stamp
-pub own_entry : (z : Sizes) (r : Run) (s : ℕ) (l : Local) → Below z r → OwnsAttempt (word z r.world) r.history s l.activity l (r.seats s) → slice_get r.world.locals s ≡ Some l → l.activity ≡ Stamp → IsNotOwn l.cell (word z r.world (name.Pend l.row s)) → ⊥
-own_entry z r s l i own k e n = which (attempt r.history (r.seats s).own).is_stamped refl
+-- a seat that is about to stamp and whose entry is not its own has lost its attempt
+pub lost_entry : (z : Sizes) (r : Run) (s : ℕ) (l : Local) → Below z r → OwnsAttempt (word z r.world) r.history s l.activity l (r.seats s) → slice_get r.world.locals s ≡ Some l → l.activity ≡ Stamp → IsNotOwn l.cell (word z r.world (name.Pend l.row s)) → (attempt r.history (r.seats s).own).is_lost ≡ true
+lost_entry z r s l i own k e n = lost (attempt r.history (r.seats s).own).is_lost refl
   where
     cell : l.cell < z.cells
     cell = (i.shape.sane.locals s l k).ranges.cell
@@ -130,13 +151,21 @@ own_entry z r s l i own k e n = which (attempt r.history (r.seats s).own).is_sta
     entry : word z r.world (name.Pend l.row s) ≡ entry_of (attempt r.history (r.seats s).own)
     entry = own.entry (subst IsPublished (sym e) tt)
 
-    which : (b : Bool) → (attempt r.history (r.seats s).own).is_stamped ≡ b → ⊥
-    which true x =
-        let w : word z r.world (name.Pend l.row s) ≡ pend_word (pend.Stamped l.cell (attempt r.history (r.seats s).own).version) = entry ∙ entry_stamped (attempt r.history (r.seats s).own) x ∙ ap (λ c. pend_word (pend.Stamped c (attempt r.history (r.seats s).own).version)) own.cell in
+    which : (attempt r.history (r.seats s).own).is_lost ≡ false → (b : Bool) → (attempt r.history (r.seats s).own).is_stamped ≡ b → ⊥
+    which y true x =
+        let w : word z r.world (name.Pend l.row s) ≡ pend_word (pend.Stamped l.cell (attempt r.history (r.seats s).own).version) = entry ∙ entry_stamped (attempt r.history (r.seats s).own) y x ∙ ap (λ c. pend_word (pend.Stamped c (attempt r.history (r.seats s).own).version)) own.cell in
         n.stamped (attempt r.history (r.seats s).own).version (ap pend_of w ∙ pend_of-Stamped l.cell (attempt r.history (r.seats s).own).version (omega (arith, cell, i.shape.sane.sized.few_cells)) (positive z r i (r.seats s).own x) (below_end z r i (r.seats s).own x))
-    which false x =
-        let w : word z r.world (name.Pend l.row s) ≡ pend_word (pend.Pending l.cell) = entry ∙ entry_pending (attempt r.history (r.seats s).own) x ∙ ap (λ c. pend_word (pend.Pending c)) own.cell in
+    which y false x =
+        let w : word z r.world (name.Pend l.row s) ≡ pend_word (pend.Pending l.cell) = entry ∙ entry_pending (attempt r.history (r.seats s).own) y x ∙ ap (λ c. pend_word (pend.Pending c)) own.cell in
         n.pending (ap pend_of w ∙ pend_of-Pending l.cell (omega (arith, cell, i.shape.sane.sized.few_cells)))
+
+    lost : (b : Bool) → (attempt r.history (r.seats s).own).is_lost ≡ b → (attempt r.history (r.seats s).own).is_lost ≡ true
+    lost true y = y
+    lost false y = absurd (which y (attempt r.history (r.seats s).own).is_stamped refl)
+
+-- and finds its entry frozen
+pub lost_frozen : (z : Sizes) (r : Run) (s : ℕ) (l : Local) → Below z r → OwnsAttempt (word z r.world) r.history s l.activity l (r.seats s) → slice_get r.world.locals s ≡ Some l → l.activity ≡ Stamp → IsNotOwn l.cell (word z r.world (name.Pend l.row s)) → word z r.world (name.Pend l.row s) ≡ pend_word pend.Frozen
+lost_frozen z r s l i own k e n = own.entry (subst IsPublished (sym e) tt) ∙ entry_lost (attempt r.history (r.seats s).own) (lost_entry z r s l i own k e n)
 
 -- the key of a call is in range
 first_below : (c : Option Call) → IsCall c → first_key c < KEY_END
@@ -158,7 +187,8 @@ key_stored z r r' s choice l h i st = subst (OwnsAttempt (word z r'.world) r'.hi
   cell = rw same own.cell;
   key = rw same own.key;
   value = rw same own.value;
-  kept = rw same own.kept;
+  kept_fresh = λ x. rw same (own.kept_fresh (subst IsFresh (sym h.activity) tt));
+  kept = λ x. absurd x;
   unannounced = λ x. rw same (own.unannounced (subst IsFresh (sym h.activity) tt));
   unstamped = λ x. rw same (own.unstamped (subst IsFresh (sym h.activity) tt));
   has_key = λ x. rw same (ap key_of_word h.changed.same ∙ key_of_word-key_word (first_key l.call) (first_below l.call known.ranges.call) ∙ sym own.key);
@@ -194,7 +224,8 @@ value_stored z r r' s choice l h i st = subst (OwnsAttempt (word z r'.world) r'.
   cell = rw same own.cell;
   key = rw same own.key;
   value = rw same own.value;
-  kept = rw same own.kept;
+  kept_fresh = λ x. rw same (own.kept_fresh (subst IsFresh (sym h.activity) tt));
+  kept = λ x. absurd x;
   unannounced = λ x. rw same (own.unannounced (subst IsFresh (sym h.activity) tt));
   unstamped = λ x. rw same (own.unstamped (subst IsFresh (sym h.activity) tt));
   has_key = λ x. rw same (ap key_of_word (key_kept PutValue h l.row l.cell known.below.row known.ranges.cell (λ y e f. y)) ∙ own.has_key (subst HasKey (sym h.activity) tt));
@@ -230,7 +261,8 @@ cell_announced z r r' s choice l e h i st = subst (OwnsAttempt (word z r'.world)
   cell = rw same own.cell;
   key = rw same own.key;
   value = rw same own.value;
-  kept = rw same own.kept;
+  kept_fresh = λ x. absurd x;
+  kept = λ x. absurd x;
   unannounced = λ x. absurd x;
   unstamped = λ x. absurd x;
   has_key = λ x. absurd x;
@@ -254,7 +286,7 @@ cell_announced z r r' s choice l e h i st = subst (OwnsAttempt (word z r'.world)
     same = attempt_set_same r.history r'.history (r.seats s).own _ (ap (λ x. x.attempts) (h.history ∙ ap (λ c. noted r.history (log_entry z r Announce s choice l) c) (chosen _ _ (Announces (r.seats s).own) Nothing e))) own.within
 
     pending : entry_of (record (attempt r.history (r.seats s).own) { is_announced = true; announced = length r.history.log }) ≡ pend_word (pend.Pending l.cell)
-    pending = entry_pending (record (attempt r.history (r.seats s).own) { is_announced = true; announced = length r.history.log }) (own.unstamped (subst IsFresh (sym h.activity) tt)) ∙ ap (λ c. pend_word (pend.Pending c)) own.cell
+    pending = entry_pending (record (attempt r.history (r.seats s).own) { is_announced = true; announced = length r.history.log }) (own.kept_fresh (subst IsFresh (sym h.activity) tt)) (own.unstamped (subst IsFresh (sym h.activity) tt)) ∙ ap (λ c. pend_word (pend.Pending c)) own.cell
 
 -- the clock is loaded
 clock_loaded : (z : Sizes) (r r' : Run) (s : ℕ) (choice : Choice) (l : Local) → Happens z r r' s choice l (record l { version = word z r.world name.Clock; activity = Stamp }) PutClock → Below z r → Step r.history r'.history (log_entry z r PutClock s choice l) → OwnsAttempt (word z r'.world) r'.history s Stamp (record l { version = word z r.world name.Clock; activity = Stamp }) (r'.seats s)
@@ -266,7 +298,8 @@ clock_loaded z r r' s choice l h i st = subst (OwnsAttempt (word z r'.world) r'.
   cell = rw same own.cell;
   key = rw same own.key;
   value = rw same own.value;
-  kept = rw same own.kept;
+  kept_fresh = λ x. absurd x;
+  kept = λ x. absurd x;
   unannounced = λ x. absurd x;
   unstamped = λ x. absurd x;
   has_key = λ x. absurd x;
@@ -299,13 +332,14 @@ cell_stamped z r r' s choice l e h i st = subst (OwnsAttempt (word z r'.world) r
   cell = rw same own.cell;
   key = rw same own.key;
   value = rw same own.value;
-  kept = rw same own.kept;
+  kept_fresh = λ x. absurd x;
+  kept = λ x. rw same not_lost;
   unannounced = λ x. absurd x;
   unstamped = λ x. absurd x;
   has_key = λ x. absurd x;
   has_value = λ x. absurd x;
   announced = λ x. rw same (own.announced (subst IsPublished (sym h.activity) tt));
-  entry = λ x. exchanged _ _ _ _ h.changed.same e ∙ ap (λ c. pend_word (pend.Stamped c l.version)) (sym own.cell) ∙ ap entry_of (sym same);
+  entry = λ x. exchanged _ _ _ _ h.changed.same e ∙ ap (λ c. pend_word (pend.Stamped c l.version)) (sym own.cell) ∙ sym (entry_stamped (record (attempt r.history (r.seats s).own) { is_stamped = true; version = l.version; load = (r.seats s).loaded; at = length r.history.log }) not_lost refl) ∙ ap entry_of (sym same);
   after = λ x. absurd x;
   loaded = λ x. absurd x;
   stamped = λ x. rw same refl;
@@ -318,6 +352,9 @@ cell_stamped z r r' s choice l e h i st = subst (OwnsAttempt (word z r'.world) r
 
     goes : GoesOn r.history r'.history r.origin r'.origin
     goes = goes_on_by z r r' s choice l Stamp (record l { activity = PutVersion }) h i st
+
+    not_lost : (attempt r.history (r.seats s).own).is_lost ≡ false
+    not_lost = pending_kept (attempt r.history (r.seats s).own) l.cell (sym (own.entry (subst IsPublished (sym h.activity) tt)) ∙ e)
 
     same : attempt r'.history (r.seats s).own ≡ record (attempt r.history (r.seats s).own) { is_stamped = true; version = l.version; load = (r.seats s).loaded; at = length r.history.log }
     same = attempt_set_same r.history r'.history (r.seats s).own _ (ap (λ x. x.attempts) (h.history ∙ ap (λ c. noted r.history (log_entry z r Stamp s choice l) c) (chosen _ _ (Stamps (r.seats s).own l.version (r.seats s).loaded) Nothing e))) own.within
@@ -332,7 +369,8 @@ found_stamped z r r' s choice l version e h i st = subst (OwnsAttempt (word z r'
   cell = rw same own.cell;
   key = rw same own.key;
   value = rw same own.value;
-  kept = rw same own.kept;
+  kept_fresh = λ x. absurd x;
+  kept = λ x. rw same (i.history.laws.kept (r.seats s).own is.0);
   unannounced = λ x. absurd x;
   unstamped = λ x. absurd x;
   has_key = λ x. absurd x;
@@ -374,13 +412,14 @@ version_stored z r r' s choice l h i st = subst (OwnsAttempt (word z r'.world) r
   cell = rw same own.cell;
   key = rw same own.key;
   value = rw same own.value;
-  kept = rw same own.kept;
+  kept_fresh = λ x. absurd x;
+  kept = λ x. rw same (own.kept (subst IsStamped (sym h.activity) tt));
   unannounced = λ x. absurd x;
   unstamped = λ x. absurd x;
   has_key = λ x. absurd x;
   has_value = λ x. absurd x;
   announced = λ x. rw same (own.announced (subst IsPublished (sym h.activity) tt));
-  entry = λ x. pend_kept PutVersion h l.row s known.below.row h.seat (λ y e f. y) (λ y e f. y) ∙ own.entry (subst IsPublished (sym h.activity) tt) ∙ ap entry_of (sym same);
+  entry = λ x. entry_stays PutVersion h l.row s known.below.row h.seat (λ y e f. y) (λ y e f. y) (λ y e. y) ∙ own.entry (subst IsPublished (sym h.activity) tt) ∙ ap entry_of (sym same);
   after = λ x. absurd x;
   loaded = λ x. absurd x;
   stamped = λ x. rw same (own.stamped (subst IsStamped (sym h.activity) tt));
@@ -413,13 +452,14 @@ module _ (z : Sizes) (r r' : Run) (s : ℕ) (choice : Choice) (l : Local) (a : A
     cell = rw same (own.cell ∙ sym cell);
     key = rw same (own.key ∙ ap first_key (sym call));
     value = rw same (own.value ∙ ap put_value (sym call));
-    kept = rw same own.kept;
+    kept_fresh = λ x. absurd (unfresh x);
+    kept = λ x. rw same (own.kept (subst IsStamped (sym h.activity) (inserting_stamped a m)));
     unannounced = λ x. absurd (unfresh x);
     unstamped = λ x. absurd (unfresh x);
     has_key = λ x. absurd (unkeyed x);
     has_value = λ x. absurd (unvalued x);
     announced = λ x. rw same (own.announced published);
-    entry = λ x. rw row (pend_kept a h l.row s known.below.row h.seat (λ y e f. entry y) (λ y e f. help y) ∙ own.entry published ∙ ap entry_of (sym same));
+    entry = λ x. rw row (entry_stays a h l.row s known.below.row h.seat (λ y e f. entry y) (λ y e f. help y) (λ y e. inserting_freezes s a m y) ∙ own.entry published ∙ ap entry_of (sym same));
     after = λ x. absurd (unclocked x);
     loaded = λ x. absurd (unclocked x);
     stamped = λ x. rw same (own.stamped (subst IsStamped (sym h.activity) (inserting_stamped a m)));
@@ -452,7 +492,8 @@ cell_given z r r' s choice l m h = subst (OwnsAttempt (word z r'.world) r'.histo
   cell = ap (λ x. x.cell) is;
   key = ap (λ x. x.key) is;
   value = ap (λ x. x.value) is;
-  kept = ap (λ x. x.is_lost) is;
+  kept_fresh = λ x. ap (λ k. k.is_lost) is;
+  kept = λ x. absurd x;
   unannounced = λ x. ap (λ k. k.is_announced) is;
   unstamped = λ x. ap (λ k. k.is_stamped) is;
   has_key = λ x. absurd x;
@@ -483,6 +524,7 @@ cell_puts l n (scans_on q o e f g) p = absurd p
 
 -- the acting seat's own attempt
 pub owns_own : (z : Sizes) (r r' : Run) (s : ℕ) (choice : Choice) (l : Local) (a : Activity) (l' : Local) → Arrow z (word z r.world) s choice l a l' → Happens z r r' s choice l l' a → Below z r → Step r.history r'.history (log_entry z r a s choice l) → Shape z r' → Keeps r'.history → IsPutting l'.activity → OwnsAttempt (word z r'.world) r'.history s l'.activity l' (r'.seats s)
+owns_own z r r' s choice l a l' (builds b next y o t) h i st after k p = never_built z b y o
 owns_own z r r' s choice l a l' (takes_cell m) h i st after k p = cell_given z r r' s choice l m h
 owns_own z r r' s choice l a l' stores_key h i st after k p = key_stored z r r' s choice l h i st
 owns_own z r r' s choice l a l' stores_value h i st after k p = value_stored z r r' s choice l h i st

@@ -24,7 +24,8 @@ use Rattle.kw_world.specs.Sizes.{Sizes}
 use Rattle.kw_world.specs.Step.{word}
 use Rattle.kw_core.specs.Run.{Run}
 use Rattle.kw_core.specs.Stages.{IsPublished, IsStamped, IsStored, IsInserting, IsUnlisted, IsAtRow}
-use Rattle.kw_core.proofs.Arrows.{Arrow, meets_stamped, meets_neither, is_passed, helps, finds_stamped, finds_other, list_ends, key_above, rest_passed, gathers_rest, stores_version, meets_cell, meets_none, key_before, key_same, key_after, version_before, version_after, stores_after, loses}
+use Rattle.kw_core.proofs.Building.{never_built}
+use Rattle.kw_core.proofs.Arrows.{builds, Arrow, meets_stamped, meets_neither, is_passed, helps, finds_stamped, finds_other, list_ends, key_above, rest_passed, gathers_rest, stores_version, meets_cell, meets_none, key_before, key_same, key_after, version_before, version_after, stores_after, loses}
 use Rattle.kw_core.proofs.Frame.{key_kept, version_kept}
 use Rattle.kw_core.proofs.Happens.{Happens}
 use Rattle.kw_rows.specs.Rows.{WasLinked}
@@ -238,6 +239,7 @@ loses_insert z r r' s choice l l' n h i = rw (one_more_is z l.lost (omega (arith
 
 -- what the acting seat knows of the list of its row
 pub inserts_own : (z : Sizes) (r r' : Run) (s : ℕ) (choice : Choice) (l : Local) (a : Activity) (l' : Local) → Arrow z (word z r.world) s choice l a l' → Happens z r r' s choice l l' a → Below z r → IsInserting l'.activity → Inserts z.cells (list_in (word z r'.world) r'.listed l'.row) l'.activity l'
+inserts_own z r r' s choice l a l' (builds b next y o t) h i m = never_built z b y o
 inserts_own z r r' s choice l a l' stores_version h i m = begins_insert z r r' s choice l l' h i
 inserts_own z r r' s choice l a l' (meets_cell c e) h i m =
     let k = knows_list z r r' s choice l InsFrom l' h i in
@@ -294,6 +296,7 @@ inserts_own z r r' s choice l a l' _ h i m = absurd m
 
 -- where the acting seat's walk is
 pub walks_own : (z : Sizes) (r r' : Run) (s : ℕ) (choice : Choice) (l : Local) (a : Activity) (l' : Local) → Arrow z (word z r.world) s choice l a l' → Happens z r r' s choice l l' a → Below z r → IsInserting l'.activity → WalksList z.cells (list_in (word z r'.world) r'.listed l'.row) l'.activity l'
+walks_own z r r' s choice l a l' (builds b next y o t) h i m = never_built z b y o
 walks_own z r r' s choice l a l' stores_version h i m = walk_begins z.cells _
 walks_own z r r' s choice l a l' (meets_cell c e) h i m =
     let before = row z r r' s choice l InsFrom l' h i in

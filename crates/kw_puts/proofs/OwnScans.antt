@@ -1,14 +1,14 @@
 -- The word of a scan, and where its seat drew and looked, over the seat's own event.
-use Rattle.std.proofs.Common.{ℕ, zero, suc, ◌≡◌, ◌⊎◌, inl, inr, ◌<◌, ◌≤◌, Bool, true, false, Option, Some, None, arith, refl, sym, ◌∙◌, ap, subst, length}
+use Rattle.std.proofs.Common.{ℕ, zero, suc, ◌≡◌, ◌≢◌, eq-eqb, ◌⊎◌, inl, inr, ◌<◌, ◌≤◌, Bool, true, false, Option, Some, None, arith, refl, sym, ◌∙◌, ap, subst, length}
+use Rattle.std.proofs.lemmas.Bool.{cases_eq}
 use Rattle.kw_words.specs.declared.layout.Name.TheVariants as name
 use Rattle.kw_words.specs.declared.scan.ScanWord.TheVariants.{Quiet, Waiting, Drawn}
 use Rattle.kw_words.specs.Scan.{scan_of, scan_word}
-use Rattle.kw_words.specs.declared.sizes.TheConstants.{VERSION_END}
-use Rattle.kw_words.proofs.ScanWords.{scan_of-Waiting}
+use Rattle.kw_words.proofs.ScanWords.{scan_of-Waiting, scan_of-scan_word}
 use Rattle.kw_model.specs.declared.call.Call.{Call}
 use Rattle.kw_model.specs.declared.call.Call.TheVariants.{Put, Del, Get, Scan}
 use Rattle.kw_world.specs.declared.activity.Activity.{Activity}
-use Rattle.kw_world.specs.declared.activity.Activity.TheVariants.{Idle, ScanWait, ScanDraw, ScanSettle, Start, Head, GuessMin, Walk, WalkMin, Look, LookKey, LookClock, LookHelp, ListFrom, ListKey, ListVer, ListVal, RestKey, RestVal, ClearScan, PutClock, Stamp, Insert, Leave, HelpSettle, Replace}
+use Rattle.kw_world.specs.declared.activity.Activity.TheVariants.{Idle, ScanWait, ScanDraw, ScanSettle, Start, Head, GuessMin, Walk, WalkMin, Look, LookKey, LookClock, LookHelp, ListFrom, ListKey, ListVer, ListVal, RestKey, RestVal, ClearScan, PutClock, Stamp, Insert, Leave, HelpSettle, Replace, HelpDraw, ScanClock}
 use Rattle.kw_world.specs.declared.local.Local.{Local}
 use Rattle.kw_world.specs.declared.event.Choice.{Choice}
 use Rattle.kw_world.specs.Sizes.{Sizes}
@@ -16,24 +16,29 @@ use Rattle.kw_world.specs.Calls.{is_scan}
 use Rattle.kw_world.specs.ScanTransitions.{version_settled}
 use Rattle.kw_world.specs.WalkTransitions.{walk_transition, is_stopped}
 use Rattle.kw_world.specs.Step.{word, followed}
-use Rattle.kw_core.specs.History.{called, Draw, Stands}
+use Rattle.kw_core.specs.History.{History, called, Draw, Stands}
 use Rattle.kw_core.specs.Run.{Run}
 use Rattle.kw_core.specs.declared.seat_log.SeatLog.{SeatLog}
 use Rattle.kw_core.specs.Stages.{is_put, IsBusy, IsCovering, IsWaiting, IsSettling, IsSettled, HasDrawn, IsReading, IsUnderway, IsAtRead}
 use Rattle.kw_core.specs.Words.{Words}
 use Rattle.kw_shape.specs.Shape.{IsKind, IsScanCall}
-use Rattle.kw_puts.specs.Positions.{IsScanning, Draws}
+use Rattle.kw_puts.specs.Positions.{IsScanning, Draws, IsDrawnAt, IsHelped, HasLoaded}
 use Rattle.kw_puts.specs.Below.{Below}
 use Rattle.kw_core.specs.Step.{Step}
-use Rattle.kw_core.proofs.Happens.{log_entry}
+use Rattle.kw_core.proofs.Happens.{log_entry, not_exchanged}
 use Rattle.kw_puts.proofs.Owners.{true_false}
-use Rattle.kw_core.proofs.Frame.{unwritten, no_link}
+use Rattle.kw_core.proofs.Frame.{unwritten, no_link, same_scan}
 use Rattle.kw_core.proofs.Steps.{new_stands, stands_before}
 use Rattle.kw_puts.proofs.RelyProof.{goes_on_by}
 use Rattle.kw_core.proofs.Happens.{Changed, Happens, exchanged}
-use Rattle.kw_core.proofs.Arrows.{NextLook, looks, lists, NextRest, rests, answers, ends_scan, scans_on, Arrow, begins, enters, stores_waiting, draws, settles_empty, settles, stops, starts_at_head, guesses, guess_fails, takes_head, guess_serves, guess_is_above, reads_last, reads_before, puts_in_last, puts_before, meets_next, walks_on, meets_pending, is_wanted, loads_to_help, list_leads, key_below, key_within, loads_version, gathers_listed, rest_wanted, meets_stamped, meets_neither, is_passed, helps, finds_stamped, finds_other, list_ends, key_above, rest_passed, gathers_rest, clears_scan, leaves}
-use Rattle.kw_core.proofs.SeatLogs.{IsNoDraw, call_kept, draw_kept, look_kept}
+use Rattle.kw_core.proofs.Building.{never_built}
+use Rattle.kw_core.proofs.Arrows.{builds, NextLook, looks, lists, NextRest, rests, answers, ends_scan, scans_on, Arrow, begins, enters, stores_waiting, draws, settles_empty, settles, stops, starts_at_head, guesses, guess_fails, takes_head, guess_serves, guess_is_above, reads_last, reads_before, puts_in_last, puts_before, meets_next, walks_on, meets_pending, is_wanted, loads_to_help, list_leads, key_below, key_within, loads_version, gathers_listed, rest_wanted, meets_stamped, meets_neither, is_passed, helps, finds_stamped, finds_other, list_ends, key_above, rest_passed, gathers_rest, clears_scan, leaves, waits}
+use Rattle.kw_core.proofs.SeatLogs.{IsNoDraw, call_kept, draw_kept, look_kept, settle_kept, settle_lost}
 use Rattle.kw_shape.proofs.NextCalls.{arrow_call}
+use Rattle.kw_core.specs.Ledger.{Ledger}
+use Rattle.kw_world.specs.Sane.{IsVersion}
+use Rattle.kw_words.specs.declared.kind.Kind.{Kind}
+use Rattle.kw_core.proofs.FreezeFrame.{SettlesScan, clock_never_falls}
 
 -- Where a seat goes on to.
 
@@ -68,6 +73,7 @@ cell_after l k (scans_on r w e f o) = tt
 
 -- where a seat that reads a row goes on to
 pub after_read : (z : Sizes) (v : Words) (s : ℕ) (choice : Choice) (l : Local) (a : Activity) (k : Local) → Arrow z v s choice l a k → IsAtRead a → IsAfterRead k.activity
+after_read z v s choice l a k (builds b next y o t) x = never_built z b y o
 after_read z v s choice l a k (meets_stamped j c version next e n) x = look_after z _ next n
 after_read z v s choice l a k (meets_neither j next e n) x = look_after z _ next n
 after_read z v s choice l a k (is_passed next e n) x = look_after z _ next n
@@ -88,6 +94,12 @@ after_read z v s choice l ListVal k b x = tt
 after_read z v s choice l RestKey k b x = tt
 after_read z v s choice l a k b x = absurd x
 
+-- a read row does not lead to a scan that has loaded the clock
+loaded_not_read : (c : Activity) → HasLoaded c → IsAfterRead c → ⊥
+loaded_not_read ScanWait x y = y
+loaded_not_read ScanDraw x y = y
+loaded_not_read _ x y = x
+
 -- a read row does not lead to a scan's beginning
 waiting_not_read : (c : Activity) → IsWaiting c → IsAfterRead c → ⊥
 waiting_not_read ScanDraw x y = y
@@ -101,6 +113,7 @@ settling_waits _ x = absurd x
 
 -- the event that leads to a waiting scan is the store of its word, or its draw
 pub waits_from : (z : Sizes) (v : Words) (s : ℕ) (choice : Choice) (l : Local) (a : Activity) (k : Local) → Arrow z v s choice l a k → IsWaiting k.activity → ((a ≡ ScanWait) × (k ≡ record l { activity = ScanDraw })) ⊎ ((a ≡ ScanDraw) × (k ≡ record l { drawn = v name.Clock; activity = ScanSettle }))
+waits_from z v s choice l a k (builds b next y o t) x = never_built z b y o
 waits_from z v s choice l a k stores_waiting x = inl (refl, refl)
 waits_from z v s choice l a k draws x = inr (refl, refl)
 waits_from z v s choice l (Look j) k b x = absurd (waiting_not_read k.activity x (after_read z v s choice l (Look j) k b tt))
@@ -117,6 +130,7 @@ waits_from z v s choice l a k b x = absurd x
 
 -- a scan that has its version had it, or has just settled it; and a seat on its way that is no scan began so
 pub drawn_from : (z : Sizes) (v : Words) (s : ℕ) (choice : Choice) (l : Local) (a : Activity) (k : Local) → Arrow z v s choice l a k → is_scan k.call ≡ true → HasDrawn k.activity → HasDrawn a ⊎ IsSettling a
+drawn_from z v s choice l a k (builds b next y o t) e x = never_built z b y o
 drawn_from z v s choice l Start k b e x = inl tt
 drawn_from z v s choice l Head k b e x = inl tt
 drawn_from z v s choice l GuessMin k b e x = inl tt
@@ -139,6 +153,7 @@ drawn_from z v s choice l a k b e x = absurd x
 
 -- the scan's word says so from then on, until it is cleared
 pub settled_from : (z : Sizes) (v : Words) (s : ℕ) (choice : Choice) (l : Local) (a : Activity) (k : Local) → Arrow z v s choice l a k → is_scan k.call ≡ true → IsSettled k.activity → IsCovering a ⊎ IsSettling a
+settled_from z v s choice l a k (builds b next y o t) e x = never_built z b y o
 settled_from z v s choice l Start k b e x = inl tt
 settled_from z v s choice l Head k b e x = inl tt
 settled_from z v s choice l GuessMin k b e x = inl tt
@@ -160,6 +175,7 @@ settled_from z v s choice l a k b e x = absurd x
 
 -- a reader that has looked at the first entry had looked at it, or looks at it now
 reading_from : (z : Sizes) (v : Words) (s : ℕ) (choice : Choice) (l : Local) (a : Activity) (k : Local) → Arrow z v s choice l a k → IsReading k.activity → IsReading a ⊎ (a ≡ Look 0)
+reading_from z v s choice l a k (builds b next y o t) x = never_built z b y o
 reading_from z v s choice l (Look zero) k b x = inr refl
 reading_from z v s choice l (Look (suc j)) k b x = inl (omega arith)
 reading_from z v s choice l LookKey k b x = inl tt
@@ -184,6 +200,7 @@ cell_version l k (scans_on r w e f o) = refl
 
 -- a scan that has its version keeps it
 pub not_idle_drawn : (z : Sizes) (v : Words) (s : ℕ) (choice : Choice) (l : Local) (a : Activity) (k : Local) → Arrow z v s choice l a k → HasDrawn a → HasDrawn k.activity → k.version ≡ l.version
+not_idle_drawn z v s choice l a k (builds b next building o t) x y = never_built z b building o
 not_idle_drawn z v s choice l a k (list_ends next e n) x y = cell_version _ next n
 not_idle_drawn z v s choice l a k (key_above next e n) x y = cell_version _ next n
 not_idle_drawn z v s choice l a k (rest_passed next e n) x y = cell_version _ next n
@@ -242,6 +259,8 @@ reading_draws _ x = absurd x
 pub draws_no_more : (a : Activity) → HasDrawn a → IsNoDraw a
 draws_no_more Idle x = absurd x
 draws_no_more ScanDraw x = absurd x
+draws_no_more ScanSettle x = absurd x
+draws_no_more (HelpDraw i) x = absurd x
 draws_no_more _ x = tt
 
 -- only a scan settles
@@ -253,7 +272,7 @@ settling_scans _ l x k = absurd x
 
 module _ {z : Sizes} {r r' : Run} {s : ℕ} {choice : Choice} {l l' : Local} where
   -- a walk that is stopped clears the word and leaves
-  stopped_clears : Happens z r r' s choice l l' Walk → is_stopped choice l ≡ true → word z r'.world (name.Scan s) ≡ scan_word Quiet
+  pub stopped_clears : Happens z r r' s choice l l' Walk → is_stopped choice l ≡ true → word z r'.world (name.Scan s) ≡ scan_word Quiet
   stopped_clears h e = (subst (λ b. Changed z r.world.rows (word z r.world) (word z r'.world) (walk_transition b s l)) e h.changed).same
 
   -- its seat is on its way no more
@@ -261,7 +280,7 @@ module _ {z : Sizes} {r r' : Run} {s : ℕ} {choice : Choice} {l l' : Local} whe
   stopped_leaves h e x = subst (λ (k : Local). IsSettled k.activity) (h.next ∙ ap (λ b. (followed r.world.rows (walk_transition b s l) (word z r.world (walk_transition b s l).operation.name)).local) e) x
 
   -- a walk that is not stopped writes no word
-  goes_on_walk : Happens z r r' s choice l l' Walk → is_stopped choice l ≡ false → word z r'.world (name.Scan s) ≡ word z r.world (name.Scan s)
+  pub goes_on_walk : Happens z r r' s choice l l' Walk → is_stopped choice l ≡ false → word z r'.world (name.Scan s) ≡ word z r.world (name.Scan s)
   goes_on_walk h e = (subst (λ b. Changed z r.world.rows (word z r.world) (word z r'.world) (walk_transition b s l)) e h.changed).loaded refl (name.Scan s)
 
   -- the word of a scan on its way stays
@@ -280,19 +299,26 @@ module _ {z : Sizes} {r r' : Run} {s : ℕ} {choice : Choice} {l l' : Local} whe
   word_settled a h c x = unwritten a h (name.Scan s) h.seat (λ e. cc)
 
   -- the word is set where a scan begins to wait and where it settles; every other event keeps it or clears it
-  word_next : (a : Activity) → Happens z r r' s choice l l' a → (IsSettling a → ⊥) → (IsWaiting l'.activity → ⊥) → (a ≡ ScanWait → IsWaiting l'.activity) → (word z r'.world (name.Scan s) ≡ word z r.world (name.Scan s)) ⊎ (word z r'.world (name.Scan s) ≡ scan_word Quiet)
-  word_next Walk h n w f = met (is_stopped choice l) refl
+  word_next : (a : Activity) → Happens z r r' s choice l l' a → (IsSettling a → ⊥) → (IsWaiting l'.activity → ⊥) → (a ≡ ScanWait → IsWaiting l'.activity) → (SettlesScan s a → word z r.world (name.Scan s) ≡ scan_word Quiet) → (word z r'.world (name.Scan s) ≡ word z r.world (name.Scan s)) ⊎ (word z r'.world (name.Scan s) ≡ scan_word Quiet)
+  word_next Walk h n w f q = met (is_stopped choice l) refl
     where
       met : (b : Bool) → is_stopped choice l ≡ b → (word z r'.world (name.Scan s) ≡ word z r.world (name.Scan s)) ⊎ (word z r'.world (name.Scan s) ≡ scan_word Quiet)
       met true e = inr (stopped_clears h e)
       met false e = inl (goes_on_walk h e)
-  word_next ScanWait h n w f = absurd (w (f refl))
-  word_next ScanSettle h n w f = absurd (n tt)
-  word_next (ClearScan answer) h n w f = inr h.changed.same
-  word_next Insert h n w f = inl (unwritten Insert h (name.Scan s) h.seat (λ e. no_link l.row l.link (name.Scan s) refl e))
-  word_next (HelpSettle i) h n w f = absurd h.reached
-  word_next Replace h n w f = absurd h.reached
-  word_next a h n w f = inl (unwritten a h (name.Scan s) h.seat (λ e. cc))
+  word_next ScanWait h n w f q = absurd (w (f refl))
+  word_next ScanSettle h n w f q = absurd (n tt)
+  word_next (ClearScan answer) h n w f q = inr h.changed.same
+  word_next Insert h n w f q = inl (unwritten Insert h (name.Scan s) h.seat (λ e. no_link l.row l.link (name.Scan s) refl e))
+  word_next (HelpSettle j) h n w f q = which (cases_eq s j)
+    where
+      other : s ≡ j → word z r.world (name.Scan j) ≢ scan_word (Waiting l.rebalance.waiting)
+      other e y = let x : scan_word Quiet ≡ scan_word (Waiting l.rebalance.waiting) = sym (q e) ∙ ap (λ c. word z r.world (name.Scan c)) e ∙ y in absurd (omega (arith, x))
+
+      which : (s ≡ j) ⊎ (s ≡ j → ⊥) → (word z r'.world (name.Scan s) ≡ word z r.world (name.Scan s)) ⊎ (word z r'.world (name.Scan s) ≡ scan_word Quiet)
+      which (inl e) = inl (subst (λ c. word z r'.world (name.Scan c) ≡ word z r.world (name.Scan c)) (sym e) (not_exchanged _ _ _ _ h.changed.same (other e)))
+      which (inr d) = inl (unwritten (HelpSettle j) h (name.Scan s) h.seat (λ e. d (sym (same_scan j s e))))
+  word_next Replace h n w f q = absurd h.reached
+  word_next a h n w f q = inl (unwritten a h (name.Scan s) h.seat (λ e. cc))
 
 -- Whether the word is set.
 
@@ -325,17 +351,20 @@ put_not_scan None e f = true_false refl (sym e)
 
 -- a scan that stores its word waits
 wait_waits : (z : Sizes) (v : Words) (s : ℕ) (choice : Choice) (l : Local) (a : Activity) (k : Local) → Arrow z v s choice l a k → a ≡ ScanWait → IsWaiting k.activity
+wait_waits z v s choice l a k (builds b next y o t) e = never_built z b y o
 wait_waits z v s choice l a k stores_waiting e = tt
 wait_waits z v s choice l a k _ e = absurd (cc)
 
 -- a scan that draws waits on
 draw_waits : (z : Sizes) (v : Words) (s : ℕ) (choice : Choice) (l : Local) (a : Activity) (k : Local) → Arrow z v s choice l a k → IsWaiting a → IsWaiting k.activity ⊎ IsSettling a
+draw_waits z v s choice l a k (builds b next y o t) x = never_built z b y o
 draw_waits z v s choice l a k draws x = inl tt
 draw_waits z v s choice l ScanSettle k b x = inr tt
 draw_waits z v s choice l a k _ x = absurd x
 
 -- a scan that settles is on its way
 settling_next : (z : Sizes) (v : Words) (s : ℕ) (choice : Choice) (l : Local) (a : Activity) (k : Local) → Arrow z v s choice l a k → IsSettling a → is_scan l.call ≡ true → IsScanning k.activity k
+settling_next z v s choice l a k (builds b next y o t) x f = never_built z b y o
 settling_next z v s choice l a k (settles_empty e) x f = inr (f, tt)
 settling_next z v s choice l a k (settles e) x f = inr (f, tt)
 settling_next z v s choice l a k _ x f = absurd x
@@ -359,6 +388,7 @@ IsClear _ = ⊥
 
 -- the walk goes on from its start
 start_settled : (z : Sizes) (v : Words) (s : ℕ) (choice : Choice) (l : Local) (k : Local) → Arrow z v s choice l Start k → IsSettled k.activity
+start_settled z v s choice l k (builds b next y o t) = never_built z b y o
 start_settled z v s choice l k starts_at_head = tt
 start_settled z v s choice l k (guesses r c e) = tt
 start_settled z v s choice l k guess_fails = tt
@@ -371,6 +401,7 @@ settled_underway _ x = tt
 
 -- a scan on its way goes on, or clears its word
 settled_next : (z : Sizes) (v : Words) (s : ℕ) (choice : Choice) (l : Local) (a : Activity) (k : Local) → Arrow z v s choice l a k → is_scan l.call ≡ true → IsSettled a → IsSettled k.activity ⊎ IsClear a ⊎ (a ≡ Walk) × (is_stopped choice l ≡ true)
+settled_next z v s choice l a k (builds b next y o t) f x = never_built z b y o
 settled_next z v s choice l a k (meets_stamped j c version next e n) f x = inl (look_settled z _ next n)
 settled_next z v s choice l a k (meets_neither j next e n) f x = inl (look_settled z _ next n)
 settled_next z v s choice l a k (is_passed next e n) f x = inl (look_settled z _ next n)
@@ -413,6 +444,16 @@ module _ (z : Sizes) (r r' : Run) (s : ℕ) (choice : Choice) (l : Local) (a : A
   settling_call : IsSettling a → is_scan l.call ≡ true
   settling_call x = scan_call l.call (settling_scans a l x kind)
 
+  -- a seat that settles the scan of a seat has none at work itself
+  own_quiet : (c : Activity) → Happens z r r' s choice l l' c → SettlesScan s c → word z r.world (name.Scan s) ≡ scan_word Quiet
+  own_quiet (HelpSettle j) g x = which (i.positions.scans s l g.knows)
+    where
+      which : IsScanning l.activity l ⊎ (word z r.world (name.Scan s) ≡ scan_word Quiet) → word z r.world (name.Scan s) ≡ scan_word Quiet
+      which (inl (inl y)) = absurd (subst IsWaiting g.activity y)
+      which (inl (inr y)) = absurd (subst IsSettled g.activity y.1)
+      which (inr y) = y
+  own_quiet _ g x = absurd x
+
   -- the word that is cleared
   clears : IsClear a → word z r'.world (name.Scan s) ≡ scan_word Quiet
   clears = which a h
@@ -449,7 +490,7 @@ module _ (z : Sizes) (r r' : Run) (s : ℕ) (choice : Choice) (l : Local) (a : A
       waits : IsWaiting l'.activity ⊎ (IsWaiting l'.activity → ⊥) → IsSettling a ⊎ (IsSettling a → ⊥) → IsScanning l'.activity l' ⊎ (word z r'.world (name.Scan s) ≡ scan_word Quiet)
       waits (inl w) x = inl (inl w)
       waits (inr w) (inl x) = inl (settling_next z (word z r.world) s choice l a l' b x (settling_call x))
-      waits (inr w) (inr n) = next n w (word_next a h n w (wait_waits z (word z r.world) s choice l a l' b))
+      waits (inr w) (inr n) = next n w (word_next a h n w (wait_waits z (word z r.world) s choice l a l' b) (own_quiet a h))
 
 -- Where it drew and looked.
 
@@ -458,22 +499,59 @@ underway_busy : (a : Activity) → IsUnderway a → IsBusy a
 underway_busy Idle x = x
 underway_busy _ x = tt
 
--- a scan that settles does not draw
-pub settling_no_draw : (a : Activity) → IsSettling a → IsNoDraw a
-settling_no_draw ScanSettle x = tt
-settling_no_draw _ x = absurd x
-
 -- an event that leads to a scan with a version neither begins nor ends a call
 pub drawn_underway : (z : Sizes) (v : Words) (s : ℕ) (choice : Choice) (l : Local) (a : Activity) (k : Local) → Arrow z v s choice l a k → HasDrawn k.activity → IsUnderway a
+drawn_underway z v s choice l a k (builds b next y o t) x = never_built z b y o
 drawn_underway z v s choice l a k (begins call e m) x = absurd x
 drawn_underway z v s choice l a k (leaves answer) x = absurd x
 drawn_underway z v s choice l a k _ x = tt
 
--- a waiting scan settles by its own exchange
-settles_to : (z : Sizes) (r r' : Run) (s : ℕ) (choice : Choice) (l : Local) (a : Activity) (k : Local) → Arrow z (word z r.world) s choice l a k → Happens z r r' s choice l k a → IsSettling a → word z r.world (name.Scan s) ≡ scan_word (Waiting l.waiting) → 1 ≤ l.waiting → l.waiting < VERSION_END → (k.version ≡ l.drawn) × (word z r'.world (name.Scan s) ≡ scan_word (Drawn l.drawn))
-settles_to z r r' s choice l a k (settles_empty e) h x w m n = (ap (λ q. version_settled (scan_of q) l.drawn) w ∙ ap (λ q. version_settled q l.drawn) (scan_of-Waiting l.waiting m n), exchanged _ _ _ _ h.changed.same w)
-settles_to z r r' s choice l a k (settles e) h x w m n = (ap (λ q. version_settled (scan_of q) l.drawn) w ∙ ap (λ q. version_settled q l.drawn) (scan_of-Waiting l.waiting m n), exchanged _ _ _ _ h.changed.same w)
-settles_to z r r' s choice l a k _ h x w m n = absurd x
+-- what was drawn stays drawn
+pub drawn_lasts : (h h' : History) → ((x : ℕ) (k : Kind) (c : ℕ) → Stands h x k c → Stands h' x k c) → {x version : ℕ} → IsDrawnAt h x version → IsDrawnAt h' x version
+drawn_lasts h h' lasts {x} {version} d = record { kind = d.kind; is_draw = d.is_draw; stands = lasts x d.kind version d.stands }
+
+-- how a scan of seat s settles that knew l and knows k: by its own exchange, or for the version that another seat drew for it
+pub data Settles (z : Sizes) (r r' : Run) (s : ℕ) (l k : Local) : Type 0 where
+  by_itself : k.version ≡ l.drawn → word z r'.world (name.Scan s) ≡ scan_word (Drawn l.drawn) → (r'.seats s).drawn ≡ (r.seats s).drawn → Settles z r r' s l k
+  by_helper : (n : IsHelped (word z r.world) r.history s (r.ledger.waits s) (r.settled s)) → k.version ≡ n.version → word z r'.world (name.Scan s) ≡ scan_word (Drawn n.version) → (r'.seats s).drawn ≡ r.settled s → Settles z r r' s l k
+
+-- a scan that settles takes what its word says, or its own draw
+settles_at : (z : Sizes) (r r' : Run) (s : ℕ) (choice : Choice) (l k : Local) → Happens z r r' s choice l k ScanSettle → k.version ≡ version_settled (scan_of (word z r.world (name.Scan s))) l.drawn → IsVersion l.waiting →
+    (word z r.world (name.Scan s) ≡ scan_word (Waiting l.waiting)) ⊎ IsHelped (word z r.world) r.history s (r.ledger.waits s) (r.settled s) → Settles z r r' s l k
+settles_at z r r' s choice l k h v m (inl e) =
+    by_itself (v ∙ ap (λ q. version_settled (scan_of q) l.drawn) e ∙ ap (λ q. version_settled q l.drawn) (scan_of-Waiting l.waiting m.0 m.1)) (exchanged _ _ _ _ h.changed.same e)
+    (ap (λ (q : SeatLog). q.drawn) (h.log ∙ settle_kept z choice l _ k.activity (r.seats s) r.origin r.history (r.settled s) e))
+settles_at z r r' s choice l k h v m (inr n) =
+    by_helper n (v ∙ ap (λ q. version_settled (scan_of q) l.drawn) n.word ∙ ap (λ q. version_settled q l.drawn) (scan_of-scan_word (Drawn n.version) n.range)) (not_exchanged _ _ _ _ h.changed.same other ∙ n.word)
+    (ap (λ (q : SeatLog). q.drawn) (h.log ∙ settle_lost z choice l _ k.activity (r.seats s) r.origin r.history (r.settled s) other))
+  where
+    other : word z r.world (name.Scan s) ≢ scan_word (Waiting l.waiting)
+    other e = let f : scan_word (Waiting l.waiting) ≡ scan_word (Drawn n.version) = sym e ∙ n.word in omega (arith, f)
+
+-- by the arrow that it takes
+settles_to : (z : Sizes) (r r' : Run) (s : ℕ) (choice : Choice) (l : Local) (a : Activity) (k : Local) → Arrow z (word z r.world) s choice l a k → Happens z r r' s choice l k a → IsSettling a → IsVersion l.waiting →
+    (word z r.world (name.Scan s) ≡ scan_word (Waiting l.waiting)) ⊎ IsHelped (word z r.world) r.history s (r.ledger.waits s) (r.settled s) → Settles z r r' s l k
+settles_to z r r' s choice l a k (builds b next y o t) h x m w = never_built z b y o
+settles_to z r r' s choice l a k (settles_empty e) h x m w = settles_at z r r' s choice l k h refl m w
+settles_to z r r' s choice l a k (settles e) h x m w = settles_at z r r' s choice l k h refl m w
+settles_to z r r' s choice l a k _ h x m w = absurd x
+
+-- a scan that has loaded the clock has just done so, or is about to draw
+pub loaded_from : (z : Sizes) (v : Words) (s : ℕ) (choice : Choice) (l : Local) (a : Activity) (k : Local) → Arrow z v s choice l a k → HasLoaded k.activity → ((a ≡ ScanClock) × (k ≡ record l { waiting = v name.Clock; activity = ScanWait })) ⊎ ((a ≡ ScanWait) × (k ≡ record l { activity = ScanDraw }))
+loaded_from z v s choice l a k (builds b next y o t) x = never_built z b y o
+loaded_from z v s choice l a k (waits e) x = inl (refl, refl)
+loaded_from z v s choice l a k stores_waiting x = inr (refl, refl)
+loaded_from z v s choice l (Look j) k b x = absurd (loaded_not_read k.activity x (after_read z v s choice l (Look j) k b tt))
+loaded_from z v s choice l LookKey k b x = absurd (loaded_not_read k.activity x (after_read z v s choice l LookKey k b tt))
+loaded_from z v s choice l LookClock k b x = absurd (loaded_not_read k.activity x (after_read z v s choice l LookClock k b tt))
+loaded_from z v s choice l LookHelp k b x = absurd (loaded_not_read k.activity x (after_read z v s choice l LookHelp k b tt))
+loaded_from z v s choice l ListFrom k b x = absurd (loaded_not_read k.activity x (after_read z v s choice l ListFrom k b tt))
+loaded_from z v s choice l ListKey k b x = absurd (loaded_not_read k.activity x (after_read z v s choice l ListKey k b tt))
+loaded_from z v s choice l ListVer k b x = absurd (loaded_not_read k.activity x (after_read z v s choice l ListVer k b tt))
+loaded_from z v s choice l ListVal k b x = absurd (loaded_not_read k.activity x (after_read z v s choice l ListVal k b tt))
+loaded_from z v s choice l RestKey k b x = absurd (loaded_not_read k.activity x (after_read z v s choice l RestKey k b tt))
+loaded_from z v s choice l RestVal k b x = absurd (loaded_not_read k.activity x (after_read z v s choice l RestVal k b tt))
+loaded_from z v s choice l a k b x = absurd x
 
 -- the first entry is looked at now
 looks_now : (z : Sizes) (r r' : Run) (s : ℕ) (choice : Choice) (l k : Local) → Happens z r r' s choice l k (Look 0) → (r'.seats s).looked ≡ length r.history.log
@@ -481,14 +559,14 @@ looks_now z r r' s choice l k h = ap (λ (q : SeatLog). q.looked) h.log
 
 module _ (z : Sizes) (r r' : Run) (s : ℕ) (choice : Choice) (l : Local) (a : Activity) (l' : Local) (b : Arrow z (word z r.world) s choice l a l') (h : Happens z r r' s choice l l' a) (i : Below z r) (st : Step r.history r'.history (log_entry z r a s choice l)) where
   -- what held of the draw before the event
-  before : Draws (word z r.world) r.history s l.activity l (r.seats s)
+  before : Draws (word z r.world) r.history s (r.ledger.waits s) (r.settled s) l.activity l (r.seats s)
   before = i.positions.draws s l h.knows
 
   -- the first event of the seat's call is the same
   pub call_first : IsUnderway a → (called r'.history (r'.seats s).call).first ≡ (called r.history (r.seats s).call).first
   call_first u =
       let w = (i.positions.calling s l h.knows (subst IsBusy (sym h.activity) (underway_busy a u))).within in
-      let e : (r'.seats s).call ≡ (r.seats s).call = ap (λ (q : SeatLog). q.call) h.log ∙ call_kept z choice l _ l'.activity (r.seats s) r.origin r.history a u in
+      let e : (r'.seats s).call ≡ (r.seats s).call = ap (λ (q : SeatLog). q.call) h.log ∙ call_kept z choice l _ l'.activity (r.seats s) r.origin r.history (r.settled s) a u in
       ap (λ q. (called r'.history q).first) e ∙ ((goes_on_by z r r' s choice l a l' h i st).calls (r.seats s).call w).first
 
   -- it lies before now
@@ -501,23 +579,73 @@ module _ (z : Sizes) (r r' : Run) (s : ℕ) (choice : Choice) (l : Local) (a : A
 
   -- where the seat drew is kept
   pub drawn_kept : IsNoDraw a → (r'.seats s).drawn ≡ (r.seats s).drawn
-  drawn_kept n = ap (λ (q : SeatLog). q.drawn) h.log ∙ draw_kept z choice l _ l'.activity (r.seats s) r.origin r.history a n
+  drawn_kept n = ap (λ (q : SeatLog). q.drawn) h.log ∙ draw_kept z choice l _ l'.activity (r.seats s) r.origin r.history (r.settled s) a n
 
   -- where it looked is kept
   pub looked_kept : IsReading a → (r'.seats s).looked ≡ (r.seats s).looked
-  looked_kept x = ap (λ (q : SeatLog). q.looked) h.log ∙ look_kept z choice l _ l'.activity (r.seats s) r.origin r.history a x
+  looked_kept x = ap (λ (q : SeatLog). q.looked) h.log ∙ look_kept z choice l _ l'.activity (r.seats s) r.origin r.history (r.settled s) a x
 
-  -- a scan that settles has the version that it drew
-  pub settle : IsSettling a → (l'.version ≡ l.drawn) × (word z r'.world (name.Scan s) ≡ scan_word (Drawn l.drawn))
-  settle x = let k = (i.shape.sane.locals s l h.knows).ranges.waiting in settles_to z r r' s choice l a l' b h x (before.waits (subst IsWaiting (sym h.activity) (settling_waits a x))) k.0 k.1
+  -- a scan settles by its own exchange, or for what another seat drew for it
+  pub settle : IsSettling a → Settles z r r' s l l'
+  settle x = settles_to z r r' s choice l a l' b h x (i.shape.sane.locals s l h.knows).ranges.waiting (before.waits (subst IsWaiting (sym h.activity) (settling_waits a x)))
+
+  -- what stands of a record lasts
+  lasts : (x : ℕ) (k : Kind) (c : ℕ) → Stands r.history x k c → Stands r'.history x k c
+  lasts = (goes_on_by z r r' s choice l a l' h i st).stands
+
+  -- what the event of a draw leaves of a scan that was helped before
+  helped_on : Happens z r r' s choice l l' ScanDraw → IsHelped (word z r.world) r.history s (r.ledger.waits s) (r.settled s) → IsHelped (word z r'.world) r'.history s (r'.ledger.waits s) (r'.settled s)
+  helped_on g n =
+      let waits : r'.ledger.waits s ≡ r.ledger.waits s = ap (λ (q : Ledger). q.waits s) g.ledger in
+      let draw : r'.settled s ≡ r.settled s = ap (λ (q : ℕ → ℕ). q s) g.settled in
+      record { version = n.version; range = n.range; word = unwritten ScanDraw g (name.Scan s) h.seat (λ f. cc) ∙ n.word; drawn = rw draw (drawn_lasts r.history r'.history lasts n.drawn); after = omega (arith, n.after, waits, draw) }
 
   -- the word of a waiting scan
-  its_waits : IsWaiting l'.activity → word z r'.world (name.Scan s) ≡ scan_word (Waiting l'.waiting)
+  its_waits : IsWaiting l'.activity → (word z r'.world (name.Scan s) ≡ scan_word (Waiting l'.waiting)) ⊎ IsHelped (word z r'.world) r'.history s (r'.ledger.waits s) (r'.settled s)
   its_waits x = which (waits_from z (word z r.world) s choice l a l' b x)
     where
-      which : ((a ≡ ScanWait) × (l' ≡ record l { activity = ScanDraw })) ⊎ ((a ≡ ScanDraw) × (l' ≡ record l { drawn = word z r.world name.Clock; activity = ScanSettle })) → word z r'.world (name.Scan s) ≡ scan_word (Waiting l'.waiting)
-      which (inl e) = (subst (Happens z r r' s choice l l') e.0 h).changed.same ∙ ap (λ (k : Local). scan_word (Waiting k.waiting)) (sym e.1)
-      which (inr e) = unwritten ScanDraw (subst (Happens z r r' s choice l l') e.0 h) (name.Scan s) h.seat (λ f. cc) ∙ before.waits (subst IsWaiting (sym (h.activity ∙ e.0)) tt) ∙ ap (λ (k : Local). scan_word (Waiting k.waiting)) (sym e.1)
+      drew : Happens z r r' s choice l l' ScanDraw → l' ≡ record l { drawn = word z r.world name.Clock; activity = ScanSettle } → (word z r.world (name.Scan s) ≡ scan_word (Waiting l.waiting)) ⊎ IsHelped (word z r.world) r.history s (r.ledger.waits s) (r.settled s) →
+          (word z r'.world (name.Scan s) ≡ scan_word (Waiting l'.waiting)) ⊎ IsHelped (word z r'.world) r'.history s (r'.ledger.waits s) (r'.settled s)
+      drew g e (inl w) = inl (unwritten ScanDraw g (name.Scan s) h.seat (λ f. cc) ∙ w ∙ ap (λ (k : Local). scan_word (Waiting k.waiting)) (sym e))
+      drew g e (inr n) = inr (helped_on g n)
+
+      which : ((a ≡ ScanWait) × (l' ≡ record l { activity = ScanDraw })) ⊎ ((a ≡ ScanDraw) × (l' ≡ record l { drawn = word z r.world name.Clock; activity = ScanSettle })) → (word z r'.world (name.Scan s) ≡ scan_word (Waiting l'.waiting)) ⊎ IsHelped (word z r'.world) r'.history s (r'.ledger.waits s) (r'.settled s)
+      which (inl e) = inl ((subst (Happens z r r' s choice l l') e.0 h).changed.same ∙ ap (λ (k : Local). scan_word (Waiting k.waiting)) (sym e.1))
+      which (inr e) = drew (subst (Happens z r r' s choice l l') e.0 h) e.1 (before.waits (subst IsWaiting (sym (h.activity ∙ e.0)) tt))
+
+  -- it has loaded the clock before
+  its_loaded : HasLoaded l'.activity → l'.waiting ≤ word z r'.world name.Clock
+  its_loaded x = which (loaded_from z (word z r.world) s choice l a l' b x)
+    where
+      which : ((a ≡ ScanClock) × (l' ≡ record l { waiting = word z r.world name.Clock; activity = ScanWait })) ⊎ ((a ≡ ScanWait) × (l' ≡ record l { activity = ScanDraw })) → l'.waiting ≤ word z r'.world name.Clock
+      which (inl e) = omega (arith, ap (λ (k : Local). k.waiting) e.1, clock_never_falls a h)
+      which (inr e) = omega (arith, ap (λ (k : Local). k.waiting) e.1, before.loaded (subst HasLoaded (sym (h.activity ∙ e.0)) tt), clock_never_falls a h)
+
+  -- and draws no earlier version
+  its_least : IsSettling l'.activity → l'.waiting ≤ l'.drawn
+  its_least x = which (waits_from z (word z r.world) s choice l a l' b (settling_waits l'.activity x))
+    where
+      which : ((a ≡ ScanWait) × (l' ≡ record l { activity = ScanDraw })) ⊎ ((a ≡ ScanDraw) × (l' ≡ record l { drawn = word z r.world name.Clock; activity = ScanSettle })) → l'.waiting ≤ l'.drawn
+      which (inl e) = let y : IsSettling ScanDraw = subst (λ (k : Local). IsSettling k.activity) e.1 x in absurd y
+      which (inr e) = omega (arith, ap (λ (k : Local). k.waiting) e.1, ap (λ (k : Local). k.drawn) e.1, before.loaded (subst HasLoaded (sym (h.activity ∙ e.0)) tt))
+
+  -- it began to wait in its call
+  its_began : IsWaiting l'.activity → ((called r'.history (r'.seats s).call).first < r'.ledger.waits s) × (r'.ledger.waits s < length r'.history.log)
+  its_began x = which (waits_from z (word z r.world) s choice l a l' b x)
+    where
+      grows : length r.history.log < length r'.history.log
+      grows = (goes_on_by z r r' s choice l a l' h i st).now
+
+      which : ((a ≡ ScanWait) × (l' ≡ record l { activity = ScanDraw })) ⊎ ((a ≡ ScanDraw) × (l' ≡ record l { drawn = word z r.world name.Clock; activity = ScanSettle })) → ((called r'.history (r'.seats s).call).first < r'.ledger.waits s) × (r'.ledger.waits s < length r'.history.log)
+      which (inl e) =
+          let u : IsUnderway a = subst IsUnderway (sym e.0) tt in
+          let waits : r'.ledger.waits s ≡ length r.history.log = ap (λ (q : Ledger). q.waits s) (subst (Happens z r r' s choice l l') e.0 h).ledger ∙ rw (eq-eqb s s refl) refl in
+          (omega (arith, call_first u, call_before u, waits), omega (arith, waits, grows))
+      which (inr e) =
+          let u : IsUnderway a = subst IsUnderway (sym e.0) tt in
+          let waits : r'.ledger.waits s ≡ r.ledger.waits s = ap (λ (q : Ledger). q.waits s) (subst (Happens z r r' s choice l l') e.0 h).ledger in
+          let was = before.began (subst IsWaiting (sym (h.activity ∙ e.0)) tt) in
+          (omega (arith, call_first u, was.0, waits), omega (arith, was.1, waits, grows))
 
   -- a scan that is about to settle has just drawn
   pub has_drawn : IsSettling l'.activity → (a ≡ ScanDraw) × (l'.drawn ≡ word z r.world name.Clock) × ((r'.seats s).drawn ≡ length r.history.log)
@@ -544,27 +672,41 @@ module _ (z : Sizes) (r r' : Run) (s : ℕ) (choice : Choice) (l : Local) (a : A
 
       which : IsCovering a ⊎ IsSettling a → word z r'.world (name.Scan s) ≡ scan_word (Drawn l'.version)
       which (inl c) = word_settled a h c x ∙ before.settled (was_scan u e) (subst IsSettled (sym h.activity) (covering_settled a c)) ∙ ap (λ q. scan_word (Drawn q)) (sym (not_idle_drawn z (word z r.world) s choice l a l' b (covering_draws a c) (settled_draws l'.activity x)))
-      which (inr y) = (settle y).1 ∙ ap (λ q. scan_word (Drawn q)) (sym (settle y).0)
+      which (inr y) = word_of (settle y)
+        where
+          word_of : Settles z r r' s l l' → word z r'.world (name.Scan s) ≡ scan_word (Drawn l'.version)
+          word_of (by_itself v w d) = w ∙ ap (λ q. scan_word (Drawn q)) (sym v)
+          word_of (by_helper n v w d) = w ∙ ap (λ q. scan_word (Drawn q)) (sym v)
 
   -- the draw of a scan that has its version
-  its_drawn : is_scan l'.call ≡ true → HasDrawn l'.activity → Stands r'.history (r'.seats s).drawn Draw l'.version × ((called r'.history (r'.seats s).call).first < (r'.seats s).drawn)
+  its_drawn : is_scan l'.call ≡ true → HasDrawn l'.activity → IsDrawnAt r'.history (r'.seats s).drawn l'.version × ((called r'.history (r'.seats s).call).first < (r'.seats s).drawn)
   its_drawn e x = which (drawn_from z (word z r.world) s choice l a l' b e x)
     where
       u : IsUnderway a
       u = drawn_underway z (word z r.world) s choice l a l' b x
 
-      lasts : (version : ℕ) → l'.version ≡ version → IsNoDraw a → Stands r.history (r.seats s).drawn Draw version → Stands r'.history (r'.seats s).drawn Draw l'.version
-      lasts version f n t = subst (λ q. Stands r'.history q Draw l'.version) (sym (drawn_kept n)) (subst (λ q. Stands r'.history (r.seats s).drawn Draw q) (sym f) ((goes_on_by z r r' s choice l a l' h i st).stands _ Draw version t))
+      -- the same draw
+      same : (at version : ℕ) → (r'.seats s).drawn ≡ at → l'.version ≡ version → IsDrawnAt r.history at version → IsDrawnAt r'.history (r'.seats s).drawn l'.version
+      same at version d v t = rw (d, v) (drawn_lasts r.history r'.history lasts t)
 
-      which : HasDrawn a ⊎ IsSettling a → Stands r'.history (r'.seats s).drawn Draw l'.version × ((called r'.history (r'.seats s).call).first < (r'.seats s).drawn)
+      settled_so : IsSettling a → Settles z r r' s l l' → IsDrawnAt r'.history (r'.seats s).drawn l'.version × ((called r'.history (r'.seats s).call).first < (r'.seats s).drawn)
+      settled_so y (by_itself v w d) =
+          let m = subst IsSettling (sym h.activity) y in
+          (same _ _ d v (record { kind = Draw; is_draw = tt; stands = before.settling m }), omega (arith, call_first u, d, before.settling_first m))
+      settled_so y (by_helper n v w d) =
+          (same _ _ d v n.drawn, omega (arith, call_first u, d, (before.began (subst IsWaiting (sym h.activity) (settling_waits a y))).0, n.after))
+
+      which : HasDrawn a ⊎ IsSettling a → IsDrawnAt r'.history (r'.seats s).drawn l'.version × ((called r'.history (r'.seats s).call).first < (r'.seats s).drawn)
       which (inl y) =
           let m = subst HasDrawn (sym h.activity) y in (
-            lasts l.version (not_idle_drawn z (word z r.world) s choice l a l' b y x) (draws_no_more a y) (before.drawn (was_scan u e) m),
+            same _ _ (drawn_kept (draws_no_more a y)) (not_idle_drawn z (word z r.world) s choice l a l' b y x) (before.drawn (was_scan u e) m),
             omega (arith, call_first u, drawn_kept (draws_no_more a y), before.drawn_first (was_scan u e) m),
           )
-      which (inr y) =
-          let m = subst IsSettling (sym h.activity) y in
-          (lasts l.drawn (settle y).0 (settling_no_draw a y) (before.settling m), omega (arith, call_first u, drawn_kept (settling_no_draw a y), before.settling_first m))
+      which (inr y) = settled_so y (settle y)
+
+  -- a draw is past
+  drawn_before : {x version : ℕ} → IsDrawnAt r.history x version → x < length r.history.log
+  drawn_before {x} {version} d = stands_before r.history x d.kind version d.stands
 
   -- where a reader looked: now, or before
   its_looked : IsReading l'.activity → ((called r'.history (r'.seats s).call).first < (r'.seats s).looked) × ((r'.seats s).looked < length r'.history.log) × (is_scan l'.call ≡ true → (r'.seats s).drawn < (r'.seats s).looked)
@@ -588,13 +730,16 @@ module _ (z : Sizes) (r r' : Run) (s : ℕ) (choice : Choice) (l : Local) (a : A
           let d : HasDrawn a = subst HasDrawn (sym y) tt in (
             omega (arith, call_first u, at, call_before u),
             omega (arith, at, now_grows),
-            λ e. omega (arith, at, drawn_kept (draws_no_more a d), stands_before r.history (r.seats s).drawn Draw l.version (before.drawn (was_scan u e) (subst HasDrawn (sym h.activity) d))),
+            λ e. omega (arith, at, drawn_kept (draws_no_more a d), drawn_before (before.drawn (was_scan u e) (subst HasDrawn (sym h.activity) d))),
           )
 
   -- all of it
-  pub draws_after : Draws (word z r'.world) r'.history s l'.activity l' (r'.seats s)
+  pub draws_after : Draws (word z r'.world) r'.history s (r'.ledger.waits s) (r'.settled s) l'.activity l' (r'.seats s)
   draws_after = record {
     waits = its_waits;
+    began = its_began;
+    loaded = its_loaded;
+    least = its_least;
     settling = its_settling;
     settling_first = λ x. let e = has_drawn x in let u : IsUnderway a = subst IsUnderway (sym e.0) tt in omega (arith, call_first u, call_before u, e.2);
     settled = its_settled;

@@ -19,13 +19,21 @@ use Rattle.kw_puts.specs.Puts.{Puts, OwnsAttempt, IsPublishedAt, entry_of}
 pub true_false : {A : Type 0} {b : Bool} → b ≡ true → b ≡ false → A
 true_false t f = let x : true ≡ false = sym t ∙ f in absurd (cc)
 
--- an attempt whose entry is pending is not stamped, and its cell is the one of the entry
+-- an attempt whose entry is pending is not lost
+pub pending_kept : (p : Attempt) (c : ℕ) → entry_of p ≡ pend_word (pend.Pending c) → p.is_lost ≡ false
+pending_kept p c e = met p.is_lost refl
+  where
+    met : (b : Bool) → p.is_lost ≡ b → p.is_lost ≡ false
+    met true y = let x : pend_word pend.Frozen ≡ pend_word (pend.Pending c) = rw y at e in absurd (omega (arith, x))
+    met false y = y
+
+-- it is not stamped, and its cell is the one of the entry
 pub pending_entry : (p : Attempt) (c : ℕ) → entry_of p ≡ pend_word (pend.Pending c) → (p.is_stamped ≡ false) × (p.cell ≡ c)
 pending_entry p c e = met p.is_stamped refl
   where
     met : (b : Bool) → p.is_stamped ≡ b → (p.is_stamped ≡ false) × (p.cell ≡ c)
-    met true y = let x : pend_word (pend.Stamped p.cell p.version) ≡ pend_word (pend.Pending c) = rw y at e in absurd (omega (arith, x))
-    met false y = let x : pend_word (pend.Pending p.cell) ≡ pend_word (pend.Pending c) = rw y at e in (y, omega (arith, x))
+    met true y = let x : pend_word (pend.Stamped p.cell p.version) ≡ pend_word (pend.Pending c) = rw (pending_kept p c e, y) at e in absurd (omega (arith, x))
+    met false y = let x : pend_word (pend.Pending p.cell) ≡ pend_word (pend.Pending c) = rw (pending_kept p c e, y) at e in (y, omega (arith, x))
 
 -- a seat that has announced its cell puts, and a seat that puts is in a call
 pub published_puts : (a : Activity) → IsPublished a → IsPutting a
@@ -62,6 +70,7 @@ pub record IsPendingOf (z : Sizes) (r : Run) (q t c : ℕ) : Type 0 where
   pub published : IsPublished local.activity
   pub row : local.row ≡ q
   pub unstamped : (attempt r.history (r.seats t).own).is_stamped ≡ false
+  pub kept : (attempt r.history (r.seats t).own).is_lost ≡ false
   pub cell : (attempt r.history (r.seats t).own).cell ≡ c
 
 module _ {z : Sizes} {r : Run} (i : Puts z r) where
@@ -89,13 +98,15 @@ module _ {z : Sizes} {r : Run} (i : Puts z r) where
   pub owns_apart : (t s : ℕ) (k l : Local) → t ≢ s → slice_get r.world.locals t ≡ Some k → slice_get r.world.locals s ≡ Some l → IsPutting k.activity → IsPutting l.activity → (r.seats t).own ≢ (r.seats s).own
   owns_apart t s k l d g m x y e = d (sym (i.owns t k g x).seat ∙ ap (λ q. (attempt r.history q).seat) e ∙ (i.owns s l m y).seat)
 
-  -- the seat of a pending entry: it has announced a cell of the row, this cell, and its attempt is not stamped
+  -- the seat of a pending entry: it has announced a cell of the row, this cell, and its attempt is neither stamped nor lost
   pub entry_owner : (q t c : ℕ) → q < r.world.rows → t < z.seats → word z r.world (name.Pend q t) ≡ pend_word (pend.Pending c) → IsPendingOf z r q t c
   entry_owner q t c w o e = which (i.entry q t w o)
     where
-      which : (word z r.world (name.Pend q t) ≡ pend_word pend.Idle) ⊎ IsPublishedAt (slice_get r.world.locals) q t → IsPendingOf z r q t c
+      which : (word z r.world (name.Pend q t) ≡ pend_word pend.Idle) ⊎ (word z r.world (name.Pend q t) ≡ pend_word pend.Frozen) ⊎ IsPublishedAt (slice_get r.world.locals) q t → IsPendingOf z r q t c
       which (inl x) = let y : pend_word (pend.Pending c) ≡ pend_word pend.Idle = sym e ∙ x in absurd (omega (arith, y))
-      which (inr p) =
+      which (inr (inl x)) = let y : pend_word (pend.Pending c) ≡ pend_word pend.Frozen = sym e ∙ x in absurd (omega (arith, y))
+      which (inr (inr p)) =
           let own = i.owns t p.local p.knows (published_puts p.local.activity p.published) in
-          let st = pending_entry (attempt r.history (r.seats t).own) c (sym (own.entry p.published) ∙ subst (λ x. word z r.world (name.Pend x t) ≡ pend_word (pend.Pending c)) (sym p.row) e) in
-          record { local = p.local; knows = p.knows; published = p.published; row = p.row; unstamped = st.0; cell = st.1 }
+          let entry = sym (own.entry p.published) ∙ subst (λ x. word z r.world (name.Pend x t) ≡ pend_word (pend.Pending c)) (sym p.row) e in
+          let st = pending_entry (attempt r.history (r.seats t).own) c entry in
+          record { local = p.local; knows = p.knows; published = p.published; row = p.row; unstamped = st.0; kept = pending_kept (attempt r.history (r.seats t).own) c entry; cell = st.1 }

@@ -6,12 +6,12 @@ use Rattle.kw_world.specs.declared.activity.Activity.TheVariants.{Idle, ScanDraw
 use Rattle.kw_world.specs.declared.local.Local.{Local}
 use Rattle.kw_world.specs.declared.event.Choice.{Choice}
 use Rattle.kw_world.specs.Sizes.{Sizes}
-use Rattle.kw_words.specs.declared.scan.ScanWord.TheVariants.{Quiet}
+use Rattle.kw_words.specs.declared.scan.ScanWord.TheVariants.{Quiet, Waiting, Drawn}
 use Rattle.kw_words.specs.Scan.{scan_word}
 use Rattle.kw_world.specs.Step.{word}
 use Rattle.kw_core.specs.History.{History, called, Stands}
 use Rattle.kw_core.specs.Step.{Keeps}
-use Rattle.kw_core.specs.Run.{Run, Origins}
+use Rattle.kw_core.specs.Run.{Run, Origins, log_settled}
 use Rattle.kw_core.specs.declared.seat_log.SeatLog.{SeatLog}
 use Rattle.std.proofs.Common.{◌==◌, if◌then◌else◌}
 use Rattle.std.proofs.lemmas.Bool.{cases_lt, cases_eq}
@@ -22,14 +22,16 @@ use Rattle.kw_core.specs.Run.{seat_after, log_begun, log_gathered, place_gathere
 use Rattle.kw_core.proofs.Happens.{found_at}
 use Rattle.std.proofs.lemmas.Option.{same_Some}
 use Rattle.kw_core.specs.History.{Draw}
-use Rattle.kw_core.specs.Stages.{IsBusy, IsPublished, IsUnstamped, IsDone, IsSettling, HasDrawn, IsReading}
+use Rattle.kw_core.specs.Stages.{IsBusy, IsPublished, IsUnstamped, IsDone, IsSettling, HasDrawn, IsReading, IsWaiting}
 use Rattle.kw_core.specs.Words.{Words}
 use Rattle.kw_shape.specs.Shape.{Shape}
 use Rattle.kw_puts.specs.Puts.{Puts}
-use Rattle.kw_puts.specs.Positions.{Clocked, Calling, Numbers, IsScanning, Draws, Positions}
+use Rattle.kw_puts.specs.Positions.{Clocked, Calling, Numbers, IsScanning, Draws, Positions, IsHelped}
 use Rattle.kw_puts.specs.Below.{Below}
 use Rattle.kw_core.proofs.Happens.{Happens, each_seat}
-use Rattle.kw_core.proofs.Arrows.{Arrow}
+use Rattle.kw_core.proofs.Building.{never_built}
+use Rattle.kw_core.proofs.Arrows.{builds, Arrow}
+use Rattle.kw_core.proofs.SeatLogs.{settle_kept}
 use Rattle.std.proofs.Common.{length-append, length-set}
 use Rattle.kw_words.specs.declared.kind.Kind.{Kind}
 use Rattle.kw_world.specs.WalkTransitions.{start_transition, walk_transition, is_stopped}
@@ -44,14 +46,15 @@ use Rattle.kw_core.specs.Noted.{noted}
 use Rattle.kw_core.specs.Step.{Step, now}
 use Rattle.kw_core.proofs.NotedLaws.{called_push_new}
 use Rattle.kw_core.proofs.Steps.{stands_was, stands_before}
-use Rattle.kw_core.proofs.Frame.{clock_grows}
-use Rattle.kw_core.proofs.Changes.{Makes, made, makes_nothing, makes_begin, makes_add, makes_announce, makes_stamp, makes_help, makes_end}
+use Rattle.kw_core.proofs.FreezeFrame.{clock_never_falls}
+use Rattle.kw_core.proofs.Changes.{Makes, made, makes_nothing, makes_begin, makes_add, makes_announce, makes_stamp, makes_help, makes_end, makes_lose}
 use Rattle.kw_core.proofs.Happens.{log_entry}
 use Rattle.kw_core.proofs.Arrows.{begins, leaves}
 use Rattle.kw_puts.proofs.Callings.{calling_begins, calling_goes_on}
-use Rattle.kw_puts.proofs.OwnScans.{scan_is_set, draws_after}
+use Rattle.kw_puts.proofs.OwnScans.{scan_is_set, draws_after, settling_waits, drawn_lasts}
 use Rattle.kw_shape.proofs.NextCalls.{arrow_number}
-use Rattle.kw_puts.proofs.Rely.{RelyEntry, as_it_was, is_helped, Rely}
+use Rattle.kw_puts.proofs.Rely.{RelyEntry, as_it_was, is_helped, is_frozen, Rely, RelyScan, scan_stays, is_settled}
+use Rattle.kw_puts.proofs.Helpers.{waiting_keeps, helping_keeps}
 use Rattle.kw_puts.proofs.RelyProof.{rely, goes_on_by}
 
 -- What survives every event of another seat.
@@ -86,14 +89,17 @@ calling_stable z r r' t k y b c = subst (λ g. Calling r'.history t k.activity k
     own : Calling r.history t k.activity k (r.seats t) → RelyEntry (word z r.world) (word z r'.world) r.history r'.history t k.activity k (r.seats t) → (p : ℕ) → (called r'.history (r.seats t).call).put ≡ Some p → (r.seats t).own ≡ p
     own c (as_it_was e f u) p q = c.own p (sym (u b) ∙ q)
     own c (is_helped version load x before after n f e put) p q = same_Some _ p (sym put ∙ q)
+    own c (is_frozen e f u) p q = c.own p (sym u ∙ q)
 
     published : Calling r.history t k.activity k (r.seats t) → RelyEntry (word z r.world) (word z r'.world) r.history r'.history t k.activity k (r.seats t) → (p : ℕ) → (called r'.history (r.seats t).call).put ≡ Some p → IsPublished k.activity ⊎ IsDone k.activity
     published c (as_it_was e f u) p q = c.published p (sym (u b) ∙ q)
     published c (is_helped version load x before after n f e put) p q = inl (unstamped_published k.activity x)
+    published c (is_frozen e f u) p q = c.published p (sym u ∙ q)
 
     done : Calling r.history t k.activity k (r.seats t) → RelyEntry (word z r.world) (word z r'.world) r.history r'.history t k.activity k (r.seats t) → IsDone k.activity → (p : ℕ) × ((called r'.history (r.seats t).call).put ≡ Some p)
     done c (as_it_was e f u) a = let x = c.done a in (x.0, u b ∙ x.1)
     done c (is_helped version load x before after n f e put) a = absurd (not_done k.activity x a)
+    done c (is_frozen e f u) a = let x = c.done a in (x.0, u ∙ x.1)
 
 -- the numbers of a seat's calls
 pub numbers_stable : (z : Sizes) (r r' : Run) (t : ℕ) (k : Local) → Rely z r r' t k → Numbers r.history t k → Numbers r'.history t k
@@ -118,14 +124,48 @@ reading_busy : (a : Activity) → IsReading a → IsBusy a
 reading_busy Idle x = x
 reading_busy _ x = tt
 
+-- a waiting scan is busy
+waiting_busy : (a : Activity) → IsWaiting a → IsBusy a
+waiting_busy ScanDraw x = tt
+waiting_busy ScanSettle x = tt
+waiting_busy _ x = absurd x
+
+-- a scan that waits waits on, or is helped, and one that was helped is left alone
+waits_stable : (z : Sizes) (r r' : Run) (t : ℕ) (k : Local) → Rely z r r' t k → (word z r.world (name.Scan t) ≡ scan_word (Waiting k.waiting)) ⊎ IsHelped (word z r.world) r.history t (r.ledger.waits t) (r.settled t) → (word z r'.world (name.Scan t) ≡ scan_word (Waiting k.waiting)) ⊎ IsHelped (word z r'.world) r'.history t (r'.ledger.waits t) (r'.settled t)
+waits_stable z r r' t k y x = which y.scan x
+  where
+    which : RelyScan (word z r.world) (word z r'.world) r'.history t (r.ledger.waits t) (r.settled t) (r'.settled t) → (word z r.world (name.Scan t) ≡ scan_word (Waiting k.waiting)) ⊎ IsHelped (word z r.world) r.history t (r.ledger.waits t) (r.settled t) → (word z r'.world (name.Scan t) ≡ scan_word (Waiting k.waiting)) ⊎ IsHelped (word z r'.world) r'.history t (r'.ledger.waits t) (r'.settled t)
+    which (scan_stays e s) (inl w) = inl (e ∙ w)
+    which (scan_stays e s) (inr n) = inr (record { version = n.version; range = n.range; word = e ∙ n.word; drawn = rw s (drawn_lasts r.history r'.history y.goes_on.stands n.drawn); after = omega (arith, n.after, s, y.since) })
+    which (is_settled clock version w w' range drawn after) _ = inr (record { version = version; range = range; word = w'; drawn = drawn; after = omega (arith, after, y.since) })
+
+-- the word of a scan that is settled is left alone
+settled_stable : (z : Sizes) (r r' : Run) (t : ℕ) (k : Local) → Rely z r r' t k → word z r.world (name.Scan t) ≡ scan_word (Drawn k.version) → word z r'.world (name.Scan t) ≡ scan_word (Drawn k.version)
+settled_stable z r r' t k y x = which y.scan
+  where
+    which : RelyScan (word z r.world) (word z r'.world) r'.history t (r.ledger.waits t) (r.settled t) (r'.settled t) → word z r'.world (name.Scan t) ≡ scan_word (Drawn k.version)
+    which (scan_stays e s) = e ∙ x
+    which (is_settled clock version w w' range drawn after) = let f : scan_word (Waiting clock) ≡ scan_word (Drawn k.version) = sym w ∙ x in absurd (omega (arith, f))
+
+-- a quiet scan is left alone
+quiet_stable : (z : Sizes) (r r' : Run) (t : ℕ) (k : Local) → Rely z r r' t k → word z r.world (name.Scan t) ≡ scan_word Quiet → word z r'.world (name.Scan t) ≡ scan_word Quiet
+quiet_stable z r r' t k y x = which y.scan
+  where
+    which : RelyScan (word z r.world) (word z r'.world) r'.history t (r.ledger.waits t) (r.settled t) (r'.settled t) → word z r'.world (name.Scan t) ≡ scan_word Quiet
+    which (scan_stays e s) = e ∙ x
+    which (is_settled clock version w w' range drawn after) = let f : scan_word (Waiting clock) ≡ scan_word Quiet = sym w ∙ x in absurd (omega (arith, f))
+
 -- where it drew and looked
-pub draws_stable : (z : Sizes) (r r' : Run) (t : ℕ) (k : Local) → Rely z r r' t k → (IsBusy k.activity → Calling r.history t k.activity k (r.seats t)) → Draws (word z r.world) r.history t k.activity k (r.seats t) → Draws (word z r'.world) r'.history t k.activity k (r'.seats t)
-draws_stable z r r' t k y c n = subst (λ g. Draws (word z r'.world) r'.history t k.activity k g) (sym y.log) (record {
-  waits = λ a. y.words.scan ∙ n.waits a;
+pub draws_stable : (z : Sizes) (r r' : Run) (t : ℕ) (k : Local) → Rely z r r' t k → (IsBusy k.activity → Calling r.history t k.activity k (r.seats t)) → Draws (word z r.world) r.history t (r.ledger.waits t) (r.settled t) k.activity k (r.seats t) → Draws (word z r'.world) r'.history t (r'.ledger.waits t) (r'.settled t) k.activity k (r'.seats t)
+draws_stable z r r' t k y c n = subst (λ g. Draws (word z r'.world) r'.history t (r'.ledger.waits t) (r'.settled t) k.activity k g) (sym y.log) (record {
+  waits = λ a. waits_stable z r r' t k y (n.waits a);
+  began = λ a. let x = n.began a in (omega (arith, x.0, first (waiting_busy k.activity a), y.since), omega (arith, x.1, y.since, y.goes_on.now));
+  loaded = λ a. omega (arith, n.loaded a, y.words.clock);
+  least = n.least;
   settling = λ a. y.goes_on.stands _ Draw _ (n.settling a);
   settling_first = λ a. omega (arith, n.settling_first a, first (settling_busy k.activity a));
-  settled = λ e a. y.words.scan ∙ n.settled e a;
-  drawn = λ e a. y.goes_on.stands _ Draw _ (n.drawn e a);
+  settled = λ e a. settled_stable z r r' t k y (n.settled e a);
+  drawn = λ e a. drawn_lasts r.history r'.history y.goes_on.stands (n.drawn e a);
   drawn_first = λ e a. omega (arith, n.drawn_first e a, first (drawn_busy k.activity a));
   looked_first = λ a. omega (arith, n.looked_first a, first (reading_busy k.activity a));
   looked = λ a. omega (arith, n.looked a, y.goes_on.now);
@@ -188,7 +228,7 @@ clocked_keeps z r r' s choice l a l' b h i st = record {
     was x k c t = stands_was r.history r'.history e step x k c t
 
     grows : word z r.world name.Clock ≤ word z r'.world name.Clock
-    grows = clock_grows a h
+    grows = clock_never_falls a h
 
     positive : {x : ℕ} {k : Kind} (c : ℕ) → Stands r.history x k c ⊎ ((x ≡ now r.history) × (k ≡ e.kind) × (c ≡ e.clock)) → 1 ≤ c
     positive {x} {k} c (inl t) = i.positions.clocked.positive x k c t
@@ -219,10 +259,12 @@ new_call h h' e z v s choice l g o a c (makes_add m) n x w f = absurd (omega (ar
 new_call h h' e z v s choice l g o a c (makes_announce m) n x w f = absurd (omega (arith, w, f, ap (λ (y : History). length y.calls) n))
 new_call h h' e z v s choice l g o a c (makes_stamp m) n x w f = absurd (omega (arith, w, f, ap (λ (y : History). length y.calls) n, length-set {A = CallLog}))
 new_call h h' e z v s choice l g o a c (makes_help q m k) n x w f = absurd (omega (arith, w, f, ap (λ (y : History). length y.calls) n, length-set {A = CallLog}))
+new_call h h' e z v s choice l g o a c (makes_lose i cell q y m k) n x w f = absurd (omega (arith, w, f, ap (λ (y : History). length y.calls) n))
 new_call h h' e z v s choice l g o a c (makes_end answer) n x w f = absurd (omega (arith, w, f, ap (λ (y : History). length y.calls) n, length-set {A = CallLog}))
 
 -- a call that begins is counted
 idle_number : (z : Sizes) (v : Words) (s : ℕ) (choice : Choice) (l : Local) (a : Activity) (k : Local) → Arrow z v s choice l a k → a ≡ Idle → k.number ≡ l.number + 1
+idle_number z v s choice l a k (builds b next y o t) f = never_built z b y o
 idle_number z v s choice l a k (begins call e b) f = refl
 idle_number z v s choice l a k _ f = absurd (cc)
 
@@ -240,6 +282,7 @@ numbers_own z r r' s choice l a l' b h i st = λ x w e. which x w e (cases_lt x 
 
 -- the seat's call
 pub calling_own : (z : Sizes) (r r' : Run) (s : ℕ) (choice : Choice) (l : Local) (a : Activity) (l' : Local) → Arrow z (word z r.world) s choice l a l' → Happens z r r' s choice l l' a → Below z r → Step r.history r'.history (log_entry z r a s choice l) → Keeps r'.history → IsBusy l'.activity → Calling r'.history s l'.activity l' (r'.seats s)
+calling_own z r r' s choice l a l' (builds b next y o t) h i st k p = never_built z b y o
 calling_own z r r' s choice l a l' (begins call e m) h i st k p = calling_begins z r r' s choice l _ call e refl refl refl h
 calling_own z r r' s choice l a l' (leaves answer) h i st k p = absurd p
 calling_own z r r' s choice l a l' b h i st k p = calling_goes_on z r r' s choice l _ l' b h i st k tt
@@ -249,40 +292,49 @@ pub scans_own : (z : Sizes) (r r' : Run) (s : ℕ) (choice : Choice) (l : Local)
 scans_own z r r' s choice l a l' b h i = scan_is_set z r r' s choice l a l' b h i
 
 -- where the seat drew and looked
-pub draws_own : (z : Sizes) (r r' : Run) (s : ℕ) (choice : Choice) (l : Local) (a : Activity) (l' : Local) → Arrow z (word z r.world) s choice l a l' → Happens z r r' s choice l l' a → Below z r → Step r.history r'.history (log_entry z r a s choice l) → Shape z r' → Draws (word z r'.world) r'.history s l'.activity l' (r'.seats s)
+pub draws_own : (z : Sizes) (r r' : Run) (s : ℕ) (choice : Choice) (l : Local) (a : Activity) (l' : Local) → Arrow z (word z r.world) s choice l a l' → Happens z r r' s choice l l' a → Below z r → Step r.history r'.history (log_entry z r a s choice l) → Shape z r' → Draws (word z r'.world) r'.history s (r'.ledger.waits s) (r'.settled s) l'.activity l' (r'.seats s)
 draws_own z r r' s choice l a l' b h i st after = draws_after z r r' s choice l a l' b h i st
 
--- where each seat looked and drew last
-log_within : (z : Sizes) (a : Activity) (choice : Choice) (l : Local) (found : ℕ) (next : Activity) (g : SeatLog) (o : Origins) (h : History) → g.looked ≤ length h.log → g.drawn ≤ length h.log → ((seat_after z a choice l found next g o h).looked ≤ length h.log) × ((seat_after z a choice l found next g o h).drawn ≤ length h.log)
-log_within z Idle choice l found next g o h x y = begun choice
+-- where each seat looked and drew last: a scan that settles does it by its own exchange, or has a draw of before
+log_within : (z : Sizes) (a : Activity) (choice : Choice) (l : Local) (found : ℕ) (next : Activity) (g : SeatLog) (o : Origins) (h : History) (settled : ℕ) → (IsSettling a → (found ≡ scan_word (Waiting l.waiting)) ⊎ (settled ≤ length h.log)) → g.looked ≤ length h.log → g.drawn ≤ length h.log → ((seat_after z a choice l found next g o h settled).looked ≤ length h.log) × ((seat_after z a choice l found next g o h settled).drawn ≤ length h.log)
+log_within z Idle choice l found next g o h settled f x y = begun choice
   where
     begun : (c : Choice) → ((log_begun c (length h.calls) g).looked ≤ length h.log) × ((log_begun c (length h.calls) g).drawn ≤ length h.log)
     begun (Begin call) = (x, y)
     begun Go = (x, y)
     begun (Guess q) = (x, y)
     begun Stop = (x, y)
-log_within z ScanDraw choice l found next g o h x y = (x, omega arith)
-log_within z (Look j) choice l found next g o h x y = met (j == 0)
+log_within z ScanDraw choice l found next g o h settled f x y = (x, omega arith)
+log_within z ScanSettle choice l found next g o h settled f x y = tried (f tt)
+  where
+    tried : (found ≡ scan_word (Waiting l.waiting)) ⊎ (settled ≤ length h.log) → ((log_settled l.waiting found settled g).looked ≤ length h.log) × ((log_settled l.waiting found settled g).drawn ≤ length h.log)
+    tried (inl e) = rw (settle_kept z choice l found next g o h settled e) (x, y)
+    tried (inr w) = met (found == scan_word (Waiting l.waiting))
+      where
+        met : (b : Bool) → let g' : SeatLog = if b then g else record g { drawn = settled } in (g'.looked ≤ length h.log) × (g'.drawn ≤ length h.log)
+        met true = (x, y)
+        met false = (x, w)
+log_within z (Look j) choice l found next g o h settled f x y = met (j == 0)
   where
     met : (b : Bool) → let g' : SeatLog = if b then record g { looked = length h.log; ids = []; read = None } else g in (g'.looked ≤ length h.log) × (g'.drawn ≤ length h.log)
     met true = (omega arith, y)
     met false = (x, y)
-log_within z ListFrom choice l found next g o h x y = read (is_at_cell next)
+log_within z ListFrom choice l found next g o h settled f x y = read (is_at_cell next)
   where
     read : (b : Bool) → let g' : SeatLog = if b then g else record g { read = Some l.row } in (g'.looked ≤ length h.log) × (g'.drawn ≤ length h.log)
     read true = (x, y)
     read false = (x, y)
-log_within z ListKey choice l found next g o h x y = read (is_at_cell next)
+log_within z ListKey choice l found next g o h settled f x y = read (is_at_cell next)
   where
     read : (b : Bool) → let g' : SeatLog = if b then g else record g { read = Some l.row } in (g'.looked ≤ length h.log) × (g'.drawn ≤ length h.log)
     read true = (x, y)
     read false = (x, y)
-log_within z RestKey choice l found next g o h x y = read (is_at_cell next)
+log_within z RestKey choice l found next g o h settled f x y = read (is_at_cell next)
   where
     read : (b : Bool) → let g' : SeatLog = if b then g else record g { read = Some l.row } in (g'.looked ≤ length h.log) × (g'.drawn ≤ length h.log)
     read true = (x, y)
     read false = (x, y)
-log_within z RestVal choice l found next g o h x y = read (is_at_cell next)
+log_within z RestVal choice l found next g o h settled f x y = read (is_at_cell next)
   where
     gathered : SeatLog
     gathered = log_gathered (o l.row l.place) (place_gathered l found) g
@@ -290,12 +342,18 @@ log_within z RestVal choice l found next g o h x y = read (is_at_cell next)
     read : (b : Bool) → let g' : SeatLog = if b then gathered else record gathered { read = Some l.row } in (g'.looked ≤ length h.log) × (g'.drawn ≤ length h.log)
     read true = (x, y)
     read false = (x, y)
-log_within z PutAdd choice l found next g o h x y = met (has_room z (count_of found))
+log_within z PutAdd choice l found next g o h settled f x y = met (has_room z (count_of found))
   where
     met : (b : Bool) → let g' : SeatLog = if b then record g { own = length h.attempts } else g in (g'.looked ≤ length h.log) × (g'.drawn ≤ length h.log)
     met true = (x, y)
     met false = (x, y)
-log_within z _ choice l found next g o h x y = (x, y)
+log_within z (HelpDraw i) choice l found next g o h settled f x y = (x, omega arith)
+log_within z _ choice l found next g o h settled f x y = (x, y)
+
+-- what a scan that settles finds is its own word
+settling_finds : (z : Sizes) (v : Words) (s : ℕ) (choice : Choice) (l : Local) (a : Activity) → IsSettling a → v (name.Scan s) ≡ scan_word (Waiting l.waiting) → found_at z v a s choice l ≡ scan_word (Waiting l.waiting)
+settling_finds z v s choice l ScanSettle y e = e
+settling_finds z v s choice l _ y e = absurd y
 
 -- no seat looked or drew later than now
 both_keep : (z : Sizes) (r r' : Run) (s : ℕ) (choice : Choice) (l : Local) (a : Activity) (l' : Local) → Happens z r r' s choice l l' a → Below z r → Step r.history r'.history (log_entry z r a s choice l) → (t : ℕ) → ((r'.seats t).looked ≤ length r'.history.log) × ((r'.seats t).drawn ≤ length r'.history.log)
@@ -304,11 +362,20 @@ both_keep z r r' s choice l a l' h i st t = which (cases_eq t s)
     now : length r.history.log < length r'.history.log
     now = (goes_on_by z r r' s choice l a l' h i st).now
 
+    found : IsSettling a → (word z r.world (name.Scan s) ≡ scan_word (Waiting l.waiting)) ⊎ IsHelped (word z r.world) r.history s (r.ledger.waits s) (r.settled s) → (found_at z (word z r.world) a s choice l ≡ scan_word (Waiting l.waiting)) ⊎ (r.settled s ≤ length r.history.log)
+    found y (inl e) = inl (settling_finds z (word z r.world) s choice l a y e)
+    found y (inr n) = inr (omega (arith, stands_before r.history (r.settled s) n.drawn.kind n.version n.drawn.stands))
+
     which : (t ≡ s) ⊎ (t ≡ s → ⊥) → ((r'.seats t).looked ≤ length r'.history.log) × ((r'.seats t).drawn ≤ length r'.history.log)
     which (inl e) =
-        let x = log_within z a choice l (found_at z (word z r.world) a s choice l) l'.activity (r.seats s) r.origin r.history (i.positions.looks s) (i.positions.drew s) in
+        let x = log_within z a choice l (found_at z (word z r.world) a s choice l) l'.activity (r.seats s) r.origin r.history (r.settled s) (λ y. found y ((i.positions.draws s l h.knows).waits (subst IsWaiting (sym h.activity) (settling_waits a y)))) (i.positions.looks s) (i.positions.drew s) in
         rw (e, h.log) (omega (arith, x.0, now), omega (arith, x.1, now))
     which (inr d) = rw (h.logs t d) (omega (arith, i.positions.looks t, now), omega (arith, i.positions.drew t, now))
+
+-- a scan that is at work is so, whatever becomes of its word
+still : {A B C : Type 0} → (B → C) → A ⊎ B → A ⊎ C
+still f (inl x) = inl x
+still f (inr y) = inr (f y)
 
 -- The group.
 
@@ -323,10 +390,12 @@ positions_keep z r r' s choice l a l' h i st after k puts = record {
       (λ t k d g. numbers_stable z r r' t k (rely z r r' s choice l a l' h i st t k d g) (i.positions.numbers t k g));
   scans = each_seat h (λ t k. IsScanning k.activity k ⊎ (word z r'.world (name.Scan t) ≡ scan_word Quiet))
       (scans_own z r r' s choice l a l' h.arrow h i)
-      (λ t k d g. subst (λ x. IsScanning k.activity k ⊎ (x ≡ scan_word Quiet)) (sym (rely z r r' s choice l a l' h i st t k d g).words.scan) (i.positions.scans t k g));
+      (λ t k d g. still (quiet_stable z r r' t k (rely z r r' s choice l a l' h i st t k d g)) (i.positions.scans t k g));
   looks = λ t. (both_keep z r r' s choice l a l' h i st t).0;
   drew = λ t. (both_keep z r r' s choice l a l' h i st t).1;
-  draws = each_seat h (λ t k. Draws (word z r'.world) r'.history t k.activity k (r'.seats t))
+  waiting = waiting_keeps z r r' s choice l a l' h i st;
+  helping = helping_keeps z r r' s choice l a l' h i st;
+  draws = each_seat h (λ t k. Draws (word z r'.world) r'.history t (r'.ledger.waits t) (r'.settled t) k.activity k (r'.seats t))
       (draws_own z r r' s choice l a l' h.arrow h i st after)
       (λ t k d g. draws_stable z r r' t k (rely z r r' s choice l a l' h i st t k d g) (i.positions.calling t k g) (i.positions.draws t k g));
 }

@@ -1,5 +1,5 @@
 -- Every event keeps what holds of the attempts, their cells and their entries: the group, from one lemma for each part of it.
-use Rattle.std.proofs.Common.{ℕ}
+use Rattle.std.proofs.Common.{ℕ, slice_get}
 use Rattle.kw_world.specs.declared.activity.Activity.{Activity}
 use Rattle.kw_world.specs.declared.local.Local.{Local}
 use Rattle.kw_world.specs.declared.event.Choice.{Choice}
@@ -10,6 +10,7 @@ use Rattle.kw_core.specs.Run.{Run}
 use Rattle.kw_core.specs.Stages.{IsPutting, HasMet}
 use Rattle.kw_shape.specs.Shape.{Shape}
 use Rattle.kw_puts.specs.Puts.{OwnsAttempt, Helps, Puts}
+use Rattle.kw_puts.specs.Freezes.{IsToFreeze, Freezes, Remembers}
 use Rattle.kw_puts.specs.Below.{Below}
 use Rattle.kw_core.specs.Step.{Step}
 use Rattle.kw_core.proofs.Happens.{log_entry}
@@ -19,7 +20,9 @@ use Rattle.kw_puts.proofs.StablePuts.{owns_stable, helps_stable}
 use Rattle.kw_puts.proofs.AttemptCells.{given_keeps, places_keep, rises_keep, body_keeps}
 use Rattle.kw_puts.proofs.OwnAttempts.{owns_own}
 use Rattle.kw_puts.proofs.DoneAttempts.{old_keeps}
-use Rattle.kw_puts.proofs.Entries.{entry_keeps, helps_own}
+use Rattle.kw_puts.proofs.Entries.{entry_keeps, tries_own, helps_own}
+use Rattle.kw_puts.proofs.Freezes.{freezes_own, freezes_other}
+use Rattle.kw_puts.proofs.Marking.{remembers_own, remembers_other}
 
 -- the attempts, their cells and their entries, after every event
 pub puts_keep : (z : Sizes) (r r' : Run) (s : ℕ) (choice : Choice) (l : Local) (a : Activity) (l' : Local) → Happens z r r' s choice l l' a → Below z r → Step r.history r'.history (log_entry z r a s choice l) → Shape z r' → Keeps r'.history → Puts z r'
@@ -33,6 +36,9 @@ puts_keep z r r' s choice l a l' h i st after k = record {
       (λ t k d g p. owns_stable z r r' t k (rely z r r' s choice l a l' h i st t k d g) p (i.puts.owns t k g p));
   old = old_keeps z r r' s choice l a l' h.arrow h i st;
   entry = entry_keeps z r r' s choice l a l' h.arrow h i;
+  tries = each_seat h (λ t k. IsToFreeze k.activity k) (tries_own z r r' s choice l a l' h.arrow) (λ t k d g. i.puts.tries t k g);
+  freezes = each_seat h (λ t k. Freezes z (word z r'.world) (slice_get r'.world.locals) k.activity k) (freezes_own z r r' s choice l a l' h.arrow h i) (λ t k d g. freezes_other z r r' s choice l a l' h i t k g);
+  remembers = each_seat h (λ t k. Remembers z r'.history r'.origin r'.listed k.activity k) (remembers_own z r r' s choice l a l' h.arrow h i st) (λ t k d g. remembers_other z r r' s choice l a l' h i st t k g);
   helps = each_seat h (λ t k. HasMet k.activity → Helps r'.history r'.origin k.activity k (r'.seats t))
       (helps_own z r r' s choice l a l' h.arrow h i st)
       (λ t k d g p. helps_stable z r r' t k (rely z r r' s choice l a l' h i st t k d g) (i.puts.helps t k g p));

@@ -16,7 +16,7 @@ use Rattle.kw_core.specs.History.{History, attempt, called, Stands}
 use Rattle.kw_core.specs.Grows.{Grows}
 use Rattle.kw_core.specs.Run.{Run, Origins}
 use Rattle.kw_core.specs.declared.seat_log.SeatLog.{SeatLog}
-use Rattle.kw_core.specs.Stages.{IsBusy, IsPassing, IsPutting, IsUnlisted, IsUnstamped}
+use Rattle.kw_core.specs.Stages.{IsBusy, IsPassing, IsPutting, IsFresh, IsUnlisted, IsUnstamped}
 use Rattle.kw_core.specs.Listed.{Listed}
 use Rattle.kw_lists.specs.Changes.{Leaves}
 use Rattle.kw_lists.specs.Puts.{LeavesOwn}
@@ -26,13 +26,22 @@ use Rattle.kw_puts.specs.Lists.{list_in}
 use Rattle.kw_core.specs.Words.{Words, given_in}
 use Rattle.kw_puts.specs.Puts.{key_in, value_in}
 use Rattle.kw_shape.proofs.RelyRows.{RelyRows}
+use Rattle.kw_words.specs.declared.scan.ScanWord.TheVariants.{Waiting, Drawn}
+use Rattle.kw_words.specs.Scan.{scan_word}
+use Rattle.kw_world.specs.Sane.{IsVersion}
+use Rattle.kw_puts.specs.Positions.{IsDrawnAt}
 
--- the words: the seat's scan is as it was, and the clock, the counts and the versions that stand do not go back
-pub record RelyWords (z : Sizes) (rows : ℕ) (v v' : Words) (t : ℕ) : Type 0 where
-  pub scan : v' (name.Scan t) ≡ v (name.Scan t)
+-- the words: the clock, the counts and the versions that stand do not go back
+pub record RelyWords (z : Sizes) (rows : ℕ) (v v' : Words) : Type 0 where
   pub clock : v name.Clock ≤ v' name.Clock
   pub given : (q : ℕ) → q < rows → given_in v q ≤ given_in v' q
   pub version : (q c : ℕ) → q < rows → c < z.cells → v (name.Version q c) ≢ 0 → v' (name.Version q c) ≡ v (name.Version q c)
+
+-- the seat's scan, which began to wait at `since`: its word is as it was, or it waited and another seat has settled it for a version that was drawn
+-- later. Where that draw stands is known as `at`, from the event on as `at'`
+pub data RelyScan (v v' : Words) (h' : History) (t since at at' : ℕ) : Type 0 where
+  scan_stays : v' (name.Scan t) ≡ v (name.Scan t) → at' ≡ at → RelyScan v v' h' t since at at'
+  is_settled : (clock version : ℕ) → v (name.Scan t) ≡ scan_word (Waiting clock) → v' (name.Scan t) ≡ scan_word (Drawn version) → IsVersion version → IsDrawnAt h' at' version → since < at' → RelyScan v v' h' t since at at'
 
 -- the cells: what stands in the cell of an announced attempt stays, and so does what the seat has stored in its own
 pub record RelyCells (v v' : Words) (h : History) (a : Activity) (l : Local) : Type 0 where
@@ -76,13 +85,20 @@ pub record RelyHistory (h h' : History) (t : ℕ) : Type 0 where
   pub begun : (x : ℕ) → length h.calls ≤ x → x < length h'.calls → (called h' x).seat ≢ t
   pub runs : (x : ℕ) → x < length h.calls → (called h x).seat ≡ t → (called h' x).end ≡ (called h x).end
 
+-- what an attempt is after the entry of its seat was frozen: as it was before it was announced, or lost
+pub data WasFrozen (v : Words) (h h' : History) (t : ℕ) (a : Activity) (l : Local) (g : SeatLog) : Type 0 where
+  before_announced : IsFresh a → attempt h' g.own ≡ attempt h g.own → WasFrozen v h h' t a l g
+  while_pending : IsUnstamped a → v (name.Pend l.row t) ≡ pend_word (pend.Pending l.cell) → (attempt h g.own).is_stamped ≡ false → attempt h' g.own ≡ record (attempt h g.own) { is_lost = true } → WasFrozen v h h' t a l g
+
 -- the seat's entry in its row, its own attempt and the put of its call: all are as they were, or another seat has stamped the
--- attempt, all at once
+-- attempt, all at once, or has frozen the entry: before the attempt was announced, which leaves this as it was, or while it was pending,
+-- which loses it
 pub data RelyEntry (v v' : Words) (h h' : History) (t : ℕ) (a : Activity) (l : Local) (g : SeatLog) : Type 0 where
   as_it_was : (IsPutting a → v' (name.Pend l.row t) ≡ v (name.Pend l.row t)) → (IsPutting a → attempt h' g.own ≡ attempt h g.own) → (IsBusy a → (called h' g.call).put ≡ (called h g.call).put) → RelyEntry v v' h h' t a l g
   is_helped : (version load : ℕ) → IsUnstamped a → v (name.Pend l.row t) ≡ pend_word (pend.Pending l.cell) → v' (name.Pend l.row t) ≡ pend_word (pend.Stamped l.cell version) →
       (attempt h g.own).is_stamped ≡ false → attempt h' g.own ≡ record (attempt h g.own) { is_stamped = true; version = version; load = load; at = length h.log } →
       (called h g.call).put ≡ None → (called h' g.call).put ≡ Some g.own → RelyEntry v v' h h' t a l g
+  is_frozen : v' (name.Pend l.row t) ≡ pend_word pend.Frozen → WasFrozen v h h' t a l g → (called h' g.call).put ≡ (called h g.call).put → RelyEntry v v' h h' t a l g
 
 -- the lists: of each row that is or was linked, what its list leaves to those who walk along it; and the own cell of a put that is not listed, with its
 -- link, is as it was
@@ -96,7 +112,9 @@ pub record Rely (z : Sizes) (r r' : Run) (t : ℕ) (l : Local) : Type 0 where
   pub rows : r'.world.rows ≡ r.world.rows
   pub log : r'.seats t ≡ r.seats t
   pub fresh : IsPassing l.activity → RelyRows (word z r.world) (word z r'.world) r.ledger.rows r'.ledger.rows t
-  pub words : RelyWords z r.world.rows (word z r.world) (word z r'.world) t
+  pub words : RelyWords z r.world.rows (word z r.world) (word z r'.world)
+  pub since : r'.ledger.waits t ≡ r.ledger.waits t
+  pub scan : RelyScan (word z r.world) (word z r'.world) r'.history t (r.ledger.waits t) (r.settled t) (r'.settled t)
   pub cells : RelyCells (word z r.world) (word z r'.world) r.history l.activity l
   pub lists : RelyLists z (word z r.world) (word z r'.world) r.ledger.rows r.listed r'.listed l.activity l
   pub goes_on : GoesOn r.history r'.history r.origin r'.origin

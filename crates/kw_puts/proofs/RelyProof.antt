@@ -1,8 +1,8 @@
 -- Every event of another seat is one that a seat may rely on.
-use Rattle.std.proofs.Common.{ℕ, ◌≡◌, ◌≢◌, ◌⊎◌, inl, inr, ◌<◌, Bool, true, false, Some, None, arith, refl, sym, ◌∙◌, ap, subst, length, slice_get}
+use Rattle.std.proofs.Common.{ℕ, ◌≡◌, ◌≢◌, ◌⊎◌, inl, inr, ◌<◌, Bool, true, false, Some, None, arith, refl, sym, ◌∙◌, ap, subst, length, slice_get, ne_eqb, eq-eqb}
 use Rattle.kw_words.specs.declared.layout.Name.TheVariants as name
 use Rattle.kw_world.specs.declared.activity.Activity.{Activity}
-use Rattle.kw_world.specs.declared.activity.Activity.TheVariants.{LookHelp, PutAdd, PutKey, PutValue, PutVersion, InsSet, Insert, PutClear, Leave}
+use Rattle.kw_world.specs.declared.activity.Activity.TheVariants.{LookHelp, PutAdd, PutKey, PutValue, PutVersion, InsSet, Insert, PutClear, Leave, WriteVersion, Freeze, ScanWait, ScanSettle, HelpSettle, TakeRow, GiveBack, Replace, Number}
 use Rattle.kw_world.specs.declared.local.Local.{Local}
 use Rattle.kw_world.specs.declared.event.Choice.{Choice}
 use Rattle.kw_world.specs.Sizes.{Sizes}
@@ -15,23 +15,24 @@ use Rattle.kw_world.specs.declared.answer.Answer.{Answer}
 use Rattle.kw_world.specs.PutTransitions.{has_room, given_of}
 use Rattle.kw_world.specs.Sane.{IsLocal, IsLocalBelow, IsKnown}
 use Rattle.kw_core.specs.Step.{AttemptStep, as_it_was, is_added, is_announced, is_lost, is_stamped}
-use Rattle.kw_core.specs.Run.{origins_after, with_origin}
+use Rattle.kw_core.specs.Run.{origins_after, with_origin, with_settled}
 use Rattle.kw_core.specs.Stages.{IsBusy, IsFresh, IsStamped, IsPutVersion, IsUnlisted, IsInsSet, IsInsert}
 use Rattle.kw_lists.specs.Rows.{IsOn}
 use Rattle.kw_lists.specs.Puts.{LeavesOwn}
 use Rattle.kw_puts.specs.Lists.{list_in}
 use Rattle.kw_puts.proofs.ListSteps.{leaves, list_step, listed_was, is_set}
 use Rattle.kw_puts.specs.Puts.{OwnsAttempt}
-use Rattle.kw_puts.specs.Positions.{Calling}
+use Rattle.kw_puts.specs.Positions.{Calling, Helping}
 use Rattle.kw_core.proofs.Steps.{stands_lasts, now_grows, old_call, step_grows}
 use Rattle.kw_core.proofs.Arrows.{eq_from}
-use Rattle.kw_core.proofs.Happens.{found_at}
-use Rattle.kw_core.proofs.Frame.{WritesKey, WritesValue, key_kept, value_kept, version_kept, link_kept, scan_kept, clock_grows, given_grows}
+use Rattle.kw_core.proofs.Happens.{found_at, exchanged, not_exchanged}
+use Rattle.kw_core.proofs.Frame.{WritesKey, WritesValue, key_kept, value_kept, version_kept, link_kept}
+use Rattle.kw_core.proofs.FreezeFrame.{clock_never_falls, given_never_falls, SettlesScan, scan_stays as scan_word_stays}
 use Rattle.kw_core.proofs.RoomBelow.{room_below}
 use Rattle.kw_shape.proofs.RowsKeep.{others_kept, rely_rows}
 use Rattle.kw_puts.proofs.Owners.{true_false, is_own, cells_apart}
 use Rattle.kw_core.proofs.Changes.{made}
-use Rattle.kw_puts.proofs.RelyEntry.{change_apart, entry_apart, entry_helped}
+use Rattle.kw_puts.proofs.RelyEntry.{change_apart, entry_apart, entry_helped, entry_freezes}
 use Rattle.kw_core.proofs.Happens.{log_entry}
 use Rattle.kw_puts.proofs.Rely.{SameAttempt}
 use Rattle.kw_world.specs.Step.{word}
@@ -41,7 +42,11 @@ use Rattle.kw_core.specs.Stages.{IsPutting}
 use Rattle.kw_puts.specs.Below.{Below}
 use Rattle.kw_core.specs.Step.{Step}
 use Rattle.kw_core.proofs.Happens.{Happens}
-use Rattle.kw_puts.proofs.Rely.{RelyWords, RelyCells, RelyLists, GoesOn, RelyHistory, RelyEntry, Rely}
+use Rattle.kw_puts.proofs.Rely.{RelyWords, RelyScan, scan_stays, is_settled, RelyCells, RelyLists, GoesOn, RelyHistory, RelyEntry, Rely}
+use Rattle.kw_core.specs.Ledger.{Ledger}
+use Rattle.kw_words.specs.declared.scan.ScanWord.TheVariants.{Waiting}
+use Rattle.kw_words.specs.Scan.{scan_word}
+use Rattle.kw_words.specs.declared.kind.Kind.TheVariants as kind
 
 -- The words.
 
@@ -87,13 +92,62 @@ rely_version z r r' s choice l PutVersion l' h i q c o w n = which (cases_eq q l
 rely_version z r r' s choice l a l' h i q c o w n = version_kept a h q c o w (λ x e f. x)
 
 -- the words that concern another seat
-pub rely_words : (z : Sizes) (r r' : Run) (s : ℕ) (choice : Choice) (l : Local) (a : Activity) (l' : Local) → Happens z r r' s choice l l' a → Below z r → (t : ℕ) → t < z.seats → t ≢ s → RelyWords z r.world.rows (word z r.world) (word z r'.world) t
-rely_words z r r' s choice l a l' h i t o d = record {
-  scan = scan_kept a h t o d;
-  clock = clock_grows a h;
-  given = given_grows a h (λ q w. i.shape.sane.each (name.Count q) w);
+pub rely_words : (z : Sizes) (r r' : Run) (s : ℕ) (choice : Choice) (l : Local) (a : Activity) (l' : Local) → Happens z r r' s choice l l' a → Below z r → RelyWords z r.world.rows (word z r.world) (word z r'.world)
+rely_words z r r' s choice l a l' h i = record {
+  clock = clock_never_falls a h;
+  given = λ q w. given_never_falls a h q w (i.shape.sane.each (name.Count q) w);
   version = rely_version z r r' s choice l a l' h i;
 }
+
+-- The scan of another seat.
+
+-- only a seat that stores that it waits changes since when it does
+since_stays : (z : Sizes) (r r' : Run) (s : ℕ) (choice : Choice) (l : Local) (a : Activity) (l' : Local) → Happens z r r' s choice l l' a → (t : ℕ) → t ≢ s → r'.ledger.waits t ≡ r.ledger.waits t
+since_stays z r r' s choice l ScanWait l' h t d = ap (λ (g : Ledger). g.waits t) h.ledger ∙ rw (ne_eqb t s d) refl
+since_stays z r r' s choice l TakeRow l' h t d = absurd h.reached
+since_stays z r r' s choice l GiveBack l' h t d = absurd h.reached
+since_stays z r r' s choice l Replace l' h t d = absurd h.reached
+since_stays z r r' s choice l Number l' h t d = absurd h.reached
+since_stays z r r' s choice l a l' h t d = ap (λ (g : Ledger). g.waits t) h.ledger
+
+-- an event that settles no scan of another seat leaves where the version in it was drawn
+pub draw_stays : (z : Sizes) (r r' : Run) (s : ℕ) (choice : Choice) (l : Local) (a : Activity) (l' : Local) → Happens z r r' s choice l l' a → (t : ℕ) → t ≢ s → (SettlesScan t a → ⊥) → r'.settled t ≡ r.settled t
+draw_stays z r r' s choice l ScanSettle l' h t d f = ap (λ (g : ℕ → ℕ). g t) h.settled ∙ own (word z r.world (name.Scan s) == scan_word (Waiting l.waiting))
+  where
+    own : (b : Bool) → with_settled (if b then Some (record { seat = s; at = (r.seats s).drawn }) else None) r.settled t ≡ r.settled t
+    own true = rw (ne_eqb t s d) refl
+    own false = refl
+draw_stays z r r' s choice l (HelpSettle i) l' h t d f = ap (λ (g : ℕ → ℕ). g t) h.settled ∙ other (word z r.world (name.Scan i) == scan_word (Waiting l.rebalance.waiting))
+  where
+    other : (b : Bool) → with_settled (if b then Some (record { seat = i; at = (r.seats s).drawn }) else None) r.settled t ≡ r.settled t
+    other true = rw (ne_eqb t i f) refl
+    other false = refl
+draw_stays z r r' s choice l a l' h t d f = ap (λ (g : ℕ → ℕ). g t) h.settled
+
+-- a scan that another seat settles which waits since the clock that this seat found: it gets the version that was drawn for it, after it
+-- began to wait. Any other scan stays
+helped_scan : (z : Sizes) (r r' : Run) (s : ℕ) (choice : Choice) (l : Local) (t : ℕ) (l' : Local) → Happens z r r' s choice l l' (HelpSettle t) → Below z r → Step r.history r'.history (log_entry z r (HelpSettle t) s choice l) → t < z.seats → RelyScan (word z r.world) (word z r'.world) r'.history t (r.ledger.waits t) (r.settled t) (r'.settled t)
+helped_scan z r r' s choice l t l' h i st o = which (cases_eq (word z r.world (name.Scan t)) (scan_word (Waiting l.rebalance.waiting)))
+  where
+    n : Helping z r t (HelpSettle t) l (r.seats s)
+    n = subst (λ b. Helping z r t b l (r.seats s)) h.activity (i.positions.helping s l h.knows t o)
+
+    which : (word z r.world (name.Scan t) ≡ scan_word (Waiting l.rebalance.waiting)) ⊎ (word z r.world (name.Scan t) ≡ scan_word (Waiting l.rebalance.waiting) → ⊥) → RelyScan (word z r.world) (word z r'.world) r'.history t (r.ledger.waits t) (r.settled t) (r'.settled t)
+    which (inl e) =
+        let draw : r'.settled t ≡ (r.seats s).drawn = ap (λ (g : ℕ → ℕ). g t) h.settled ∙ rw (eq-eqb _ _ e, eq-eqb t t refl) refl in
+        is_settled l.rebalance.waiting l.rebalance.drawn e (exchanged _ _ _ _ h.changed.same e) (i.shape.sane.locals s l h.knows).ranges.rebalance.drawn
+        (record { kind = kind.HelpDraw; is_draw = tt; stands = rw draw (stands_lasts r.history r'.history _ st _ kind.HelpDraw _ (n.drew refl)) })
+        (omega (arith, draw, n.after refl e))
+    which (inr d) = scan_stays (not_exchanged _ _ _ _ h.changed.same d) (ap (λ (g : ℕ → ℕ). g t) h.settled ∙ rw (ne_eqb _ _ d) refl)
+
+-- the scan of another seat
+pub rely_scan : (z : Sizes) (r r' : Run) (s : ℕ) (choice : Choice) (l : Local) (a : Activity) (l' : Local) → Happens z r r' s choice l l' a → Below z r → Step r.history r'.history (log_entry z r a s choice l) → (t : ℕ) → t < z.seats → t ≢ s → RelyScan (word z r.world) (word z r'.world) r'.history t (r.ledger.waits t) (r.settled t) (r'.settled t)
+rely_scan z r r' s choice l (HelpSettle j) l' h i st t o d = which (cases_eq t j)
+  where
+    which : (t ≡ j) ⊎ (t ≡ j → ⊥) → RelyScan (word z r.world) (word z r'.world) r'.history t (r.ledger.waits t) (r.settled t) (r'.settled t)
+    which (inl e) = subst (λ q. RelyScan (word z r.world) (word z r'.world) r'.history q (r.ledger.waits q) (r.settled q) (r'.settled q)) (sym e) (helped_scan z r r' s choice l j l' h i st (subst (λ q. q < z.seats) e o))
+    which (inr n) = scan_stays (scan_word_stays (HelpSettle j) h t o d n) (draw_stays z r r' s choice l (HelpSettle j) l' h t d n)
+rely_scan z r r' s choice l a l' h i st t o d = scan_stays (scan_word_stays a h t o d (λ u. u)) (draw_stays z r r' s choice l a l' h t d (λ u. u))
 
 -- The cells.
 
@@ -199,6 +253,7 @@ origins_go_on z r r' s choice l PutAdd l' h i q c p e = met (has_room z (count_o
     met : (b : Bool) → has_room z (count_of (word z r.world (name.Count l.row))) ≡ b → (let o : Origins = if b then with_origin r.origin l.row (given_of (count_of (word z r.world (name.Count l.row)))) (length r.history.attempts) else r.origin in o) q c ≡ Some p
     met true m = other _ refl m
     met false m = e
+origins_go_on z r r' s choice l (WriteVersion j) l' h i q c p e = absurd h.reached
 origins_go_on z r r' s choice l a l' h i q c p e = e
 
 -- the record, whoever acts
@@ -231,7 +286,8 @@ rely_history z r r' s choice l a l' h i t d =
 -- the entry of another seat
 pub rely_entry : (z : Sizes) (r r' : Run) (s : ℕ) (choice : Choice) (l : Local) (a : Activity) (l' : Local) → Happens z r r' s choice l l' a → Below z r → (t : ℕ) (k : Local) → t ≢ s → slice_get r.world.locals t ≡ Some k → RelyEntry (word z r.world) (word z r'.world) r.history r'.history t k.activity k (r.seats t)
 rely_entry z r r' s choice l LookHelp l' h i t k d g = entry_helped z r r' s choice l l' i t k d g h
-rely_entry z r r' s choice l a l' h i t k d g = entry_apart z r r' s choice l l' i t k d g a h (λ x. x)
+rely_entry z r r' s choice l (Freeze j) l' h i t k d g = entry_freezes z r r' s choice l l' i t k d g j h
+rely_entry z r r' s choice l a l' h i t k d g = entry_apart z r r' s choice l l' i t k d g a h (λ x. x) (λ x. x)
 
 -- all of it
 pub rely : (z : Sizes) (r r' : Run) (s : ℕ) (choice : Choice) (l : Local) (a : Activity) (l' : Local) → Happens z r r' s choice l l' a → Below z r → Step r.history r'.history (log_entry z r a s choice l) → (t : ℕ) (k : Local) → t ≢ s → slice_get r.world.locals t ≡ Some k → Rely z r r' t k
@@ -241,8 +297,10 @@ rely z r r' s choice l a l' h i st t k d g =
       seat = o;
       rows = h.rows;
       log = h.logs t d;
-      fresh = λ x. let p = (i.shape.passes t k g).in_pass x in rely_rows a h i.shape.sane i.shape.rows t p.since p.passes (others_kept a h t d ∙ p.passes);
-      words = rely_words z r r' s choice l a l' h i t o d;
+      fresh = λ x. let p = (i.shape.passes t k g).in_pass x in rely_rows a h i.shape t p.since p.passes (others_kept a h t d ∙ p.passes);
+      words = rely_words z r r' s choice l a l' h i;
+      since = since_stays z r r' s choice l a l' h t d;
+      scan = rely_scan z r r' s choice l a l' h i st t o d;
       cells = rely_cells z r r' s choice l a l' h i t k d g;
       lists = rely_lists z r r' s choice l a l' h i t k d g;
       goes_on = goes_on_by z r r' s choice l a l' h i st;

@@ -1,3 +1,4 @@
+pub mod Freezes
 pub mod Puts
 pub mod Lists
 pub mod Positions

@@ -3,9 +3,11 @@ use Rattle.std.specs.Prelude.{ℕ, ◌≡◌, ◌⊎◌, ◌<◌, ◌≤◌, tru
 use Rattle.kw_words.specs.declared.layout.Name.TheVariants as name
 use Rattle.kw_words.specs.declared.kind.Kind.{Kind}
 use Rattle.kw_words.specs.declared.kind.Kind.TheVariants.{Draw}
+use Rattle.kw_words.specs.declared.kind.Kind.TheVariants as kind
 use Rattle.kw_words.specs.declared.scan.ScanWord.TheVariants.{Quiet, Waiting, Drawn}
 use Rattle.kw_words.specs.Scan.{scan_word}
 use Rattle.kw_world.specs.declared.activity.Activity.{Activity}
+use Rattle.kw_world.specs.declared.activity.Activity.TheVariants.{ScanWait, ScanDraw, HelpDraw, HelpSettle}
 use Rattle.kw_world.specs.declared.local.Local.{Local}
 use Rattle.kw_world.specs.Sizes.{Sizes}
 use Rattle.kw_world.specs.Calls.{is_scan}
@@ -16,6 +18,7 @@ use Rattle.kw_core.specs.declared.seat_log.SeatLog.{SeatLog}
 use Rattle.kw_core.specs.Run.{Run}
 use Rattle.kw_core.specs.Words.{Words}
 use Rattle.kw_core.specs.Stages.{IsBusy, IsPublished, IsDone, IsWaiting, IsSettling, IsSettled, HasDrawn, IsReading}
+use Rattle.kw_world.specs.Sane.{IsVersion}
 
 -- The clock.
 
@@ -50,18 +53,71 @@ Numbers h t l = (x : ℕ) → x < length h.calls → (called h x).seat ≡ t →
 abbrev pub IsScanning : Activity → Local → Type 0
 IsScanning a l = IsWaiting a ⊎ (is_scan l.call ≡ true) × IsSettled a
 
--- a waiting scan's word says so. A scan that drew did it in its call, at an event that found its version; once it is settled its
--- word names this version. A reader looked at its row in its call, and a scan after its draw
-pub record Draws (v : Words) (h : History) (t : ℕ) (a : Activity) (l : Local) (g : SeatLog) : Type 0 where
-  pub waits : IsWaiting a → v (name.Scan t) ≡ scan_word (Waiting l.waiting)
+-- at this position this version was drawn, by a scan or by a seat that helps one
+pub record IsDrawnAt (h : History) (x version : ℕ) : Type 0 where
+  pub kind : Kind
+  pub is_draw : IsDraw kind
+  pub stands : Stands h x kind version
+
+-- another seat has drawn a version for the scan of seat t, which began to wait at `since`: the word says which, and the draw stands at
+-- `at`, later
+pub record IsHelped (v : Words) (h : History) (t since at : ℕ) : Type 0 where
+  pub version : ℕ
+  pub range : IsVersion version
+  pub word : v (name.Scan t) ≡ scan_word (Drawn version)
+  pub drawn : IsDrawnAt h at version
+  pub after : since < at
+
+-- a scan has loaded the clock, and has not drawn
+abbrev pub HasLoaded : Activity → Type 0
+HasLoaded ScanWait = Unit {0}
+HasLoaded ScanDraw = Unit {0}
+HasLoaded _ = ⊥
+
+-- it is about to store that it waits
+abbrev pub IsToWait : Activity → Type 0
+IsToWait ScanWait = Unit {0}
+IsToWait _ = ⊥
+
+-- a waiting scan, which began to wait at `since` in its call, has a word that says so, or it was helped. A scan drew in its call, at an event
+-- that found its version, or was helped by such a draw; once it is settled its word names this version. A reader looked at its row in its
+-- call, and a scan after its draw
+pub record Draws (v : Words) (h : History) (t since at : ℕ) (a : Activity) (l : Local) (g : SeatLog) : Type 0 where
+  pub waits : IsWaiting a → (v (name.Scan t) ≡ scan_word (Waiting l.waiting)) ⊎ IsHelped v h t since at
+  pub began : IsWaiting a → ((called h g.call).first < since) × (since < length h.log)
+  pub loaded : HasLoaded a → l.waiting ≤ v name.Clock
+  pub least : IsSettling a → l.waiting ≤ l.drawn
   pub settling : IsSettling a → Stands h g.drawn Draw l.drawn
   pub settling_first : IsSettling a → (called h g.call).first < g.drawn
   pub settled : is_scan l.call ≡ true → IsSettled a → v (name.Scan t) ≡ scan_word (Drawn l.version)
-  pub drawn : is_scan l.call ≡ true → HasDrawn a → Stands h g.drawn Draw l.version
+  pub drawn : is_scan l.call ≡ true → HasDrawn a → IsDrawnAt h g.drawn l.version
   pub drawn_first : is_scan l.call ≡ true → HasDrawn a → (called h g.call).first < g.drawn
   pub looked_first : IsReading a → (called h g.call).first < g.looked
   pub looked : IsReading a → g.looked < length h.log
   pub looked_after : is_scan l.call ≡ true → IsReading a → g.drawn < g.looked
+
+-- Seats that help.
+
+-- the seat helps the scan of seat t: it draws for it, or has drawn
+abbrev pub HelpsScan : ℕ → Activity → Type 0
+HelpsScan t (HelpDraw i) = t ≡ i
+HelpsScan t (HelpSettle i) = t ≡ i
+HelpsScan t _ = ⊥
+
+-- it has drawn
+abbrev pub HasDrawnFor : ℕ → Activity → Type 0
+HasDrawnFor t (HelpSettle i) = t ≡ i
+HasDrawnFor t _ = ⊥
+
+-- a seat that helps the scan of seat t found that it waits since a clock. It still does, or the clock has gone on; it never waits since an
+-- earlier one, and if it is about to wait again, this is since a later one. A version that was drawn for it was drawn after it began to wait
+pub record Helping (z : Sizes) (r : Run) (t : ℕ) (a : Activity) (l : Local) (g : SeatLog) : Type 0 where
+  pub waits : HelpsScan t a → (word z r.world (name.Scan t) ≡ scan_word (Waiting l.rebalance.waiting)) ⊎ (l.rebalance.waiting < word z r.world name.Clock)
+  pub least : HelpsScan t a → (clock : ℕ) → word z r.world (name.Scan t) ≡ scan_word (Waiting clock) → l.rebalance.waiting ≤ clock
+  pub loads : HelpsScan t a → (k : Local) → slice_get r.world.locals t ≡ Some k → IsToWait k.activity → l.rebalance.waiting < k.waiting
+  pub late : HasDrawnFor t a → l.rebalance.waiting < word z r.world name.Clock
+  pub drew : HasDrawnFor t a → Stands r.history g.drawn kind.HelpDraw l.rebalance.drawn
+  pub after : HasDrawnFor t a → word z r.world (name.Scan t) ≡ scan_word (Waiting l.rebalance.waiting) → r.ledger.waits t < g.drawn
 
 -- The group.
 
@@ -73,4 +129,6 @@ pub record Positions (z : Sizes) (r : Run) : Type 0 where
   pub scans : (t : ℕ) (l : Local) → slice_get r.world.locals t ≡ Some l → IsScanning l.activity l ⊎ (word z r.world (name.Scan t) ≡ scan_word Quiet)
   pub looks : (t : ℕ) → (r.seats t).looked ≤ length r.history.log
   pub drew : (t : ℕ) → (r.seats t).drawn ≤ length r.history.log
-  pub draws : (t : ℕ) (l : Local) → slice_get r.world.locals t ≡ Some l → Draws (word z r.world) r.history t l.activity l (r.seats t)
+  pub waiting : (t clock : ℕ) → t < z.seats → word z r.world (name.Scan t) ≡ scan_word (Waiting clock) → (clock ≤ word z r.world name.Clock) × (r.ledger.waits t < length r.history.log)
+  pub helping : (s : ℕ) (l : Local) → slice_get r.world.locals s ≡ Some l → (t : ℕ) → t < z.seats → Helping z r t l.activity l (r.seats s)
+  pub draws : (t : ℕ) (l : Local) → slice_get r.world.locals t ≡ Some l → Draws (word z r.world) r.history t (r.ledger.waits t) (r.settled t) l.activity l (r.seats t)

@@ -1,18 +1,17 @@
 -- What holds of the attempts, their cells and their entries.
 --
 -- An attempt is a put or a delete that was given a cell; it is named by its place in the record. An attempt is current while its
--- seat is at work on it, and every other one is stamped and its version stored.
+-- seat is at work on it. Of the others each is stamped and its version stored, or it never gets a version: its row was frozen before it
+-- was announced or before it was stamped, and its seat has gone on.
 use Rattle.std.specs.Prelude.{ℕ, ◌≡◌, ◌≢◌, ◌⊎◌, ◌<◌, ◌≤◌, true, false, if◌then◌else◌, Option, Some, None, length, slice_get}
 use Rattle.kw_words.specs.declared.layout.Name.TheVariants as name
-use Rattle.kw_words.specs.declared.pend.Pend.TheVariants.{Idle, Pending, Stamped}
+use Rattle.kw_words.specs.declared.pend.Pend.TheVariants.{Idle, Pending, Stamped, Frozen}
 use Rattle.kw_words.specs.Pend.{pend_word}
-use Rattle.kw_words.specs.Count.{count_of}
 use Rattle.kw_words.specs.Plain.{key_of_word, value_of_word}
 use Rattle.kw_world.specs.declared.activity.Activity.{Activity}
 use Rattle.kw_world.specs.declared.local.Local.{Local}
 use Rattle.kw_world.specs.Sizes.{Sizes}
 use Rattle.kw_world.specs.Calls.{first_key, put_value, is_in_range}
-use Rattle.kw_world.specs.PutTransitions.{has_room}
 use Rattle.kw_world.specs.Step.{word}
 use Rattle.kw_core.specs.History.{History, LoadClock, attempt, Stands}
 use Rattle.kw_core.specs.declared.history.Attempt.{Attempt}
@@ -22,6 +21,7 @@ use Rattle.kw_core.specs.Words.{Words, given_in}
 use Rattle.kw_rows.specs.Ledger.{Ledger}
 use Rattle.kw_rows.specs.Rows.{WasLinked}
 use Rattle.kw_shape.specs.Shape.{HoldsKey}
+use Rattle.kw_puts.specs.Freezes.{IsFrozen, IsToFreeze, Freezes, Remembers}
 use Rattle.kw_core.specs.Stages.{IsPutting, IsFresh, HasKey, IsAnnounce, IsPublished, IsStamp, IsStamped, IsStored, HasMet, IsToHelp, IsHelp}
 
 -- The cells of attempts.
@@ -42,14 +42,13 @@ pub record HasCell (h : History) (r c p : ℕ) : Type 0 where
   pub row : (attempt h p).row ≡ r
   pub cell : (attempt h p).cell ≡ c
 
--- each cell that a row has given is that of an attempt, and a cell that it has not given is nobody's and has no version. A row that
--- has not given all its cells has room: it is not frozen
+-- each cell that a row has given is that of an attempt, as long as the row is not frozen: whoever asks a frozen row for a cell raises its
+-- count and gets none. A cell that a row has not given is nobody's, and what is nobody's has no version
 pub record Places (z : Sizes) (rows : ℕ) (v : Words) (h : History) (o : Origins) : Type 0 where
   pub owner : (r c p : ℕ) → o r c ≡ Some p → HasCell h r c p
-  pub given : (r c : ℕ) → r < rows → c < z.cells → c < given_in v r → (p : ℕ) × (o r c ≡ Some p)
+  pub given : (r c : ℕ) → r < rows → c < z.cells → c < given_in v r → ((p : ℕ) × (o r c ≡ Some p)) ⊎ IsFrozen v r
   pub nobody : (r c : ℕ) → r < rows → c < z.cells → given_in v r ≤ c → o r c ≡ None
-  pub unstored : (r c : ℕ) → r < rows → c < z.cells → given_in v r ≤ c → v (name.Version r c) ≡ 0
-  pub room : (r : ℕ) → r < rows → given_in v r < z.cells → has_room z (count_of (v (name.Count r))) ≡ true
+  pub unstored : (r c : ℕ) → r < rows → c < z.cells → o r c ≡ None → v (name.Version r c) ≡ 0
 
 -- of two attempts of one row the later one has the greater cell
 abbrev pub Rises : History → Type 0
@@ -71,13 +70,14 @@ pub record HasBody (v : Words) (h : History) (p : ℕ) : Type 0 where
 
 -- The attempt of a seat that puts.
 
--- the entry of an announced attempt: pending until it is stamped
+-- the entry of an announced attempt: pending until it is stamped, or frozen once it is lost
 abbrev pub entry_of : Attempt → ℕ
-entry_of p = if p.is_stamped then pend_word (Stamped p.cell p.version) else pend_word (Pending p.cell)
+entry_of p = if p.is_lost then pend_word Frozen else if p.is_stamped then pend_word (Stamped p.cell p.version) else pend_word (Pending p.cell)
 
--- the seat's own attempt is one of this seat, this call, and the local's row, cell, key and value; it is not lost. Until it is
--- announced what the seat has stored of it stands in the cell; then the seat's entry says how it is; a seat that is to stamp has
--- loaded the clock after the announcement; then it is stamped with the seat's version, and this is stored
+-- the seat's own attempt is one of this seat, this call, and the local's row, cell, key and value. It is not lost before it is
+-- announced, nor once it is stamped. Until it is announced what the seat has stored of it stands in the cell; then the seat's entry
+-- says how it is; a seat that is to stamp has loaded the clock after the announcement; then it is stamped with the seat's version, and
+-- this is stored
 pub record OwnsAttempt (v : Words) (h : History) (t : ℕ) (a : Activity) (l : Local) (g : SeatLog) : Type 0 where
   pub within : g.own < length h.attempts
   pub seat : (attempt h g.own).seat ≡ t
@@ -86,7 +86,8 @@ pub record OwnsAttempt (v : Words) (h : History) (t : ℕ) (a : Activity) (l : L
   pub cell : (attempt h g.own).cell ≡ l.cell
   pub key : (attempt h g.own).key ≡ first_key l.call
   pub value : (attempt h g.own).value ≡ put_value l.call
-  pub kept : (attempt h g.own).is_lost ≡ false
+  pub kept_fresh : IsFresh a → (attempt h g.own).is_lost ≡ false
+  pub kept : IsStamped a → (attempt h g.own).is_lost ≡ false
   pub unannounced : IsFresh a → (attempt h g.own).is_announced ≡ false
   pub unstamped : IsFresh a → (attempt h g.own).is_stamped ≡ false
   pub has_key : HasKey a → key_in v l.row l.cell ≡ (attempt h g.own).key
@@ -111,6 +112,11 @@ pub record IsOld (v : Words) (h : History) (p : ℕ) : Type 0 where
   pub stamped : (attempt h p).is_stamped ≡ true
   pub version : v (name.Version (attempt h p).row (attempt h p).cell) ≡ (attempt h p).version
 
+-- the attempt never gets a version: it is lost, or its seat met a frozen entry before it was announced
+pub record IsOver (h : History) (p : ℕ) : Type 0 where
+  pub unstamped : (attempt h p).is_stamped ≡ false
+  pub over : ((attempt h p).is_lost ≡ true) ⊎ ((attempt h p).is_announced ≡ false)
+
 -- the seat has announced a cell of this row
 pub record IsPublishedAt (locals : ℕ → Option Local) (r i : ℕ) : Type 0 where
   pub local : Local
@@ -133,13 +139,16 @@ pub record Helps (h : History) (o : Origins) (a : Activity) (l : Local) (g : Sea
 
 -- The group.
 
--- what holds of the attempts, the cells, the entries, and the seats that put or help
+-- what holds of the attempts, the cells, the entries, and the seats that put, freeze or help
 pub record Puts (z : Sizes) (r : Run) : Type 0 where
   pub given : (p : ℕ) → p < length r.history.attempts → IsGivenCell z r.world.rows (word z r.world) r.ledger.rows r.history r.origin p
   pub places : Places z r.world.rows (word z r.world) r.history r.origin
   pub rises : Rises r.history
   pub body : (p : ℕ) → p < length r.history.attempts → HasBody (word z r.world) r.history p
   pub owns : (t : ℕ) (l : Local) → slice_get r.world.locals t ≡ Some l → IsPutting l.activity → OwnsAttempt (word z r.world) r.history t l.activity l (r.seats t)
-  pub old : (p : ℕ) → p < length r.history.attempts → IsCurrent (slice_get r.world.locals) r.seats r.history p ⊎ IsOld (word z r.world) r.history p
-  pub entry : (q i : ℕ) → q < r.world.rows → i < z.seats → (word z r.world (name.Pend q i) ≡ pend_word Idle) ⊎ IsPublishedAt (slice_get r.world.locals) q i
+  pub old : (p : ℕ) → p < length r.history.attempts → IsCurrent (slice_get r.world.locals) r.seats r.history p ⊎ IsOld (word z r.world) r.history p ⊎ IsOver r.history p
+  pub entry : (q i : ℕ) → q < r.world.rows → i < z.seats → (word z r.world (name.Pend q i) ≡ pend_word Idle) ⊎ (word z r.world (name.Pend q i) ≡ pend_word Frozen) ⊎ IsPublishedAt (slice_get r.world.locals) q i
+  pub tries : (t : ℕ) (l : Local) → slice_get r.world.locals t ≡ Some l → IsToFreeze l.activity l
+  pub freezes : (t : ℕ) (l : Local) → slice_get r.world.locals t ≡ Some l → Freezes z (word z r.world) (slice_get r.world.locals) l.activity l
+  pub remembers : (t : ℕ) (l : Local) → slice_get r.world.locals t ≡ Some l → Remembers z r.history r.origin r.listed l.activity l
   pub helps : (t : ℕ) (l : Local) → slice_get r.world.locals t ≡ Some l → HasMet l.activity → Helps r.history r.origin l.activity l (r.seats t)

@@ -23,7 +23,8 @@ use Rattle.kw_puts.specs.Lists.{list_in}
 use Rattle.kw_puts.proofs.Owners.{true_false}
 use Rattle.kw_reads.specs.Readers.{HasMetCell, Apart, has_place}
 use Rattle.kw_reads.specs.Inv.{Inv}
-use Rattle.kw_core.proofs.Arrows.{NextLook, looks, lists, NextRest, rests, answers, ends_scan, scans_on, Arrow, meets_stamped, meets_neither, is_passed, helps, finds_stamped, finds_other, list_leads, list_ends, key_below, key_within, key_above, loads_version, gathers_listed, rest_wanted, rest_passed, gathers_rest}
+use Rattle.kw_core.proofs.Building.{never_built}
+use Rattle.kw_core.proofs.Arrows.{builds, NextLook, looks, lists, NextRest, rests, answers, ends_scan, scans_on, Arrow, meets_stamped, meets_neither, is_passed, helps, finds_stamped, finds_other, list_leads, list_ends, key_below, key_within, key_above, loads_version, gathers_listed, rest_wanted, rest_passed, gathers_rest}
 use Rattle.kw_core.proofs.Happens.{Happens}
 use Rattle.kw_core.proofs.Marks.{least_marked, marked_back, marked_none}
 use Rattle.kw_reads.proofs.Gathered.{place_back, few_more, few_room, gathered_is}
@@ -161,6 +162,7 @@ apart_listed {z} {r} {r'} {s} {choice} {l} {l'} h i k g m e = record {
 
 -- no cell is gathered twice by the acting reader
 pub apart_by : (z : Sizes) (r r' : Run) (s : ℕ) (choice : Choice) (l : Local) (a : Activity) (l' : Local) → Arrow z (word z r.world) s choice l a l' → Happens z r r' s choice l l' a → Inv z r → IsTaking l'.activity → Apart z (list_in (word z r'.world) r'.listed l'.row) l'.activity l'
+apart_by z r r' s choice l a l' (builds b next y o t) h i p = never_built z b y o
 apart_by z r r' s choice l _ _ (meets_stamped j c version next e n) h i p = apart_look z _ (j + 1) next (remembering c version l) n p (none_gathered h i tt)
 apart_by z r r' s choice l _ _ (meets_neither j next e n) h i p = apart_look z _ (j + 1) next l n p (none_gathered h i tt)
 apart_by z r r' s choice l _ _ (is_passed next e n) h i p = apart_look z _ (l.looked + 1) next l n p (none_gathered h i tt)

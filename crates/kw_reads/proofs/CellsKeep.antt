@@ -35,7 +35,8 @@ use Rattle.kw_reads.specs.Readers.{IsDue, IsNoted, IsReady, IsMarkOf, IsInHand, 
 use Rattle.kw_reads.specs.Inv.{Inv}
 use Rattle.kw_core.proofs.Steps.{announced_within}
 use Rattle.kw_puts.proofs.Owners.{true_false}
-use Rattle.kw_core.proofs.Arrows.{NextLook, looks, lists, meets_stamped, meets_neither, is_passed, helps, finds_stamped, finds_other, NextRest, rests, answers, ends_scan, scans_on, Arrow, list_leads, list_ends, key_below, key_within, key_above, loads_version, gathers_listed, rest_wanted, rest_passed, gathers_rest}
+use Rattle.kw_core.proofs.Building.{never_built}
+use Rattle.kw_core.proofs.Arrows.{builds, NextLook, looks, lists, meets_stamped, meets_neither, is_passed, helps, finds_stamped, finds_other, NextRest, rests, answers, ends_scan, scans_on, Arrow, list_leads, list_ends, key_below, key_within, key_above, loads_version, gathers_listed, rest_wanted, rest_passed, gathers_rest}
 use Rattle.kw_core.proofs.Happens.{Happens}
 use Rattle.kw_core.proofs.InRange.{least_holds}
 use Rattle.kw_core.proofs.Marks.{marked_other, least_none, contains_new, contains_old}
@@ -322,6 +323,7 @@ reads_gathered {z} {r} {r'} {s} {choice} {l} {l'} h i k m at row call link marks
 
 -- the cells that the acting reader reads
 pub reads_by : (z : Sizes) (r r' : Run) (s : ℕ) (choice : Choice) (l : Local) (a : Activity) (l' : Local) → Arrow z (word z r.world) s choice l a l' → Happens z r r' s choice l l' a → Inv z r → Below z r' → IsTaking l'.activity → Reads (list_in (word z r'.world) r'.listed l'.row) r'.history r'.origin l'.activity l' (r'.seats s)
+reads_by z r r' s choice l a l' (builds b next y o t) h i k p = never_built z b y o
 reads_by z r r' s choice l _ _ (list_leads c e) h i k p = subst (Reads (list_in (word z r'.world) r'.listed l.row) r'.history r'.origin ListKey _) (sym h.log) (reads_met h i k c e _ refl refl refl refl)
 reads_by z r r' s choice l _ _ (list_ends next e n) h i k p = subst (Reads _ r'.history r'.origin next.activity next) (sym h.log) (reads_next _ r'.history r'.origin l next (r.seats s) n (left_at_end h i k e) (marks_after h i (inr tt)) p)
 reads_by z r r' s choice l _ _ (key_below e) h i k p = subst (Reads (list_in (word z r'.world) r'.listed l.row) r'.history r'.origin ListFrom _) (sym h.log) (reads_below h i k e _ refl refl refl refl)

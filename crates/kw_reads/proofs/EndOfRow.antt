@@ -1,8 +1,8 @@
 -- What a get or a scan knows that has read its row to the end: what it answers, and the pairs of the row's keys.
 --
--- Each attempt of a key that the row may hold is one of the row, so one that was announced before the reader looked is stamped and
--- gathered; and the attempt beside the best gathered cell is the latest of those.
-use Rattle.std.proofs.Common.{ℕ, zero, suc, ◌≡◌, ◌⊎◌, inl, inr, ◌+◌, ◌<◌, ◌≤◌, true, Option, Some, None, List, [], ◌∷◌, ◌++◌, arith, refl, sym, ◌∙◌, ap, subst, All, Contains, nat_le, ◌&&◌}
+-- Each attempt of a key that the row may hold is one of the row, so one that was announced before the reader looked is lost, or stamped
+-- and gathered; and the attempt beside the best gathered cell is the latest of those.
+use Rattle.std.proofs.Common.{ℕ, zero, suc, ◌≡◌, ◌⊎◌, inl, inr, ◌+◌, ◌<◌, ◌≤◌, Bool, true, false, Option, Some, None, List, [], ◌∷◌, ◌++◌, arith, refl, sym, ◌∙◌, ap, subst, All, Contains, nat_le, ◌&&◌}
 use Rattle.std.proofs.lemmas.Bool.{cases_lt}
 use Rattle.std.proofs.lemmas.Option.{same_Some}
 use Rattle.std.proofs.lemmas.Bool.Decides.{nat_tests}
@@ -49,6 +49,11 @@ found_answers : (x : Option ℕ) → found x ≡ answer_of x
 found_answers (Some v) = refl
 found_answers None = refl
 
+-- an attempt is lost, or what holds of each that is not holds of it
+pub lost_or : {A : Type 0} (lost : Bool) → (lost ≡ false → A) → (lost ≡ true) ⊎ A
+lost_or true f = inl refl
+lost_or false f = inr (f refl)
+
 -- a key between the first and the last is in the range
 pub in_range_of : (call : Option Call) (key : ℕ) → first_key call ≤ key → key ≤ last_key call → is_in_range call key ≡ true
 in_range_of call key a b = range_test (first_key call) (last_key call) key a b
@@ -70,17 +75,18 @@ module _ (z : Sizes) (r : Run) (shape : Shape z r) (kept : Keeps r.history) (put
 
   -- as long as no row is rebalanced, a row that was linked is live
   live : (q : ℕ) → WasLinked r.ledger.rows q → IsLive r.ledger.rows q
-  live q = still_live (word z r.world) r.ledger.rows q (shape.still q)
+  live q = still_live r.ledger.rows q (shape.still q)
 
-  -- an attempt of such a key that was announced before the reader looked was due
-  early_due : (key f q : ℕ) → HoldsKey (word z r.world) r.ledger.rows m.row key → is_in_range m.call key ≡ true → f ≤ g.looked → IsEarly r.history key f q → IsDue r.history m.row m.call g.looked q
-  early_due key f q h range w e =
+  -- an attempt of such a key that was announced before the reader looked was due, unless it is lost
+  early_due : (key f q : ℕ) → HoldsKey (word z r.world) r.ledger.rows m.row key → is_in_range m.call key ≡ true → f ≤ g.looked → IsEarly r.history key f q → (attempt r.history q).is_lost ≡ false → IsDue r.history m.row m.call g.looked q
+  early_due key f q h range w e kept =
       let given = puts.given q (announced_within r.history q e.is_announced) in
       record {
         row = one_row (rows_in (word z r.world)) r.ledger.rows shape.rows.closed (attempt r.history q).row m.row key shape.rows.chain (live (attempt r.history q).row given.linked) (live m.row (fresh_linked r.ledger.rows t m.row read.at.fresh))
             (subst (HoldsKey (word z r.world) r.ledger.rows (attempt r.history q).row) e.key given.holds) h;
         announced = e.is_announced;
         before = omega (arith, e.before, w);
+        kept = kept;
         key = subst (λ x. is_in_range m.call x ≡ true) (sym e.key) range;
       }
 
@@ -99,10 +105,10 @@ module _ (z : Sizes) (r : Run) (shape : Shape z r) (kept : Keeps r.history) (put
       record {
         gap = b.gap;
         reply = found_answers (shown_at m.gathered NEWEST key) ∙ ap answer_of (sym b.shown);
-        early = λ q x.
-            let d = early_due key first q (holds key (omega (arith, e)) (λ n f. omega (arith, e, (read.at.next n f).below))) range w x in
+        early = λ q x. lost_or (attempt r.history q).is_lost (λ k.
+            let d = early_due key first q (holds key (omega (arith, e)) (λ n f. omega (arith, e, (read.at.next n f).below))) range w x k in
             let s = read.stamped q d in
-            inr (s, b.upto q (read.taken q d) x.key (omega (arith, version_below q s)));
+            (s, b.upto q (read.taken q d) x.key (omega (arith, version_below q s))));
       }
 
   -- what a scan gives for a key of its row
@@ -113,10 +119,10 @@ module _ (z : Sizes) (r : Run) (shape : Shape z r) (kept : Keeps r.history) (put
         gap = b.gap;
         version = b.bound;
         reply = e ∙ sym b.shown;
-        early = λ q x.
-            let d = early_due key drawn q (holds key w f) range o x in
+        early = λ q x. lost_or (attempt r.history q).is_lost (λ k.
+            let d = early_due key drawn q (holds key w f) range o x k in
             let s = read.stamped q d in
-            inr (s, λ u. b.upto q (read.taken q d) x.key u);
+            (s, λ u. b.upto q (read.taken q d) x.key u));
       }
 
   -- no gathered cell has a key of the next row

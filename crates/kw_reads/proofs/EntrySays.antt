@@ -1,11 +1,12 @@
--- What the entry of an attempt's seat says of the attempt: the cell of an announced attempt is listed, or the entry is its own.
+-- What the entry of an attempt's seat says of the attempt: the cell of an announced attempt is listed, or the entry is its own, unless
+-- the attempt is lost. So of an attempt that is not lost a frozen entry says that its cell is listed.
 use Rattle.std.proofs.Common.{ℕ, ◌≡◌, ◌⊎◌, inl, inr, ◌<◌, ◌≤◌, Bool, true, false, Some, arith, refl, sym, ◌∙◌, ap, subst, length, slice_get, if◌then◌else◌}
 use Rattle.std.proofs.lemmas.Option.{same_Some}
 use Rattle.kw_words.specs.declared.layout.Name.TheVariants as name
 use Rattle.kw_words.specs.declared.pend.Pend.TheVariants as pend
 use Rattle.kw_words.specs.declared.sizes.TheConstants.{VERSION_END}
 use Rattle.kw_words.specs.Pend.{pend_of, pend_word}
-use Rattle.kw_words.proofs.PendWords.{pend_of-Idle, pend_of-Pending, pend_of-Stamped}
+use Rattle.kw_words.proofs.PendWords.{pend_of-Idle, pend_of-Pending, pend_of-Stamped, pend_of-Frozen}
 use Rattle.kw_world.specs.declared.activity.Activity.{Activity}
 use Rattle.kw_world.specs.declared.activity.Activity.TheVariants.{PutKey, PutValue, Announce, PutClock, Stamp, PutVersion, InsFrom, InsKey, InsVer, InsSet, Insert, PutClear}
 use Rattle.kw_world.specs.declared.local.Local.{Local}
@@ -18,7 +19,7 @@ use Rattle.kw_core.specs.Run.{Run}
 use Rattle.kw_core.specs.Stages.{IsPutting, IsFresh, IsPublished}
 use Rattle.kw_core.specs.Listed.{Listed}
 use Rattle.kw_core.specs.Words.{Words}
-use Rattle.kw_puts.specs.Puts.{IsCurrent, IsPublishedAt, entry_of}
+use Rattle.kw_puts.specs.Puts.{IsCurrent, IsOver, IsPublishedAt, entry_of}
 use Rattle.kw_puts.specs.Below.{Below}
 use Rattle.kw_reads.specs.Readers.{IsReady, IsMarkOf}
 use Rattle.kw_core.proofs.Steps.{announced_within}
@@ -66,9 +67,9 @@ module _ {z : Sizes} {r : Run} (k : Below z r) where
   pub listed_ready : (l : Local) (p : ℕ) → IsPut r.history p → r.listed l.row (attempt r.history p).cell ≡ true → IsReady r.listed r.history l p
   listed_ready l p s x = record { stamped = s; noted = inr x }
 
-  -- an entry that is an attempt's own, as it is read
-  own_entry : (q j p : ℕ) → p < length r.history.attempts → word z r.world (name.Pend q j) ≡ entry_of (attempt r.history p) → (pend_of (word z r.world (name.Pend q j)) ≡ Some (pend.Pending (attempt r.history p).cell)) ⊎ IsPut r.history p × (pend_of (word z r.world (name.Pend q j)) ≡ Some (pend.Stamped (attempt r.history p).cell (attempt r.history p).version))
-  own_entry q j p w e = met (attempt r.history p).is_stamped refl e
+  -- an entry that is that of an attempt which is not lost, as it is read
+  own_entry : (q j p : ℕ) → p < length r.history.attempts → (attempt r.history p).is_lost ≡ false → word z r.world (name.Pend q j) ≡ entry_of (attempt r.history p) → (pend_of (word z r.world (name.Pend q j)) ≡ Some (pend.Pending (attempt r.history p).cell)) ⊎ IsPut r.history p × (pend_of (word z r.world (name.Pend q j)) ≡ Some (pend.Stamped (attempt r.history p).cell (attempt r.history p).version))
+  own_entry q j p w n e = met (attempt r.history p).is_stamped refl (rw n at e)
     where
       cell : (attempt r.history p).cell < z.cells
       cell = (k.puts.given p w).cell
@@ -79,15 +80,20 @@ module _ {z : Sizes} {r : Run} (k : Below z r) where
           inr (s, ap pend_of x ∙ pend_of-Stamped (attempt r.history p).cell (attempt r.history p).version (omega (arith, cell, k.shape.sane.sized.few_cells)) y.0 y.1)
       met false s x = inl (ap pend_of x ∙ pend_of-Pending (attempt r.history p).cell (omega (arith, cell, k.shape.sane.sized.few_cells)))
 
-  -- what the entry of its seat says of an announced attempt
-  pub entry_says : (q j p : ℕ) → (attempt r.history p).row ≡ q → (attempt r.history p).seat ≡ j → (attempt r.history p).is_announced ≡ true → EntrySays (word z r.world) r.listed r.history q j p
-  entry_says q j p e f a = which (k.lists.old p within)
+  -- what the entry of its seat says of an announced attempt that is not lost
+  pub entry_says : (q j p : ℕ) → (attempt r.history p).row ≡ q → (attempt r.history p).seat ≡ j → (attempt r.history p).is_announced ≡ true → (attempt r.history p).is_lost ≡ false → EntrySays (word z r.world) r.listed r.history q j p
+  entry_says q j p e f a n = which (k.lists.old p within)
     where
       within : p < length r.history.attempts
       within = announced_within r.history p a
 
-      which : IsCurrent (slice_get r.world.locals) r.seats r.history p ⊎ (r.listed (attempt r.history p).row (attempt r.history p).cell ≡ true) → EntrySays (word z r.world) r.listed r.history q j p
-      which (inr o) = let x : r.listed q (attempt r.history p).cell ≡ true = rw e at o in is_listed (listed_stamped q p e within x) x
+      over : ((attempt r.history p).is_lost ≡ true) ⊎ ((attempt r.history p).is_announced ≡ false) → EntrySays (word z r.world) r.listed r.history q j p
+      over (inl x) = true_false x n
+      over (inr x) = true_false a x
+
+      which : IsCurrent (slice_get r.world.locals) r.seats r.history p ⊎ (r.listed (attempt r.history p).row (attempt r.history p).cell ≡ true) ⊎ IsOver r.history p → EntrySays (word z r.world) r.listed r.history q j p
+      which (inr (inr o)) = over o.over
+      which (inr (inl o)) = let x : r.listed q (attempt r.history p).cell ≡ true = rw e at o in is_listed (listed_stamped q p e within x) x
       which (inl c) = stage (fresh_or_published c.local.activity c.putting)
         where
           own : (attempt r.history (r.seats (attempt r.history p).seat).own) ≡ attempt r.history p
@@ -102,7 +108,15 @@ module _ {z : Sizes} {r : Run} (k : Below z r) where
           stage (inr x) =
               let o = k.puts.owns (attempt r.history p).seat c.local c.knows c.putting in
               let row : c.local.row ≡ q = sym o.row ∙ ap (λ y. y.row) own ∙ e in
-              read (own_entry q j p within (subst (λ y. word z r.world (name.Pend y j) ≡ entry_of (attempt r.history p)) row (subst (λ y. word z r.world (name.Pend c.local.row y) ≡ entry_of (attempt r.history p)) f (o.entry x ∙ ap entry_of own))))
+              read (own_entry q j p within n (subst (λ y. word z r.world (name.Pend y j) ≡ entry_of (attempt r.history p)) row (subst (λ y. word z r.world (name.Pend c.local.row y) ≡ entry_of (attempt r.history p)) f (o.entry x ∙ ap entry_of own))))
+
+  -- an attempt whose entry is stamped is not lost
+  stamped_kept : (q j p c version : ℕ) → word z r.world (name.Pend q j) ≡ entry_of (attempt r.history p) → pend_of (word z r.world (name.Pend q j)) ≡ Some (pend.Stamped c version) → (attempt r.history p).is_lost ≡ false
+  stamped_kept q j p c version e f = met (attempt r.history p).is_lost refl
+    where
+      met : (b : Bool) → (attempt r.history p).is_lost ≡ b → (attempt r.history p).is_lost ≡ false
+      met true y = let x : word z r.world (name.Pend q j) ≡ pend_word pend.Frozen = rw y at e in let u : Some pend.Frozen ≡ Some (pend.Stamped c version) = sym pend_of-Frozen ∙ sym (ap pend_of x) ∙ f in absurd (cc)
+      met false y = y
 
   -- the cell of a stamped entry is that of an attempt that is stamped with the entry's version
   pub stamped_owner : (q j c version : ℕ) → q < r.world.rows → j < z.seats → pend_of (word z r.world (name.Pend q j)) ≡ Some (pend.Stamped c version) → IsMarkOf r.history r.origin q (mark_of c version)
@@ -115,8 +129,10 @@ module _ {z : Sizes} {r : Run} (k : Below z r) where
           let n : (attempt r.history p).cell ≡ c = cc in
           record { put = p; origin = rw (n, f) at (k.puts.given p i).origin; stamped = x.0; version = cc }
 
-      which : (word z r.world (name.Pend q j) ≡ pend_word pend.Idle) ⊎ IsPublishedAt (slice_get r.world.locals) q j → IsMarkOf r.history r.origin q (mark_of c version)
+      which : (word z r.world (name.Pend q j) ≡ pend_word pend.Idle) ⊎ (word z r.world (name.Pend q j) ≡ pend_word pend.Frozen) ⊎ IsPublishedAt (slice_get r.world.locals) q j → IsMarkOf r.history r.origin q (mark_of c version)
       which (inl x) = let y : Some (pend.Stamped c version) ≡ Some pend.Idle = sym e ∙ ap pend_of x ∙ pend_of-Idle in absurd (cc)
-      which (inr x) =
+      which (inr (inl x)) = let y : Some (pend.Stamped c version) ≡ Some pend.Frozen = sym e ∙ ap pend_of x ∙ pend_of-Frozen in absurd (cc)
+      which (inr (inr x)) =
           let own = k.puts.owns j x.local x.knows (published_puts x.local.activity x.published) in
-          from (r.seats j).own own.within (own.row ∙ x.row) (own_entry q j (r.seats j).own own.within (subst (λ y. word z r.world (name.Pend y j) ≡ entry_of (attempt r.history (r.seats j).own)) x.row (own.entry x.published)))
+          let entry = subst (λ y. word z r.world (name.Pend y j) ≡ entry_of (attempt r.history (r.seats j).own)) x.row (own.entry x.published) in
+          from (r.seats j).own own.within (own.row ∙ x.row) (own_entry q j (r.seats j).own own.within (stamped_kept q j (r.seats j).own c version entry e) entry)

@@ -7,6 +7,7 @@ use Rattle.kw_world.specs.declared.activity.Activity.{Activity}
 use Rattle.kw_world.specs.declared.local.Local.{Local}
 use Rattle.kw_world.specs.declared.event.Choice.{Choice}
 use Rattle.kw_world.specs.Sizes.{Sizes}
+use Rattle.kw_world.specs.Sane.{IsActivity}
 use Rattle.kw_world.specs.Step.{word}
 use Rattle.kw_core.specs.History.{attempt, called, Stands}
 use Rattle.kw_core.specs.declared.history.Change.{Change}
@@ -19,7 +20,7 @@ use Rattle.kw_world.specs.declared.answer.Answer.TheVariants.{Done, Value, Absen
 use Rattle.kw_world.specs.declared.activity.Activity.TheVariants.{Leave}
 use Rattle.kw_world.specs.Calls.{first_key, last_key, put_value, is_scan}
 use Rattle.kw_core.specs.declared.history.Drawn.{Drawn}
-use Rattle.kw_core.specs.History.{LoadClock, Draw}
+use Rattle.kw_core.specs.History.{LoadClock}
 use Rattle.kw_core.specs.HistoryLaws.{Makes, Answers, DrawLogged, RisesWithin}
 use Rattle.kw_core.specs.Noted.{MayStamp}
 use Rattle.kw_core.specs.Step.{MayEnd}
@@ -27,9 +28,9 @@ use Rattle.kw_core.specs.Stages.{IsBusy, IsPutting, IsFresh, IsStamp, HasMet, Is
 use Rattle.kw_shape.specs.Shape.{IsPutCall, IsAnswerOf, IsKind}
 use Rattle.kw_reads.specs.Replies.{RisesBelow, IsCovered, IsAnswered, Covers}
 use Rattle.std.proofs.lemmas.Option.{same_Some}
-use Rattle.kw_puts.proofs.Owners.{true_false, is_own, pending_entry, published_puts, puts_busy, entry_owner}
+use Rattle.kw_puts.proofs.Owners.{true_false, is_own, pending_kept, pending_entry, published_puts, puts_busy, entry_owner}
 use Rattle.kw_core.proofs.Changes as changes
-use Rattle.kw_core.proofs.Changes.{made, makes_nothing, makes_begin, makes_add, makes_announce, makes_stamp, makes_help, makes_end}
+use Rattle.kw_core.proofs.Changes.{made, makes_nothing, makes_begin, makes_add, makes_announce, makes_stamp, makes_help, makes_lose, makes_end}
 use Rattle.kw_core.specs.Run.{Run, change_of, answering, drawing}
 use Rattle.kw_reads.specs.Inv.{Inv, lower}
 use Rattle.kw_world.specs.declared.event.Event.{Event}
@@ -66,14 +67,14 @@ module _ (z : Sizes) (r r' : Run) (s : ℕ) (choice : Choice) (l l' : Local) (i 
   answers_call : (c : Call) (answer : Answer) (pairs : List (ℕ × ℕ)) (put : Option ℕ) → IsAnswerOf (Some c) answer → (IsDone (Leave answer) → (p : ℕ) × (put ≡ Some p)) → ((p : ℕ) → put ≡ Some p → IsDone (Leave answer)) → Answers c put (reply_of answer pairs)
   answers_call (Put key value) Done pairs put f d n = d tt
   answers_call (Put key value) NoRows pairs put f d n = none_unless put (λ p e. n p e)
-  answers_call (Put key value) Spent pairs put f d n = absurd f
+  answers_call (Put key value) Spent pairs put f d n = none_unless put (λ p e. n p e)
   answers_call (Put key value) (Value x) pairs put f d n = absurd f
   answers_call (Put key value) Absent pairs put f d n = absurd f
   answers_call (Put key value) Pairs pairs put f d n = absurd f
   answers_call (Put key value) Stopped pairs put f d n = absurd f
   answers_call (Del key) Done pairs put f d n = d tt
   answers_call (Del key) NoRows pairs put f d n = none_unless put (λ p e. n p e)
-  answers_call (Del key) Spent pairs put f d n = absurd f
+  answers_call (Del key) Spent pairs put f d n = none_unless put (λ p e. n p e)
   answers_call (Del key) (Value x) pairs put f d n = absurd f
   answers_call (Del key) Absent pairs put f d n = absurd f
   answers_call (Del key) Pairs pairs put f d n = absurd f
@@ -139,7 +140,7 @@ may_draw z r s l i k Pairs a d e =
     let scan = pairs_of_scan l.call (subst (λ q. IsKind q l) a (i.shape.kinds s l k).kind) in
     let t = x.drawn scan (subst HasDrawn (sym a) tt) in
     subst (λ (q : Drawn). DrawLogged r.history q × (q.version < word z r.world name.Clock)) (same_Some _ d e)
-    (record { kind = Draw; is_draw = tt; stands = t; later = λ y j c o u. i.positions.clocked.rises _ y Draw j l.version c tt t u o }, i.positions.clocked.drawn _ Draw l.version tt t)
+    (record { kind = t.kind; is_draw = t.is_draw; stands = t.stands; later = λ y j c o u. i.positions.clocked.rises _ y t.kind j l.version c t.is_draw t.stands u o }, i.positions.clocked.drawn _ t.kind l.version t.is_draw t.stands)
 may_draw z r s l i k Done a d e = let x : None ≡ Some d = e in absurd (cc)
 may_draw z r s l i k (Value v) a d e = let x : None ≡ Some d = e in absurd (cc)
 may_draw z r s l i k Absent a d e = let x : None ≡ Some d = e in absurd (cc)
@@ -164,7 +165,7 @@ may_make z r r' s choice l a l' c (makes_stamp e) h i =
     let x = i.positions.calling s l h.knows (subst IsBusy (sym h.activity) tt) in
     let y : IsPublished l.activity = subst IsPublished (sym h.activity) tt in
     let st = pending_entry (attempt r.history (r.seats s).own) l.cell (sym (own.entry y) ∙ e) in
-    may_stamp z r r' s choice l l' i (r.seats s).own l.version (r.seats s).loaded own.within (own.announced y) st.0 own.kept (rw own.call x.runs) (rw own.call x.own) (own.after (subst IsStamp (sym h.activity) tt)) (own.loaded (subst IsStamp (sym h.activity) tt))
+    may_stamp z r r' s choice l l' i (r.seats s).own l.version (r.seats s).loaded own.within (own.announced y) st.0 (pending_kept (attempt r.history (r.seats s).own) l.cell (sym (own.entry y) ∙ e)) (rw own.call x.runs) (rw own.call x.own) (own.after (subst IsStamp (sym h.activity) tt)) (own.loaded (subst IsStamp (sym h.activity) tt))
 may_make z r r' s choice l a l' c (makes_help p e f) h i =
     let helper = i.puts.helps s l h.knows (subst HasMet (sym h.activity) tt) in
     let known = i.shape.sane.locals s l h.knows in
@@ -177,9 +178,17 @@ may_make z r r' s choice l a l' c (makes_help p e f) h i =
     let is_put : helper.put ≡ p = same_Some helper.put p (sym helper.origin ∙ f) in
     may_stamp z r r' s choice l l' i p l.helping (r.seats s).loaded place.within
     (subst (λ q. (attempt r.history q).is_announced ≡ true) is_put helper.announced)
-    (rw same w.unstamped) (rw same own.kept) (rw (same, own.call) x.runs) (rw (same, own.call) x.own)
+    (rw same w.unstamped) (rw same w.kept) (rw (same, own.call) x.runs) (rw (same, own.call) x.own)
     (subst (λ q. (attempt r.history q).announced < (r.seats s).loaded) is_put (helper.after (subst IsHelp (sym h.activity) tt)))
     (helper.loaded (subst IsHelp (sym h.activity) tt))
+may_make z r r' s choice l a l' c (makes_lose j cell p x e f) h i =
+    let known = i.shape.sane.locals s l h.knows in
+    let w = entry_owner i.puts l.row j cell known.below.row (subst (IsActivity z) h.activity known.ranges.activity) e in
+    let puts = published_puts w.local.activity w.published in
+    let own = i.puts.owns j w.local w.knows puts in
+    let place = i.puts.places.owner l.row cell p f in
+    let same : p ≡ (r.seats j).own = is_own i.puts j w.local w.knows puts p place.within (place.row ∙ sym w.row) (place.cell ∙ sym w.cell ∙ own.cell) in
+    (place.within, rw same w.unstamped)
 may_make z r r' s choice l a l' c (makes_end answer) h i =
     let x = i.positions.calling s l h.knows (subst IsBusy (sym h.activity) tt) in
     let kind : IsAnswerOf l.call answer = subst (λ q. IsKind q l) h.activity (i.shape.kinds s l h.knows).kind in (

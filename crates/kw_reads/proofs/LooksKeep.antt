@@ -30,7 +30,8 @@ use Rattle.kw_reads.specs.Readers.{IsDue, IsNoted, IsReady, IsMarkOf, Looks}
 use Rattle.kw_reads.specs.Inv.{Inv}
 use Rattle.kw_core.proofs.Steps.{announced_within}
 use Rattle.kw_puts.proofs.Owners.{true_false}
-use Rattle.kw_core.proofs.Arrows.{NextLook, looks, lists, NextRest, rests, answers, ends_scan, scans_on, Arrow, reads_last, reads_before, meets_pending, meets_stamped, meets_neither, is_wanted, is_passed, loads_to_help, helps, finds_stamped, finds_other, list_leads, list_ends, key_below, key_within, key_above, loads_version, gathers_listed, rest_wanted, rest_passed, gathers_rest}
+use Rattle.kw_core.proofs.Building.{never_built}
+use Rattle.kw_core.proofs.Arrows.{builds, NextLook, looks, lists, NextRest, rests, answers, ends_scan, scans_on, Arrow, reads_last, reads_before, meets_pending, meets_stamped, meets_neither, is_wanted, is_passed, loads_to_help, helps, finds_stamped, finds_other, list_leads, list_ends, key_below, key_within, key_above, loads_version, gathers_listed, rest_wanted, rest_passed, gathers_rest}
 use Rattle.kw_core.proofs.Happens.{Happens, exchanged, not_exchanged}
 use Rattle.kw_core.proofs.InRange.{unmarked_in_range}
 use Rattle.kw_core.specs.Listed.{Listed}
@@ -84,11 +85,11 @@ not_looking l _ (answers c e) x = x
 not_looking l _ (ends_scan c e n) x = x
 not_looking l _ (scans_on q c e n u) x = x
 
--- what the entry that was met says of the attempts of its seat
-module _ {z : Sizes} {r : Run} (k : Below z r) (l : Local) (j p : ℕ) (e : (attempt r.history p).row ≡ l.row) (f : (attempt r.history p).seat ≡ j) (a : (attempt r.history p).is_announced ≡ true) where
+-- what the entry that was met says of the attempts of its seat that are not lost
+module _ {z : Sizes} {r : Run} (k : Below z r) (l : Local) (j p : ℕ) (e : (attempt r.history p).row ≡ l.row) (f : (attempt r.history p).seat ≡ j) (a : (attempt r.history p).is_announced ≡ true) (u : (attempt r.history p).is_lost ≡ false) where
   -- it is stamped, and its cell is remembered
   stamped_here : (c version : ℕ) → pend_of (word z r.world (name.Pend l.row j)) ≡ Some (pend.Stamped c version) → IsReady r.listed r.history (remembering c version l) p
-  stamped_here c version w = which (entry_says k l.row j p e f a)
+  stamped_here c version w = which (entry_says k l.row j p e f a u)
     where
       which : EntrySays (word z r.world) r.listed r.history l.row j p → IsReady r.listed r.history (remembering c version l) p
       which (is_listed s x) = ready_more r.listed r.history l c version p (listed_ready k l p s x)
@@ -97,7 +98,7 @@ module _ {z : Sizes} {r : Run} (k : Below z r) (l : Local) (j p : ℕ) (e : (att
 
   -- it is pending with a cell
   pending_here : (c : ℕ) → pend_of (word z r.world (name.Pend l.row j)) ≡ Some (pend.Pending c) → ((attempt r.history p).cell ≡ c) ⊎ IsReady r.listed r.history l p
-  pending_here c w = which (entry_says k l.row j p e f a)
+  pending_here c w = which (entry_says k l.row j p e f a u)
     where
       which : EntrySays (word z r.world) r.listed r.history l.row j p → ((attempt r.history p).cell ≡ c) ⊎ IsReady r.listed r.history l p
       which (is_listed s x) = inr (listed_ready k l p s x)
@@ -106,7 +107,7 @@ module _ {z : Sizes} {r : Run} (k : Below z r) (l : Local) (j p : ℕ) (e : (att
 
   -- it is not stamped, and not pending with the attempt's cell
   neither_here : (pend_of (word z r.world (name.Pend l.row j)) ≢ Some (pend.Pending (attempt r.history p).cell)) → ((c version : ℕ) → pend_of (word z r.world (name.Pend l.row j)) ≢ Some (pend.Stamped c version)) → IsReady r.listed r.history l p
-  neither_here m n = which (entry_says k l.row j p e f a)
+  neither_here m n = which (entry_says k l.row j p e f a u)
     where
       which : EntrySays (word z r.world) r.listed r.history l.row j p → IsReady r.listed r.history l p
       which (is_listed s x) = listed_ready k l p s x
@@ -191,6 +192,7 @@ module _ {z : Sizes} {r r' : Run} {s : ℕ} {choice : Choice} {l l' : Local} (h 
 
 -- the cells that the acting reader remembers
 pub marks_by : (z : Sizes) (r r' : Run) (s : ℕ) (choice : Choice) (l : Local) (a : Activity) (l' : Local) → Arrow z (word z r.world) s choice l a l' → Happens z r r' s choice l l' a → Inv z r → Below z r' → IsLooking l'.activity ⊎ IsTaking l'.activity → All (IsMarkOf r'.history r'.origin l'.row) l'.remembered
+marks_by z r r' s choice l a l' (builds b next y o t) h i k p = never_built z b y o
 marks_by z r r' s choice l _ _ (reads_last f n) h i k p = All-nil (IsMarkOf r'.history r'.origin l.row)
 marks_by z r r' s choice l _ _ (reads_before f w) h i k p = All-nil (IsMarkOf r'.history r'.origin l.row)
 marks_by z r r' s choice l _ _ (meets_pending j c e) h i k p = marks_after h i (inl tt)
@@ -232,20 +234,21 @@ passed {z} {r} k l w p looked e f d (inl c) =
 
 -- the entries that it has looked at, after its last look too
 pub looks_by : (z : Sizes) (r r' : Run) (s : ℕ) (choice : Choice) (l : Local) (a : Activity) (l' : Local) → Arrow z (word z r.world) s choice l a l' → Happens z r r' s choice l l' a → Inv z r → Below z r' → IsLooking l'.activity ⊎ IsLooking a → Looks z r'.listed r'.history l'.activity l' (r'.seats s)
+looks_by z r r' s choice l a l' (builds b next y o t) h i k p = never_built z b y o
 looks_by z r r' s choice l _ _ (reads_last f n) h i k p = record { past = λ p d w. absurd (omega (arith, w)); here = λ m. absurd m }
 looks_by z r r' s choice l _ _ (reads_before f w) h i k p = record { past = λ p d w. absurd (omega (arith, w)); here = λ m. absurd m }
 looks_by z r r' s choice l _ _ (meets_pending j c e) h i k p = record {
   past = λ p d w. let n = look_past j h i p d w in record { stamped = n.stamped; noted = n.noted };
-  here = λ m p d f. met_as r'.listed r'.history l _ c p (λ u x. x) (pending_here k l j p d.row f d.announced c (ap pend_of (look_found j h i) ∙ e));
+  here = λ m p d f. met_as r'.listed r'.history l _ c p (λ u x. x) (pending_here k l j p d.row f d.announced d.kept c (ap pend_of (look_found j h i) ∙ e));
 }
-looks_by z r r' s choice l _ _ (meets_stamped j c version next e n) h i k p = looks_next z r'.listed r'.history (j + 1) next (remembering c version l) (r'.seats s) n (each_below r'.listed r'.history (remembering c version l) (r'.seats s).looked j (λ p d w. ready_more r'.listed r'.history l c version p (look_past j h i p d w)) (λ p d f. stamped_here k l j p d.row f d.announced c version (ap pend_of (look_found j h i) ∙ e)))
-looks_by z r r' s choice l _ _ (meets_neither j next e n) h i k p = looks_next z r'.listed r'.history (j + 1) next l (r'.seats s) n (each_below r'.listed r'.history l (r'.seats s).looked j (look_past j h i) (λ p d f. neither_here k l j p d.row f d.announced (λ x. e.pending _ (sym (ap pend_of (look_found j h i)) ∙ x)) (λ c u x. e.stamped c u (sym (ap pend_of (look_found j h i)) ∙ x))))
+looks_by z r r' s choice l _ _ (meets_stamped j c version next e n) h i k p = looks_next z r'.listed r'.history (j + 1) next (remembering c version l) (r'.seats s) n (each_below r'.listed r'.history (remembering c version l) (r'.seats s).looked j (λ p d w. ready_more r'.listed r'.history l c version p (look_past j h i p d w)) (λ p d f. stamped_here k l j p d.row f d.announced d.kept c version (ap pend_of (look_found j h i) ∙ e)))
+looks_by z r r' s choice l _ _ (meets_neither j next e n) h i k p = looks_next z r'.listed r'.history (j + 1) next l (r'.seats s) n (each_below r'.listed r'.history l (r'.seats s).looked j (look_past j h i) (λ p d f. neither_here k l j p d.row f d.announced d.kept (λ x. e.pending _ (sym (ap pend_of (look_found j h i)) ∙ x)) (λ c u x. e.stamped c u (sym (ap pend_of (look_found j h i)) ∙ x))))
 looks_by z r r' s choice l _ _ (is_wanted e) h i k p = let n = looks_after h i tt (ap (λ g. g.looked) h.log) in record { past = λ p d w. ready_at r'.listed r'.history l LookClock p (n.past p d w); here = λ m p d f. met_as r'.listed r'.history l _ l.met p (λ u x. x) (n.here tt p d f) }
 looks_by z r r' s choice l _ _ (is_passed next e n) h i k p = let m = looks_after h i tt (ap (λ g. g.looked) h.log) in
     looks_next z r'.listed r'.history (l.looked + 1) next l (r'.seats s) n (each_below r'.listed r'.history l (r'.seats s).looked l.looked m.past (λ p d f. passed k l (word z r.world (name.Key l.row l.met)) p (r'.seats s).looked (h.changed.loaded refl (name.Key l.row l.met)) e d (m.here tt p d f)))
 looks_by z r r' s choice l _ _ loads_to_help h i k p = let n = looks_after h i tt (ap (λ g. g.looked) h.log) in record { past = λ p d w. let x = n.past p d w in record { stamped = x.stamped; noted = x.noted }; here = λ m p d f. met_as r'.listed r'.history l _ l.met p (λ u x. x) (n.here tt p d f) }
-looks_by z r r' s choice l _ _ (helps next e n) h i k p = looks_next z r'.listed r'.history (l.looked + 1) next (remembering l.met l.helping l) (r'.seats s) n (each_below r'.listed r'.history (remembering l.met l.helping l) (r'.seats s).looked l.looked (λ p d w. ready_more r'.listed r'.history l l.met l.helping p ((help_after h i).past p d w)) (λ p d f. stamped_here k l l.looked p d.row f d.announced l.met l.helping (help_stamped h i e)))
-looks_by z r r' s choice l _ _ (finds_stamped c version next e n) h i k p = looks_next z r'.listed r'.history (l.looked + 1) next (remembering c version l) (r'.seats s) n (each_below r'.listed r'.history (remembering c version l) (r'.seats s).looked l.looked (λ p d w. ready_more r'.listed r'.history l c version p ((help_after h i).past p d w)) (λ p d f. stamped_here k l l.looked p d.row f d.announced c version (help_found h i c version e)))
+looks_by z r r' s choice l _ _ (helps next e n) h i k p = looks_next z r'.listed r'.history (l.looked + 1) next (remembering l.met l.helping l) (r'.seats s) n (each_below r'.listed r'.history (remembering l.met l.helping l) (r'.seats s).looked l.looked (λ p d w. ready_more r'.listed r'.history l l.met l.helping p ((help_after h i).past p d w)) (λ p d f. stamped_here k l l.looked p d.row f d.announced d.kept l.met l.helping (help_stamped h i e)))
+looks_by z r r' s choice l _ _ (finds_stamped c version next e n) h i k p = looks_next z r'.listed r'.history (l.looked + 1) next (remembering c version l) (r'.seats s) n (each_below r'.listed r'.history (remembering c version l) (r'.seats s).looked l.looked (λ p d w. ready_more r'.listed r'.history l c version p ((help_after h i).past p d w)) (λ p d f. stamped_here k l l.looked p d.row f d.announced d.kept c version (help_found h i c version e)))
 looks_by z r r' s choice l _ _ (finds_other next e n) h i k p = looks_next z r'.listed r'.history (l.looked + 1) next l (r'.seats s) n (each_below r'.listed r'.history l (r'.seats s).looked l.looked (help_after h i).past (λ p d f. left p d f ((help_after h i).here tt p d f)))
   where
     kept : pend_of (word z r'.world (name.Pend l.row l.looked)) ≡ pend_of (word z r.world (name.Pend l.row l.looked))
@@ -253,7 +256,7 @@ looks_by z r r' s choice l _ _ (finds_other next e n) h i k p = looks_next z r'.
 
     left : (p : ℕ) → IsDue r'.history l.row l.call (r'.seats s).looked p → (attempt r'.history p).seat ≡ l.looked → ((attempt r'.history p).cell ≡ l.met) ⊎ IsReady r'.listed r'.history l p → IsReady r'.listed r'.history l p
     left p d f (inr n) = n
-    left p d f (inl c) = neither_here k l l.looked p d.row f d.announced (λ x. e.pending (sym kept ∙ x ∙ ap (λ y. Some (pend.Pending y)) c)) (λ d u x. e.stamped d u (sym kept ∙ x))
+    left p d f (inl c) = neither_here k l l.looked p d.row f d.announced d.kept (λ x. e.pending (sym kept ∙ x ∙ ap (λ y. Some (pend.Pending y)) c)) (λ d u x. e.stamped d u (sym kept ∙ x))
 looks_by z r r' s choice l _ _ (list_ends next e n) h i k (inl p) = absurd (not_looking _ next n p)
 looks_by z r r' s choice l _ _ (key_above next e n) h i k (inl p) = absurd (not_looking _ next n p)
 looks_by z r r' s choice l _ _ (rest_passed next e n) h i k (inl p) = absurd (not_looking _ next n p)

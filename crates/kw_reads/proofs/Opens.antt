@@ -1,5 +1,5 @@
 -- All of it holds where nothing happened.
-use Rattle.std.proofs.Common.{◌⊎◌, None, arith, refl}
+use Rattle.std.proofs.Common.{◌⊎◌, None, arith, refl, ◌≡◌, []}
 use Rattle.kw_world.specs.Sizes.{Sizes}
 use Rattle.kw_world.specs.declared.opening.Opening.{Opening}
 use Rattle.std.specs.Prelude.{All}
@@ -16,6 +16,7 @@ use Rattle.kw_reads.specs.Replies.{HasPairs, IsAnswered, Replies}
 use Rattle.kw_reads.specs.Inv.{Inv}
 use Rattle.kw_core.proofs.NotedLaws.{nothing_keeps}
 use Rattle.kw_shape.proofs.ShapeOpens.{each_rests, shape_starts}
+use Rattle.kw_shape.specs.Shape.{IsPutCall}
 use Rattle.kw_puts.proofs.ListsKeep.{lists_start}
 use Rattle.kw_puts.proofs.PutsOpen.{puts_start, positions_start}
 
@@ -34,6 +35,7 @@ module _ (z : Sizes) (o : Opening) (i : IsOpening z o) where
   pub replies_start : Replies (start z o)
   replies_start = record {
     pairs = each_rests z o (λ t l. HasPairs nothing_yet l.activity l no_log) (λ t. record { early = λ x. refl; from = λ e x. absurd x; upto = λ e x. absurd x; covers = λ e x. absurd x; covered = tt });
+    unpaired = each_rests z o (λ t l. IsPutCall l.call → l.pairs ≡ []) (λ t x. absurd x);
     answers = each_rests z o (λ t l. IsAnswered l.activity l.call nothing_yet l no_log) (λ t. tt);
   }
 

@@ -32,7 +32,7 @@ use Rattle.kw_reads.proofs.Relying.{goes_on_by}
 use Rattle.kw_core.proofs.Frame.{WritesPass}
 use Rattle.kw_rows.specs.Ledger.{Ledger}
 use Rattle.kw_shape.proofs.RelyRows.{row_stable}
-use Rattle.kw_shape.proofs.ShapeKeeps.{own_rely}
+use Rattle.kw_shape.proofs.OwnRows.{own_rely}
 use Rattle.kw_core.proofs.Happens.{Happens, knows_next}
 use Rattle.kw_core.proofs.Arrows.{NextRest, rests, answers, ends_scan, scans_on, Arrow, not_below, below}
 use Rattle.kw_core.proofs.SeatLogs.{IsEnding, read_to_end}
@@ -117,7 +117,7 @@ module _ (z : Sizes) (r r' : Run) (s : ℕ) (choice : Choice) (l : Local) (a : A
   -- the row that a reader has read
   read_row : Readers z r' → IsEnding a → (m : Local) → SameRead l m → EndedAs m l' → HasReadRow z r' s m (r'.seats s)
   read_row n x m q e =
-      let read : (r'.seats s).read ≡ Some m.row = ap (λ (g : SeatLog). g.read) h.log ∙ read_to_end z choice l _ l'.activity (r.seats s) r.origin r.history a x e.no_cell ∙ ap Some (sym q.row) in
+      let read : (r'.seats s).read ≡ Some m.row = ap (λ (g : SeatLog). g.read) h.log ∙ read_to_end z choice l _ l'.activity (r.seats s) r.origin r.history (r.settled s) a x e.no_cell ∙ ap Some (sym q.row) in
       let copies = (n.gathers s l' (knows_next h)).kept e.keeping m.row read in
       let seen = n.seen s l' (knows_next h) in
       record {

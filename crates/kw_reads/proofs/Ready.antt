@@ -2,7 +2,7 @@
 --
 -- The facts here ask only that the record goes on, that listed cells stay listed, and what an event leaves of a row's list; so they
 -- serve for the reader's own events and for those of every other seat.
-use Rattle.std.proofs.Common.{ℕ, ◌≡◌, ◌⊎◌, inl, inr, ◌≤◌, true, Option, Some, List, arith, sym, ◌∙◌, subst, length}
+use Rattle.std.proofs.Common.{ℕ, ◌≡◌, ◌⊎◌, inl, inr, ◌≤◌, Bool, true, false, Option, Some, List, arith, refl, sym, ◌∙◌, subst, length}
 use Rattle.std.specs.Prelude.{All, Contains}
 use Rattle.std.proofs.lemmas.List.Elements.{All-weaker}
 use Rattle.kw_cells.specs.declared.cell.Cell as kw_cell
@@ -29,11 +29,17 @@ use Rattle.kw_reads.specs.Readers.{IsDue, Looks, HasMetCell, ReadsList, IsFromHa
 use Rattle.kw_core.proofs.Attempts.{in_range}
 use Rattle.kw_core.proofs.Steps.{announced_within}
 use Rattle.kw_core.proofs.Marks.{zip_weaker}
+use Rattle.kw_puts.proofs.Owners.{true_false}
 use Rattle.kw_puts.proofs.Rely.{SameAttempt, GoesOn}
 
 -- cells that are listed stay listed
 abbrev pub KeepsListed : Listed → Listed → Type 0
 KeepsListed f f' = (q c : ℕ) → f q c ≡ true → f' q c ≡ true
+
+-- an attempt that is not lost after an event was not lost before, for a lost one stays so
+kept_before : (b c : Bool) → (b ≡ true → c ≡ true) → c ≡ false → b ≡ false
+kept_before true c keeps e = true_false (keeps refl) e
+kept_before false c keeps e = refl
 
 -- the key of a seat's call, whatever it is, is that of the attempt
 due_key : (call : Option Call) (k q : ℕ) → k ≡ q → is_in_range call k ≡ true → is_in_range call q ≡ true
@@ -108,7 +114,7 @@ module _ {h h' : History} {o o' : Origins} (g : GoesOn h h' o o') where
       let n = g.grows.newly p d.announced (omega (arith, d.before, b)) in
       let s = g.attempts p n.0 in
       let a = (g.grows.old p n.0).announced n.1 in
-      record { row = sym s.row ∙ d.row; announced = n.1; before = omega (arith, a.1, d.before); key = due_key call _ _ s.key d.key }
+      record { row = sym s.row ∙ d.row; announced = n.1; before = omega (arith, a.1, d.before); kept = kept_before _ _ (g.grows.old p n.0).lost d.kept; key = due_key call _ _ s.key d.key }
 
   -- a stamped attempt stays stamped, with its version
   pub stamped_lasts : (p : ℕ) → IsPut h p → IsPut h' p × ((attempt h' p).version ≡ (attempt h p).version)

@@ -1,42 +1,48 @@
 -- Every event keeps what holds of the pairs of scans and the answers of gets.
-use Rattle.std.proofs.Common.{ℕ, ◌+◌, ◌≤◌, Option, Some, arith, refl, sym, subst, length}
+use Rattle.std.proofs.Common.{ℕ, ◌≡◌, ◌+◌, ◌≤◌, Option, Some, None, [], arith, refl, sym, ◌∙◌, subst, length}
+use Rattle.kw_words.specs.declared.layout.Name.TheVariants as name
+use Rattle.kw_words.specs.Plain.{value_of_word}
 use Rattle.kw_world.specs.declared.answer.Answer.{Answer}
 use Rattle.kw_world.specs.Calls.{first_key, last_key}
 use Rattle.kw_world.specs.Answers.{reply_of}
 use Rattle.kw_world.specs.declared.activity.Activity.{Activity}
-use Rattle.kw_world.specs.declared.activity.Activity.TheVariants.{Idle, Enter, ScanClock, ScanWait, ScanDraw, ScanSettle, Look, LookKey, LookClock, LookHelp, ListFrom, ListKey, ListVer, ListVal, RestKey, RestVal, ClearScan, Leave, AgainEpoch}
+use Rattle.kw_world.specs.declared.activity.Activity.TheVariants.{Idle, Enter, ScanClock, ScanWait, ScanDraw, ScanSettle, Look, LookKey, LookClock, LookHelp, ListFrom, ListKey, ListVer, ListVal, RestKey, RestVal, ClearScan, Leave, Again, AgainEpoch}
 use Rattle.kw_world.specs.declared.local.Local.{Local}
 use Rattle.kw_world.specs.declared.event.Choice.{Choice}
 use Rattle.kw_world.specs.Sizes.{Sizes}
 use Rattle.kw_model.specs.declared.call.Call.{Call}
-use Rattle.kw_model.specs.declared.call.Call.TheVariants.{Get}
+use Rattle.kw_model.specs.declared.call.Call.TheVariants.{Put, Del, Get, Scan}
 use Rattle.kw_world.specs.declared.answer.Answer.TheVariants.{Done, Value, Absent, Pairs, NoRows, Spent, Stopped}
 use Rattle.kw_world.specs.Step.{word}
 use Rattle.kw_core.specs.History.{History, called}
 use Rattle.kw_core.specs.Step.{Keeps}
 use Rattle.kw_core.specs.Run.{Run}
 use Rattle.kw_core.specs.declared.seat_log.SeatLog.{SeatLog}
-use Rattle.kw_core.specs.Stages.{IsBusy, IsStaying}
+use Rattle.kw_core.specs.Stages.{IsBusy}
 use Rattle.kw_reads.specs.Replies.{IsCovered, Covers}
-use Rattle.kw_core.specs.Words.{Words}
+use Rattle.kw_core.specs.Words.{Words, next_in}
 use Rattle.kw_puts.specs.Positions.{Calling}
 use Rattle.kw_reads.specs.Readers.{Readers}
 use Rattle.kw_reads.specs.Replies.{HasPairs, IsAnswered, Replies}
 use Rattle.kw_reads.specs.Inv.{Inv}
 use Rattle.kw_core.proofs.Lasts.{get_lasts}
 use Rattle.kw_core.proofs.Happens.{Happens, each_seat}
-use Rattle.kw_core.proofs.Arrows.{Arrow}
+use Rattle.kw_core.proofs.Building.{never_built}
+use Rattle.kw_core.proofs.Arrows.{builds, Arrow}
 use Rattle.kw_puts.proofs.Rely.{Rely}
 use Rattle.kw_reads.proofs.Relying.{rely}
 use Rattle.kw_reads.proofs.ReadersKeep.{Before}
 use Rattle.std.proofs.lemmas.Bool.{and_parts}
 use Rattle.kw_world.specs.Transition.{leave}
+use Rattle.kw_world.specs.EngageTransitions.{followed_by, refuse}
+use Rattle.kw_world.specs.TakeTransitions.{planned, keeping}
 use Rattle.kw_world.specs.ScanTransitions.{answer_or_stopped}
 use Rattle.kw_core.specs.Stages.{IsEarly}
-use Rattle.kw_shape.specs.Shape.{IsKind}
+use Rattle.kw_shape.specs.Shape.{IsKind, IsPutCall, IsReadCall}
+use Rattle.kw_shape.proofs.NextCalls.{cell_call}
 use Rattle.kw_puts.proofs.Owners.{true_false}
 use Rattle.kw_reads.proofs.Relying.{goes_on_by}
-use Rattle.kw_core.proofs.Arrows.{NextLook, looks, lists, begins, enters, is_spent, settles_empty, settles, stops, meets_stamped, meets_neither, is_passed, helps, finds_stamped, finds_other, list_ends, key_above, rest_passed, gathers_rest, clears_scan, finds_none, takes_none, is_refused, is_not_own, clears, leaves}
+use Rattle.kw_core.proofs.Arrows.{NextLook, looks, lists, begins, enters, is_spent, settles_empty, settles, stops, meets_stamped, meets_neither, is_passed, helps, finds_stamped, finds_other, list_ends, key_above, rest_passed, gathers_rest, clears_scan, finds_none, takes_none, is_refused, is_not_own, clears, leaves, NextRest, retries, clock_is_spent, epoch_is_spent, marks_last, decides_last, takes_last, keeps_last}
 use Rattle.kw_puts.proofs.OwnScans.{IsAfterRead, after_read}
 use Rattle.kw_reads.proofs.OwnPairs.{covers_last, stays, settled_pairs, no_pairs, leave_covered, cell_pairs, put_answered, scan_answered, scan_call_answered, cell_answered}
 
@@ -118,8 +124,15 @@ early_not_read ScanDraw x y = y
 early_not_read ScanSettle x y = y
 early_not_read _ x y = x
 
+-- the seat ends its pass: it leaves, or tries again
+abbrev EndsPass : Activity → Type 0
+EndsPass (Leave answer) = Unit {0}
+EndsPass Again = Unit {0}
+EndsPass _ = ⊥
+
 -- a call that has read no row had read none
-arrow_early : (z : Sizes) (v : Words) (s : ℕ) (choice : Choice) (l : Local) (a : Activity) (k : Local) → Arrow z v s choice l a k → IsStaying a → IsEarly k.activity → IsEarly a
+arrow_early : (z : Sizes) (v : Words) (s : ℕ) (choice : Choice) (l : Local) (a : Activity) (k : Local) → Arrow z v s choice l a k → (EndsPass a → ⊥) → IsEarly k.activity → IsEarly a
+arrow_early z v s choice l a k (builds b next y o t) n x = never_built z b y o
 arrow_early z v s choice l a k (begins call e m) n x = tt
 arrow_early z v s choice l Enter k b n x = tt
 arrow_early z v s choice l ScanClock k b n x = tt
@@ -136,11 +149,14 @@ arrow_early z v s choice l ListVer k b n x = absurd (early_not_read k.activity x
 arrow_early z v s choice l ListVal k b n x = absurd (early_not_read k.activity x (after_read z v s choice l ListVal k b tt))
 arrow_early z v s choice l RestKey k b n x = absurd (early_not_read k.activity x (after_read z v s choice l RestKey k b tt))
 arrow_early z v s choice l RestVal k b n x = absurd (early_not_read k.activity x (after_read z v s choice l RestVal k b tt))
-arrow_early z v s choice l (Leave answer) k b n x = absurd n
+arrow_early z v s choice l (Leave answer) k b n x = absurd (n tt)
+arrow_early z v s choice l Again k b n x = absurd (n tt)
+arrow_early z v s choice l AgainEpoch k b n x = tt
 arrow_early z v s choice l a k b n x = absurd x
 
 -- the pairs of the acting scan
 pub pairs_own : (z : Sizes) (r r' : Run) (s : ℕ) (choice : Choice) (l : Local) (a : Activity) (l' : Local) → Arrow z (word z r.world) s choice l a l' → Happens z r r' s choice l l' a → Before z r r' → Readers z r' → HasPairs r'.history l'.activity l' (r'.seats s)
+pairs_own z r r' s choice l a l' (builds b next y o t) h i n = never_built z b y o
 pairs_own z r r' s choice l a l' (settles_empty e) h i n = record { early = λ x. absurd x; from = λ f x. absurd x; upto = λ f x. absurd x; covers = λ f x. absurd x; covered = subst (Covers r'.history (first_key l.call) _ (r'.seats s).drawn (last_key l.call + 1)) (sym ((i.inv.replies.pairs s l h.knows).early (subst IsEarly (sym h.activity) tt))) (no_pairs r'.history l.call _ (r'.seats s).drawn e) }
 pairs_own z r r' s choice l a l' (settles e) h i n = settled_pairs r'.history l _ (r'.seats s) refl refl ((i.inv.replies.pairs s l h.knows).early (subst IsEarly (sym h.activity) tt)) e
 pairs_own z r r' s choice l a l' (clears_scan answer) h i n = record {
@@ -163,17 +179,42 @@ pairs_own z r r' s choice l a l' (is_passed next e x) h i n = stays z r r' s cho
 pairs_own z r r' s choice l a l' (helps next e x) h i n = stays z r r' s choice l _ _ (helps next e x) h i refl refl (λ y. y) (look_not_early z _ next x) (look_covered z _ next x r'.history _ (r'.seats s))
 pairs_own z r r' s choice l a l' (finds_stamped c version next e x) h i n = stays z r r' s choice l _ _ (finds_stamped c version next e x) h i refl refl (λ y. y) (look_not_early z _ next x) (look_covered z _ next x r'.history _ (r'.seats s))
 pairs_own z r r' s choice l a l' (finds_other next e x) h i n = stays z r r' s choice l _ _ (finds_other next e x) h i refl refl (λ y. y) (look_not_early z _ next x) (look_covered z _ next x r'.history _ (r'.seats s))
-pairs_own z r r' s choice l a l' b h i n = stays z r r' s choice l _ _ b h i refl refl (λ y. y) (arrow_early z (word z r.world) s choice l _ _ b tt) tt
+pairs_own z r r' s choice l a l' retries h i n = record { early = λ x. i.inv.replies.unpaired s l h.knows (kind_of z r r' s choice l l' h i.inv); from = λ f x. absurd x; upto = λ f x. absurd x; covers = λ f x. absurd x; covered = tt }
+pairs_own z r r' s choice l a l' b h i n = stays z r r' s choice l _ _ b h i refl refl (λ y. y) (arrow_early z (word z r.world) s choice l _ _ b (λ y. y)) tt
+
+-- a put or a delete has no pairs
+
+-- a reader's call is no put's
+reads_or_puts : {A : Type 0} (c : Option Call) → IsReadCall c → IsPutCall c → A
+reads_or_puts (Some (Put key value)) x y = absurd x
+reads_or_puts (Some (Del key)) x y = absurd x
+reads_or_puts (Some (Get key)) x y = absurd y
+reads_or_puts (Some (Scan from upto)) x y = absurd y
+reads_or_puts None x y = absurd x
+
+rest_unpaired : {A : Type 0} (l k next : Local) → k.call ≡ l.call → NextRest k next → IsReadCall l.call → IsPutCall next.call → A
+rest_unpaired l k next e n x y = reads_or_puts l.call x (subst IsPutCall ((cell_call k next n).0 ∙ e) y)
+
+unpaired_own : (z : Sizes) (r r' : Run) (s : ℕ) (choice : Choice) (l : Local) (a : Activity) (l' : Local) → Arrow z (word z r.world) s choice l a l' → Happens z r r' s choice l l' a → Inv z r → IsPutCall l'.call → l'.pairs ≡ []
+unpaired_own z r r' s choice l a l' (builds b next y o t) h i p = never_built z b y o
+unpaired_own z r r' s choice l a l' (begins call e x) h i p = (i.replies.pairs s l h.knows).early (subst IsEarly (sym h.activity) tt)
+unpaired_own z r r' s choice l a l' (list_ends next e x) h i p = rest_unpaired l _ next refl x (kind_of z r r' s choice l l' h i) p
+unpaired_own z r r' s choice l a l' (key_above next e x) h i p = rest_unpaired l _ next refl x (kind_of z r r' s choice l l' h i) p
+unpaired_own z r r' s choice l a l' (rest_passed next e x) h i p = rest_unpaired l _ next refl x (kind_of z r r' s choice l l' h i) p
+unpaired_own z r r' s choice l a l' (gathers_rest next x) h i p = rest_unpaired l _ next refl x (kind_of z r r' s choice l l' h i) p
+unpaired_own z r r' s choice l a l' (leaves answer) h i p = refl
+unpaired_own z r r' s choice l a l' b h i p = i.replies.unpaired s l h.knows p
 
 -- the answer of the acting get
 pub answers_own : (z : Sizes) (r r' : Run) (s : ℕ) (choice : Choice) (l : Local) (a : Activity) (l' : Local) → Arrow z (word z r.world) s choice l a l' → Happens z r r' s choice l l' a → Before z r r' → Readers z r' → IsAnswered l'.activity l'.call r'.history l' (r'.seats s)
+answers_own z r r' s choice l a l' (builds b next y o t) h i n = never_built z b y o
 answers_own z r r' s choice l a l' (is_spent e) h i n = scan_call_answered l.call Spent r'.history (leave Spent l).local (r'.seats s) (kind_of z r r' s choice l l' h i.inv)
 answers_own z r r' s choice l a l' (clears_scan answer) h i n = scan_call_answered l.call (answer_or_stopped answer choice) r'.history (leave (answer_or_stopped answer choice) l).local (r'.seats s) (kind_of z r r' s choice l l' h i.inv).0
 answers_own z r r' s choice l a l' (stops e) h i n = scan_answered l.call Stopped r'.history (leave Stopped l).local (r'.seats s) (and_parts _ _ (and_parts _ _ e).1).0
-answers_own z r r' s choice l a l' (finds_none e) h i n = put_answered l.call NoRows r'.history (leave NoRows l).local (r'.seats s) (kind_of z r r' s choice l l' h i.inv)
-answers_own z r r' s choice l a l' (takes_none e) h i n = put_answered l.call NoRows r'.history (leave NoRows l).local (r'.seats s) (kind_of z r r' s choice l l' h i.inv)
-answers_own z r r' s choice l a l' (is_refused e) h i n = put_answered l.call NoRows r'.history (leave NoRows l).local (r'.seats s) (kind_of z r r' s choice l l' h i.inv)
-answers_own z r r' s choice l a l' (is_not_own e) h i n = put_answered l.call NoRows r'.history (leave NoRows l).local (r'.seats s) (kind_of z r r' s choice l l' h i.inv)
+answers_own z r r' s choice l a l' (finds_none e f) h i n = put_answered l.call NoRows r'.history (leave NoRows l).local (r'.seats s) (kind_of z r r' s choice l l' h i.inv)
+answers_own z r r' s choice l a l' (takes_none e f) h i n = put_answered l.call NoRows r'.history (leave NoRows l).local (r'.seats s) (kind_of z r r' s choice l l' h i.inv)
+answers_own z r r' s choice l a l' (is_refused e f) h i n = put_answered l.call NoRows r'.history (leave NoRows l).local (r'.seats s) (kind_of z r r' s choice l l' h i.inv)
+answers_own z r r' s choice l a l' (is_not_own e f) h i n = put_answered l.call NoRows r'.history (leave NoRows l).local (r'.seats s) (kind_of z r r' s choice l l' h i.inv)
 answers_own z r r' s choice l a l' clears h i n = put_answered l.call Done r'.history (leave Done l).local (r'.seats s) (kind_of z r r' s choice l l' h i.inv)
 answers_own z r r' s choice l a l' (list_ends next e x) h i n = cell_answered z r r' s choice l _ _ l' (list_ends next e x) h i n tt (record { call = refl; row = refl; want = refl; next = refl; upper = refl; version = refl; pairs = refl }) x
 answers_own z r r' s choice l a l' (key_above next e x) h i n = cell_answered z r r' s choice l _ _ l' (key_above next e x) h i n tt (record { call = refl; row = refl; want = refl; next = refl; upper = refl; version = refl; pairs = refl }) x
@@ -185,6 +226,12 @@ answers_own z r r' s choice l a l' (is_passed next e x) h i n = look_answered z 
 answers_own z r r' s choice l a l' (helps next e x) h i n = look_answered z _ next x l.call r'.history _ (r'.seats s)
 answers_own z r r' s choice l a l' (finds_stamped c version next e x) h i n = look_answered z _ next x l.call r'.history _ (r'.seats s)
 answers_own z r r' s choice l a l' (finds_other next e x) h i n = look_answered z _ next x l.call r'.history _ (r'.seats s)
+answers_own z r r' s choice l a l' (clock_is_spent e) h i n = put_answered l.call Spent r'.history (refuse Spent l).local (r'.seats s) (kind_of z r r' s choice l l' h i.inv)
+answers_own z r r' s choice l a l' (epoch_is_spent e) h i n = put_answered l.call Spent r'.history (refuse Spent l).local (r'.seats s) (kind_of z r r' s choice l l' h i.inv)
+answers_own z r r' s choice l a l' (marks_last count e f) h i n = put_answered l.call NoRows r'.history (refuse NoRows (followed_by (next_in (word z r.world) l.row) l)).local (r'.seats s) (kind_of z r r' s choice l l' h i.inv).0
+answers_own z r r' s choice l a l' (decides_last count m e o f) h i n = put_answered l.call NoRows r'.history (refuse NoRows l).local (r'.seats s) (kind_of z r r' s choice l l' h i.inv).0
+answers_own z r r' s choice l a l' (takes_last e f o) h i n = put_answered l.call NoRows r'.history (refuse NoRows (planned z l)).local (r'.seats s) (kind_of z r r' s choice l l' h i.inv)
+answers_own z r r' s choice l a l' (keeps_last e o) h i n = put_answered l.call NoRows r'.history (refuse NoRows (planned z (keeping z (value_of_word (word z r.world (name.Value l.row l.place))) l))).local (r'.seats s) (kind_of z r r' s choice l l' h i.inv)
 answers_own z r r' s choice l a l' b h i n = tt
 
 -- The group.
@@ -192,5 +239,6 @@ answers_own z r r' s choice l a l' b h i n = tt
 pub replies_keep : (z : Sizes) (r r' : Run) (s : ℕ) (choice : Choice) (l : Local) (a : Activity) (l' : Local) → Happens z r r' s choice l l' a → Before z r r' → Readers z r' → Replies r'
 replies_keep z r r' s choice l a l' h i n = record {
   pairs = each_seat h (λ t k. HasPairs r'.history k.activity k (r'.seats t)) (pairs_own z r r' s choice l a l' h.arrow h i n) (λ t k d g. pairs_stable z r r' t k (rely z r r' s choice l a l' h i.inv t k d g) (i.inv.positions.drew t) (i.inv.replies.pairs t k g));
+  unpaired = each_seat h (λ t k. IsPutCall k.call → k.pairs ≡ []) (unpaired_own z r r' s choice l a l' h.arrow h i.inv) (λ t k d g. i.inv.replies.unpaired t k g);
   answers = each_seat h (λ t k. IsAnswered k.activity k.call r'.history k (r'.seats t)) (answers_own z r r' s choice l a l' h.arrow h i n) (λ t k d g. answers_stable z r r' t k (rely z r r' s choice l a l' h i.inv t k d g) i.inv.history (i.inv.positions.calling t k g) (i.inv.replies.answers t k g));
 }

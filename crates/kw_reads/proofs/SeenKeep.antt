@@ -23,7 +23,9 @@ use Rattle.kw_puts.specs.Lists.{list_in}
 use Rattle.kw_puts.specs.Puts.{HasCell}
 use Rattle.kw_reads.specs.Readers.{IsDue, IsCopyOf, IsInHand, AreCopies, Gathers, Apart, HasSeen, has_place}
 use Rattle.kw_reads.specs.Inv.{Inv}
-use Rattle.kw_core.proofs.Arrows.{NextLook, looks, lists, Arrow, begins, reads_last, reads_before, meets_pending, meets_stamped, meets_neither, is_wanted, is_passed, loads_to_help, helps, finds_stamped, finds_other, list_leads, list_ends, key_below, key_within, key_above, loads_version, gathers_listed, rest_wanted, rest_passed, gathers_rest, takes_cell, takes_none, leaves}
+use Rattle.kw_core.proofs.Building.{never_built}
+use Rattle.kw_core.proofs.Arrows.{builds, NextLook, looks, lists, Arrow, begins, reads_last, reads_before, meets_pending, meets_stamped, meets_neither, is_wanted, is_passed, loads_to_help, helps, finds_stamped, finds_other, list_leads, list_ends, key_below, key_within, key_above, loads_version, gathers_listed, rest_wanted, rest_passed, gathers_rest, takes_cell, takes_none, leaves, takes_full, settles_empty, settles}
+use Rattle.kw_core.proofs.SeatLogs.{settled_same}
 use Rattle.kw_core.proofs.Happens.{Happens}
 use Rattle.kw_core.proofs.Marks.{zip_insert}
 use Rattle.kw_reads.proofs.Ready.{due_before, stamped_lasts, stamped_same, copies_last}
@@ -94,6 +96,7 @@ look_empty j now g f = which (cases_eq j 0)
 
 -- what the acting seat has seen of a row that it has read
 pub seen_by : (z : Sizes) (r r' : Run) (s : ℕ) (choice : Choice) (l : Local) (a : Activity) (l' : Local) → Arrow z (word z r.world) s choice l a l' → Happens z r r' s choice l l' a → Inv z r → Below z r' → HasSeen r'.history l'.activity l' (r'.seats s)
+seen_by z r r' s choice l a l' (builds b next y o t) h i k = never_built z b y o
 seen_by z r r' s choice l _ _ (begins call e b) h i k = seen_unread r'.history Enter _ (r'.seats s) (ap (λ g. g.read) h.log ∙ ap (λ c. (log_begun c (length r.history.calls) (r.seats s)).read) e)
 seen_by z r r' s choice l _ _ (reads_last f n) h i k = record { unread = λ x. absurd (omega (arith, x)); stamped = λ x. absurd x; taken = λ x. absurd x }
 seen_by z r r' s choice l _ _ (reads_before f w) h i k = record { unread = λ x. absurd (omega (arith, x)); stamped = λ x. absurd x; taken = λ x. absurd x }
@@ -117,8 +120,11 @@ seen_by z r r' s choice l _ _ (rest_wanted e) h i k = seen_unread r'.history _ _
 seen_by z r r' s choice l _ _ (rest_passed next e n) h i k = subst (HasSeen r'.history next.activity next) (sym h.log) (seen_next r'.history l next _ n (left_passed h i k e) (unread_before h i tt))
 seen_by z r r' s choice l _ _ (gathers_rest next n) h i k = subst (HasSeen r'.history next.activity next) (sym h.log) (seen_next r'.history _ next _ n (left_gathered h i k _ _) (unread_before h i tt))
 seen_by z r r' s choice l _ _ (takes_cell e) h i k = seen_kept h i PutKey tt refl (ap (λ g. g.looked) h.log ∙ added_same (λ g. g.looked) _ (r.seats s) _ refl) (ap (λ g. g.ids) h.log ∙ added_same (λ g. g.ids) _ (r.seats s) _ refl) (ap (λ g. g.read) h.log ∙ added_same (λ g. g.read) _ (r.seats s) _ refl) (λ x. x)
-seen_by z r r' s choice l _ _ (takes_none e) h i k = seen_kept h i _ tt refl (ap (λ g. g.looked) h.log ∙ added_same (λ g. g.looked) _ (r.seats s) _ refl) (ap (λ g. g.ids) h.log ∙ added_same (λ g. g.ids) _ (r.seats s) _ refl) (ap (λ g. g.read) h.log ∙ added_same (λ g. g.read) _ (r.seats s) _ refl) (λ x. x)
+seen_by z r r' s choice l _ _ (takes_none e f) h i k = seen_kept h i _ tt refl (ap (λ g. g.looked) h.log ∙ added_same (λ g. g.looked) _ (r.seats s) _ refl) (ap (λ g. g.ids) h.log ∙ added_same (λ g. g.ids) _ (r.seats s) _ refl) (ap (λ g. g.read) h.log ∙ added_same (λ g. g.read) _ (r.seats s) _ refl) (λ x. x)
+seen_by z r r' s choice l _ _ (takes_full e f) h i k = seen_kept h i _ tt refl (ap (λ g. g.looked) h.log ∙ added_same (λ g. g.looked) _ (r.seats s) _ refl) (ap (λ g. g.ids) h.log ∙ added_same (λ g. g.ids) _ (r.seats s) _ refl) (ap (λ g. g.read) h.log ∙ added_same (λ g. g.read) _ (r.seats s) _ refl) (λ x. x)
 seen_by z r r' s choice l _ _ (leaves answer) h i k = record { unread = λ x. absurd x; stamped = λ x. absurd x; taken = λ x. absurd x }
+seen_by z r r' s choice l _ _ (settles_empty e) h i k = seen_kept h i _ tt refl (ap (λ g. g.looked) h.log ∙ settled_same (λ g. g.looked) l.waiting _ (r.settled s) (r.seats s) refl) (ap (λ g. g.ids) h.log ∙ settled_same (λ g. g.ids) l.waiting _ (r.settled s) (r.seats s) refl) (ap (λ g. g.read) h.log ∙ settled_same (λ g. g.read) l.waiting _ (r.settled s) (r.seats s) refl) (λ x. x)
+seen_by z r r' s choice l _ _ (settles e) h i k = seen_kept h i _ tt refl (ap (λ g. g.looked) h.log ∙ settled_same (λ g. g.looked) l.waiting _ (r.settled s) (r.seats s) refl) (ap (λ g. g.ids) h.log ∙ settled_same (λ g. g.ids) l.waiting _ (r.settled s) (r.seats s) refl) (ap (λ g. g.read) h.log ∙ settled_same (λ g. g.read) l.waiting _ (r.settled s) (r.seats s) refl) (λ x. x)
 seen_by z r r' s choice l a l' b h i k = seen_kept h i l'.activity tt refl (ap (λ g. g.looked) h.log) (ap (λ g. g.ids) h.log) (ap (λ g. g.read) h.log) (λ x. x)
 
 -- Gathering.
@@ -179,6 +185,7 @@ module _ {z : Sizes} {r r' : Run} {s : ℕ} {choice : Choice} {l l' : Local} {a 
 
 -- what the acting seat has gathered
 pub gathers_by : (z : Sizes) (r r' : Run) (s : ℕ) (choice : Choice) (l : Local) (a : Activity) (l' : Local) → Arrow z (word z r.world) s choice l a l' → Happens z r r' s choice l l' a → Inv z r → Below z r' → Gathers r'.history l'.activity l' (r'.seats s)
+gathers_by z r r' s choice l a l' (builds b next y o t) h i k = never_built z b y o
 gathers_by z r r' s choice l _ _ (begins call e b) h i k = record { empty = λ x. absurd x; no_ids = λ x. absurd x; taking = λ x. absurd x; kept = λ x q f. let y : None ≡ Some q = sym (ap (λ g. g.read) h.log ∙ ap (λ c. (log_begun c (length r.history.calls) (r.seats s)).read) e) ∙ f in absurd (cc) }
 gathers_by z r r' s choice l _ _ (reads_last f n) h i k = record { empty = λ x. refl; no_ids = λ x. absurd (omega (arith, x)); taking = λ x. absurd x; kept = λ x. absurd x }
 gathers_by z r r' s choice l _ _ (reads_before f w) h i k = record { empty = λ x. refl; no_ids = λ x. absurd (omega (arith, x)); taking = λ x. absurd x; kept = λ x. absurd x }
@@ -202,6 +209,9 @@ gathers_by z r r' s choice l _ _ (rest_wanted e) h i k = gathers_hand r'.history
 gathers_by z r r' s choice l _ _ (rest_passed next e n) h i k = subst (Gathers r'.history next.activity next) (sym h.log) (copies_next r'.history l next (r.seats s) n (copies_kept h i tt) (unread_before h i tt))
 gathers_by z r r' s choice l _ _ (gathers_rest next n) h i k = subst (Gathers r'.history next.activity next) (sym h.log) (copies_next r'.history _ next _ n (let x = apart_before h i tt in copies_more h i k tt tt tt tt (h.changed.loaded refl (name.Value l.row l.place)) x (x.fresh tt) (x.hand tt)) (unread_before h i tt))
 gathers_by z r r' s choice l _ _ (takes_cell e) h i k = gathers_kept h i PutKey tt refl refl (ap (λ g. g.ids) h.log ∙ added_same (λ g. g.ids) _ (r.seats s) _ refl) (ap (λ g. g.read) h.log ∙ added_same (λ g. g.read) _ (r.seats s) _ refl) (λ x. x) (λ x. x) (λ x. x)
-gathers_by z r r' s choice l _ _ (takes_none e) h i k = gathers_kept h i _ tt refl refl (ap (λ g. g.ids) h.log ∙ added_same (λ g. g.ids) _ (r.seats s) _ refl) (ap (λ g. g.read) h.log ∙ added_same (λ g. g.read) _ (r.seats s) _ refl) (λ x. x) (λ x. x) (λ x. x)
+gathers_by z r r' s choice l _ _ (takes_none e f) h i k = gathers_kept h i _ tt refl refl (ap (λ g. g.ids) h.log ∙ added_same (λ g. g.ids) _ (r.seats s) _ refl) (ap (λ g. g.read) h.log ∙ added_same (λ g. g.read) _ (r.seats s) _ refl) (λ x. x) (λ x. x) (λ x. x)
+gathers_by z r r' s choice l _ _ (takes_full e f) h i k = gathers_kept h i _ tt refl refl (ap (λ g. g.ids) h.log ∙ added_same (λ g. g.ids) _ (r.seats s) _ refl) (ap (λ g. g.read) h.log ∙ added_same (λ g. g.read) _ (r.seats s) _ refl) (λ x. x) (λ x. x) (λ x. x)
 gathers_by z r r' s choice l _ _ (leaves answer) h i k = record { empty = λ x. absurd x; no_ids = λ x. absurd x; taking = λ x. absurd x; kept = λ x. absurd x }
+gathers_by z r r' s choice l _ _ (settles_empty e) h i k = gathers_kept h i _ tt refl refl (ap (λ g. g.ids) h.log ∙ settled_same (λ g. g.ids) l.waiting _ (r.settled s) (r.seats s) refl) (ap (λ g. g.read) h.log ∙ settled_same (λ g. g.read) l.waiting _ (r.settled s) (r.seats s) refl) (λ x. x) (λ x. x) (λ x. x)
+gathers_by z r r' s choice l _ _ (settles e) h i k = gathers_kept h i _ tt refl refl (ap (λ g. g.ids) h.log ∙ settled_same (λ g. g.ids) l.waiting _ (r.settled s) (r.seats s) refl) (ap (λ g. g.read) h.log ∙ settled_same (λ g. g.read) l.waiting _ (r.settled s) (r.seats s) refl) (λ x. x) (λ x. x) (λ x. x)
 gathers_by z r r' s choice l a l' b h i k = gathers_kept h i l'.activity tt refl refl (ap (λ g. g.ids) h.log) (ap (λ g. g.read) h.log) (λ x. x) (λ x. x) (λ x. x)

@@ -25,7 +25,8 @@ use Rattle.kw_puts.proofs.ListSteps.{list_step, leaves, stays_sound}
 use Rattle.kw_puts.proofs.ListWords.{link_is}
 use Rattle.kw_reads.specs.Readers.{HasMetCell, ReadsList}
 use Rattle.kw_reads.specs.Inv.{Inv, lower}
-use Rattle.kw_core.proofs.Arrows.{NextLook, looks, lists, NextRest, rests, answers, ends_scan, scans_on, Arrow, reads_last, reads_before, meets_pending, meets_stamped, meets_neither, is_wanted, is_passed, loads_to_help, helps, finds_stamped, finds_other, list_leads, list_ends, key_below, key_within, key_above, loads_version, gathers_listed, rest_passed, gathers_rest}
+use Rattle.kw_core.proofs.Building.{never_built}
+use Rattle.kw_core.proofs.Arrows.{builds, NextLook, looks, lists, NextRest, rests, answers, ends_scan, scans_on, Arrow, reads_last, reads_before, meets_pending, meets_stamped, meets_neither, is_wanted, is_passed, loads_to_help, helps, finds_stamped, finds_other, list_leads, list_ends, key_below, key_within, key_above, loads_version, gathers_listed, rest_passed, gathers_rest}
 use Rattle.kw_core.proofs.Happens.{Happens}
 use Rattle.kw_reads.proofs.Ready.{walks_last}
 
@@ -111,6 +112,7 @@ module _ {z : Sizes} {r r' : Run} {s : ℕ} {choice : Choice} {l l' : Local} (h 
 
 -- where the acting reader is in the list
 pub walks_by : (z : Sizes) (r r' : Run) (s : ℕ) (choice : Choice) (l : Local) (a : Activity) (l' : Local) → Arrow z (word z r.world) s choice l a l' → Happens z r r' s choice l l' a → Inv z r → ReadsList z.cells (list_in (word z r'.world) r'.listed l'.row) l'.activity l'
+walks_by z r r' s choice l a l' (builds b next y o t) h i = never_built z b y o
 walks_by z r r' s choice l _ _ (reads_last f n) h i = (refl, refl)
 walks_by z r r' s choice l _ _ (reads_before f w) h i = (refl, refl)
 walks_by z r r' s choice l _ _ (meets_pending j c e) h i = walks_after h i tt

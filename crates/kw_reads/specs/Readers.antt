@@ -1,5 +1,9 @@
 -- What holds of a get or a scan that reads a row: which attempts are due to it, that each of them is stamped and will be gathered,
 -- where it is on its walk along the row's list, and what it has gathered.
+--
+-- A row may be frozen while it is read, and then an attempt that was announced there may be lost: it is never stamped, and nothing is
+-- due of it any more. So what is said here of each attempt that is due says of each one that was announced before the reader looked
+-- that it is lost, or so.
 use Rattle.std.specs.Prelude.{ℕ, ◌≡◌, ◌⊎◌, ◌<◌, ◌≤◌, ◌==◌, Bool, true, false, if◌then◌else◌, Option, Some, None, List, [], ◌∷◌, All, Contains, length, slice_get}
 use Rattle.std.specs.List.{AllZip}
 use Rattle.kw_cells.specs.declared.cell.Cell as kw_cell
@@ -24,12 +28,13 @@ use Rattle.kw_puts.specs.Lists.{list_in}
 
 -- What is due.
 
--- the attempt is due to a reader of this row with this call that looked at this position: it was announced before, and its key is
--- one that the call reads. No later event makes an attempt due, or takes it away
+-- the attempt is due to a reader of this row with this call that looked at this position: it was announced before, its key is one
+-- that the call reads, and it is not lost. No later event makes an attempt due, and none takes it away but the one that loses it
 pub record IsDue (h : History) (r : ℕ) (call : Option Call) (looked p : ℕ) : Type 0 where
   pub row : (attempt h p).row ≡ r
   pub announced : (attempt h p).is_announced ≡ true
   pub before : (attempt h p).announced < looked
+  pub kept : (attempt h p).is_lost ≡ false
   pub key : is_in_range call (attempt h p).key ≡ true
 
 -- the reader will read this cell: it remembers it, or the cell is listed

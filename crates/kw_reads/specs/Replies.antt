@@ -14,6 +14,7 @@ use Rattle.kw_core.specs.HistoryLaws.{GetKey, ScanKey}
 use Rattle.kw_core.specs.declared.seat_log.SeatLog.{SeatLog}
 use Rattle.kw_core.specs.Run.{Run, best_id}
 use Rattle.kw_core.specs.Stages.{IsCovering, IsEarly}
+use Rattle.kw_shape.specs.Shape.{IsPutCall}
 
 -- the keys rise strictly from the first number on, and lie below the second
 abbrev pub RisesBelow : ℕ → ℕ → List (ℕ × ℕ) → Type 0
@@ -50,4 +51,6 @@ IsAnswered _ call h l g = Unit {0}
 -- what holds of the pairs and the answers
 pub record Replies (r : Run) : Type 0 where
   pub pairs : (t : ℕ) (l : Local) → slice_get r.world.locals t ≡ Some l → HasPairs r.history l.activity l (r.seats t)
+  -- a put or a delete has no pairs
+  pub unpaired : (t : ℕ) (l : Local) → slice_get r.world.locals t ≡ Some l → IsPutCall l.call → l.pairs ≡ []
   pub answers : (t : ℕ) (l : Local) → slice_get r.world.locals t ≡ Some l → IsAnswered l.activity l.call r.history l (r.seats t)

@@ -1,14 +1,16 @@
 -- The counts over all seats after an event: one seat's part is taken out, and its new part put in.
-use Rattle.std.proofs.Common.{ℕ, zero, suc, ◌≡◌, ◌+◌, ◌≤◌, ◌==◌, Bool, true, false, Some, None, List, [], ◌∷◌, arith, refl, ap, length, slice_get, slice_set, if◌then◌else◌}
+use Rattle.std.proofs.Common.{ℕ, zero, suc, ◌≡◌, ◌+◌, ◌*◌, ◌≤◌, ◌==◌, Bool, true, false, Some, None, List, [], ◌∷◌, arith, refl, ap, length, slice_get, slice_set, if◌then◌else◌}
+use Rattle.std.proofs.Math.Nat.{mul-le-mul_right, suc-mul}
 use Rattle.std.proofs.lemmas.Option.{same_Some}
 use Rattle.kw_world.specs.declared.activity.Activity.{Activity}
-use Rattle.kw_world.specs.declared.activity.Activity.TheVariants.{ScanClock, ScanWait, PutCount, PutAdd}
+use Rattle.kw_world.specs.declared.activity.Activity.TheVariants.{ScanClock, ScanWait, ScanDraw, PutCount, PutAdd, BalClock, ScanLook, HelpDraw, HelpSettle}
 use Rattle.kw_world.specs.declared.local.Local.{Local}
 use Rattle.kw_world.specs.declared.event.Choice.{Choice}
 use Rattle.kw_world.specs.Sizes.{Sizes}
 use Rattle.kw_shape.specs.Rooms.{adding, adders, drawing, drawers}
 use Rattle.kw_core.specs.Words.{Words}
-use Rattle.kw_core.proofs.Arrows.{Arrow, waits, stores_waiting, finds_room, meets_stamped, meets_neither, is_passed, helps, finds_stamped, finds_other, list_ends, key_above, rest_passed, gathers_rest, NextLook, looks, lists, NextRest, rests, answers, ends_scan, scans_on}
+use Rattle.kw_core.proofs.Arrows.{Arrow, waits, finds_room, meets_stamped, meets_neither, is_passed, helps, finds_stamped, finds_other, list_ends, key_above, rest_passed, gathers_rest, NextLook, looks, lists, NextRest, rests, answers, ends_scan, scans_on, clock_serves, builds, finds_none, takes_none, is_refused, is_not_own, marks_led, decides}
+use Rattle.kw_core.proofs.Building.{never_built}
 
 -- the seats that are about to ask a row for a cell, with one seat's local set
 pub adders-set : (q : ℕ) (ls : List Local) (s : ℕ) (l l' : Local) → slice_get ls s ≡ Some l → adders q (slice_set ls s l') + adding l.activity l.row q ≡ adders q ls + adding l'.activity l'.row q
@@ -30,18 +32,32 @@ adders_at_most q [] = omega arith
 adders_at_most q (l ∷ ls) = omega (arith, adding_at_most l.activity l.row q, adders_at_most q ls)
 
 -- the seats that are about to draw, with one seat's local set
-pub drawers-set : (ls : List Local) (s : ℕ) (l l' : Local) → slice_get ls s ≡ Some l → drawers (slice_set ls s l') + drawing l.activity ≡ drawers ls + drawing l'.activity
-drawers-set [] s l l' e = let x : None ≡ Some l = e in absurd (cc)
-drawers-set (k ∷ ls) zero l l' e = let x = ap (λ (y : Local). drawing y.activity) (same_Some k l e) in omega (arith, x)
-drawers-set (k ∷ ls) (suc s) l l' e = omega (arith, drawers-set ls s l l' e)
+pub drawers-set : (n : ℕ) (ls : List Local) (s : ℕ) (l l' : Local) → slice_get ls s ≡ Some l → drawers n (slice_set ls s l') + drawing n l.activity ≡ drawers n ls + drawing n l'.activity
+drawers-set n [] s l l' e = let x : None ≡ Some l = e in absurd (cc)
+drawers-set n (k ∷ ls) zero l l' e = let x = ap (λ (y : Local). drawing n y.activity) (same_Some k l e) in omega (arith, x)
+drawers-set n (k ∷ ls) (suc s) l l' e = omega (arith, drawers-set n ls s l l' e)
 
-pub drawing_at_most : (a : Activity) → drawing a ≤ 1
-drawing_at_most ScanWait = omega arith
-drawing_at_most _ = omega arith
+-- each seat draws at most as many as there are seats
+pub drawing_at_most : (n : ℕ) (a : Activity) → 1 ≤ n → drawing n a ≤ n
+drawing_at_most n ScanWait o = o
+drawing_at_most n ScanDraw o = o
+drawing_at_most n (ScanLook i) o = omega arith
+drawing_at_most n (HelpDraw i) o = omega arith
+drawing_at_most n (HelpSettle i) o = omega arith
+drawing_at_most n _ o = omega arith
 
-pub drawers_at_most : (ls : List Local) → drawers ls ≤ length ls
-drawers_at_most [] = omega arith
-drawers_at_most (l ∷ ls) = omega (arith, drawing_at_most l.activity, drawers_at_most ls)
+drawers_at_most : (n : ℕ) (ls : List Local) → 1 ≤ n → drawers n ls ≤ length ls * n
+drawers_at_most n [] o = omega arith
+drawers_at_most n (l ∷ ls) o =
+    omega (arith, drawing_at_most n l.activity o, drawers_at_most n ls o, suc-mul (length ls) n)
+
+-- so all of them draw at most the square of that
+pub drawers_few : (n : ℕ) (ls : List Local) → 1 ≤ n → length ls ≤ n → drawers n ls ≤ n * n
+drawers_few n ls o few = omega (arith, drawers_at_most n ls o, mul-le-mul_right {m = length ls} {n = n} n few)
+
+-- the square of a number that is at most another
+pub square_few : (n m : ℕ) → n ≤ m → n * n ≤ m * n
+square_few n m o = mul-le-mul_right {m = n} {n = m} n o
 
 -- which activities lead to asking for a cell, and to a draw
 abbrev pub IsCounting : Activity → Type 0
@@ -50,7 +66,7 @@ IsCounting _ = ⊥
 
 abbrev pub IsToWait : Activity → Type 0
 IsToWait ScanClock = Unit {0}
-IsToWait ScanWait = Unit {0}
+IsToWait BalClock = Unit {0}
 IsToWait _ = ⊥
 
 look_adds : (z : Sizes) (j row q : ℕ) (next : Activity) → NextLook z j next → adding next row q ≡ 0
@@ -63,18 +79,19 @@ cell_adds l q next (answers o n) = refl
 cell_adds l q next (ends_scan o y n) = refl
 cell_adds l q next (scans_on r o y n w) = refl
 
-look_draws : (z : Sizes) (j : ℕ) (next : Activity) → NextLook z j next → drawing next ≡ 0
-look_draws z j next (looks o) = refl
-look_draws z j next (lists o) = refl
+look_draws : (z : Sizes) (j n : ℕ) (next : Activity) → NextLook z j next → drawing n next ≡ 0
+look_draws z j n next (looks o) = refl
+look_draws z j n next (lists o) = refl
 
-cell_draws : (l : Local) (next : Local) → NextRest l next → drawing next.activity ≡ 0
-cell_draws l next (rests m o) = refl
-cell_draws l next (answers o n) = refl
-cell_draws l next (ends_scan o y n) = refl
-cell_draws l next (scans_on r o y n w) = refl
+cell_draws : (l : Local) (n : ℕ) (next : Local) → NextRest l next → drawing n next.activity ≡ 0
+cell_draws l k next (rests m o) = refl
+cell_draws l k next (answers o n) = refl
+cell_draws l k next (ends_scan o y n) = refl
+cell_draws l k next (scans_on r o y n w) = refl
 
 -- only a seat that found room goes on to ask for a cell
 pub adding_next : (z : Sizes) (v : Words) (s : ℕ) (choice : Choice) (l : Local) (a : Activity) (l' : Local) (q : ℕ) → Arrow z v s choice l a l' → (IsCounting a → ⊥) → adding l'.activity l'.row q ≡ 0
+adding_next z v s choice l a l' q (builds b next y o t) n = never_built z b y o
 adding_next z v s choice l a l' q (finds_room e) n = absurd (n tt)
 adding_next z v s choice l a l' q (meets_stamped j c version next y m) n = look_adds z _ l.row q next m
 adding_next z v s choice l a l' q (meets_neither j next y m) n = look_adds z _ l.row q next m
@@ -88,18 +105,19 @@ adding_next z v s choice l a l' q (rest_passed next y m) n = cell_adds _ q next 
 adding_next z v s choice l a l' q (gathers_rest next m) n = cell_adds _ q next m
 adding_next z v s choice l a l' q _ n = refl
 
--- only a scan that found the clock below its end goes on to draw
-pub drawing_next : (z : Sizes) (v : Words) (s : ℕ) (choice : Choice) (l : Local) (a : Activity) (l' : Local) → Arrow z v s choice l a l' → (IsToWait a → ⊥) → drawing l'.activity ≡ 0
-drawing_next z v s choice l a l' (waits e) n = absurd (n tt)
-drawing_next z v s choice l a l' stores_waiting n = absurd (n tt)
-drawing_next z v s choice l a l' (meets_stamped j c version next y m) n = look_draws z _ next m
-drawing_next z v s choice l a l' (meets_neither j next y m) n = look_draws z _ next m
-drawing_next z v s choice l a l' (is_passed next y m) n = look_draws z _ next m
-drawing_next z v s choice l a l' (helps next y m) n = look_draws z _ next m
-drawing_next z v s choice l a l' (finds_stamped c version next y m) n = look_draws z _ next m
-drawing_next z v s choice l a l' (finds_other next y m) n = look_draws z _ next m
-drawing_next z v s choice l a l' (list_ends next e m) n = cell_draws _ next m
-drawing_next z v s choice l a l' (key_above next y m) n = cell_draws _ next m
-drawing_next z v s choice l a l' (rest_passed next y m) n = cell_draws _ next m
-drawing_next z v s choice l a l' (gathers_rest next m) n = cell_draws _ next m
-drawing_next z v s choice l a l' _ n = refl
+-- only a scan, or a rebalance, that found the clock below its end may draw more than before
+pub drawing_next : (z : Sizes) (v : Words) (s : ℕ) (choice : Choice) (l : Local) (a : Activity) (l' : Local) → Arrow z v s choice l a l' → (IsToWait a → ⊥) → (n : ℕ) → drawing n l'.activity ≤ drawing n a
+drawing_next z v s choice l a l' (builds b next y o t) w n = never_built z b y o
+drawing_next z v s choice l a l' (waits e) w n = absurd (w tt)
+drawing_next z v s choice l a l' (clock_serves e) w n = absurd (w tt)
+drawing_next z v s choice l a l' (meets_stamped j c version next y m) w n = omega (arith, look_draws z _ n next m)
+drawing_next z v s choice l a l' (meets_neither j next y m) w n = omega (arith, look_draws z _ n next m)
+drawing_next z v s choice l a l' (is_passed next y m) w n = omega (arith, look_draws z _ n next m)
+drawing_next z v s choice l a l' (helps next y m) w n = omega (arith, look_draws z _ n next m)
+drawing_next z v s choice l a l' (finds_stamped c version next y m) w n = omega (arith, look_draws z _ n next m)
+drawing_next z v s choice l a l' (finds_other next y m) w n = omega (arith, look_draws z _ n next m)
+drawing_next z v s choice l a l' (list_ends next e m) w n = omega (arith, cell_draws _ n next m)
+drawing_next z v s choice l a l' (key_above next y m) w n = omega (arith, cell_draws _ n next m)
+drawing_next z v s choice l a l' (rest_passed next y m) w n = omega (arith, cell_draws _ n next m)
+drawing_next z v s choice l a l' (gathers_rest next m) w n = omega (arith, cell_draws _ n next m)
+drawing_next z v s choice l a l' _ w n = omega arith

@@ -1,5 +1,5 @@
 -- The words stay in range: the one that an event writes, and all others.
-use Rattle.std.proofs.Common.{ℕ, ◌≡◌, ◌⊎◌, inl, inr, ◌+◌, ◌<◌, ◌≤◌, ◌==◌, Bool, true, false, Option, Some, None, arith, refl, sym, ap, subst, if◌then◌else◌}
+use Rattle.std.proofs.Common.{ℕ, ◌≡◌, ◌⊎◌, inl, inr, ◌+◌, ◌<◌, ◌≤◌, ◌==◌, Bool, true, false, Option, Some, None, arith, refl, sym, ap, subst, bit_or, if◌then◌else◌}
 use Rattle.std.proofs.lemmas.Bool.{cases_eq}
 use Rattle.kw_words.specs.declared.layout.Name.{Name}
 use Rattle.kw_words.specs.declared.layout.Name.TheVariants as name
@@ -8,13 +8,21 @@ use Rattle.kw_words.specs.declared.pend.Pend.{Pend}
 use Rattle.kw_words.specs.declared.pend.Pend.TheVariants as pend
 use Rattle.kw_words.specs.declared.scan.ScanWord.{ScanWord}
 use Rattle.kw_words.specs.declared.scan.ScanWord.TheVariants.{Quiet, Waiting, Drawn}
-use Rattle.kw_words.specs.declared.sizes.TheConstants.{VERSION_END}
+use Rattle.kw_words.specs.declared.sizes.TheConstants.{FROZEN_BIT, MARK_BIT, VERSION_END}
+use Rattle.kw_words.specs.declared.link.Link.{Link}
+use Rattle.kw_words.specs.declared.state.State.{State}
+use Rattle.kw_words.specs.declared.state.State.TheVariants as state
+use Rattle.kw_words.specs.declared.state.State.TheVariants.{Normal, Leader}
+use Rattle.kw_words.specs.Link.{link_of}
+use Rattle.kw_words.specs.State.{IsState, state_of, state_word}
+use Rattle.kw_words.proofs.LinkWords.{link_of_marked}
+use Rattle.kw_words.proofs.StateWords.{state_of-state_word}
 use Rattle.kw_words.specs.Layout.{IsWithin, place_of}
 use Rattle.kw_words.specs.Count.{count_of}
 use Rattle.kw_words.specs.Pend.{IsPend, pend_of, pend_word}
 use Rattle.kw_words.specs.Plain.{IsValue, value_word, cell_link_word}
 use Rattle.kw_words.specs.Scan.{IsScan, scan_of, scan_word}
-use Rattle.kw_words.proofs.CountWords.{count_of_next}
+use Rattle.kw_words.proofs.CountWords.{count_of_frozen, count_of_next}
 use Rattle.kw_words.proofs.PendWords.{pend_of-pend_word}
 use Rattle.kw_words.proofs.ScanWords.{scan_of-scan_word}
 use Rattle.kw_words.proofs.Places.{same_name}
@@ -33,7 +41,7 @@ use Rattle.kw_world.specs.WalkTransitions.{start_transition, walk_transition, is
 use Rattle.kw_world.specs.Table.{transition}
 use Rattle.kw_world.specs.declared.operation.Action.TheVariants.{Exchange}
 use Rattle.kw_world.specs.ListTransitions.{link_name}
-use Rattle.kw_world.specs.Sane.{IsCellBelow, IsGiven, IsEntry, IsKnownWord, IsValueWord, IsWord, IsLed}
+use Rattle.kw_world.specs.Sane.{IsCellBelow, IsGiven, IsEntry, IsKnownWord, IsLinkBelow, IsRowState, IsStateBelow, IsValueWord, IsWord, IsLed}
 use Rattle.kw_core.specs.Words.{Words, given_in}
 use Rattle.kw_core.proofs.Happens.{Changed}
 use Rattle.kw_core.proofs.InRange.{first_in_range, put_in_range}
@@ -61,10 +69,27 @@ given_known : (w : ℕ) (c : Option Counted) → count_of w ≡ c → IsGiven c 
 given_known w (Some c) e g o = subst IsGiven (sym (count_of_next w c e (omega (arith, o)))) o
 given_known w None e g o = absurd g
 
+-- a frozen count is as far from its end as it was
+frozen_known : (w : ℕ) (c : Option Counted) → count_of w ≡ c → IsGiven c → IsGiven (count_of (bit_or w FROZEN_BIT))
+frozen_known w (Some c) e g = subst IsGiven (sym (count_of_frozen w c e)) g
+frozen_known w None e g = absurd g
+
 -- the word of a link to a cell that is in range
 held_below : {n : ℕ} (held : Option ℕ) → IsCellBelow n held → cell_link_word held ≤ n
 held_below (Some c) o = omega (arith, o)
 held_below None o = omega arith
+
+-- the word of a state stands for it
+state_known : (z : Sizes) (x : State) → IsState x → IsRowState z (Some x) → IsRowState z (state_of (state_word x))
+state_known z x i e = subst (IsRowState z) (sym (state_of-state_word x i)) e
+
+state_below : (rows : ℕ) (x : State) → IsState x → IsStateBelow rows (Some x) → IsStateBelow rows (state_of (state_word x))
+state_below rows x i e = subst (IsStateBelow rows) (sym (state_of-state_word x i)) e
+
+-- a marked link leads where it led
+marked_known : (rows w : ℕ) (x : Option Link) → link_of w ≡ x → IsKnownWord x → IsLinkBelow rows x → IsKnownWord (link_of (bit_or w MARK_BIT)) × IsLinkBelow rows (link_of (bit_or w MARK_BIT))
+marked_known rows w (Some link) e k b = let m = link_of_marked w link e in (subst IsKnownWord (sym m) tt, subst (IsLinkBelow rows) (sym m) b)
+marked_known rows w None e k b = absurd k
 
 -- the word of a value
 value_known : (x : Option ℕ) → IsValue x → IsValueWord (value_word x)
@@ -90,7 +115,11 @@ module _ (z : Sizes) (rows : ℕ) (v : Words) (s : ℕ) (choice : Choice) (l : L
   walks true n = (scan_known Quiet tt, tt)
   walks false n = loaded (name.Next l.row) n
 
-  written : (a : Activity) → IsReached a → IsKnownAt z rows a l → IsWithin z.seats z.cells rows (transition z a s choice l).operation.name → v name.Clock + 1 < VERSION_END → ((q : ℕ) → q < rows → given_in v q + 1 < GIVEN_END) → Writes (transition z a s choice l)
+  -- the state of a row is exchanged for one in range
+  set_state : (q : ℕ) (x y : State) → IsState y → IsRowState z (Some y) → IsStateBelow rows (Some y) → q < rows → IsRowState z (state_of (word_after (Exchange (state_word x) (state_word y)) (v (name.State q)))) × IsStateBelow rows (state_of (word_after (Exchange (state_word x) (state_word y)) (v (name.State q))))
+  set_state q x y i e b o = (exchanges (λ u. IsRowState z (state_of u)) (v (name.State q)) _ _ (w.each (name.State q) o) (state_known z y i e), exchanges (λ u. IsStateBelow rows (state_of u)) (v (name.State q)) _ _ (w.led (name.State q) o) (state_below rows y i b))
+
+  written : (a : Activity) → IsReached z a → IsKnownAt z rows a l → IsWithin z.seats z.cells rows (transition z a s choice l).operation.name → v name.Clock + 1 < VERSION_END → ((q : ℕ) → q < rows → given_in v q + 1 < GIVEN_END) → Writes (transition z a s choice l)
   written Enter o k n c g = (k.ranges.epoch.1, tt)
   written ScanWait o k n c g = (scan_known (Waiting l.waiting) k.ranges.waiting, tt)
   written ScanDraw o k n c g = ((omega arith, c), tt)
@@ -117,15 +146,15 @@ module _ (z : Sizes) (rows : ℕ) (v : Words) (s : ℕ) (choice : Choice) (l : L
       led None x = tt
   written PutClear o k n c g = (entry_known z pend.Idle tt tt, tt)
   written (Leave answer) o k n c g = (omega arith, tt)
-  written Again o k n c g = absurd o
-  written (BalNormal seat) o k n c g = absurd o
-  written Engage o k n c g = absurd o
-  written (MarkLink count) o k n c g = absurd o
-  written (Decide count) o k n c g = absurd o
-  written FreezeCount o k n c g = absurd o
-  written (Freeze i) o k n c g = absurd o
-  written (HelpDraw i) o k n c g = absurd o
-  written (HelpSettle i) o k n c g = absurd o
+  written Again o k n c g = (omega arith, tt)
+  written (BalNormal seat) o k n c g = set_state l.row (state.Infant seat) Normal tt tt tt n
+  written Engage o k n c g = set_state l.row Normal (Leader 0) (omega arith) tt tt n
+  written (MarkLink count) o k n c g = marked_known rows (v (name.Next l.row)) _ refl (w.each (name.Next l.row) n) (w.led (name.Next l.row) n)
+  written (Decide count) o k n c g = set_state l.row (Leader 0) (Leader count) k.activity tt tt n
+  written FreezeCount o k n c g = (frozen_known (v (name.Count l.row)) _ refl (w.each (name.Count l.row) n), tt)
+  written (Freeze i) o k n c g = (exchanges (λ x. IsEntry z (pend_of x)) (v (name.Pend l.row i)) _ _ (w.each (name.Pend l.row i) n) (entry_known z pend.Frozen tt tt), tt)
+  written (HelpDraw i) o k n c g = ((omega arith, c), tt)
+  written (HelpSettle i) o k n c g = (exchanges (λ x. IsKnownWord (scan_of x)) (v (name.Scan i)) _ _ (w.each (name.Scan i) n) (scan_known (Drawn l.rebalance.drawn) k.ranges.rebalance.drawn), tt)
   written SeekFirst o k n c g = absurd o
   written TakeRow o k n c g = absurd o
   written GiveBack o k n c g = absurd o
@@ -157,7 +186,7 @@ module _ (z : Sizes) (rows : ℕ) (v : Words) (s : ℕ) (choice : Choice) (l : L
       which (inr d) = let f : v' m ≡ v m = h.other m i (λ e. d (ap (place_of z.seats z.cells) e)) in (subst (IsWord z m) (sym f) (w.each m i), subst (IsLed rows m) (sym f) (w.led m i))
 
   -- all words after the event
-  pub words_sane : (a : Activity) (v' : Words) → IsReached a → IsKnownAt z rows a l → IsWithin z.seats z.cells rows (transition z a s choice l).operation.name → v name.Clock + 1 < VERSION_END → ((q : ℕ) → q < rows → given_in v q + 1 < GIVEN_END) → Changed z rows v v' (transition z a s choice l) → AreSane z rows v'
+  pub words_sane : (a : Activity) (v' : Words) → IsReached z a → IsKnownAt z rows a l → IsWithin z.seats z.cells rows (transition z a s choice l).operation.name → v name.Clock + 1 < VERSION_END → ((q : ℕ) → q < rows → given_in v q + 1 < GIVEN_END) → Changed z rows v v' (transition z a s choice l) → AreSane z rows v'
   words_sane a v' o k n c g h =
       let each = each_word v' (transition z a s choice l) (written a o k n c g) n h in
       record { sized = w.sized; each = λ m i. (each m i).0; led = λ m i. (each m i).1 }

@@ -1,12 +1,12 @@
 -- What the acting seat knows stays in range, by the arrow that it takes.
-use Rattle.std.proofs.Common.{ℕ, ◌≡◌, ◌+◌, ◌-◌, ◌<◌, ◌≤◌, ◌==◌, nat_le, Bool, true, false, if◌then◌else◌, Option, Some, None, List, [], ◌∷◌, ◌++◌, arith, refl, subst, All, length, length-append}
+use Rattle.std.proofs.Common.{ℕ, ◌≡◌, ◌+◌, ◌-◌, ◌<◌, ◌≤◌, ◌==◌, nat_le, nat_lt, Bool, true, false, if◌then◌else◌, Option, Some, None, List, [], ◌∷◌, ◌++◌, arith, refl, subst, All, length, length-append}
 use Rattle.std.proofs.lemmas.List.Elements.{All-nil, All-append, All-cons}
 use Rattle.std.proofs.Math.Nat.{min-le_right}
 use Rattle.kw_words.specs.declared.layout.Name.{Name}
 use Rattle.kw_words.specs.declared.layout.Name.TheVariants as name
 use Rattle.kw_words.specs.declared.pend.Pend.{Pend}
 use Rattle.kw_words.specs.declared.pend.Pend.TheVariants as pend
-use Rattle.kw_words.specs.declared.sizes.TheConstants.{KEY_END, MOST_CELLS}
+use Rattle.kw_words.specs.declared.sizes.TheConstants.{KEY_END, MOST_CELLS, MOST_GROUP}
 use Rattle.std.proofs.lemmas.Bool.Decides.{nat_tests}
 use Rattle.kw_world.specs.ListTransitions.{link_name}
 use Rattle.kw_words.specs.Layout.{IsSized, IsWithin}
@@ -16,7 +16,10 @@ use Rattle.kw_words.specs.Link.{link_of}
 use Rattle.kw_words.specs.Plain.{IsValue, key_of_word, value_of_word, cell_of_link_word}
 use Rattle.kw_words.proofs.PlainWords.{key_of_word-below}
 use Rattle.kw_cells.specs.Cells.{pairs_of}
+use Rattle.kw_words.specs.declared.link.Link.{Link}
 use Rattle.kw_world.specs.declared.answer.Answer.{Answer}
+use Rattle.kw_world.specs.declared.answer.Answer.TheVariants.{NoRows, Spent}
+use Rattle.kw_world.specs.EngageTransitions.{again, followed_by, refuse, to_rebalance}
 use Rattle.kw_world.specs.declared.activity.Activity.{Activity}
 use Rattle.kw_world.specs.declared.activity.Activity.TheVariants.{Idle, Walk, WalkMin, Look, PutCount, Again, AgainEpoch, BalClock, BalEpoch, BalState, BalNormal, Engage, MarkLink, Decide, FreezeCount, FreezeLook, Freeze, ScanLook, HelpDraw, HelpSettle, TakeFrom, TakeKey, TakeVersion, TakeValue, TakeRestKey, TakeRestValue, SeekFirst, Seek, TakeRow, GiveBack, WriteCount, WriteMin, WriteNext, WriteFirst, WritePend, WriteKey, WriteValue, WriteVersion, WriteAfter, Before, BeforeGuess, BeforeHead, BeforeLink, BeforeMin, Replace, Normalise, Number, Retire}
 use Rattle.kw_world.specs.declared.limits.TheConstants.{NEWEST}
@@ -26,17 +29,24 @@ use Rattle.kw_world.specs.declared.rebalance.Rebalance.{Rebalance}
 use Rattle.kw_core.specs.Stages.{IsReached}
 use Rattle.kw_world.specs.declared.event.Choice.{Choice}
 use Rattle.kw_world.specs.Sizes.{Sizes}
-use Rattle.kw_world.specs.Marks.{mark_of, unmarked}
+use Rattle.kw_world.specs.Marks.{least_mark, mark_of, unmarked}
 use Rattle.kw_world.specs.Calls.{first_key, last_key}
 use Rattle.kw_world.specs.Transition.{row_linked, row_or_first, leave}
-use Rattle.kw_world.specs.ReadTransitions.{with_pairs, gathering, remembering}
-use Rattle.kw_world.specs.Sane.{IsVersion, IsEntry, IsWord, IsLed, IsOffered, IsPair, IsAnswer, IsMark, IsCopy, IsActivity, IsRowBelow, IsCellBelow, IsLocal, IsLocalBelow, IsKnown, HasRebalanceRoom, marks_by}
-use Rattle.kw_world.proofs.Opens.{rests_known}
+use Rattle.kw_cells.specs.InOrder.{with_cell}
+use Rattle.kw_words.specs.declared.scan.ScanWord.TheVariants as scan
+use Rattle.kw_words.proofs.ScanWords.{IsScan-scan_of}
+use Rattle.kw_world.specs.FreezeTransitions.{needing, to_scans}
+use Rattle.kw_world.specs.TakeTransitions.{keeping, to_take}
+use Rattle.kw_world.specs.ReadTransitions.{cell_in_hand, with_pairs, gathering, remembering}
+use Rattle.kw_world.specs.Sane.{IsVersion, IsEntry, IsWord, IsLed, IsOffered, IsPair, IsAnswer, IsMark, IsCopy, IsActivity, IsRowBelow, IsLinkBelow, IsRowState, IsCellBelow, IsLocal, IsLocalBelow, IsKnown, HasRebalanceRoom, marks_by}
+use Rattle.kw_world.proofs.Opens.{none_below, none_ranges, none_room, rests_known}
 use Rattle.kw_core.specs.Words.{Words}
 use Rattle.kw_core.proofs.Events.{IsBegun}
 use Rattle.kw_core.proofs.RoomBelow.{room_below}
-use Rattle.kw_core.proofs.InRange.{unmarked_in_range, unmarked_few, least_holds, version_in_hand, gathered_in_range, gathered_few, version_of_scan, answer_in_range, pairs_in_range, value_in_range, first_in_range, last_in_range, linked_in_range, stopped_in_range}
-use Rattle.kw_core.proofs.Arrows.{Arrow, begins, enters, is_spent, waits, draws, settles_empty, settles, starts_at_head, guesses, takes_head, guess_serves, stops, puts_in_last, reads_last, meets_next, walks_on, puts_before, reads_before, meets_pending, meets_stamped, meets_neither, is_passed, loads_to_help, helps, finds_stamped, finds_other, list_leads, list_ends, key_below, key_within, key_above, loads_version, gathers_listed, rest_wanted, rest_passed, gathers_rest, clears_scan, finds_none, takes_cell, takes_none, is_refused, loads_clock, is_stamped, is_not_own, stores_version, meets_cell, meets_none, key_before, version_before, loses, clears, leaves, NextLook, looks, lists, NextRest, rests, answers, ends_scan, scans_on}
+use Rattle.kw_core.proofs.InRange.{unmarked_in_range, unmarked_few, least_holds, version_in_hand, gathered_in_range, gathered_few, version_of_scan, answer_in_range, pairs_in_range, value_in_range, first_in_range, last_in_range, linked_in_range, stopped_in_range, with_cell_in_range}
+use Rattle.kw_cells.proofs.InOrder.{length-with_cell}
+use Rattle.kw_core.proofs.Arrows.{Arrow, begins, enters, is_spent, waits, draws, settles_empty, settles, starts_at_head, guesses, takes_head, guess_serves, stops, puts_in_last, reads_last, meets_next, walks_on, puts_before, reads_before, meets_pending, meets_stamped, meets_neither, is_passed, loads_to_help, helps, finds_stamped, finds_other, list_leads, list_ends, key_below, key_within, key_above, loads_version, gathers_listed, rest_wanted, rest_passed, gathers_rest, clears_scan, finds_none, takes_cell, takes_none, is_refused, loads_clock, is_stamped, is_not_own, stores_version, meets_cell, meets_none, key_before, version_before, loses, clears, leaves, enters_again, clock_is_spent, epoch_is_spent, finds_infant, finds_leader, finds_other_state, engages, marks_link, marks_led, decides, decides_last, decides_not, marks_last, finds_full, takes_full, announces_full, stamps_full, NextLook, looks, lists, NextRest, rests, answers, ends_scan, scans_on, freezes_count, meets_idle, meets_unstamped, remembers, remembers_last, meets_frozen, meets_frozen_last, freezes_entry, freezes_last, looks_again, meets_quiet, meets_quiet_last, helps_scan, meets_drawn, meets_drawn_last, draws_for, settles_scan, settles_last, finds_drawn, finds_drawn_last, finds_no_scan, finds_no_scan_last, take_leads, takes_left, takes_no_more, takes_last, takes_key, takes_version, keeps_taken, takes_left_key, keeps_left, keeps_no_more, keeps_last, goes_no_further, below, builds}
+use Rattle.kw_core.proofs.Building.{never_built}
 
 -- all words of a table are in range
 pub record AreSane (z : Sizes) (rows : ℕ) (v : Words) : Type 0 where
@@ -68,52 +78,36 @@ at_activity z rows a l e k = record {
   rebalance = subst (λ q. HasRebalanceRoom z q l.rebalance) e k.room.rebalance;
 }
 
--- a seat that may come to its activity does not rebalance
-lists_of : (z : Sizes) (a : Activity) (b : Rebalance) → IsReached a → HasRebalanceRoom z a b → HasRebalanceRoom z Idle b
-lists_of z Again b o k = absurd o
-lists_of z AgainEpoch b o k = absurd o
-lists_of z BalClock b o k = absurd o
-lists_of z BalEpoch b o k = absurd o
-lists_of z BalState b o k = absurd o
-lists_of z (BalNormal seat) b o k = absurd o
-lists_of z Engage b o k = absurd o
-lists_of z (MarkLink count) b o k = absurd o
-lists_of z (Decide count) b o k = absurd o
-lists_of z FreezeCount b o k = absurd o
-lists_of z (FreezeLook i) b o k = absurd o
-lists_of z (Freeze i) b o k = absurd o
-lists_of z (ScanLook i) b o k = absurd o
-lists_of z (HelpDraw i) b o k = absurd o
-lists_of z (HelpSettle i) b o k = absurd o
-lists_of z TakeFrom b o k = absurd o
-lists_of z TakeKey b o k = absurd o
-lists_of z TakeVersion b o k = absurd o
-lists_of z TakeValue b o k = absurd o
-lists_of z TakeRestKey b o k = absurd o
-lists_of z TakeRestValue b o k = absurd o
-lists_of z SeekFirst b o k = absurd o
-lists_of z Seek b o k = absurd o
-lists_of z TakeRow b o k = absurd o
-lists_of z GiveBack b o k = absurd o
-lists_of z WriteCount b o k = absurd o
-lists_of z WriteMin b o k = absurd o
-lists_of z WriteNext b o k = absurd o
-lists_of z WriteFirst b o k = absurd o
-lists_of z (WritePend i) b o k = absurd o
-lists_of z (WriteKey j) b o k = absurd o
-lists_of z (WriteValue j) b o k = absurd o
-lists_of z (WriteVersion j) b o k = absurd o
-lists_of z (WriteAfter j) b o k = absurd o
-lists_of z Before b o k = absurd o
-lists_of z BeforeGuess b o k = absurd o
-lists_of z BeforeHead b o k = absurd o
-lists_of z BeforeLink b o k = absurd o
-lists_of z BeforeMin b o k = absurd o
-lists_of z Replace b o k = absurd o
-lists_of z Normalise b o k = absurd o
-lists_of z Number b o k = absurd o
-lists_of z Retire b o k = absurd o
-lists_of z _ b o k = record { marks = k.marks; needed = k.needed; gathered = k.gathered; taken = λ t. absurd t }
+-- the lists of a rebalance have room at every activity to which a seat may come
+lists_of : (z : Sizes) (a : Activity) (b : Rebalance) → IsReached z a → IsActivity z a → HasRebalanceRoom z a b → HasRebalanceRoom z Idle b
+lists_of z (FreezeLook i) b o y k = record { marks = omega (arith, k.marks, y); needed = k.needed; gathered = k.gathered; taken = λ t. absurd t }
+lists_of z (Freeze i) b o y k = record { marks = omega (arith, k.marks, y); needed = k.needed; gathered = k.gathered; taken = λ t. absurd t }
+lists_of z (ScanLook i) b o y k = record { marks = k.marks; needed = omega (arith, k.needed, y); gathered = k.gathered; taken = λ t. absurd t }
+lists_of z (HelpDraw i) b o y k = record { marks = k.marks; needed = omega (arith, k.needed, y); gathered = k.gathered; taken = λ t. absurd t }
+lists_of z (HelpSettle i) b o y k = record { marks = k.marks; needed = omega (arith, k.needed, y); gathered = k.gathered; taken = λ t. absurd t }
+lists_of z SeekFirst b o y k = absurd o
+lists_of z Seek b o y k = absurd o
+lists_of z TakeRow b o y k = absurd o
+lists_of z GiveBack b o y k = absurd o
+lists_of z WriteCount b o y k = absurd o
+lists_of z WriteMin b o y k = absurd o
+lists_of z WriteNext b o y k = absurd o
+lists_of z WriteFirst b o y k = absurd o
+lists_of z (WritePend i) b o y k = absurd o
+lists_of z (WriteKey j) b o y k = absurd o
+lists_of z (WriteValue j) b o y k = absurd o
+lists_of z (WriteVersion j) b o y k = absurd o
+lists_of z (WriteAfter j) b o y k = absurd o
+lists_of z Before b o y k = absurd o
+lists_of z BeforeGuess b o y k = absurd o
+lists_of z BeforeHead b o y k = absurd o
+lists_of z BeforeLink b o y k = absurd o
+lists_of z BeforeMin b o y k = absurd o
+lists_of z Replace b o y k = absurd o
+lists_of z Normalise b o y k = absurd o
+lists_of z Number b o y k = absurd o
+lists_of z Retire b o y k = absurd o
+lists_of z _ b o y k = record { marks = k.marks; needed = k.needed; gathered = k.gathered; taken = λ t. absurd t }
 
 -- the entry that was met
 entry : (z : Sizes) (rows : ℕ) (v : Words) (l : Local) → AreSane z rows v → (i : ℕ) (x : Pend) → l.row < rows → i < z.seats → pend_of (v (name.Pend l.row i)) ≡ Some x → IsEntry z (Some x)
@@ -213,20 +207,118 @@ module _ (z : Sizes) (rows : ℕ) (l : Local) (sized : IsSized z.seats z.cells r
       let zero_key : 0 < KEY_END = omega arith in
       assumption (k, b, u, g, x, p, t, zero_key)
 
+  -- a seat that forgets what it knew of a rebalance: it is refused, tries again, or begins one
+  is_refusing : (answer : Answer) → IsAnswer answer → IsLocal z l → IsLocalBelow rows l → length l.remembered ≤ z.seats → length l.gathered ≤ z.cells → IsKnown z rows (refuse answer l).local
+  is_refusing answer y k b m g =
+      let o : 0 < rows = omega (arith, sized.some_rows) in
+      let zero_key : 0 < KEY_END = omega arith in
+      let n = none_ranges z in
+      let p = none_below rows o in
+      let q = none_room z Idle (λ t. t) in
+      assumption (k, b, y, m, g, o, zero_key, n, p, q)
+
+  tries_again : IsLocal z l → IsLocalBelow rows l → length l.remembered ≤ z.seats → length l.gathered ≤ z.cells → IsKnown z rows (again l).local
+  tries_again k b m g =
+      let o : 0 < rows = omega (arith, sized.some_rows) in
+      let zero_key : 0 < KEY_END = omega arith in
+      let n = none_ranges z in
+      let p = none_below rows o in
+      let q = none_room z Again (λ t. t) in
+      assumption (k, b, m, g, o, zero_key, n, p, q)
+
+  is_balancing : IsLocal z l → IsLocalBelow rows l → length l.remembered ≤ z.seats → length l.gathered ≤ z.cells → IsKnown z rows (to_rebalance l).local
+  is_balancing k b m g =
+      let n = none_ranges z in
+      let p = none_below rows (omega (arith, sized.some_rows)) in
+      let q = none_room z BalClock (λ t. t) in
+      assumption (k, b, m, g, n, p, q)
+
+-- What a seat knows that freezes and gathers.
+
+-- one more mark
+one_more_mark : (j c version : ℕ) (marks : List Mark) → length marks ≤ j → length (marks ++ mark_of c version ∷ []) ≤ j + 1
+one_more_mark j c version marks o = omega (arith, length-append marks (mark_of c version ∷ []), o)
+
+-- a seat that has frozen all entries
+looks_at_scans : (z : Sizes) (rows : ℕ) (l : Local) → IsSized z.seats z.cells rows → IsLocal z l → IsLocalBelow rows l → length l.remembered ≤ z.seats → length l.gathered ≤ z.cells → length l.rebalance.gathered ≤ z.cells → length l.rebalance.marks ≤ z.seats → IsKnown z rows (to_scans l).local
+looks_at_scans z rows l sized k b m g x y =
+    let never : ⊥ → length l.rebalance.taken < length l.rebalance.starts = λ t. absurd t in
+    let o : 0 < z.seats = omega (arith, sized.some_seats) in
+    let none : 0 ≤ 0 = omega arith in
+    assumption (k, b, m, g, x, y, o, none, never, All-nil IsVersion)
+
+-- one that has looked at all scans
+begins_to_take : (z : Sizes) (rows : ℕ) (l : Local) → IsLocal z l → IsLocalBelow rows l → length l.remembered ≤ z.seats → length l.gathered ≤ z.cells → length l.rebalance.marks ≤ z.seats → length l.rebalance.needed ≤ z.seats → IsKnown z rows (to_take l).local
+begins_to_take z rows l k b m g x y =
+    let never : ⊥ → length l.rebalance.taken < length l.rebalance.starts = λ t. absurd t in
+    let none : 0 ≤ z.cells = omega arith in
+    assumption (k, b, m, g, x, y, none, never, All-nil IsCopy)
+
+-- one more version is needed
+needs : (z : Sizes) (l : Local) (version : ℕ) → IsLocal z l → IsVersion version → All IsVersion (l.rebalance.needed ++ version ∷ [])
+needs z l version k u = All-append IsVersion l.rebalance.needed (version ∷ []) k.rebalance.needed (All-cons IsVersion version [] u (All-nil IsVersion))
+
+needs_more : (z : Sizes) (rows : ℕ) (l : Local) (j version : ℕ) → j + 1 < z.seats → IsLocal z l → IsLocalBelow rows l → length l.remembered ≤ z.seats → length l.gathered ≤ z.cells → length l.rebalance.marks ≤ z.seats → length l.rebalance.gathered ≤ z.cells → length l.rebalance.needed ≤ j → IsVersion version →
+    IsKnown z rows (record (needing version l) { activity = ScanLook (j + 1) })
+needs_more z rows l j version o k b m g x y n u =
+    let never : ⊥ → length l.rebalance.taken < length l.rebalance.starts = λ t. absurd t in
+    let p = needs z l version k u in
+    let q : length (l.rebalance.needed ++ version ∷ []) ≤ j + 1 = omega (arith, length-append l.rebalance.needed (version ∷ []), n) in
+    assumption (k, b, m, g, x, y, p, q, o, never)
+
+needs_last : (z : Sizes) (rows : ℕ) (l : Local) (j version : ℕ) → j < z.seats → IsLocal z l → IsLocalBelow rows l → length l.remembered ≤ z.seats → length l.gathered ≤ z.cells → length l.rebalance.marks ≤ z.seats → length l.rebalance.needed ≤ j → IsVersion version → IsKnown z rows (to_take (needing version l)).local
+needs_last z rows l j version o k b m g x n u =
+    let never : ⊥ → length l.rebalance.taken < length l.rebalance.starts = λ t. absurd t in
+    let p = needs z l version k u in
+    let q : length (l.rebalance.needed ++ version ∷ []) ≤ z.seats = omega (arith, length-append l.rebalance.needed (version ∷ []), n, o) in
+    let none : 0 ≤ z.cells = omega arith in
+    assumption (k, b, m, g, x, p, q, none, never, All-nil IsCopy)
+
+-- a remembered cell is read
+left_known : (z : Sizes) (rows : ℕ) (l : Local) (m : Mark) → least_mark l.rebalance.marks ≡ Some m → IsLocal z l → IsLocalBelow rows l → length l.remembered ≤ z.seats → length l.gathered ≤ z.cells → HasRebalanceRoom z TakeFrom l.rebalance →
+    IsKnown z rows (record l { place = m.cell; place_version = m.version; rebalance = record l.rebalance { marks = unmarked m.cell l.rebalance.marks }; activity = TakeRestKey })
+left_known z rows l m o k b u g x =
+    let f = least_holds (IsMark z) l.rebalance.marks m o k.rebalance.marks in
+    let marks = unmarked_in_range (IsMark z) m.cell l.rebalance.marks k.rebalance.marks in
+    let few : length (unmarked m.cell l.rebalance.marks) ≤ z.seats = omega (arith, unmarked_few m.cell l.rebalance.marks, x.marks) in
+    assumption (k, b, f, marks, few, u, g, x)
+
+-- a cell is gathered for the new rows
+kept_more : (z : Sizes) (value : Option ℕ) (l : Local) → IsValue value → IsLocal z l → length l.rebalance.gathered ≤ z.cells → IsLocal z (keeping z value l) × (length (keeping z value l).rebalance.gathered ≤ z.cells)
+kept_more z value l u k n = (let a = kept_in_range (nat_lt (length l.rebalance.gathered) z.cells) in assumption (k, a), few (nat_lt (length l.rebalance.gathered) z.cells) refl)
+  where
+    kept_in_range : (b : Bool) → All IsCopy (if b then with_cell (cell_in_hand value l) l.rebalance.gathered else l.rebalance.gathered)
+    kept_in_range true = with_cell_in_range IsCopy (cell_in_hand value l) l.rebalance.gathered (k.place_key, k.place_version, u) k.rebalance.gathered
+    kept_in_range false = k.rebalance.gathered
+
+    few : (b : Bool) → nat_lt (length l.rebalance.gathered) z.cells ≡ b → length (if b then with_cell (cell_in_hand value l) l.rebalance.gathered else l.rebalance.gathered) ≤ z.cells
+    few true e = let w : length l.rebalance.gathered < z.cells = below _ _ e in omega (arith, w, length-with_cell (cell_in_hand value l) l.rebalance.gathered)
+    few false e = n
+
+-- the row to which a link leads is one of the table
+row_below : (rows : ℕ) (link : Option Link) → IsLinkBelow rows link → IsRowBelow rows (row_linked link)
+row_below rows (Some link) b = b
+row_below rows None b = tt
+
+-- a seat that knows the row after its own
+follows_known : (z : Sizes) (rows : ℕ) (after : Option ℕ) (l : Local) → IsRowBelow rows after → IsLocal z l → IsLocalBelow rows l → IsLocal z (followed_by after l) × IsLocalBelow rows (followed_by after l)
+follows_known z rows after l o k b = (assumption k, assumption (b, o))
+
 -- by the arrow that the seat takes
-pub known_by : (z : Sizes) (rows : ℕ) (v : Words) (s : ℕ) (choice : Choice) (l : Local) (a : Activity) (l' : Local) → Arrow z v s choice l a l' → AreSane z rows v → row_or_first (row_linked (link_of (v name.Head))) < rows → s < z.seats → IsBegun a choice → IsOffered rows choice → IsKnownAt z rows a l → IsReached a → IsKnown z rows l'
+pub known_by : (z : Sizes) (rows : ℕ) (v : Words) (s : ℕ) (choice : Choice) (l : Local) (a : Activity) (l' : Local) → Arrow z v s choice l a l' → AreSane z rows v → row_or_first (row_linked (link_of (v name.Head))) < rows → s < z.seats → IsBegun a choice → IsOffered rows choice → IsKnownAt z rows a l → IsReached z a → IsKnown z rows l'
+known_by z rows v s choice l a l' (builds x next y o t) w c u b i k r = never_built z x y o
 known_by z rows v s choice l a l' (begins call e g) w c t b i k r = let y = w.each name.Epoch tt in assumption (k, y, g)
 known_by z rows v s choice l a l' (enters y) w c t b i k r = let f = first_in_range l.call k.ranges.call in assumption (k, f)
-known_by z rows v s choice l a l' (is_spent y) w c t b i k r = is_leaving z rows l w.sized _ tt k.ranges k.below k.remembered k.gathered (lists_of z _ l.rebalance r k.rebalance)
+known_by z rows v s choice l a l' (is_spent y) w c t b i k r = is_leaving z rows l w.sized _ tt k.ranges k.below k.remembered k.gathered (lists_of z _ l.rebalance r k.activity k.rebalance)
 known_by z rows v s choice l a l' (waits y) w c t b i k r = let u = w.each name.Clock tt in assumption (k, u)
 known_by z rows v s choice l a l' draws w c t b i k r = let u = w.each name.Clock tt in assumption (k, u)
 known_by z rows v s choice l a l' (settles_empty y) w c t b i k r = let u = version_of_scan (v (name.Scan s)) l.drawn k.ranges.drawn in assumption (k, u)
 known_by z rows v s choice l a l' (settles y) w c t b i k r = let u = version_of_scan (v (name.Scan s)) l.drawn k.ranges.drawn in let f = first_in_range l.call k.ranges.call in assumption (k, u, f)
-known_by z rows v s choice l a l' starts_at_head w c t b i k r = takes_first z rows l w.sized v c k.ranges k.below k.remembered k.gathered (lists_of z _ l.rebalance r k.rebalance)
+known_by z rows v s choice l a l' starts_at_head w c t b i k r = takes_first z rows l w.sized v c k.ranges k.below k.remembered k.gathered (lists_of z _ l.rebalance r k.activity k.rebalance)
 known_by z rows v s choice l a l' (guesses q y n) w c t b i k r = let o : q < rows = subst (IsOffered rows) y i in assumption (k, o)
-known_by z rows v s choice l a l' takes_head w c t b i k r = takes_first z rows l w.sized v c k.ranges k.below k.remembered k.gathered (lists_of z _ l.rebalance r k.rebalance)
+known_by z rows v s choice l a l' takes_head w c t b i k r = takes_first z rows l w.sized v c k.ranges k.below k.remembered k.gathered (lists_of z _ l.rebalance r k.activity k.rebalance)
 known_by z rows v s choice l a l' (guess_serves o) w c t b i k r = let u = key_of_word-below (v (name.Min l.row)) in assumption (k, u)
-known_by z rows v s choice l a l' (stops y) w c t b i k r = is_leaving z rows l w.sized _ tt k.ranges k.below k.remembered k.gathered (lists_of z _ l.rebalance r k.rebalance)
+known_by z rows v s choice l a l' (stops y) w c t b i k r = is_leaving z rows l w.sized _ tt k.ranges k.below k.remembered k.gathered (lists_of z _ l.rebalance r k.activity k.rebalance)
 known_by z rows v s choice l a l' (puts_in_last y n) w c t b i k r = puts_last z rows l w.sized k
 known_by z rows v s choice l a l' (reads_last y n) w c t b i k r = comes_last z rows l w.sized k
 known_by z rows v s choice l a l' (meets_next q n) w c t b i k r = let o = linked_in_range rows q (link_of (v (name.Next l.row))) (w.led (name.Next l.row) k.below.row) n in assumption (k, o)
@@ -234,23 +326,23 @@ known_by z rows v s choice l a l' (walks_on o) w c t b i k r = let u = key_of_wo
 known_by z rows v s choice l a l' (puts_before y o) w c t b i k r = let u = key_of_word-below (v (name.Min l.candidate)) in assumption (k, u)
 known_by z rows v s choice l a l' (reads_before y o) w c t b i k r = comes_before z rows l w.sized (key_of_word (v (name.Min l.candidate))) (key_of_word-below (v (name.Min l.candidate))) k
 known_by z rows v s choice l a l' (meets_pending j x y) w c t b i k r = let u : x < z.cells = entry z rows v l w j (pend.Pending x) k.below.row k.activity y in assumption (k, u)
-known_by z rows v s choice l a l' (meets_stamped j x version next y n) w c t b i k r = let u = entry z rows v l w j (pend.Stamped x version) k.below.row k.activity y in look_marks z rows l w.sized j x version next n k.ranges k.below k.remembered k.activity k.gathered (lists_of z _ l.rebalance r k.rebalance) u.0 u.1
-known_by z rows v s choice l a l' (meets_neither j next y n) w c t b i k r = next_look z rows l w.sized (j + 1) next n k.ranges k.below (omega (arith, k.remembered)) (omega (arith, k.remembered, k.activity)) k.gathered (lists_of z _ l.rebalance r k.rebalance)
-known_by z rows v s choice l a l' (is_passed next y n) w c t b i k r = next_look z rows l w.sized (l.looked + 1) next n k.ranges k.below (omega (arith, k.remembered)) (omega (arith, k.remembered, k.ranges.looked)) k.gathered (lists_of z _ l.rebalance r k.rebalance)
+known_by z rows v s choice l a l' (meets_stamped j x version next y n) w c t b i k r = let u = entry z rows v l w j (pend.Stamped x version) k.below.row k.activity y in look_marks z rows l w.sized j x version next n k.ranges k.below k.remembered k.activity k.gathered (lists_of z _ l.rebalance r k.activity k.rebalance) u.0 u.1
+known_by z rows v s choice l a l' (meets_neither j next y n) w c t b i k r = next_look z rows l w.sized (j + 1) next n k.ranges k.below (omega (arith, k.remembered)) (omega (arith, k.remembered, k.activity)) k.gathered (lists_of z _ l.rebalance r k.activity k.rebalance)
+known_by z rows v s choice l a l' (is_passed next y n) w c t b i k r = next_look z rows l w.sized (l.looked + 1) next n k.ranges k.below (omega (arith, k.remembered)) (omega (arith, k.remembered, k.ranges.looked)) k.gathered (lists_of z _ l.rebalance r k.activity k.rebalance)
 known_by z rows v s choice l a l' loads_to_help w c t b i k r = let u = w.each name.Clock tt in assumption (k, u)
-known_by z rows v s choice l a l' (helps next y n) w c t b i k r = look_marks z rows l w.sized l.looked l.met l.helping next n k.ranges k.below k.remembered k.ranges.looked k.gathered (lists_of z _ l.rebalance r k.rebalance) k.ranges.met k.ranges.helping
-known_by z rows v s choice l a l' (finds_stamped x version next y n) w c t b i k r = let u = entry z rows v l w l.looked (pend.Stamped x version) k.below.row k.ranges.looked y in look_marks z rows l w.sized l.looked x version next n k.ranges k.below k.remembered k.ranges.looked k.gathered (lists_of z _ l.rebalance r k.rebalance) u.0 u.1
-known_by z rows v s choice l a l' (finds_other next y n) w c t b i k r = next_look z rows l w.sized (l.looked + 1) next n k.ranges k.below (omega (arith, k.remembered)) (omega (arith, k.remembered, k.ranges.looked)) k.gathered (lists_of z _ l.rebalance r k.rebalance)
+known_by z rows v s choice l a l' (helps next y n) w c t b i k r = look_marks z rows l w.sized l.looked l.met l.helping next n k.ranges k.below k.remembered k.ranges.looked k.gathered (lists_of z _ l.rebalance r k.activity k.rebalance) k.ranges.met k.ranges.helping
+known_by z rows v s choice l a l' (finds_stamped x version next y n) w c t b i k r = let u = entry z rows v l w l.looked (pend.Stamped x version) k.below.row k.ranges.looked y in look_marks z rows l w.sized l.looked x version next n k.ranges k.below k.remembered k.ranges.looked k.gathered (lists_of z _ l.rebalance r k.activity k.rebalance) u.0 u.1
+known_by z rows v s choice l a l' (finds_other next y n) w c t b i k r = next_look z rows l w.sized (l.looked + 1) next n k.ranges k.below (omega (arith, k.remembered)) (omega (arith, k.remembered, k.ranges.looked)) k.gathered (lists_of z _ l.rebalance r k.activity k.rebalance)
 known_by z rows v s choice l a l' (list_leads x y) w c t b i k r =
     let u : x < z.cells = linked_below (v (link_name l.row l.link)) x z.cells y (link_below z rows v w l.row l.link k.ranges.link k.below.row) in
     let o = min-le_right (l.walked + 1) z.cells in
     let marks = unmarked_in_range (IsMark z) x l.remembered k.ranges.marks in
     let few : length (unmarked x l.remembered) ≤ z.seats = omega (arith, unmarked_few x l.remembered, k.remembered) in
     assumption (k, u, o, marks, few)
-known_by z rows v s choice l a l' (list_ends next y n) w c t b i k r = next_cell z rows l w.sized next n k.ranges k.below k.remembered k.gathered (lists_of z _ l.rebalance r k.rebalance)
+known_by z rows v s choice l a l' (list_ends next y n) w c t b i k r = next_cell z rows l w.sized next n k.ranges k.below k.remembered k.gathered (lists_of z _ l.rebalance r k.activity k.rebalance)
 known_by z rows v s choice l a l' (key_below y) w c t b i k r = assumption k
 known_by z rows v s choice l a l' (key_within y o) w c t b i k r = let u = key_of_word-below (v (name.Key l.row l.place)) in assumption (k, u)
-known_by z rows v s choice l a l' (key_above next y n) w c t b i k r = next_cell z rows l w.sized next n k.ranges k.below k.remembered k.gathered (lists_of z _ l.rebalance r k.rebalance)
+known_by z rows v s choice l a l' (key_above next y n) w c t b i k r = next_cell z rows l w.sized next n k.ranges k.below k.remembered k.gathered (lists_of z _ l.rebalance r k.activity k.rebalance)
 known_by z rows v s choice l a l' loads_version w c t b i k r = let u = version_in_hand (v (name.Version l.row l.place)) (w.each (name.Version l.row l.place) (k.below.row, k.ranges.place)) in assumption (k, u)
 known_by z rows v s choice l a l' gathers_listed w c t b i k r =
     let u = value_in_range (v (name.Value l.row l.place)) (w.each (name.Value l.row l.place) (k.below.row, k.ranges.place)) in
@@ -258,18 +350,22 @@ known_by z rows v s choice l a l' gathers_listed w c t b i k r =
     let g = gathered_few z (value_of_word (v (name.Value l.row l.place))) l k.gathered in
     assumption (k, m, g)
 known_by z rows v s choice l a l' (rest_wanted y) w c t b i k r = let u = key_of_word-below (v (name.Key l.row l.place)) in assumption (k, u)
-known_by z rows v s choice l a l' (rest_passed next y n) w c t b i k r = next_cell z rows l w.sized next n k.ranges k.below k.remembered k.gathered (lists_of z _ l.rebalance r k.rebalance)
+known_by z rows v s choice l a l' (rest_passed next y n) w c t b i k r = next_cell z rows l w.sized next n k.ranges k.below k.remembered k.gathered (lists_of z _ l.rebalance r k.activity k.rebalance)
 known_by z rows v s choice l a l' (gathers_rest next n) w c t b i k r =
     let u = value_in_range (v (name.Value l.row l.place)) (w.each (name.Value l.row l.place) (k.below.row, k.ranges.place)) in
-    next_cell z rows (gathering z (value_of_word (v (name.Value l.row l.place))) l) w.sized next n (gathered_more z _ l u k.ranges) (assumption k) k.remembered (gathered_few z (value_of_word (v (name.Value l.row l.place))) l k.gathered) (lists_of z _ l.rebalance r k.rebalance)
-known_by z rows v s choice l a l' (clears_scan answer) w c t b i k r = is_leaving z rows l w.sized _ (stopped_in_range answer choice k.activity) k.ranges k.below k.remembered k.gathered (lists_of z _ l.rebalance r k.rebalance)
-known_by z rows v s choice l a l' (finds_none y) w c t b i k r = is_leaving z rows l w.sized _ tt k.ranges k.below k.remembered k.gathered (lists_of z _ l.rebalance r k.rebalance)
+    next_cell z rows (gathering z (value_of_word (v (name.Value l.row l.place))) l) w.sized next n (gathered_more z _ l u k.ranges) (assumption k) k.remembered (gathered_few z (value_of_word (v (name.Value l.row l.place))) l k.gathered) (lists_of z _ l.rebalance r k.activity k.rebalance)
+known_by z rows v s choice l a l' (clears_scan answer) w c t b i k r = is_leaving z rows l w.sized _ (stopped_in_range answer choice k.activity) k.ranges k.below k.remembered k.gathered (lists_of z _ l.rebalance r k.activity k.rebalance)
+known_by z rows v s choice l a l' (finds_none y e) w c t b i k r = is_leaving z rows l w.sized _ tt k.ranges k.below k.remembered k.gathered (lists_of z _ l.rebalance r k.activity k.rebalance)
+known_by z rows v s choice l a l' (finds_full y e) w c t b i k r = is_balancing z rows l w.sized k.ranges k.below k.remembered k.gathered
 known_by z rows v s choice l a l' (takes_cell y) w c t b i k r = let u = room_below z (count_of (v (name.Count l.row))) y in assumption (k, u)
-known_by z rows v s choice l a l' (takes_none y) w c t b i k r = is_leaving z rows l w.sized _ tt k.ranges k.below k.remembered k.gathered (lists_of z _ l.rebalance r k.rebalance)
-known_by z rows v s choice l a l' (is_refused y) w c t b i k r = is_leaving z rows l w.sized _ tt k.ranges k.below k.remembered k.gathered (lists_of z _ l.rebalance r k.rebalance)
+known_by z rows v s choice l a l' (takes_none y e) w c t b i k r = is_leaving z rows l w.sized _ tt k.ranges k.below k.remembered k.gathered (lists_of z _ l.rebalance r k.activity k.rebalance)
+known_by z rows v s choice l a l' (takes_full y e) w c t b i k r = is_balancing z rows l w.sized k.ranges k.below k.remembered k.gathered
+known_by z rows v s choice l a l' (is_refused y e) w c t b i k r = is_leaving z rows l w.sized _ tt k.ranges k.below k.remembered k.gathered (lists_of z _ l.rebalance r k.activity k.rebalance)
+known_by z rows v s choice l a l' (announces_full y e) w c t b i k r = is_balancing z rows l w.sized k.ranges k.below k.remembered k.gathered
 known_by z rows v s choice l a l' loads_clock w c t b i k r = let u = w.each name.Clock tt in assumption (k, u)
 known_by z rows v s choice l a l' (is_stamped version y) w c t b i k r = let u = (entry z rows v l w s (pend.Stamped l.cell version) k.below.row t y).1 in assumption (k, u)
-known_by z rows v s choice l a l' (is_not_own y) w c t b i k r = is_leaving z rows l w.sized _ tt k.ranges k.below k.remembered k.gathered (lists_of z _ l.rebalance r k.rebalance)
+known_by z rows v s choice l a l' (is_not_own y e) w c t b i k r = is_leaving z rows l w.sized _ tt k.ranges k.below k.remembered k.gathered (lists_of z _ l.rebalance r k.activity k.rebalance)
+known_by z rows v s choice l a l' (stamps_full y e) w c t b i k r = is_balancing z rows l w.sized k.ranges k.below k.remembered k.gathered
 known_by z rows v s choice l a l' stores_version w c t b i k r = let o : 0 ≤ z.cells = omega arith in assumption (k, o)
 known_by z rows v s choice l a l' (meets_cell x y) w c t b i k r =
     let u : x < z.cells = linked_below (v (link_name l.row l.link)) x z.cells y (link_below z rows v w l.row l.link k.ranges.link k.below.row) in
@@ -279,6 +375,80 @@ known_by z rows v s choice l a l' (meets_none y) w c t b i k r = assumption k
 known_by z rows v s choice l a l' (key_before y) w c t b i k r = assumption k
 known_by z rows v s choice l a l' (version_before y) w c t b i k r = assumption k
 known_by z rows v s choice l a l' (loses y) w c t b i k r = let o = min-le_right (l.lost + 1) z.cells in let p : 0 ≤ z.cells = omega arith in assumption (k, o, p)
-known_by z rows v s choice l a l' clears w c t b i k r = is_leaving z rows l w.sized _ tt k.ranges k.below k.remembered k.gathered (lists_of z _ l.rebalance r k.rebalance)
+known_by z rows v s choice l a l' clears w c t b i k r = is_leaving z rows l w.sized _ tt k.ranges k.below k.remembered k.gathered (lists_of z _ l.rebalance r k.activity k.rebalance)
 known_by z rows v s choice l a l' (leaves answer) w c t b i k r = rests_known z rows l.number w.sized
+known_by z rows v s choice l a l' enters_again w c t b i k r = let y = w.each name.Epoch tt in assumption (k, y)
+known_by z rows v s choice l a l' (clock_is_spent e) w c t b i k r = is_refusing z rows l w.sized Spent tt k.ranges k.below k.remembered k.gathered
+known_by z rows v s choice l a l' (epoch_is_spent e) w c t b i k r = is_refusing z rows l w.sized Spent tt k.ranges k.below k.remembered k.gathered
+known_by z rows v s choice l a l' (finds_infant seat e) w c t b i k r = let o : seat < z.seats = subst (IsRowState z) e (w.each (name.State l.row) k.below.row) in assumption (k, o)
+known_by z rows v s choice l a l' (finds_leader count e o) w c t b i k r = let u : count ≤ MOST_GROUP = omega (arith, o) in assumption (k, u)
+known_by z rows v s choice l a l' finds_other_state w c t b i k r = tries_again z rows l w.sized k.ranges k.below k.remembered k.gathered
+known_by z rows v s choice l a l' (engages e) w c t b i k r = let u : 0 ≤ MOST_GROUP = omega arith in assumption (k, u)
+known_by z rows v s choice l a l' (marks_link count e) w c t b i k r =
+    let u : 1 ≤ MOST_GROUP = omega arith in
+    let f = follows_known z rows (row_linked (link_of (v (name.Next l.row)))) l (row_below rows (link_of (v (name.Next l.row))) (w.led (name.Next l.row) k.below.row)) k.ranges k.below in
+    assumption (f, k, u)
+known_by z rows v s choice l a l' (marks_led count e f) w c t b i k r =
+    let f = follows_known z rows (row_linked (link_of (v (name.Next l.row)))) l (row_below rows (link_of (v (name.Next l.row))) (w.led (name.Next l.row) k.below.row)) k.ranges k.below in
+    assumption (f, k)
+known_by z rows v s choice l a l' (marks_last count e f) w c t b i k r =
+    let f = follows_known z rows (row_linked (link_of (v (name.Next l.row)))) l (row_below rows (link_of (v (name.Next l.row))) (w.led (name.Next l.row) k.below.row)) k.ranges k.below in
+    is_refusing z rows (followed_by (row_linked (link_of (v (name.Next l.row)))) l) w.sized NoRows tt f.0 f.1 k.remembered k.gathered
+known_by z rows v s choice l a l' (decides count m e o f) w c t b i k r = assumption k
+known_by z rows v s choice l a l' (decides_last count m e o f) w c t b i k r = is_refusing z rows l w.sized NoRows tt k.ranges k.below k.remembered k.gathered
+known_by z rows v s choice l a l' (decides_not count) w c t b i k r = tries_again z rows l w.sized k.ranges k.below k.remembered k.gathered
+known_by z rows v s choice l a l' freezes_count w c t b i k r = let o : 0 < z.seats = omega (arith, w.sized.some_seats) in let n : 0 ≤ 0 = omega arith in assumption (k, o, n, All-nil (IsMark z))
+known_by z rows v s choice l a l' (meets_idle j e) w c t b i k r = let u : IsEntry z (Some pend.Idle) = tt in assumption (k, u)
+known_by z rows v s choice l a l' (meets_unstamped j x e) w c t b i k r = let u : x < z.cells = entry z rows v l w j (pend.Pending x) k.below.row k.activity e in assumption (k, u)
+known_by z rows v s choice l a l' (remembers j x version e o) w c t b i k r =
+    let u = entry z rows v l w j (pend.Stamped x version) k.below.row k.activity e in
+    let m = marked z l.rebalance.marks x version k.ranges.rebalance.marks u.0 u.1 in
+    let n = one_more_mark j x version l.rebalance.marks k.rebalance.marks in
+    assumption (k, m, n, o)
+known_by z rows v s choice l a l' (remembers_last j x version e o) w c t b i k r =
+    let u = entry z rows v l w j (pend.Stamped x version) k.below.row k.activity e in
+    let m = marked z l.rebalance.marks x version k.ranges.rebalance.marks u.0 u.1 in
+    let n : length (l.rebalance.marks ++ mark_of x version ∷ []) ≤ z.seats = omega (arith, one_more_mark j x version l.rebalance.marks k.rebalance.marks, k.activity) in
+    let y : 0 < z.seats = omega (arith, w.sized.some_seats) in
+    let none : 0 ≤ 0 = omega arith in
+    assumption (k, m, n, y, none, All-nil IsVersion)
+known_by z rows v s choice l a l' (meets_frozen j e o) w c t b i k r = let n : length l.rebalance.marks ≤ j + 1 = omega (arith, k.rebalance.marks) in assumption (k, n, o)
+known_by z rows v s choice l a l' (meets_frozen_last j e o) w c t b i k r = looks_at_scans z rows l w.sized k.ranges k.below k.remembered k.gathered k.rebalance.gathered (omega (arith, k.rebalance.marks, k.activity))
+known_by z rows v s choice l a l' (freezes_entry j e o) w c t b i k r = let n : length l.rebalance.marks ≤ j + 1 = omega (arith, k.rebalance.marks) in assumption (k, n, o)
+known_by z rows v s choice l a l' (freezes_last j e o) w c t b i k r = looks_at_scans z rows l w.sized k.ranges k.below k.remembered k.gathered k.rebalance.gathered (omega (arith, k.rebalance.marks, k.activity))
+known_by z rows v s choice l a l' (looks_again j e) w c t b i k r = assumption k
+known_by z rows v s choice l a l' (meets_quiet j e o) w c t b i k r = let n : length l.rebalance.needed ≤ j + 1 = omega (arith, k.rebalance.needed) in assumption (k, n, o)
+known_by z rows v s choice l a l' (meets_quiet_last j e o) w c t b i k r = begins_to_take z rows l k.ranges k.below k.remembered k.gathered k.rebalance.marks (omega (arith, k.rebalance.needed, k.activity))
+known_by z rows v s choice l a l' (helps_scan j clock e) w c t b i k r = let u : IsVersion clock = IsScan-scan_of (v (name.Scan j)) (scan.Waiting clock) e in assumption (k, u)
+known_by z rows v s choice l a l' (meets_drawn j version e o) w c t b i k r = needs_more z rows l j version o k.ranges k.below k.remembered k.gathered k.rebalance.marks k.rebalance.gathered k.rebalance.needed (IsScan-scan_of (v (name.Scan j)) (scan.Drawn version) e)
+known_by z rows v s choice l a l' (meets_drawn_last j version e o) w c t b i k r = needs_last z rows l j version k.activity k.ranges k.below k.remembered k.gathered k.rebalance.marks k.rebalance.needed (IsScan-scan_of (v (name.Scan j)) (scan.Drawn version) e)
+known_by z rows v s choice l a l' (draws_for j) w c t b i k r = let u = w.each name.Clock tt in assumption (k, u)
+known_by z rows v s choice l a l' (settles_scan j e o) w c t b i k r = needs_more z rows l j l.rebalance.drawn o k.ranges k.below k.remembered k.gathered k.rebalance.marks k.rebalance.gathered k.rebalance.needed k.ranges.rebalance.drawn
+known_by z rows v s choice l a l' (settles_last j e o) w c t b i k r = needs_last z rows l j l.rebalance.drawn k.activity k.ranges k.below k.remembered k.gathered k.rebalance.marks k.rebalance.needed k.ranges.rebalance.drawn
+known_by z rows v s choice l a l' (finds_drawn j version e o) w c t b i k r = needs_more z rows l j version o k.ranges k.below k.remembered k.gathered k.rebalance.marks k.rebalance.gathered k.rebalance.needed (IsScan-scan_of (v (name.Scan j)) (scan.Drawn version) e)
+known_by z rows v s choice l a l' (finds_drawn_last j version e o) w c t b i k r = needs_last z rows l j version k.activity k.ranges k.below k.remembered k.gathered k.rebalance.marks k.rebalance.needed (IsScan-scan_of (v (name.Scan j)) (scan.Drawn version) e)
+known_by z rows v s choice l a l' (finds_no_scan j e o) w c t b i k r = let n : length l.rebalance.needed ≤ j + 1 = omega (arith, k.rebalance.needed) in assumption (k, n, o)
+known_by z rows v s choice l a l' (finds_no_scan_last j e o) w c t b i k r = begins_to_take z rows l k.ranges k.below k.remembered k.gathered k.rebalance.marks (omega (arith, k.rebalance.needed, k.activity))
+known_by z rows v s choice l a l' (take_leads x e) w c t b i k r =
+    let u : x < z.cells = linked_below (v (link_name l.row l.link)) x z.cells e (link_below z rows v w l.row l.link k.ranges.link k.below.row) in
+    let o = min-le_right (l.walked + 1) z.cells in
+    let m = unmarked_in_range (IsMark z) x l.rebalance.marks k.ranges.rebalance.marks in
+    let n : length (unmarked x l.rebalance.marks) ≤ z.seats = omega (arith, unmarked_few x l.rebalance.marks, k.rebalance.marks) in
+    assumption (k, u, o, m, n)
+known_by z rows v s choice l a l' (takes_left x e y) w c t b i k r = left_known z rows l x y k.ranges k.below k.remembered k.gathered k.rebalance
+known_by z rows v s choice l a l' (takes_no_more e y f) w c t b i k r = goes_no_further z.form r f
+known_by z rows v s choice l a l' (takes_last e y f) w c t b i k r = is_refusing z rows l w.sized NoRows tt k.ranges k.below k.remembered k.gathered
+known_by z rows v s choice l a l' takes_key w c t b i k r = let u = key_of_word-below (v (name.Key l.row l.place)) in assumption (k, u)
+known_by z rows v s choice l a l' takes_version w c t b i k r = let u = version_in_hand (v (name.Version l.row l.place)) (w.each (name.Version l.row l.place) (k.below.row, k.ranges.place)) in assumption (k, u)
+known_by z rows v s choice l a l' keeps_taken w c t b i k r =
+    let u = value_in_range (v (name.Value l.row l.place)) (w.each (name.Value l.row l.place) (k.below.row, k.ranges.place)) in
+    let m = kept_more z (value_of_word (v (name.Value l.row l.place))) l u k.ranges k.rebalance.gathered in
+    assumption (k, m)
+known_by z rows v s choice l a l' takes_left_key w c t b i k r = let u = key_of_word-below (v (name.Key l.row l.place)) in assumption (k, u)
+known_by z rows v s choice l a l' (keeps_left x y) w c t b i k r =
+    let u = value_in_range (v (name.Value l.row l.place)) (w.each (name.Value l.row l.place) (k.below.row, k.ranges.place)) in
+    let m = kept_more z (value_of_word (v (name.Value l.row l.place))) l u k.ranges k.rebalance.gathered in
+    left_known z rows (keeping z (value_of_word (v (name.Value l.row l.place))) l) x y m.0 (assumption k) k.remembered k.gathered (record { marks = k.rebalance.marks; needed = k.rebalance.needed; gathered = m.1; taken = λ t. absurd t })
+known_by z rows v s choice l a l' (keeps_no_more y f) w c t b i k r = goes_no_further z.form r f
+known_by z rows v s choice l a l' (keeps_last y f) w c t b i k r = is_refusing z rows l w.sized NoRows tt k.ranges k.below k.remembered k.gathered
 known_by z rows v s choice l a l' _ w c t b i k r = assumption k

@@ -11,3 +11,14 @@ pub mod RowsStay
 pub mod ShapeOpens
 pub mod ShapeHolds
 pub mod FollowRows
+mod BalancesKeep
+pub mod OwnRows
+pub mod InfantsStay
+pub mod InfantsWritten
+pub mod InfantsKeep
+pub mod InfantsOwn
+pub mod InfantsRely
+pub mod SearchKeep
+pub mod BuildEvents
+pub mod ReplaceEvent
+pub mod InfantsFit

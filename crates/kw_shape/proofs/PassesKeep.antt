@@ -6,7 +6,7 @@ use Rattle.kw_words.specs.declared.layout.Name.TheVariants as name
 use Rattle.kw_words.specs.Plain.{pass_word}
 use Rattle.kw_rows.specs.Ledger as kw_rows
 use Rattle.kw_world.specs.declared.activity.Activity.{Activity}
-use Rattle.kw_world.specs.declared.activity.Activity.TheVariants.{Idle, Enter}
+use Rattle.kw_world.specs.declared.activity.Activity.TheVariants.{Idle, Enter, Again, AgainEpoch}
 use Rattle.kw_world.specs.declared.event.Choice.{Choice}
 use Rattle.kw_world.specs.declared.local.Local.{Local}
 use Rattle.kw_world.specs.Sizes.{Sizes}
@@ -14,12 +14,13 @@ use Rattle.kw_world.specs.Step.{word}
 use Rattle.kw_core.specs.Run.{Run}
 use Rattle.kw_core.specs.Stages.{IsBusy, IsPassing}
 use Rattle.kw_core.specs.Words.{Words}
-use Rattle.kw_core.proofs.Arrows.{Arrow, begins, enters, enters_scan, meets_stamped, meets_neither, is_passed, helps, finds_stamped, finds_other, list_ends, key_above, rest_passed, gathers_rest, leaves, NextLook, looks, lists, NextRest, rests, answers, ends_scan, scans_on}
+use Rattle.kw_core.proofs.Arrows.{Arrow, begins, enters, enters_scan, meets_stamped, meets_neither, is_passed, helps, finds_stamped, finds_other, list_ends, key_above, rest_passed, gathers_rest, leaves, NextLook, looks, lists, NextRest, rests, answers, ends_scan, scans_on, retries, enters_again, builds, finds_none, takes_none, is_refused, is_not_own, marks_led, decides}
+use Rattle.kw_core.proofs.Building.{never_built}
 use Rattle.kw_core.proofs.Frame.{WritesPass, fixed, pass_kept}
 use Rattle.kw_core.proofs.Happens.{Happens}
 use Rattle.kw_shape.specs.Passes.{Numbers, Passes}
 use Rattle.kw_shape.specs.Shape.{Shape}
-use Rattle.kw_shape.proofs.RowsKeep.{numbered_kept, others_kept, pass_begins, pass_ends, rows_kept}
+use Rattle.kw_shape.proofs.RowsKeep.{numbered_kept, others_kept, pass_begins, pass_ends, pass_taken_back, rows_kept}
 
 -- What an arrow leaves of a pass.
 
@@ -38,6 +39,7 @@ rest_passes l k (ends_scan o y n) = (tt, tt, refl)
 rest_passes l k (scans_on q o y n u) = (tt, tt, refl)
 
 arrow_passes : (z : Sizes) (v : Words) (s : ℕ) (choice : Choice) (l : Local) (a : Activity) (k : Local) → Arrow z v s choice l a k → IsPassing a → (WritesPass a → ⊥) → StaysIn l k
+arrow_passes z v s choice l a k (builds b next y o t) p n = never_built z b y o
 arrow_passes z v s choice l a k (begins call e b) p n = absurd p
 arrow_passes z v s choice l a k (enters e) p n = absurd p
 arrow_passes z v s choice l a k (enters_scan e) p n = absurd p
@@ -52,6 +54,8 @@ arrow_passes z v s choice l a k (list_ends next e y) p n = rest_passes _ next y
 arrow_passes z v s choice l a k (key_above next e y) p n = rest_passes _ next y
 arrow_passes z v s choice l a k (rest_passed next e y) p n = rest_passes _ next y
 arrow_passes z v s choice l a k (gathers_rest next y) p n = rest_passes _ next y
+arrow_passes z v s choice l a k retries p n = absurd (n tt)
+arrow_passes z v s choice l a k enters_again p n = absurd p
 arrow_passes z v s choice l a k _ p n = (tt, tt, refl)
 
 module _ (z : Sizes) (r r' : Run) (s : ℕ) (choice : Choice) (l : Local) (a : Activity) (l' : Local) (h : Happens z r r' s choice l l' a) (i : Shape z r) where
@@ -108,6 +112,7 @@ entered z r r' s choice l l' h i g =
 
 -- the acting seat is in its pass, or in none
 pub passes_own : (z : Sizes) (r r' : Run) (s : ℕ) (choice : Choice) (l : Local) (a : Activity) (l' : Local) → Arrow z (word z r.world) s choice l a l' → Happens z r r' s choice l l' a → Shape z r → Passes (word z r'.world) r'.ledger.rows s l'.activity l'
+passes_own z r r' s choice l a l' (builds b next y o t) h i = never_built z b y o
 passes_own z r r' s choice l a l' (begins call e b) h i =
     let p = subst (λ q. Passes (word z r.world) r.ledger.rows s q l) h.activity (i.passes s l h.knows) in
     let q = p.in_none (λ x. x) in
@@ -126,4 +131,23 @@ passes_own z r r' s choice l a l' (leaves answer) h i = record {
   epoch = λ x. absurd x;
   before = λ m at since o u y. let x : None ≡ Some since = sym (pass_ends answer h) ∙ y in absurd (cc);
 }
+passes_own z r r' s choice l a l' retries h i =
+    let p = subst (λ q. Passes (word z r.world) r.ledger.rows s q l) h.activity (i.passes s l h.knows) in
+    let c = p.epoch tt in
+    record {
+      in_pass = λ x. absurd x;
+      in_none = λ x. record { passes = pass_taken_back h; word = h.changed.same };
+      epoch = λ x. (c.0, omega (arith, c.1, epoch_kept z r r' s choice l Again l' h i));
+      before = λ m at since o u y. let x : None ≡ Some since = sym (pass_taken_back h) ∙ y in absurd (cc);
+    }
+passes_own z r r' s choice l a l' enters_again h i =
+    let p = subst (λ q. Passes (word z r.world) r.ledger.rows s q l) h.activity (i.passes s l h.knows) in
+    let q = p.in_none (λ x. x) in
+    let e = ap (λ (g : kw_rows.Ledger). g.passes s) (rows_kept AgainEpoch h (λ x. x)) in
+    record {
+      in_pass = λ x. absurd x;
+      in_none = λ x. record { passes = e ∙ q.passes; word = pass_kept AgainEpoch h s h.seat (λ x e. x) ∙ q.word };
+      epoch = λ x. ((i.sane.each name.Epoch tt).0, omega (arith, epoch_kept z r r' s choice l AgainEpoch l' h i));
+      before = λ m at since o u y. let x : None ≡ Some since = sym (e ∙ q.passes) ∙ y in absurd (cc);
+    }
 passes_own z r r' s choice l a l' b h i = goes_on z r r' s choice l _ l' h i (subst (λ q. Passes (word z r.world) r.ledger.rows s q l) h.activity (i.passes s l h.knows)) tt tt (λ x. x) (arrow_passes z (word z r.world) s choice l _ l' b tt (λ x. x))

@@ -72,11 +72,11 @@ pub fresh_linked : (g : Ledger) (t q : ℕ) → IsFresh g t q → WasLinked g q
 fresh_linked g t q (inl a) = inl a
 fresh_linked g t q (inr h) = inr h.dead
 
--- as long as no row is rebalanced, one that was linked is live
-pub still_live : (v : Words) (g : Ledger) (q : ℕ) → IsStill v g q → WasLinked g q → IsLive g q
-still_live v g q (inl x) k = x.0
-still_live v g q (inr x) (inl e) = e
-still_live v g q (inr x) (inr e) = let y : Free ≡ Dead = sym x ∙ e in absurd (cc)
+-- as long as no row is replaced, one that was linked is live
+pub still_live : (g : Ledger) (q : ℕ) → IsStill g q → WasLinked g q → IsLive g q
+still_live g q (inl x) k = x
+still_live g q (inr x) (inl e) = e
+still_live g q (inr x) (inr e) = let y : Free ≡ Dead = sym x ∙ e in absurd (cc)
 
 -- no event links a row, and one that was linked stays so
 pub linked_was : {z : Sizes} {r r' : Run} {s : ℕ} {choice : Choice} {l l' : Local} (a : Activity) → Happens z r r' s choice l l' a → (q : ℕ) → WasLinked r'.ledger.rows q → WasLinked r.ledger.rows q
@@ -87,7 +87,7 @@ pub linked_stays : {z : Sizes} {r r' : Run} {s : ℕ} {choice : Choice} {l l' : 
 linked_stays a h q (inl e) = inl (ap (λ (x : Fate). x.status) (fates_kept a h q) ∙ e)
 linked_stays a h q (inr e) = inr (ap (λ (x : Fate). x.status) (fates_kept a h q) ∙ e)
 
--- as long as no row is rebalanced, the row that a seat knows to stand after its own is the one to which the link of that leads
+-- as long as no row is replaced, the row that a seat knows to stand after its own is the one to which the link of that leads
 pub next_known : (z : Sizes) (r : Run) → Shape z r → (t : ℕ) (l : Local) → IsAtItsRow (word z r.world) r.ledger.rows t l → l.next ≡ next_in (word z r.world) l.row
 next_known z r i t l at = which l.next refl
   where
@@ -95,7 +95,7 @@ next_known z r i t l at = which l.next refl
     closed = i.rows.closed
 
     live : (q : ℕ) → IsFresh r.ledger.rows t q → IsLive r.ledger.rows q
-    live q f = still_live (word z r.world) r.ledger.rows q (i.still q) (fresh_linked r.ledger.rows t q f)
+    live q f = still_live r.ledger.rows q (i.still q) (fresh_linked r.ledger.rows t q f)
 
     which : (n : Option ℕ) → l.next ≡ n → n ≡ next_in (word z r.world) l.row
     which None e = sym (last_row (rows_in (word z r.world)) r.ledger.rows closed l.row (held_by r.ledger.rows t l.row at.fresh) (at.last e))

@@ -1,15 +1,16 @@
 -- Every event keeps the shape of the world.
-use Rattle.std.proofs.Common.{ℕ, ◌≡◌, ◌≢◌, ◌⊎◌, inl, inr, ◌+◌, ◌<◌, ◌≤◌, true, false, Option, Some, None, arith, refl, sym, ◌∙◌, ap, subst, length, slice_get}
+use Rattle.std.proofs.Common.{ℕ, ◌≡◌, ◌≢◌, ◌⊎◌, inl, inr, ◌+◌, ◌*◌, ◌<◌, ◌≤◌, true, false, Option, Some, None, arith, refl, sym, ◌∙◌, ap, subst, length, slice_get}
 use Rattle.kw_words.specs.declared.layout.Name.TheVariants as name
 use Rattle.kw_world.specs.declared.activity.Activity.{Activity}
-use Rattle.kw_world.specs.declared.activity.Activity.TheVariants.{Idle, Enter, ScanClock, ScanWait, PutCount, PutAdd}
+use Rattle.kw_world.specs.declared.activity.Activity.TheVariants.{Idle, Enter, ScanClock, PutCount, PutAdd, AgainEpoch, BalClock, FreezeCount}
 use Rattle.kw_world.specs.declared.local.Local.{Local}
 use Rattle.kw_world.specs.declared.event.Choice.{Choice}
 use Rattle.kw_world.specs.Sizes.{Sizes}
 use Rattle.kw_world.specs.WorldView.{WorldView}
-use Rattle.kw_words.specs.declared.sizes.TheConstants.{SPENT}
+use Rattle.kw_words.specs.declared.sizes.TheConstants.{MOST_SEATS, SPENT}
 use Rattle.kw_words.specs.Layout.{IsSized, IsWithin, words_of}
-use Rattle.kw_world.specs.Sane.{IsHead, IsSane, IsKnown, IsLed}
+use Rattle.kw_words.specs.declared.count.Count.{Count as Counted}
+use Rattle.kw_world.specs.Sane.{IsActivity, IsGiven, IsHead, IsSane, IsKnown, IsLed}
 use Rattle.kw_world.specs.Step.{word}
 use Rattle.kw_core.specs.Run.{Run}
 use Rattle.std.proofs.Common.{length-set, slice_set}
@@ -17,20 +18,24 @@ use Rattle.std.proofs.lemmas.Bool.{cases_eq}
 use Rattle.kw_words.specs.Count.{count_of}
 use Rattle.kw_world.specs.PutTransitions.{given_of}
 use Rattle.kw_shape.specs.Rooms.{adding, adders, drawing, drawers}
-use Rattle.kw_core.proofs.Frame.{count_kept, clock_kept, given-next}
+use Rattle.kw_core.proofs.Frame.{given-next}
+use Rattle.kw_core.proofs.FreezeFrame.{clock_stays, count_stays, freezes_given, helper_raises}
 use Rattle.kw_core.proofs.RoomBelow.{room_below}
-use Rattle.kw_shape.proofs.Counts.{adders-set, adders_at_most, drawers-set, drawers_at_most, adding_next, drawing_next}
+use Rattle.kw_shape.proofs.Counts.{adders-set, adders_at_most, drawers-set, drawers_few, square_few, adding_next, drawing_next}
 use Rattle.kw_core.proofs.Happens.{chosen, not_chosen}
 use Rattle.kw_words.specs.declared.link.Link.{Link}
 use Rattle.kw_world.specs.Calls.{first_key, is_scan}
 use Rattle.kw_world.specs.Transition.{row_linked, row_or_first}
 use Rattle.kw_core.specs.Words.{Words, given_in}
 use Rattle.kw_rows.specs.Ledger.{Fate, Ledger}
+use Rattle.kw_shape.specs.Balances.{Balances}
 use Rattle.kw_shape.specs.Passes.{Passes}
 use Rattle.kw_shape.specs.Shape.{IsStill, Walks, Kinds, Shape}
 use Rattle.kw_shape.proofs.PassesKeep.{numbers_keep, passes_other, passes_own}
-use Rattle.kw_shape.proofs.RelyRows.{RelyRows, is_passing, walks_outside, walks_stable}
-use Rattle.kw_shape.proofs.RowsKeep.{fates_kept, others_kept, rely_rows, rows_kept, state_kept, structure_keeps}
+use Rattle.kw_shape.proofs.BalancesKeep.{balances_other, balances_own}
+use Rattle.kw_shape.proofs.OwnRows.{own_rely}
+use Rattle.kw_shape.proofs.RelyRows.{is_passing, walks_outside, walks_stable}
+use Rattle.kw_shape.proofs.RowsKeep.{fates_kept, others_kept, rely_rows, structure_keeps}
 use Rattle.kw_core.proofs.Happens.{Happens, each_seat}
 use Rattle.kw_core.proofs.Frame.{WritesPass}
 use Rattle.kw_shape.proofs.Walking.{walks_by}
@@ -49,7 +54,8 @@ use Rattle.kw_world.specs.ScanTransitions.{answer_or_stopped}
 use Rattle.kw_world.specs.WalkTransitions.{is_stop}
 use Rattle.kw_core.specs.Stages.{IsPassing, is_put}
 use Rattle.kw_shape.specs.Shape.{IsSomeCall, IsPutCall, IsReadCall, IsScanCall, IsAnswerOf, IsPairs}
-use Rattle.kw_core.proofs.Arrows.{Arrow, begins, enters, enters_scan, is_spent, waits, stores_waiting, draws, settles_empty, settles, starts_at_head, guesses, guess_fails, takes_head, guess_serves, guess_is_above, stops, puts_in_last, reads_last, meets_next, walks_on, puts_before, reads_before, meets_pending, meets_stamped, meets_neither, is_wanted, is_passed, loads_to_help, helps, finds_stamped, finds_other, list_leads, list_ends, key_below, key_within, key_above, loads_version, gathers_listed, rest_wanted, rest_passed, gathers_rest, clears_scan, finds_room, finds_none, takes_cell, takes_none, stores_key, stores_value, announces, is_refused, loads_clock, stamps, is_stamped, is_not_own, stores_version, meets_cell, meets_none, key_before, key_same, key_after, version_before, version_after, stores_after, inserts, loses, clears, leaves, NextLook, looks, lists, NextRest, rests, answers, ends_scan, scans_on, not_below}
+use Rattle.kw_core.proofs.Arrows.{Arrow, begins, enters, enters_scan, is_spent, waits, stores_waiting, draws, settles_empty, settles, starts_at_head, guesses, guess_fails, takes_head, guess_serves, guess_is_above, stops, puts_in_last, reads_last, meets_next, walks_on, puts_before, reads_before, meets_pending, meets_stamped, meets_neither, is_wanted, is_passed, loads_to_help, helps, finds_stamped, finds_other, list_leads, list_ends, key_below, key_within, key_above, loads_version, gathers_listed, rest_wanted, rest_passed, gathers_rest, clears_scan, finds_room, finds_none, takes_cell, takes_none, stores_key, stores_value, announces, is_refused, loads_clock, stamps, is_stamped, is_not_own, stores_version, meets_cell, meets_none, key_before, key_same, key_after, version_before, version_after, stores_after, inserts, loses, clears, leaves, retries, enters_again, clock_is_spent, clock_serves, epoch_is_spent, epoch_serves, finds_infant, finds_normal, finds_leader, finds_other_state, normalises, engages, is_engaged, marks_link, marks_led, decides, decides_not, finds_full, takes_full, announces_full, stamps_full, marks_last, decides_last, NextLook, looks, lists, NextRest, rests, answers, ends_scan, scans_on, not_below, freezes_count, meets_idle, meets_unstamped, remembers, remembers_last, meets_frozen, meets_frozen_last, freezes_entry, freezes_last, looks_again, meets_quiet, meets_quiet_last, helps_scan, meets_drawn, meets_drawn_last, draws_for, settles_scan, settles_last, finds_drawn, finds_drawn_last, finds_no_scan, finds_no_scan_last, take_leads, takes_left, takes_no_more, takes_last, takes_key, takes_version, keeps_taken, takes_left_key, keeps_left, keeps_no_more, keeps_last, goes_to_freeze, goes_no_further, builds}
+use Rattle.kw_core.proofs.Building.{never_built}
 
 -- The acting seat.
 
@@ -70,7 +76,7 @@ known_own z r r' s choice l a l' b h i = known_by z r.world.rows (word z r.world
 words_keep : (z : Sizes) (r r' : Run) (s : ℕ) (choice : Choice) (l : Local) (a : Activity) (l' : Local) → Happens z r r' s choice l l' a → Shape z r → AreSane z r.world.rows (word z r'.world)
 words_keep z r r' s choice l a l' h i =
     words_sane z r.world.rows (word z r.world) s choice l (words_of_sane z r.world i.sane) a (word z r'.world) h.reached (at_activity z r.world.rows a l h.activity (i.sane.locals s l h.knows)) h.named
-    (omega (arith, i.clock, i.sane.sized.few_seats)) (λ q o. omega (arith, i.room q o, i.sane.sized.few_seats, i.sane.sized.few_cells)) h.changed
+    (omega (arith, i.clock, i.sane.sized.few_seats, square_few z.seats MOST_SEATS i.sane.sized.few_seats)) (λ q o. omega (arith, i.room q o, i.sane.sized.few_seats, i.sane.sized.few_cells)) h.changed
 
 -- the world is sane
 pub sane_keeps : (z : Sizes) (r r' : Run) (s : ℕ) (choice : Choice) (l : Local) (a : Activity) (l' : Local) → Arrow z (word z r.world) s choice l a l' → Happens z r r' s choice l l' a → Shape z r → IsSane z r'.world
@@ -101,35 +107,52 @@ room_add z r r' s choice l l' h i q f o = which (cases_eq q l.row)
         let x : given_in (word z r'.world) l.row ≡ given_in (word z r.world) l.row + 1 = ap (λ w. given_of (count_of w)) h.changed.same ∙ given-next (word z r.world (name.Count l.row)) _ refl (i.sane.each (name.Count l.row) (subst (λ y. y < r.world.rows) u o)) in
         let y : given_in (word z r'.world) q ≡ given_in (word z r.world) q + 1 = subst (λ t. given_in (word z r'.world) t ≡ given_in (word z r.world) t + 1) (sym u) x in
         omega (arith, i.room q o, y, f, part, chosen {A = ℕ} l.row q 1 0 (sym u), adders-set q r.world.locals s l l' h.knows, ap (adders q) h.locals)
-    which (inr d) = room_plain z r r' s choice l PutAdd l' h i q (ap (λ w. given_of (count_of w)) (count_kept PutAdd h q o (λ x u. d u))) f o
+    which (inr d) = room_plain z r r' s choice l PutAdd l' h i q (ap (λ w. given_of (count_of w)) (count_stays PutAdd h q o (λ x u. d u))) f o
 
 -- each row has room for the cells that are asked for
 pub room_keeps : (z : Sizes) (r r' : Run) (s : ℕ) (choice : Choice) (l : Local) (a : Activity) (l' : Local) → Arrow z (word z r.world) s choice l a l' → Happens z r r' s choice l l' a → Shape z r → (q : ℕ) → q < r.world.rows → given_in (word z r'.world) q + adders q r'.world.locals < z.cells + z.seats
+room_keeps z r r' s choice l a l' (builds b next y c t) h i q o = never_built z b y c
 room_keeps z r r' s choice l a l' (finds_room e) h i q o = which (cases_eq l.row q)
   where
     seats : length (slice_set r.world.locals s l') ≡ length r.world.locals
     seats = length-set r.world.locals s l'
 
     same : given_in (word z r'.world) q ≡ given_in (word z r.world) q
-    same = ap (λ w. given_of (count_of w)) (count_kept PutCount h q o (λ x u. x))
+    same = ap (λ w. given_of (count_of w)) (count_stays PutCount h q o (λ x u. x))
 
     which : (l.row ≡ q) ⊎ (l.row ≡ q → ⊥) → given_in (word z r'.world) q + adders q r'.world.locals < z.cells + z.seats
     which (inl u) =
         let x : given_in (word z r.world) q < z.cells = subst (λ y. given_in (word z r.world) y < z.cells) u (room_below z (count_of (word z r.world (name.Count l.row))) e) in
         omega (arith, same, x, adders_at_most q r'.world.locals, ap length h.locals, seats, i.sane.seats)
     which (inr d) = room_plain z r r' s choice l PutCount _ h i q same (not_chosen {A = ℕ} l.row q 1 0 d) o
-room_keeps z r r' s choice l a l' (finds_none e) h i q o = room_plain z r r' s choice l PutCount _ h i q (ap (λ w. given_of (count_of w)) (count_kept PutCount h q o (λ x u. x))) refl o
+room_keeps z r r' s choice l a l' (finds_none e f) h i q o = room_plain z r r' s choice l PutCount _ h i q (ap (λ w. given_of (count_of w)) (count_stays PutCount h q o (λ x u. x))) refl o
+room_keeps z r r' s choice l a l' (finds_full e f) h i q o = room_plain z r r' s choice l PutCount _ h i q (ap (λ w. given_of (count_of w)) (count_stays PutCount h q o (λ x u. x))) refl o
 room_keeps z r r' s choice l a l' (takes_cell e) h i q o = room_add z r r' s choice l _ h i q refl o
-room_keeps z r r' s choice l a l' (takes_none e) h i q o = room_add z r r' s choice l _ h i q refl o
-room_keeps z r r' s choice l a l' b h i q o = room_plain z r r' s choice l _ l' h i q (ap (λ w. given_of (count_of w)) (count_kept _ h q o (λ x u. x))) (adding_next z (word z r.world) s choice l _ l' q b (λ x. x)) o
+room_keeps z r r' s choice l a l' (takes_none e f) h i q o = room_add z r r' s choice l _ h i q refl o
+room_keeps z r r' s choice l a l' (takes_full e f) h i q o = room_add z r r' s choice l _ h i q refl o
+room_keeps z r r' s choice l a l' freezes_count h i q o = room_plain z r r' s choice l FreezeCount _ h i q (frozen_given (cases_eq q l.row)) refl o
+  where
+    at_row : (c : Option Counted) → count_of (word z r.world (name.Count l.row)) ≡ c → IsGiven c → given_in (word z r'.world) l.row ≡ given_in (word z r.world) l.row
+    at_row (Some c) e g = ap given_of (freezes_given h c e) ∙ ap given_of (sym e)
+    at_row None e g = absurd g
+
+    frozen_given : (q ≡ l.row) ⊎ (q ≡ l.row → ⊥) → given_in (word z r'.world) q ≡ given_in (word z r.world) q
+    frozen_given (inl e) = subst (λ x. given_in (word z r'.world) x ≡ given_in (word z r.world) x) (sym e) (at_row _ refl (i.sane.each (name.Count l.row) (i.sane.locals s l h.knows).below.row))
+    frozen_given (inr d) = ap (λ w. given_of (count_of w)) (count_stays FreezeCount h q o (λ x u. d u))
+room_keeps z r r' s choice l a l' b h i q o = room_plain z r r' s choice l _ l' h i q (ap (λ w. given_of (count_of w)) (count_stays _ h q o (λ x u. x))) (adding_next z (word z r.world) s choice l _ l' q b (λ x. x)) o
 
 -- the clock has room for the versions that are drawn
-pub clock_keeps : (z : Sizes) (r r' : Run) (s : ℕ) (choice : Choice) (l : Local) (a : Activity) (l' : Local) → Arrow z (word z r.world) s choice l a l' → Happens z r r' s choice l l' a → Shape z r → word z r'.world name.Clock + drawers r'.world.locals ≤ SPENT + z.seats
-clock_keeps z r r' s choice l a l' (waits e) h i = omega (arith, e, clock_kept ScanClock h (λ x. x), drawers_at_most r'.world.locals, ap length h.locals, length-set r.world.locals s l', i.sane.seats)
-clock_keeps z r r' s choice l a l' (is_spent e) h i = omega (arith, i.clock, clock_kept ScanClock h (λ x. x), drawers-set r.world.locals s l l' h.knows, ap drawers h.locals)
-clock_keeps z r r' s choice l a l' stores_waiting h i = omega (arith, i.clock, clock_kept ScanWait h (λ x. x), ap drawing h.activity, drawers-set r.world.locals s l l' h.knows, ap drawers h.locals)
-clock_keeps z r r' s choice l a l' draws h i = omega (arith, i.clock, h.changed.same, ap drawing h.activity, drawers-set r.world.locals s l l' h.knows, ap drawers h.locals)
-clock_keeps z r r' s choice l a l' b h i = omega (arith, i.clock, clock_kept _ h (λ x. x), drawing_next z (word z r.world) s choice l _ l' b (λ x. x), drawers-set r.world.locals s l l' h.knows, ap drawers h.locals)
+pub clock_keeps : (z : Sizes) (r r' : Run) (s : ℕ) (choice : Choice) (l : Local) (a : Activity) (l' : Local) → Arrow z (word z r.world) s choice l a l' → Happens z r r' s choice l l' a → Shape z r → word z r'.world name.Clock + drawers z.seats r'.world.locals ≤ SPENT + z.seats * z.seats
+clock_keeps z r r' s choice l a l' (builds b next y o t) h i = never_built z b y o
+clock_keeps z r r' s choice l a l' (waits e) h i = omega (arith, e, clock_stays ScanClock h (λ x. x), drawers_few z.seats r'.world.locals i.sane.sized.some_seats (omega (arith, ap length h.locals, length-set r.world.locals s l', i.sane.seats)))
+clock_keeps z r r' s choice l a l' (clock_serves e) h i = omega (arith, e, clock_stays BalClock h (λ x. x), drawers_few z.seats r'.world.locals i.sane.sized.some_seats (omega (arith, ap length h.locals, length-set r.world.locals s l', i.sane.seats)))
+clock_keeps z r r' s choice l a l' (is_spent e) h i = omega (arith, i.clock, clock_stays ScanClock h (λ x. x), drawers-set z.seats r.world.locals s l l' h.knows, ap (drawers z.seats) h.locals)
+clock_keeps z r r' s choice l a l' (clock_is_spent e) h i = omega (arith, i.clock, clock_stays BalClock h (λ x. x), drawers-set z.seats r.world.locals s l l' h.knows, ap (drawers z.seats) h.locals)
+clock_keeps z r r' s choice l a l' draws h i = omega (arith, i.clock, h.changed.same, ap (drawing z.seats) h.activity, drawers-set z.seats r.world.locals s l l' h.knows, ap (drawers z.seats) h.locals)
+clock_keeps z r r' s choice l a l' (draws_for j) h i =
+    let o : j < z.seats = subst (IsActivity z) h.activity (i.sane.locals s l h.knows).ranges.activity in
+    omega (arith, i.clock, o, helper_raises j h, ap (drawing z.seats) h.activity, drawers-set z.seats r.world.locals s l l' h.knows, ap (drawers z.seats) h.locals)
+clock_keeps z r r' s choice l a l' b h i = omega (arith, i.clock, clock_stays _ h (λ x. x), drawing_next z (word z r.world) s choice l _ l' b (λ x. x) z.seats, ap (drawing z.seats) h.activity, drawers-set z.seats r.world.locals s l l' h.knows, ap (drawers z.seats) h.locals)
 
 -- which call is put, read or scanned
 put_call : (c : Option Call) → is_put c ≡ true → IsPutCall c
@@ -169,7 +192,18 @@ one_key (Some (Get key)) e = omega arith
 one_key (Some (Scan from upto)) e = let x : true ≡ false = e in absurd (cc)
 one_key None e = omega arith
 
+some_put : (c : Option Call) → IsPutCall c → IsSomeCall c
+some_put (Some c) k = tt
+some_put None k = k
+
 -- the replies of such calls
+put_spent : (c : Option Call) → IsPutCall c → IsAnswerOf c Spent
+put_spent (Some (Put key value)) k = tt
+put_spent (Some (Del key)) k = tt
+put_spent (Some (Get key)) k = absurd k
+put_spent (Some (Scan from upto)) k = absurd k
+put_spent None k = absurd k
+
 no_rows : (c : Option Call) → IsPutCall c → IsAnswerOf c NoRows
 no_rows (Some (Put key value)) k = tt
 no_rows (Some (Del key)) k = tt
@@ -206,18 +240,19 @@ get_answer (Some (Scan from upto)) x k e = let y : true ≡ false = e in absurd 
 get_answer None x k e = absurd k
 
 -- what a reader does next
-kinds_look : (z : Sizes) (j : ℕ) (l : Local) (next : Activity) → NextLook z j next → IsReadCall l.call → first_key l.call ≤ last_key l.call → Kinds next l
+kinds_look : (z : Sizes) (j : ℕ) (l : Local) (next : Activity) → NextLook z j next → IsReadCall l.call → first_key l.call ≤ last_key l.call → Kinds z next l
 kinds_look z j l next (looks o) k e = record { reached = tt; kind = k; range = λ x. e }
 kinds_look z j l next (lists o) k e = record { reached = tt; kind = k; range = λ x. e }
 
-kinds_cell : (l : Local) (next : Local) → NextRest l next → IsReadCall l.call → first_key l.call ≤ last_key l.call → Kinds next.activity next
-kinds_cell l next (rests m o) k e = record { reached = tt; kind = k; range = λ x. e }
-kinds_cell l next (answers o n) k e = record { reached = tt; kind = get_answer l.call _ k n; range = λ x. absurd x }
-kinds_cell l next (ends_scan o y n) k e = record { reached = tt; kind = (scan_call l.call y, tt); range = λ x. absurd x }
-kinds_cell l next (scans_on q o y n w) k e = record { reached = tt; kind = some_read l.call k; range = λ x. e }
+kinds_cell : (z : Sizes) (l : Local) (next : Local) → NextRest l next → IsReadCall l.call → first_key l.call ≤ last_key l.call → Kinds z next.activity next
+kinds_cell z l next (rests m o) k e = record { reached = tt; kind = k; range = λ x. e }
+kinds_cell z l next (answers o n) k e = record { reached = tt; kind = get_answer l.call _ k n; range = λ x. absurd x }
+kinds_cell z l next (ends_scan o y n) k e = record { reached = tt; kind = (scan_call l.call y, tt); range = λ x. absurd x }
+kinds_cell z l next (scans_on q o y n w) k e = record { reached = tt; kind = some_read l.call k; range = λ x. e }
 
 -- by the arrow that the seat takes
-kinds_by : (z : Sizes) (v : Words) (s : ℕ) (choice : Choice) (l : Local) (a : Activity) (l' : Local) → Arrow z v s choice l a l' → Kinds a l → Kinds l'.activity l'
+kinds_by : (z : Sizes) (v : Words) (s : ℕ) (choice : Choice) (l : Local) (a : Activity) (l' : Local) → Arrow z v s choice l a l' → Kinds z a l → Kinds z l'.activity l'
+kinds_by z v s choice l a l' (builds b next y o t) k = never_built z b y o
 kinds_by z v s choice l a l' (begins call e y) k = record { reached = tt; kind = tt; range = λ x. absurd x }
 kinds_by z v s choice l a l' (enters y) k = record { reached = tt; kind = k.kind; range = λ x. one_key l.call y }
 kinds_by z v s choice l a l' (enters_scan y) k = record { reached = tt; kind = scan_call l.call y; range = λ x. absurd x }
@@ -252,16 +287,16 @@ kinds_by z v s choice l a l' loads_to_help k = record { reached = tt; kind = k.k
 kinds_by z v s choice l a l' (helps next y n) k = kinds_look z _ _ next n k.kind (k.range tt)
 kinds_by z v s choice l a l' (finds_stamped c version next y n) k = kinds_look z _ _ next n k.kind (k.range tt)
 kinds_by z v s choice l a l' (finds_other next y n) k = kinds_look z _ _ next n k.kind (k.range tt)
-kinds_by z v s choice l a l' (list_ends next e n) k = kinds_cell _ next n k.kind (k.range tt)
+kinds_by z v s choice l a l' (list_ends next e n) k = kinds_cell z _ next n k.kind (k.range tt)
 kinds_by z v s choice l a l' (list_leads c y) k = record { reached = tt; kind = k.kind; range = λ x. k.range tt }
 kinds_by z v s choice l a l' (key_below y) k = record { reached = tt; kind = k.kind; range = λ x. k.range tt }
 kinds_by z v s choice l a l' (key_within y w) k = record { reached = tt; kind = k.kind; range = λ x. k.range tt }
 kinds_by z v s choice l a l' loads_version k = record { reached = tt; kind = k.kind; range = λ x. k.range tt }
 kinds_by z v s choice l a l' gathers_listed k = record { reached = tt; kind = k.kind; range = λ x. k.range tt }
 kinds_by z v s choice l a l' (rest_wanted y) k = record { reached = tt; kind = k.kind; range = λ x. k.range tt }
-kinds_by z v s choice l a l' (key_above next y n) k = kinds_cell _ next n k.kind (k.range tt)
-kinds_by z v s choice l a l' (rest_passed next y n) k = kinds_cell _ next n k.kind (k.range tt)
-kinds_by z v s choice l a l' (gathers_rest next n) k = kinds_cell _ next n k.kind (k.range tt)
+kinds_by z v s choice l a l' (key_above next y n) k = kinds_cell z _ next n k.kind (k.range tt)
+kinds_by z v s choice l a l' (rest_passed next y n) k = kinds_cell z _ next n k.kind (k.range tt)
+kinds_by z v s choice l a l' (gathers_rest next n) k = kinds_cell z _ next n k.kind (k.range tt)
 kinds_by z v s choice l a l' (clears_scan answer) k = record { reached = tt; kind = cleared choice answer k.kind.1; range = λ x. absurd x }
   where
     cleared : (c : Choice) (y : Answer) → IsPairs y → IsAnswerOf l.call (answer_or_stopped y c)
@@ -269,17 +304,21 @@ kinds_by z v s choice l a l' (clears_scan answer) k = record { reached = tt; kin
     cleared c Pairs p = scan_answer l.call _ k.kind.0 tt
     cleared c _ p = absurd p
 kinds_by z v s choice l a l' (finds_room y) k = record { reached = tt; kind = k.kind; range = λ x. absurd x }
-kinds_by z v s choice l a l' (finds_none y) k = record { reached = tt; kind = no_rows l.call k.kind; range = λ x. absurd x }
+kinds_by z v s choice l a l' (finds_none y e) k = record { reached = tt; kind = no_rows l.call k.kind; range = λ x. absurd x }
+kinds_by z v s choice l a l' (finds_full y b) k = record { reached = b; kind = k.kind; range = λ x. absurd x }
 kinds_by z v s choice l a l' (takes_cell y) k = record { reached = tt; kind = k.kind; range = λ x. absurd x }
-kinds_by z v s choice l a l' (takes_none y) k = record { reached = tt; kind = no_rows l.call k.kind; range = λ x. absurd x }
+kinds_by z v s choice l a l' (takes_none y e) k = record { reached = tt; kind = no_rows l.call k.kind; range = λ x. absurd x }
+kinds_by z v s choice l a l' (takes_full y b) k = record { reached = b; kind = k.kind; range = λ x. absurd x }
 kinds_by z v s choice l a l' stores_key k = record { reached = tt; kind = k.kind; range = λ x. absurd x }
 kinds_by z v s choice l a l' stores_value k = record { reached = tt; kind = k.kind; range = λ x. absurd x }
 kinds_by z v s choice l a l' (announces y) k = record { reached = tt; kind = k.kind; range = λ x. absurd x }
-kinds_by z v s choice l a l' (is_refused y) k = record { reached = tt; kind = no_rows l.call k.kind; range = λ x. absurd x }
+kinds_by z v s choice l a l' (is_refused y e) k = record { reached = tt; kind = no_rows l.call k.kind; range = λ x. absurd x }
+kinds_by z v s choice l a l' (announces_full y b) k = record { reached = b; kind = k.kind; range = λ x. absurd x }
 kinds_by z v s choice l a l' loads_clock k = record { reached = tt; kind = k.kind; range = λ x. absurd x }
 kinds_by z v s choice l a l' (stamps y) k = record { reached = tt; kind = k.kind; range = λ x. absurd x }
 kinds_by z v s choice l a l' (is_stamped version y) k = record { reached = tt; kind = k.kind; range = λ x. absurd x }
-kinds_by z v s choice l a l' (is_not_own y) k = record { reached = tt; kind = no_rows l.call k.kind; range = λ x. absurd x }
+kinds_by z v s choice l a l' (is_not_own y e) k = record { reached = tt; kind = no_rows l.call k.kind; range = λ x. absurd x }
+kinds_by z v s choice l a l' (stamps_full y b) k = record { reached = b; kind = k.kind; range = λ x. absurd x }
 kinds_by z v s choice l a l' stores_version k = record { reached = tt; kind = k.kind; range = λ x. absurd x }
 kinds_by z v s choice l a l' (meets_cell c y) k = record { reached = tt; kind = k.kind; range = λ x. absurd x }
 kinds_by z v s choice l a l' (meets_none y) k = record { reached = tt; kind = k.kind; range = λ x. absurd x }
@@ -293,16 +332,62 @@ kinds_by z v s choice l a l' (inserts y) k = record { reached = tt; kind = k.kin
 kinds_by z v s choice l a l' (loses y) k = record { reached = tt; kind = k.kind; range = λ x. absurd x }
 kinds_by z v s choice l a l' clears k = record { reached = tt; kind = put_done l.call k.kind; range = λ x. absurd x }
 kinds_by z v s choice l a l' (leaves answer) k = record { reached = tt; kind = tt; range = λ x. absurd x }
+kinds_by z v s choice l a l' retries k = record { reached = k.reached; kind = k.kind; range = λ x. absurd x }
+kinds_by z v s choice l a l' enters_again k = record { reached = tt; kind = some_put l.call k.kind; range = λ x. absurd x }
+kinds_by z v s choice l a l' (clock_is_spent e) k = record { reached = tt; kind = put_spent l.call k.kind; range = λ x. absurd x }
+kinds_by z v s choice l a l' (clock_serves e) k = record { reached = k.reached; kind = k.kind; range = λ x. absurd x }
+kinds_by z v s choice l a l' (epoch_is_spent e) k = record { reached = tt; kind = put_spent l.call k.kind; range = λ x. absurd x }
+kinds_by z v s choice l a l' (epoch_serves e) k = record { reached = k.reached; kind = k.kind; range = λ x. absurd x }
+kinds_by z v s choice l a l' (finds_infant seat e) k = record { reached = k.reached; kind = k.kind; range = λ x. absurd x }
+kinds_by z v s choice l a l' (finds_normal e) k = record { reached = k.reached; kind = k.kind; range = λ x. absurd x }
+kinds_by z v s choice l a l' (finds_leader count e o) k = record { reached = k.reached; kind = (k.kind, o); range = λ x. absurd x }
+kinds_by z v s choice l a l' finds_other_state k = record { reached = k.reached; kind = k.kind; range = λ x. absurd x }
+kinds_by z v s choice l a l' (normalises seat) k = record { reached = k.reached; kind = k.kind; range = λ x. absurd x }
+kinds_by z v s choice l a l' (engages e) k = record { reached = k.reached; kind = (k.kind, omega arith); range = λ x. absurd x }
+kinds_by z v s choice l a l' (is_engaged e) k = record { reached = k.reached; kind = k.kind; range = λ x. absurd x }
+kinds_by z v s choice l a l' (marks_link count e) k = record { reached = k.reached; kind = (k.kind.0, refl); range = λ x. absurd x }
+kinds_by z v s choice l a l' (marks_led count e f) k = record { reached = goes_to_freeze z.form k.reached f; kind = k.kind.0; range = λ x. absurd x }
+kinds_by z v s choice l a l' (marks_last count e f) k = record { reached = tt; kind = no_rows l.call k.kind.0; range = λ x. absurd x }
+kinds_by z v s choice l a l' (decides count n e o f) k = record { reached = goes_to_freeze z.form k.reached f; kind = k.kind.0; range = λ x. absurd x }
+kinds_by z v s choice l a l' (decides_last count n e o f) k = record { reached = tt; kind = no_rows l.call k.kind.0; range = λ x. absurd x }
+kinds_by z v s choice l a l' (decides_not count) k = record { reached = k.reached; kind = k.kind.0; range = λ x. absurd x }
+kinds_by z v s choice l a l' freezes_count k = record { reached = k.reached; kind = k.kind; range = λ x. absurd x }
+kinds_by z v s choice l a l' (meets_idle j e) k = record { reached = k.reached; kind = k.kind; range = λ x. absurd x }
+kinds_by z v s choice l a l' (meets_unstamped j c e) k = record { reached = k.reached; kind = k.kind; range = λ x. absurd x }
+kinds_by z v s choice l a l' (remembers j c version e o) k = record { reached = k.reached; kind = k.kind; range = λ x. absurd x }
+kinds_by z v s choice l a l' (remembers_last j c version e o) k = record { reached = k.reached; kind = k.kind; range = λ x. absurd x }
+kinds_by z v s choice l a l' (meets_frozen j e o) k = record { reached = k.reached; kind = k.kind; range = λ x. absurd x }
+kinds_by z v s choice l a l' (meets_frozen_last j e o) k = record { reached = k.reached; kind = k.kind; range = λ x. absurd x }
+kinds_by z v s choice l a l' (freezes_entry j e o) k = record { reached = k.reached; kind = k.kind; range = λ x. absurd x }
+kinds_by z v s choice l a l' (freezes_last j e o) k = record { reached = k.reached; kind = k.kind; range = λ x. absurd x }
+kinds_by z v s choice l a l' (looks_again j e) k = record { reached = k.reached; kind = k.kind; range = λ x. absurd x }
+kinds_by z v s choice l a l' (meets_quiet j e o) k = record { reached = k.reached; kind = k.kind; range = λ x. absurd x }
+kinds_by z v s choice l a l' (meets_quiet_last j e o) k = record { reached = k.reached; kind = k.kind; range = λ x. absurd x }
+kinds_by z v s choice l a l' (helps_scan j clock e) k = record { reached = k.reached; kind = k.kind; range = λ x. absurd x }
+kinds_by z v s choice l a l' (meets_drawn j version e o) k = record { reached = k.reached; kind = k.kind; range = λ x. absurd x }
+kinds_by z v s choice l a l' (meets_drawn_last j version e o) k = record { reached = k.reached; kind = k.kind; range = λ x. absurd x }
+kinds_by z v s choice l a l' (draws_for j) k = record { reached = k.reached; kind = k.kind; range = λ x. absurd x }
+kinds_by z v s choice l a l' (settles_scan j e o) k = record { reached = k.reached; kind = k.kind; range = λ x. absurd x }
+kinds_by z v s choice l a l' (settles_last j e o) k = record { reached = k.reached; kind = k.kind; range = λ x. absurd x }
+kinds_by z v s choice l a l' (finds_drawn j version e o) k = record { reached = k.reached; kind = k.kind; range = λ x. absurd x }
+kinds_by z v s choice l a l' (finds_drawn_last j version e o) k = record { reached = k.reached; kind = k.kind; range = λ x. absurd x }
+kinds_by z v s choice l a l' (finds_no_scan j e o) k = record { reached = k.reached; kind = k.kind; range = λ x. absurd x }
+kinds_by z v s choice l a l' (finds_no_scan_last j e o) k = record { reached = k.reached; kind = k.kind; range = λ x. absurd x }
+kinds_by z v s choice l a l' (take_leads c e) k = record { reached = k.reached; kind = k.kind; range = λ x. absurd x }
+kinds_by z v s choice l a l' (takes_left m e n) k = record { reached = k.reached; kind = k.kind; range = λ x. absurd x }
+kinds_by z v s choice l a l' takes_key k = record { reached = k.reached; kind = k.kind; range = λ x. absurd x }
+kinds_by z v s choice l a l' takes_version k = record { reached = k.reached; kind = k.kind; range = λ x. absurd x }
+kinds_by z v s choice l a l' keeps_taken k = record { reached = k.reached; kind = k.kind; range = λ x. absurd x }
+kinds_by z v s choice l a l' takes_left_key k = record { reached = k.reached; kind = k.kind; range = λ x. absurd x }
+kinds_by z v s choice l a l' (keeps_left m n) k = record { reached = k.reached; kind = k.kind; range = λ x. absurd x }
+kinds_by z v s choice l a l' (takes_no_more e n f) k = goes_no_further z.form k.reached f
+kinds_by z v s choice l a l' (takes_last e n f) k = record { reached = tt; kind = no_rows l.call k.kind; range = λ x. absurd x }
+kinds_by z v s choice l a l' (keeps_no_more n f) k = goes_no_further z.form k.reached f
+kinds_by z v s choice l a l' (keeps_last n f) k = record { reached = tt; kind = no_rows l.call k.kind; range = λ x. absurd x }
 
 -- the acting seat goes on to an activity of its call
-pub kinds_own : (z : Sizes) (r r' : Run) (s : ℕ) (choice : Choice) (l : Local) (a : Activity) (l' : Local) → Arrow z (word z r.world) s choice l a l' → Happens z r r' s choice l l' a → Shape z r → Kinds l'.activity l'
-kinds_own z r r' s choice l a l' b h i = kinds_by z (word z r.world) s choice l a l' b (subst (λ q. Kinds q l) h.activity (i.kinds s l h.knows))
-
--- a seat that goes on in its pass may name the rows that it might
-pub own_rely : (z : Sizes) (r r' : Run) (s : ℕ) (choice : Choice) (l : Local) (a : Activity) (l' : Local) → Happens z r r' s choice l l' a → Shape z r → IsPassing a → (WritesPass a → ⊥) → RelyRows (word z r.world) (word z r'.world) r.ledger.rows r'.ledger.rows s
-own_rely z r r' s choice l a l' h i x n =
-    let p = (subst (λ q. Passes (word z r.world) r.ledger.rows s q l) h.activity (i.passes s l h.knows)).in_pass x in
-    rely_rows a h i.sane i.rows s p.since p.passes (ap (λ (g : Ledger). g.passes s) (rows_kept a h n) ∙ p.passes)
+pub kinds_own : (z : Sizes) (r r' : Run) (s : ℕ) (choice : Choice) (l : Local) (a : Activity) (l' : Local) → Arrow z (word z r.world) s choice l a l' → Happens z r r' s choice l l' a → Shape z r → Kinds z l'.activity l'
+kinds_own z r r' s choice l a l' b h i = kinds_by z (word z r.world) s choice l a l' b (subst (λ q. Kinds z q l) h.activity (i.kinds s l h.knows))
 
 -- a seat that goes on in its pass is where its call has it
 walks_in_pass : (z : Sizes) (r r' : Run) (s : ℕ) (choice : Choice) (l : Local) (a : Activity) (l' : Local) → Arrow z (word z r.world) s choice l a l' → Happens z r r' s choice l l' a → Shape z r → IsPassing a → (WritesPass a → ⊥) → Walks (word z r'.world) r'.ledger.rows s l'.activity l'
@@ -311,10 +396,13 @@ walks_in_pass z r r' s choice l a l' b h i x n =
 
 -- the acting seat is where its call has it: as it enters and leaves it is nowhere along the rows, and else it goes on in its pass
 pub walks_own : (z : Sizes) (r r' : Run) (s : ℕ) (choice : Choice) (l : Local) (a : Activity) (l' : Local) → Arrow z (word z r.world) s choice l a l' → Happens z r r' s choice l l' a → Shape z r → Walks (word z r'.world) r'.ledger.rows s l'.activity l'
+walks_own z r r' s choice l a l' (builds b next y o t) h i = never_built z b y o
 walks_own z r r' s choice l a l' (begins call e b) h i = walks_outside _ _ s Enter l' (λ x. x)
 walks_own z r r' s choice l a l' (enters e) h i = record { on = tt; lower = λ q. absurd q; at = λ q. absurd q; begins = λ q. refl; wants = λ q. absurd q }
 walks_own z r r' s choice l a l' (enters_scan e) h i = record { on = tt; lower = λ q. absurd q; at = λ q. absurd q; begins = λ q. absurd q; wants = λ q. absurd q }
 walks_own z r r' s choice l a l' (leaves answer) h i = walks_outside _ _ s Idle l' (λ x. x)
+walks_own z r r' s choice l a l' retries h i = walks_outside _ _ s AgainEpoch l' (λ x. x)
+walks_own z r r' s choice l a l' enters_again h i = walks_outside _ _ s Enter l' (λ x. x)
 walks_own z r r' s choice l a l' b h i = walks_in_pass z r r' s choice l _ l' b h i tt (λ x. x)
 
 -- Another seat.
@@ -326,20 +414,20 @@ walks_other z r r' s choice l a l' h i t k d g = which (is_passing k.activity)
     which : IsPassing k.activity ⊎ (IsPassing k.activity → ⊥) → Walks (word z r'.world) r'.ledger.rows t k.activity k
     which (inl x) =
         let p = (i.passes t k g).in_pass x in
-        walks_stable _ _ _ _ t (rely_rows a h i.sane i.rows t p.since p.passes (others_kept a h t d ∙ p.passes)) k.activity k (i.walks t k g)
+        walks_stable _ _ _ _ t (rely_rows a h i t p.since p.passes (others_kept a h t d ∙ p.passes)) k.activity k (i.walks t k g)
     which (inr x) = walks_outside _ _ t k.activity k x
 
 -- The group.
 
--- a row is still in the list and normal, or free
-still_keeps : (z : Sizes) (r r' : Run) (s : ℕ) (choice : Choice) (l : Local) (a : Activity) (l' : Local) → Happens z r r' s choice l l' a → Shape z r → (q : ℕ) → IsStill (word z r'.world) r'.ledger.rows q
+-- a row is still in the list, or free
+still_keeps : (z : Sizes) (r r' : Run) (s : ℕ) (choice : Choice) (l : Local) (a : Activity) (l' : Local) → Happens z r r' s choice l l' a → Shape z r → (q : ℕ) → IsStill r'.ledger.rows q
 still_keeps z r r' s choice l a l' h i q = which (i.still q)
   where
     status : (r'.ledger.rows.fates q).status ≡ (r.ledger.rows.fates q).status
     status = ap (λ (x : Fate). x.status) (fates_kept a h q)
 
-    which : IsStill (word z r.world) r.ledger.rows q → IsStill (word z r'.world) r'.ledger.rows q
-    which (inl x) = inl (status ∙ x.0, state_kept a h i.sane q ∙ x.1)
+    which : IsStill r.ledger.rows q → IsStill r'.ledger.rows q
+    which (inl x) = inl (status ∙ x)
     which (inr x) = inr (status ∙ x)
 
 pub shape_keeps : (z : Sizes) (r r' : Run) (s : ℕ) (choice : Choice) (l : Local) (a : Activity) (l' : Local) → Happens z r r' s choice l l' a → Shape z r → Shape z r'
@@ -347,11 +435,12 @@ shape_keeps z r r' s choice l a l' h i = record {
   sane = sane_keeps z r r' s choice l a l' h.arrow h i;
   room = λ q o. room_keeps z r r' s choice l a l' h.arrow h i q (subst (λ x. q < x) h.rows o);
   clock = clock_keeps z r r' s choice l a l' h.arrow h i;
-  rows = structure_keeps a h i.sane i.rows;
+  rows = structure_keeps a h i;
   beyond = λ q o. ap (λ (x : Fate). x.status) (fates_kept a h q) ∙ i.beyond q (omega (arith, o, h.rows));
   still = still_keeps z r r' s choice l a l' h i;
   numbers = numbers_keep z r r' s choice l a l' h i;
-  kinds = each_seat h (λ t k. Kinds k.activity k) (kinds_own z r r' s choice l a l' h.arrow h i) (λ t k d g. i.kinds t k g);
+  kinds = each_seat h (λ t k. Kinds z k.activity k) (kinds_own z r r' s choice l a l' h.arrow h i) (λ t k d g. i.kinds t k g);
   passes = each_seat h (λ t k. Passes (word z r'.world) r'.ledger.rows t k.activity k) (passes_own z r r' s choice l a l' h.arrow h i) (passes_other z r r' s choice l a l' h i);
   walks = each_seat h (λ t k. Walks (word z r'.world) r'.ledger.rows t k.activity k) (walks_own z r r' s choice l a l' h.arrow h i) (walks_other z r r' s choice l a l' h i);
+  balances = each_seat h (λ t k. Balances (word z r'.world) r'.ledger.rows t k.activity k) (balances_own z r r' s choice l a l' h.arrow h i) (balances_other z r r' s choice l a l' h i);
 }

@@ -35,6 +35,8 @@ use Rattle.kw_rows.specs.States.{IsLiveState, Marks, States}
 use Rattle.kw_rows.specs.Structure.{Structure}
 use Rattle.kw_shape.specs.Passes.{Passes}
 use Rattle.kw_shape.specs.RowsIn.{has_frozen, has_mark, rows_in, state_met}
+use Rattle.kw_shape.specs.Balances.{Balances}
+use Rattle.kw_shape.proofs.BalancesKeep.{outside}
 use Rattle.kw_shape.specs.Shape.{IsStill, Kinds, Shape, Walks}
 use Rattle.kw_shape.proofs.RelyRows.{walks_outside}
 
@@ -42,9 +44,9 @@ no_adders : (n q : ℕ) → adders q (replicate n (resting 0)) ≡ 0
 no_adders zero q = refl
 no_adders (suc n) q = omega (arith, no_adders n q)
 
-no_drawers : (n : ℕ) → drawers (replicate n (resting 0)) ≡ 0
-no_drawers zero = refl
-no_drawers (suc n) = omega (arith, no_drawers n)
+no_drawers : (m n : ℕ) → drawers m (replicate n (resting 0)) ≡ 0
+no_drawers m zero = refl
+no_drawers m (suc n) = omega (arith, no_drawers m n)
 
 pub none_given : given_of (count_of 0) ≡ 0
 unfolding count_of
@@ -168,8 +170,8 @@ module _ (z : Sizes) (o : Opening) (i : IsOpening z o) where
     past = record { gone = λ q d. none_dead q d; begun = λ t since e. let x : None ≡ Some since = e in absurd (cc); drawn = λ m at e. let x : None ≡ Some at = e in absurd (cc) };
   }
 
-  still_starts : (q : ℕ) → IsStill (word z (opened z o)) (ledger_at_first o).rows q
-  still_starts zero = inl (refl, first-normal)
+  still_starts : (q : ℕ) → IsStill (ledger_at_first o).rows q
+  still_starts zero = inl refl
   still_starts (suc q) = inr refl
 
   beyond_starts : (q : ℕ) → o.rows ≤ q → (fate_at_first o q).status ≡ Free
@@ -188,12 +190,13 @@ module _ (z : Sizes) (o : Opening) (i : IsOpening z o) where
   shape_starts = record {
     sane = opened-sane z o i;
     room = λ q w. omega (arith, given-none q w, no_adders o.seats q, i.sized.some_cells);
-    clock = omega (arith, opens name.Clock tt, no_drawers o.seats, i.clock);
+    clock = omega (arith, opens name.Clock tt, no_drawers z.seats o.seats, i.clock);
     rows = structure_starts;
     beyond = beyond_starts;
     still = still_starts;
     numbers = record { below = λ m at e. let x : None ≡ Some at = e in absurd (cc); rises = λ m n x y e f. let u : None ≡ Some x = e in absurd (cc) };
-    kinds = each_rests z o (λ t l. Kinds l.activity l) (λ t. record { reached = tt; kind = tt; range = λ x. absurd x });
+    kinds = each_rests z o (λ t l. Kinds z l.activity l) (λ t. record { reached = tt; kind = tt; range = λ x. absurd x });
     passes = λ t l g. each_rests z o (λ t l. t < z.seats → Passes (word z (opened z o)) (ledger_at_first o).rows t l.activity l) passes_start t l g (omega (arith, slice_get_within (opened z o).locals t l g, (opened-sane z o i).seats));
     walks = each_rests z o (λ t l. Walks (word z (opened z o)) (ledger_at_first o).rows t l.activity l) (λ t. walks_outside (word z (opened z o)) (ledger_at_first o).rows t Idle (resting 0) (λ x. x));
+    balances = each_rests z o (λ t l. Balances (word z (opened z o)) (ledger_at_first o).rows t l.activity l) (λ t. outside (word z (opened z o)) (ledger_at_first o).rows t Idle (resting 0) (λ x. x) tt);
   }

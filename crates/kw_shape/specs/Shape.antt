@@ -2,24 +2,24 @@
 -- which row a seat walks. A seat names rows that are in the list, or were so in its pass (`IsFresh`, of `kw_rows`).
 --
 -- The words are a function of names here, so that a fact says what it reads.
-use Rattle.std.specs.Prelude.{ℕ, ◌≡◌, ◌⊎◌, ◌+◌, ◌<◌, ◌≤◌, true, Option, Some, None, length, slice_get}
+use Rattle.std.specs.Prelude.{ℕ, ◌≡◌, ◌⊎◌, ◌+◌, ◌*◌, ◌<◌, ◌≤◌, true, Option, Some, None, length, slice_get}
 use Rattle.kw_words.specs.declared.layout.Name.TheVariants as name
-use Rattle.kw_words.specs.declared.state.State.TheVariants.{Normal}
 use Rattle.kw_words.specs.declared.sizes.TheConstants.{SPENT}
-use Rattle.kw_words.specs.State.{state_word}
 use Rattle.kw_model.specs.declared.call.Call.{Call}
 use Rattle.kw_model.specs.declared.call.Call.TheVariants.{Put, Del, Get, Scan}
 use Rattle.kw_world.specs.declared.answer.Answer.{Answer}
 use Rattle.kw_world.specs.declared.answer.Answer.TheVariants.{Done, Value, Absent, Pairs, NoRows, Spent, Stopped}
 use Rattle.kw_world.specs.declared.activity.Activity.{Activity}
-use Rattle.kw_world.specs.declared.activity.Activity.TheVariants.{Idle, ScanClock, ScanWait, ScanDraw, ScanSettle, GuessMin, Walk, WalkMin, Look, LookKey, LookClock, LookHelp, ListFrom, ListKey, ListVer, ListVal, RestKey, RestVal, ClearScan, PutCount, PutAdd, PutKey, PutValue, Announce, PutClock, Stamp, PutVersion, InsFrom, InsKey, InsVer, InsSet, Insert, PutClear, Leave}
+use Rattle.kw_world.specs.declared.activity.Activity.TheVariants.{Idle, ScanClock, ScanWait, ScanDraw, ScanSettle, GuessMin, Walk, WalkMin, Look, LookKey, LookClock, LookHelp, ListFrom, ListKey, ListVer, ListVal, RestKey, RestVal, ClearScan, PutCount, PutAdd, PutKey, PutValue, Announce, PutClock, Stamp, PutVersion, InsFrom, InsKey, InsVer, InsSet, Insert, PutClear, Leave, AgainEpoch, MarkLink, Decide}
 use Rattle.kw_world.specs.declared.local.Local.{Local}
 use Rattle.kw_world.specs.Sizes.{Sizes}
 use Rattle.kw_world.specs.Calls.{first_key, last_key, is_scan}
 use Rattle.kw_world.specs.Sane.{IsSane}
 use Rattle.kw_world.specs.Step.{word}
 pub use Rattle.kw_core.specs.Words.{Words, next_in, least_in, given_in}
-use Rattle.kw_core.specs.Stages.{IsStarting, IsCovering, IsAtRow, IsPastStart, IsReached}
+use Rattle.kw_core.specs.declared.stage.Stage.{Stage}
+use Rattle.kw_core.specs.declared.stage.Stage.TheVariants.{Rebalancing, Retrying}
+use Rattle.kw_core.specs.Stages.{stage_of, IsStarting, IsCovering, IsAtRow, IsPastStart, IsReached}
 use Rattle.kw_core.specs.Run.{Run}
 use Rattle.kw_rows.specs.Ledger.{Ledger, Free, IsLive, IsFresh}
 use Rattle.kw_rows.specs.Rows as rows
@@ -27,12 +27,13 @@ use Rattle.kw_rows.specs.Structure.{Structure}
 use Rattle.kw_shape.specs.Rooms.{adders, drawers}
 use Rattle.kw_shape.specs.RowsIn.{rows_in}
 use Rattle.kw_shape.specs.Passes.{Passes, Numbers}
+use Rattle.kw_shape.specs.Balances.{Balances}
 
 -- The rows.
 
--- what stands in place of rows that come and go, as long as no row is rebalanced: the row is in the list and normal, or free
-abbrev pub IsStill : Words → Ledger → ℕ → Type 0
-IsStill v g q = IsLive g q × (v (name.State q) ≡ state_word Normal) ⊎ ((g.fates q).status ≡ Free)
+-- what stands in place of rows that come and go, as long as no row is replaced: the row is in the list, or free
+abbrev pub IsStill : Ledger → ℕ → Type 0
+IsStill g q = IsLive g q ⊎ ((g.fates q).status ≡ Free)
 
 -- the key is one that the row may hold: not below its minimum, and below the end of its range
 abbrev pub HoldsKey : Words → Ledger → ℕ → ℕ → Type 0
@@ -99,8 +100,10 @@ IsScanCall _ = ⊥
 abbrev pub IsAnswerOf : Option Call → Answer → Type 0
 IsAnswerOf (Some (Put key value)) Done = Unit {0}
 IsAnswerOf (Some (Put key value)) NoRows = Unit {0}
+IsAnswerOf (Some (Put key value)) Spent = Unit {0}
 IsAnswerOf (Some (Del key)) Done = Unit {0}
 IsAnswerOf (Some (Del key)) NoRows = Unit {0}
+IsAnswerOf (Some (Del key)) Spent = Unit {0}
 IsAnswerOf (Some (Get key)) (Value value) = Unit {0}
 IsAnswerOf (Some (Get key)) Absent = Unit {0}
 IsAnswerOf (Some (Scan from upto)) Pairs = Unit {0}
@@ -112,6 +115,12 @@ IsAnswerOf _ _ = ⊥
 abbrev pub IsPairs : Answer → Type 0
 IsPairs Pairs = Unit {0}
 IsPairs _ = ⊥
+
+-- a seat rebalances or tries again for a put, and walks or begins for any call
+abbrev pub IsKindAt : Stage → Option Call → Type 0
+IsKindAt Rebalancing call = IsPutCall call
+IsKindAt Retrying call = IsPutCall call
+IsKindAt _ call = IsSomeCall call
 
 -- the activity is one of such a call
 abbrev pub IsKind : Activity → Local → Type 0
@@ -146,11 +155,14 @@ IsKind InsSet l = IsPutCall l.call
 IsKind Insert l = IsPutCall l.call
 IsKind PutClear l = IsPutCall l.call
 IsKind (Leave answer) l = IsAnswerOf l.call answer
-IsKind _ l = IsSomeCall l.call
+IsKind AgainEpoch l = IsPutCall l.call
+IsKind (MarkLink count) l = IsPutCall l.call × (count ≤ 1)
+IsKind (Decide count) l = IsPutCall l.call × (count ≡ 1)
+IsKind a l = IsKindAt (stage_of a) l.call
 
 -- the activity is one to which a seat may come, and fits the call, and a scan that walks or reads has a key
-pub record Kinds (a : Activity) (l : Local) : Type 0 where
-  pub reached : IsReached a
+pub record Kinds (z : Sizes) (a : Activity) (l : Local) : Type 0 where
+  pub reached : IsReached z a
   pub kind : IsKind a l
   pub range : IsCovering a → first_key l.call ≤ last_key l.call
 
@@ -162,14 +174,15 @@ pub record Kinds (a : Activity) (l : Local) : Type 0 where
 pub record Shape (z : Sizes) (r : Run) : Type 0 where
   pub sane : IsSane z r.world
   pub room : (q : ℕ) → q < r.world.rows → given_in (word z r.world) q + adders q r.world.locals < z.cells + z.seats
-  pub clock : word z r.world name.Clock + drawers r.world.locals ≤ SPENT + z.seats
+  pub clock : word z r.world name.Clock + drawers z.seats r.world.locals ≤ SPENT + z.seats * z.seats
   -- the live rows are one list, rows that a seat may name lead to such rows, and states and marks go with the fates
   pub rows : Structure (rows_in (word z r.world)) r.ledger.rows (length r.history.log)
   -- a row that the table does not have is free
   pub beyond : (q : ℕ) → r.world.rows ≤ q → (r.ledger.rows.fates q).status ≡ Free
-  -- as long as no row is rebalanced, none comes or goes
-  pub still : (q : ℕ) → IsStill (word z r.world) r.ledger.rows q
+  -- as long as no row is replaced, none comes or goes
+  pub still : (q : ℕ) → IsStill r.ledger.rows q
   pub numbers : Numbers (word z r.world) r.ledger.rows
-  pub kinds : (t : ℕ) (l : Local) → slice_get r.world.locals t ≡ Some l → Kinds l.activity l
+  pub kinds : (t : ℕ) (l : Local) → slice_get r.world.locals t ≡ Some l → Kinds z l.activity l
   pub passes : (t : ℕ) (l : Local) → slice_get r.world.locals t ≡ Some l → Passes (word z r.world) r.ledger.rows t l.activity l
   pub walks : (t : ℕ) (l : Local) → slice_get r.world.locals t ≡ Some l → Walks (word z r.world) r.ledger.rows t l.activity l
+  pub balances : (t : ℕ) (l : Local) → slice_get r.world.locals t ≡ Some l → Balances (word z r.world) r.ledger.rows t l.activity l

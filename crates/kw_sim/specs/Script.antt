@@ -87,7 +87,7 @@ pub record AreLinesOf (rows : ℕ) (bytes : List ℕ) (commands : List Command) 
   pub texts : lines bytes ≡ map command_text commands
 
 -- this line of the bytes, counted from 1, is the text of no command or is one too many, and each line before it is neither
-pub record IsFirstBad (rows : ℕ) (bytes : List ℕ) (number : ℕ) : Type 0 where
+pub record IsFirstBadCommand (rows : ℕ) (bytes : List ℕ) (number : ℕ) : Type 0 where
   pub before : List Command
   pub line : List ℕ
   pub after : List (List ℕ)
@@ -98,7 +98,7 @@ pub record IsFirstBad (rows : ℕ) (bytes : List ℕ) (number : ℕ) : Type 0 wh
   pub bad : IsText rows line → length before ≡ MOST_LINES
 
 -- a line that is named is the first bad one
-abbrev pub IfBad : {X : Type 0} → ℕ → List ℕ → Result X ScriptError → Type 0
-IfBad rows bytes (Ok x) = Unit {0}
-IfBad rows bytes (Err (error.Bad line)) = IsFirstBad rows bytes line
-IfBad rows bytes (Err error.Memory) = Unit {0}
+abbrev pub IfBadCommand : {X : Type 0} → ℕ → List ℕ → Result X ScriptError → Type 0
+IfBadCommand rows bytes (Ok x) = Unit {0}
+IfBadCommand rows bytes (Err (error.Bad line)) = IsFirstBadCommand rows bytes line
+IfBadCommand rows bytes (Err error.Memory) = Unit {0}

@@ -8,7 +8,7 @@ ghost use Rattle.kw_words.specs.declared.kind.Kind.{Kind as AnyKind};
 ghost use Rattle.kw_words.specs.Kind.{name_of};
 ghost use Rattle.kw_sim.specs.declared.command.Command.{Command as AnyCommand};
 ghost use Rattle.kw_sim.specs.declared.parse.Verb.{Verb as AnyVerb};
-ghost use Rattle.kw_sim.specs.Script.{verb_word, verb_of, seat_of, rest_words, command_text, HasRange, IsCommand, IsText, AreLinesOf, IfBad};
+ghost use Rattle.kw_sim.specs.Script.{verb_word, verb_of, seat_of, rest_words, command_text, HasRange, IsCommand, IsText, AreLinesOf, IfBadCommand};
 
 use crate::command::{Command, ScriptError};
 use kw_judge::parse::call;
@@ -38,7 +38,7 @@ pub enum Verb {
 /// The commands of a script's lines, one for each line, for a table of this many rows.
 pub fn parse_script(alloc: Global, rows: u32, script: &[u8]) -> Result<Vec<Command>, ScriptError>
     ensures commands { IfOk result (λ commands. AreLinesOf rows script.now commands.items) }
-    ensures bad { IfBad rows script.now result }
+    ensures bad { IfBadCommand rows script.now result }
 {
     let mut commands = Vec::new(alloc);
     for line in Lines::new(script) {

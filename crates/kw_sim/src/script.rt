@@ -2,7 +2,7 @@
 ghost use Rattle.std.specs.Prelude.{◌≡◌, ◌*◌, ◌≤◌, length, IfOk};
 ghost use Rattle.kw_words.specs.declared.sizes.TheConstants.{MOST_ROWS};
 ghost use Rattle.kw_sim.specs.declared.parse.TheConstants.{MOST_LINES, MOST_STEPS};
-ghost use Rattle.kw_sim.specs.Script.{IfBad};
+ghost use Rattle.kw_sim.specs.Script.{IfBadCommand};
 ghost use Rattle.kw_sim.specs.Output.{IsOutputOf, IsStateOf};
 ghost use Rattle.kw_sim.specs.Recorded.{IsRecordOf, IfBadRecord};
 
@@ -19,7 +19,7 @@ pub fn run_script(alloc: Global, rows: u32, script: &[u8]) -> Result<Vec<u8>, Sc
     requires some { 1 ≤ rows }
     requires few { rows ≤ MOST_ROWS }
     ensures output { IfOk result (λ bytes. IsOutputOf rows script.now bytes.items) }
-    ensures bad { IfBad rows script.now result }
+    ensures bad { IfBadCommand rows script.now result }
 {
     let simulator = run_lines(alloc, rows, script)?;
     Ok(simulator.into_output(alloc)?)
@@ -49,7 +49,7 @@ fn run_lines(alloc: Global, rows: u32, script: &[u8]) -> Result<Simulator, Scrip
     ensures state { IfOk result (λ simulator. IsStateOf rows script.now simulator) }
     ensures made { IfOk result (λ simulator. length simulator.trace.events ≤ MOST_LINES
         * MOST_STEPS) }
-    ensures bad { IfBad rows script.now result }
+    ensures bad { IfBadCommand rows script.now result }
 {
     let commands = parse_script(alloc, rows, script)?;
     let mut simulator = Simulator::open(alloc, rows)?;
@@ -132,7 +132,7 @@ mod tests {
     }
 
     #[test]
-    fn a_kind_that_no_activity_makes_is_missed(rt: HostRuntime) -> Result<(), Fail> {
+    fn a_kind_that_the_call_does_not_make_is_missed(rt: HostRuntime) -> Result<(), Fail> {
         for kind in ["engage", "freeze_count", "replace", "reclaim", "mark_link"] {
             let mut script = Vec::from_slice(rt.alloc(), b"call 0 put 5 1\nuntil 0 ")?;
             script.extend_from_slice(kind.as_bytes())?;

@@ -103,8 +103,9 @@ pub fn leave(local: &mut Local, answer: Answer) -> StepDone
     to(local, Activity::Leave(answer))
 }
 
-// The scan has ended, with its answer unless it is stopped here.
-fn end_scan(local: &mut Local, answer: Answer, choice: Choice) -> StepDone
+/// The scan has ended, with its answer unless it is stopped here.
+#[inline(always)]
+pub fn end_scan(local: &mut Local, answer: Answer, choice: Choice) -> StepDone
     ensures { outcome local.new result ≡ leave (answer_or_stopped answer choice) local.old }
 {
     if choice.is_stop() {

@@ -16,9 +16,9 @@ use kw_world::answer::Answer;
 use kw_world::event::StepDone;
 use kw_world::local::Local;
 
-// The row is full: as long as no row is rebalanced, the call is refused.
+// The row is full: in the form of the product the call is refused.
 fn refuse(local: &mut Local) -> StepDone
-    ensures { outcome local.new result ≡ full local.old }
+    ensures { outcome local.new result ≡ full product local.old }
 {
     leave(local, Answer::NoRows)
 }
@@ -37,7 +37,7 @@ pub fn room(found: u64) -> Option<u32>
 /// The seat was told the count of its row.
 pub fn count(local: &mut Local, found: u64) -> StepDone
     ensures { outcome local.new result ≡ (if has_room product (count_of found)
-        then to Activity.PutAdd local.old else full local.old) }
+        then to Activity.PutAdd local.old else full product local.old) }
 {
     match room(found) {
         Some(_) => to(local, Activity::PutAdd),
@@ -49,7 +49,7 @@ pub fn count(local: &mut Local, found: u64) -> StepDone
 pub fn add(local: &mut Local, found: u64) -> StepDone
     ensures { outcome local.new result ≡ (if has_room product (count_of found)
         then to Activity.PutKey (record local.old { cell = given_of (count_of found) })
-        else full local.old) }
+        else full product local.old) }
 {
     match room(found) {
         Some(cell) => {
@@ -63,7 +63,7 @@ pub fn add(local: &mut Local, found: u64) -> StepDone
 /// The seat has tried to announce its cell, and was told the entry found.
 pub fn announce(local: &mut Local, found: u64) -> StepDone
     ensures { outcome local.new result ≡ (if found == pend_word Pend.Idle then to Activity.PutClock
-        local.old else full local.old) }
+        local.old else full product local.old) }
 {
     if found == Pend::Idle.pack() {
         to(local, Activity::PutClock)
@@ -74,7 +74,7 @@ pub fn announce(local: &mut Local, found: u64) -> StepDone
 
 /// The seat has tried to stamp its cell, and was told the entry found.
 pub fn stamp(local: &mut Local, found: u64) -> StepDone
-    ensures { outcome local.new result ≡ stamp_met (pend_of found) local.old }
+    ensures { outcome local.new result ≡ stamp_met product (pend_of found) local.old }
 {
     match Pend::unpack(found) {
         Some(Pend::Pending(cell)) if cell == local.cell => to(local, Activity::PutVersion),

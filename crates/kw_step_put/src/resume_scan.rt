@@ -1,6 +1,6 @@
 //! What a seat knows after the events by which a call begins and a scan gets its version.
 //!
-//! The running map makes the first two events of a call by steps of their own, and calls `begin` and `enter` for what follows.
+//! The running map makes each of these events by a step of its own, and calls the functions here for what follows.
 ghost use Rattle.std.specs.Prelude.{◌≡◌};
 ghost use Rattle.kw_words.specs.Scan.{scan_of};
 ghost use Rattle.kw_world.specs.Transition.{outcome};
@@ -51,8 +51,9 @@ fn start(local: &mut Local) -> StepDone
     to(local, Activity::Start)
 }
 
-// A scan was told the clock.
-pub(crate) fn clock(local: &mut Local, clock: u64) -> StepDone
+/// A scan was told the clock.
+#[inline(always)]
+pub fn clock(local: &mut Local, clock: u64) -> StepDone
     ensures { outcome local.new result ≡ clock_met clock local.old }
 {
     if clock >= SPENT {
@@ -62,8 +63,9 @@ pub(crate) fn clock(local: &mut Local, clock: u64) -> StepDone
     to(local, Activity::ScanWait)
 }
 
-// A scan has exchanged its waiting word, and was told the word found.
-pub(crate) fn settle(local: &mut Local, found: u64) -> StepDone
+/// A scan has exchanged its waiting word, and was told the word found.
+#[inline(always)]
+pub fn settle(local: &mut Local, found: u64) -> StepDone
     ensures { outcome local.new result ≡ settled (version_settled (scan_of found) local.old.drawn)
         local.old }
 {

@@ -1,10 +1,11 @@
--- The gathered cells: no two of them agree, and one more is at most one more.
-use Rattle.std.proofs.Common.{ℕ, Bool, true, false, ◌≡◌, ◌<◌, ◌≤◌, suc, ◌⊎◌, inl, inr, List, [], ◌∷◌, refl, sym, subst, ◌∙◌, arith, length, get_or, nat_lt, if◌then◌else◌}
+-- The gathered cells: no two of them agree, and there are no more than there is room for.
+use Rattle.std.proofs.Common.{ℕ, Bool, true, false, ◌≡◌, ◌<◌, ◌≤◌, ◌⊎◌, inl, inr, List, refl, sym, subst, ◌∙◌, arith, length, get_or, nat_lt, if◌then◌else◌}
 use Rattle.std.proofs.lemmas.List.{get_or_default}
 use Rattle.std.proofs.lemmas.Bool.{cases_order}
 use Rattle.std.proofs.lemmas.Bool.Decides.{nat_tests}
 use Rattle.kw_cells.specs.Cells.{AreApart}
 use Rattle.kw_cells.specs.InOrder.{stands_before, AreInOrder, with_cell}
+use Rattle.kw_cells.proofs.InOrder.{length-with_cell}
 use Rattle.kw_cells.specs.declared.cell.Cell.{Cell}
 
 -- of two cells that agree neither stands before the other
@@ -25,16 +26,6 @@ in_order_apart cells o c d (i, u, e) (j, w, f) k v p = which (cases_order i j)
     which (inl s) = sym e ∙ get_or_default cells i c d u ∙ subst (λ x. get_or cells x d ≡ d) (sym s) f
     which (inr (inl l)) = absurd (let t : stands_before c d ≡ true = front_stands cells i j c d o l w e f in let n : stands_before c d ≡ false = same_not_before c d k v p in cc)
     which (inr (inr l)) = absurd (let t : stands_before d c ≡ true = front_stands cells j i d c o l u f e in let n : stands_before d c ≡ false = same_not_before d c (sym k) (sym v) (sym p) in cc)
-
--- a cell more is at most one more
-pub length-with_cell : (c : Cell) (cells : List Cell) → length (with_cell c cells) ≤ suc (length cells)
-length-with_cell c [] = omega arith
-length-with_cell c (d ∷ cells) = which (stands_before d c) (stands_before c d) (length-with_cell c cells)
-  where
-    which : (x y : Bool) → length (with_cell c cells) ≤ suc (length cells) → length (if x then d ∷ with_cell c cells else if y then c ∷ d ∷ cells else d ∷ cells) ≤ suc (suc (length cells))
-    which true y i = omega (arith, i)
-    which false true i = omega arith
-    which false false i = omega arith
 
 -- where a cell is put only where there is room, there are never more than the room
 pub length-kept_within : (room : ℕ) (c : Cell) (cells : List Cell) → length cells ≤ room → length (if nat_lt (length cells) room then with_cell c cells else cells) ≤ room

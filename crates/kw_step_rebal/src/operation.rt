@@ -177,11 +177,17 @@ fn change_state(kind: Kind, name: Name, from: State, into: State) -> Operation
     }
 }
 
+// What the word of a row's state has for an infant, below the number of its seat.
+const INFANT: u64 = 1;
+
+// What the number of a seat is multiplied by in the word of a row's state.
+const STATE_UNIT: u64 = 8;
+
 // The word for the state of an infant of a seat, whatever number the seat has.
 fn infant_word(seat: u32) -> u64
     ensures { result ≡ state_word (State.Infant seat) }
 {
-    1 + 8 * seat as u64
+    INFANT + STATE_UNIT * seat as u64
 }
 
 // The exchange that makes an infant of this seat normal.

@@ -372,6 +372,7 @@ pub fn help_stamp(
 // A scan and its version.
 
 /// Stores the clock that the seat's scan loaded.
+#[inline(always)]
 pub fn store_waiting(
     shared: &Shared,
     pass: &mut Pass,
@@ -396,6 +397,7 @@ pub fn store_waiting(
 }
 
 /// Adds to the clock, to draw a version for the seat's scan.
+#[inline(always)]
 pub fn draw(shared: &Shared, pass: &mut Pass, choice: Choice, word: Name, number: u64) -> u64
     requires { Asks shared.now pass.old choice (operation Kind.Draw word (Action.Add number)) }
     ensures { Makes shared.now pass.old choice result pass.new }
@@ -413,6 +415,7 @@ pub fn draw(shared: &Shared, pass: &mut Pass, choice: Choice, word: Name, number
 }
 
 /// Exchanges the seat's waiting scan for one with a version.
+#[inline(always)]
 pub fn settle(
     shared: &Shared,
     pass: &mut Pass,
@@ -439,6 +442,7 @@ pub fn settle(
 }
 
 /// Stores that the seat makes no scan.
+#[inline(always)]
 pub fn clear_scan(shared: &Shared, pass: &mut Pass, choice: Choice, word: Name, stored: u64) -> u64
     requires { Asks shared.now pass.old choice (operation Kind.ClearScan word (Action.Store stored)) }
     ensures { Makes shared.now pass.old choice result pass.new }

@@ -1,7 +1,6 @@
--- What the sizes of the product's map owe each other and the encodings. Every proof above cites these by name, so other
--- sizes are right where these lemmas still hold.
-use Rattle.std.proofs.Common.{ℕ, ◌+◌, ◌*◌, ◌-◌, ◌/◌, ◌%◌, ◌<◌, ◌≤◌, ◌^◌, ◌≡◌, refl, arith}
-use Rattle.std.specs.Prelude.{min, max}
+-- What the sizes of the product's map owe each other and the encodings, a lemma for each: other sizes are right where these lemmas hold of them.
+-- What they owe the events of a seat that goes on alone is in EventCounts.
+use Rattle.std.proofs.Common.{ℕ, ◌+◌, ◌*◌, ◌-◌, ◌/◌, ◌%◌, ◌<◌, ◌≤◌, ◌≡◌, refl, arith}
 use Rattle.kw_words.specs.declared.sizes.TheConstants.{SEATS, CELLS, BUILT, SEAT_COUNT, CELL_COUNT, BUILT_COUNT, MOST_SEATS, MOST_CELLS, MOST_ROWS, MOST_GROUP, MOST_NEW_ROWS, VERSION_END, NUMBER_END, SPENT, FROZEN_BIT}
 use Rattle.kw_words.specs.Layout.{IsSized}
 
@@ -46,8 +45,12 @@ new_rows_have_room = omega arith
 pub new_rows_are_odd : MOST_NEW_ROWS % 2 ≡ 1
 new_rows_are_odd = refl
 
+-- how many rows of the table stand against a put for each seat
+abbrev pub rows_for_a_put : ℕ
+rows_for_a_put = 3
+
 -- the puts that fill a new row pay for the rows that its rebalance builds, with a row in hand for each seat
-pub puts_pay_for_rows : MOST_NEW_ROWS * (SEATS + 1) ≤ 3 * (CELLS - BUILT - SEATS)
+pub puts_pay_for_rows : MOST_NEW_ROWS * (SEATS + 1) ≤ rows_for_a_put * (CELLS - BUILT - SEATS)
 puts_pay_for_rows = omega arith
 
 -- a try of each seat after the last cell does not reach the frozen bit
@@ -61,32 +64,6 @@ clock_has_room = omega arith
 -- the numbers that seats may still take once the epoch is spent fit in a word
 pub epoch_has_room : SPENT + SEATS * SEATS + SEATS < NUMBER_END
 epoch_has_room = omega arith
-
--- How many events a seat makes that goes on alone, in a table of so many rows: of a row that it reads, of a put, of a rebalance, and of all
--- from one beginning of a walk to the next, where it makes a put and a rebalance or reads all rows.
-
-abbrev row_events : ℕ
-row_events = 4 * SEATS + 1 + 4 * CELLS + 3 * SEATS
-
-abbrev put_events : ℕ
-put_events = 17 + 4 * CELLS
-
-abbrev rebalance_events : ℕ → ℕ
-rebalance_events rows =
-    15 + MOST_GROUP * (1 + 3 * SEATS) + 3 * SEATS + MOST_GROUP * row_events + rows * (SEATS + 3)
-    + min MOST_NEW_ROWS rows * (4 + SEATS + 2 * CELLS + 2 * BUILT) + 10 + 4 * rows
-
-abbrev pub pass_events : ℕ → ℕ
-pass_events rows = 10 + 2 * rows + max (put_events + rebalance_events rows) (rows * (2 + row_events))
-
--- what the bound on these events is a multiple of; it does not grow with the sizes
-abbrev alone_factor : ℕ
-alone_factor = 2 ^ 5
-
--- in so many events a seat that goes on alone goes through two such walks and the way to the first, so it ends a call, replaces rows, or goes on
--- to a row before them
-pub alone_is_bounded : (rows : ℕ) → 1 ≤ rows → 2 * pass_events rows + 3 ≤ alone_factor * (SEATS * SEATS) * (rows + 1)
-alone_is_bounded rows some = omega arith
 
 -- the seats are as many as code counts in words
 pub seat_count : SEAT_COUNT ≡ SEATS

@@ -1,5 +1,6 @@
 pub mod Places
 pub mod Inequalities
+pub mod EventCounts
 pub mod Bits
 pub mod Refusals
 pub mod PendWords

@@ -85,13 +85,13 @@ transition z RestVal s choice l = at kind.LoadValue (Value l.row l.place) Load (
 -- a scan is over
 transition z (ClearScan answer) s choice l = at kind.ClearScan (Scan s) (Store (scan_word Quiet)) (λ _. leave (answer_or_stopped answer choice) l)
 -- a put or a delete
-transition z PutCount s choice l = at kind.LoadCount (Count l.row) Load (λ w. if has_room z (count_of w) then to PutAdd l else full l)
-transition z PutAdd s choice l = at kind.AddCount (Count l.row) (Add 1) (λ w. if has_room z (count_of w) then to PutKey (record l { cell = given_of (count_of w) }) else full l)
+transition z PutCount s choice l = at kind.LoadCount (Count l.row) Load (λ w. if has_room z (count_of w) then to PutAdd l else full z l)
+transition z PutAdd s choice l = at kind.AddCount (Count l.row) (Add 1) (λ w. if has_room z (count_of w) then to PutKey (record l { cell = given_of (count_of w) }) else full z l)
 transition z PutKey s choice l = at kind.StoreKey (Key l.row l.cell) (Store (key_word (first_key l.call))) (λ _. to PutValue l)
 transition z PutValue s choice l = at kind.StoreValue (Value l.row l.cell) (Store (value_word (put_value l.call))) (λ _. to Announce l)
-transition z Announce s choice l = at kind.Announce (Pend l.row s) (Exchange (pend_word pend.Idle) (pend_word (pend.Pending l.cell))) (λ w. if w == pend_word pend.Idle then to PutClock l else full l)
+transition z Announce s choice l = at kind.Announce (Pend l.row s) (Exchange (pend_word pend.Idle) (pend_word (pend.Pending l.cell))) (λ w. if w == pend_word pend.Idle then to PutClock l else full z l)
 transition z PutClock s choice l = at kind.LoadClock Clock Load (λ v. to Stamp (record l { version = v }))
-transition z Stamp s choice l = at kind.Stamp (Pend l.row s) (Exchange (pend_word (pend.Pending l.cell)) (pend_word (pend.Stamped l.cell l.version))) (λ w. stamp_met (pend_of w) l)
+transition z Stamp s choice l = at kind.Stamp (Pend l.row s) (Exchange (pend_word (pend.Pending l.cell)) (pend_word (pend.Stamped l.cell l.version))) (λ w. stamp_met z (pend_of w) l)
 transition z PutVersion s choice l = at kind.StoreVersion (Version l.row l.cell) (Store (version_word (Some l.version))) (λ _. to_insert l)
 -- its cell is inserted in the row's list
 transition z InsFrom s choice l = at kind.LoadAfter (link_name l.row l.link) Load (λ w. insert_from z (cell_of_link_word w) l)
@@ -111,8 +111,8 @@ transition z BalEpoch s choice l = at kind.LoadEpoch Epoch Load (λ e. balance_e
 transition z BalState s choice l = at kind.LoadState (State l.row) Load (λ w. state_met (state_of w) l)
 transition z (BalNormal seat) s choice l = at kind.Normalise (State l.row) (Exchange (state_word (state.Infant seat)) (state_word state.Normal)) (λ _. to BalState l)
 transition z Engage s choice l = at kind.Engage (State l.row) (Exchange (state_word state.Normal) (state_word (state.Leader 0))) (λ w. engaged (w == state_word state.Normal) l)
-transition z (MarkLink count) s choice l = at kind.MarkLink (Next l.row) (Or MARK_BIT) (λ w. link_marked count (row_linked (link_of w)) l)
-transition z (Decide count) s choice l = at kind.Decide (State l.row) (Exchange (state_word (state.Leader 0)) (state_word (state.Leader count))) (λ w. decided (state_of w) l)
+transition z (MarkLink count) s choice l = at kind.MarkLink (Next l.row) (Or MARK_BIT) (λ w. link_marked z count (row_linked (link_of w)) l)
+transition z (Decide count) s choice l = at kind.Decide (State l.row) (Exchange (state_word (state.Leader 0)) (state_word (state.Leader count))) (λ w. decided z (state_of w) l)
 -- the row is frozen, and the scans are looked at
 transition z FreezeCount s choice l = at kind.FreezeCount (Count l.row) (Or FROZEN_BIT) (λ _. count_frozen l)
 transition z (FreezeLook i) s choice l = at kind.LoadPend (Pend l.row i) Load (λ w. freeze_met z i (pend_of w) l)

@@ -9,7 +9,7 @@ ghost use Rattle.kw_cells.specs.InOrder.{AreInOrder, place_in, stands_before, wi
 
 use arrayvec::ArrayVec;
 use kw_cells::cell::Cell;
-use kw_cells::in_order::place_in;
+use kw_cells::in_order::{is_behind, place_in};
 use kw_words::sizes::CELLS;
 use std::alloc::AllocError;
 use std::marker::Model;
@@ -66,6 +66,7 @@ impl Gathered {
     ///
     /// None where the cell is not put there, and all stays as it was: there is no room, or a cell was gathered that agrees with it
     /// in key, version and place. No reader of a row meets either. A walk along a row's list has the next cell for the end.
+    #[inline(always)]
     pub fn gather(&mut self, cell: Cell) -> Option<usize>
         ensures gathered { self.new ≡ (if nat_lt (length self.old) CELLS
             then with_cell cell self.old else self.old) }
@@ -75,6 +76,21 @@ impl Gathered {
         if self.cells.is_full() {
             return None;
         }
+        if is_behind(&cell, self.cells.as_slice()) {
+            let end = self.cells.len();
+            self.cells.push(cell);
+            return Some(end);
+        }
+        self.put_between(cell)
+    }
+
+    // Puts a cell at its place where others may stand behind it.
+    fn put_between(&mut self, cell: Cell) -> Option<usize>
+        requires { length self.old < CELLS }
+        ensures gathered { self.new ≡ with_cell cell self.old }
+        ensures put { IfSome result (λ at. (at < length self.new) × (remove self.new at ≡ self.old)) }
+        ensures kept { IfNone result (self.new ≡ self.old) }
+    {
         let at = place_in(&cell, self.cells.as_slice());
         if !is_new(&cell, self.cells.as_slice(), at) {
             return None;

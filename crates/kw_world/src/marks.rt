@@ -75,13 +75,21 @@ impl Marks {
     }
 
     /// Forgets each mark of this cell.
+    #[inline(always)]
     pub fn forget(&mut self, cell: u32)
         ensures { self.new ≡ unmarked cell self.old }
     {
-        let marks = self.items.as_slice();
-        if marks.is_empty() {
+        if self.items.as_slice().is_empty() {
             return;
         }
+        self.keep_others(cell);
+    }
+
+    // Keeps the marks of all cells but this one.
+    fn keep_others(&mut self, cell: u32)
+        ensures { self.new ≡ unmarked cell self.old }
+    {
+        let marks = self.items.as_slice();
         let mut kept = ArrayVec::new();
         for mark in marks {
             if mark.cell != cell {

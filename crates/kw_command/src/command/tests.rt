@@ -12,8 +12,8 @@ fn words(alloc: Global, texts: &[&str]) -> Result<Vec<Word>, AllocError> {
     Ok(words)
 }
 
-/// The command that asks a generated load with these numbers.
-fn load(start: u32, count: u32, workers: u32, rows: u32) -> Command {
+/// The command that has lines generated, with these numbers.
+fn generated(start: u32, count: u32, workers: u32, rows: u32) -> Command {
     Command::Gen {
         start,
         count,
@@ -54,7 +54,7 @@ fn options_that_do_not_stand_have_their_defaults(rt: HostRuntime) -> Result<(), 
             },
         ),
         (&["judge"], Command::Judge),
-        (&["gen", "0", "1"], load(0, 1, 1, 16_384)),
+        (&["gen", "0", "1"], generated(0, 1, 1, 16_384)),
     ];
     for (list, command) in lists {
         let words = words(rt.alloc(), list)?;
@@ -73,7 +73,7 @@ fn options_stand_in_any_order(rt: HostRuntime) -> Result<(), Fail> {
         workers: 2,
         rows: 70,
     };
-    let made = load(5, 9, 2, 70);
+    let made = generated(5, 9, 2, 70);
     let lists: [(&[&str], Command); 9] = [
         (&["replay", "--workers", "2", "--rows", "70"], replay),
         (&["replay", "--rows", "70", "--workers", "2"], replay),
@@ -155,7 +155,7 @@ fn numbers_reach_to_the_ends_of_their_ranges(rt: HostRuntime) -> Result<(), Fail
     )?;
     assert_eq!(rt;
         command_of(rt.alloc(), &words)?,
-        Some(load(4_294_967_295, 1_000_000, 8, 65_536))
+        Some(generated(4_294_967_295, 1_000_000, 8, 65_536))
     );
     Ok(())
 }

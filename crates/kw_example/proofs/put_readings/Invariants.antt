@@ -1,5 +1,5 @@
 use Rattle.kw_map.specs.Kiwi.{IsIdle}
 use Rattle.kw_example.proofs.put_readings.Given as goal
 
-abbrev pub invariant-loop-number : goal.invariant-loop-number
-invariant-loop-number g l = IsIdle l.kiwi l.pass
+abbrev pub invariant-loop-key : goal.invariant-loop-key
+invariant-loop-key g l = IsIdle l.kiwi l.pass

@@ -1,4 +1,5 @@
-use Rattle.std.proofs.Common.{◌≡◌, ◌<◌, [], List, length, sym, ap, ◌∙◌, subst, arith}
+use Rattle.std.proofs.Common.{◌≡◌, ◌<◌, ◌≤◌, [], List, length, map, sym, ap, ◌∙◌, subst, arith}
+use Rattle.std.proofs.lemmas.List.{take_all}
 use Rattle.kw_line.specs.declared.answer.Answer.{Answer}
 use Rattle.kw_world.specs.declared.event.Event.{Event}
 use Rattle.kw_table.specs.Meetings.{front_seen}
@@ -29,3 +30,9 @@ loop-block-preserved g c =
       together = subst (λ n. AreTogether c.args.kiwi.now n (front_seen c.in_ok-next.next.items) c.in_ok-next.next.items) workers c.in_ok-next.ensures.together;
       ran = ran_step _ _ _ _ b _ _ _ _ _ inv.together.some lt c.block-item.is workers c.in_ok-append.ensures.items inv.ran c.in_ok-next.ensures.grew;
     }
+
+pub returns-clause-ran : goal.returns-clause-ran
+returns-clause-ran g c =
+    let past : length c.args.blocks.now ≤ c.loop-block.block-index = omega arith in
+    subst (λ (bs : List Dealt). Ran c.args.kiwi.now.shared.opening c.args.crew.now.workers (map (λ (b : Dealt). b.lines) bs) (front_seen c.loop-block.passes.items) c.loop-block.answers.items)
+    (take_all c.loop-block.block-index c.args.blocks.now past) c.loop-block.invariant.ran

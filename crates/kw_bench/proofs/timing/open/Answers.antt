@@ -1,10 +1,11 @@
+-- What is left of the passes and the one that was taken are idle, as all were.
 use Rattle.std.proofs.Common.{Some}
 use Rattle.std.proofs.lemmas.List.Elements.{All-pop}
 use Rattle.kw_map.specs.Kiwi.{IsIdle}
 use Rattle.kw_bench.proofs.timing.open.Goals as goal
 
-pub returns : goal.returns
-returns c =
-    let last = All-pop (IsIdle c.in_ok-kiwi.kiwi) _ _ (Some c.in-Some-Some.second) c.in-Some-Some.ensures.items c.in_ok-kiwi.ensures.idle in
-    let one_more = All-pop (IsIdle c.in_ok-kiwi.kiwi) _ _ (Some c.in-Some-Some.first) c.in-Some-Some.ensures'.items last.0 in
-    (one_more.1, last.1)
+pub returns-clause-idle : goal.returns-clause-idle
+returns-clause-idle c = (All-pop (IsIdle c.in_ok-kiwi.kiwi) _ _ (Some c.in-Some.filling) c.in-Some.ensures.items c.in_ok-kiwi.ensures.idle).0
+
+pub returns-clause-filling : goal.returns-clause-filling
+returns-clause-filling c = (All-pop (IsIdle c.in_ok-kiwi.kiwi) _ _ (Some c.in-Some.filling) c.in-Some.ensures.items c.in_ok-kiwi.ensures.idle).1

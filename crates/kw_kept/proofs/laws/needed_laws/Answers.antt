@@ -1,11 +1,12 @@
 use Rattle.kw_kept.proofs.NeededLists.{needed_was, covered_still, late_starts, late_still, passes_covered, all_covered, kept_of_fewer}
 use Rattle.kw_kept.specs.Puts.{On, OnEach}
+use Rattle.kw_kept.specs.Kept.{on_rows}
 use Rattle.kw_kept.proofs.laws.needed_laws.Goals as goal
 
 pub returns : goal.returns
 returns c = record {
   shrinks = λ clock later waits after a b u m n. needed_was clock later waits after (OnEach a) (OnEach b) m u n;
-  kept = λ puts a stamped e before now f h. kept_of_fewer puts (OnEach a) (On stamped) (OnEach e) (On before) (On now) f h;
+  kept = λ puts a before now f h. kept_of_fewer puts (on_rows a) (On before) (On now) f h;
   covered = λ clock later waits after a b passed listed most m l h. covered_still clock later waits after (OnEach a) (OnEach b) m (On passed) (On listed) most l h;
   early = λ waits a since most f. late_starts waits (OnEach a) since most f;
   late = λ clock later waits after a b since most m l h. late_still clock later waits after (OnEach a) (OnEach b) m since most l h;

@@ -1,57 +1,57 @@
 use Rattle.std.proofs.Common.{ap, subst, sym}
 use Rattle.kw_world.specs.declared.local.Local.{Local}
 use Rattle.kw_table.proofs.Prefixes.{prefix_self, prefix_trans}
-use Rattle.kw_follow.specs.Within.{IsWithinCall}
+use Rattle.kw_follow.specs.Within.{IsDrawing}
 use Rattle.kw_live.proofs.Asking.{none_at, none_trans}
 use Rattle.kw_live.proofs.Drawing.{draws, met_clock, settles_on, settles_spent, waits}
 use Rattle.kw_follow.proofs.OwnEvents.{goes_trans}
 use Rattle.kw_live.proofs.entering.draw.Goals as goal
 
-pub go-requires-in-ScanWait-2-clause-within : goal.go-requires-in-ScanWait-2-clause-within
-go-requires-in-ScanWait-2-clause-within c = subst (λ (k : Local). IsWithinCall k.activity) (sym (waits _ _ _ _ c.in-ScanWait.is c.go-in-ScanWait.ensures.line)) tt
+pub go_draw-requires-in-ScanWait-2-clause-drawing : goal.go_draw-requires-in-ScanWait-2-clause-drawing
+go_draw-requires-in-ScanWait-2-clause-drawing c = subst (λ (k : Local). IsDrawing k.activity) (sym (waits _ _ _ _ c.in-ScanWait.is c.go_draw-in-ScanWait.ensures.line)) tt
 
-pub go-requires-in-ScanWait-3-clause-within : goal.go-requires-in-ScanWait-3-clause-within
-go-requires-in-ScanWait-3-clause-within c = subst (λ (k : Local). IsWithinCall k.activity) (sym (draws _ _ _ _ (ap (λ (k : Local). k.activity) (waits _ _ _ _ c.in-ScanWait.is c.go-in-ScanWait.ensures.line)) c.go-in-ScanWait-2.ensures.line)) tt
+pub go_draw-requires-in-ScanWait-3-clause-drawing : goal.go_draw-requires-in-ScanWait-3-clause-drawing
+go_draw-requires-in-ScanWait-3-clause-drawing c = subst (λ (k : Local). IsDrawing k.activity) (sym (draws _ _ _ _ (ap (λ (k : Local). k.activity) (waits _ _ _ _ c.in-ScanWait.is c.go_draw-in-ScanWait.ensures.line)) c.go_draw-in-ScanWait-2.ensures.line)) tt
 
 pub returns-in-ScanWait-clause-entered : goal.returns-in-ScanWait-clause-entered
-returns-in-ScanWait-clause-entered c = (settles_on _ _ _ _ _ _ _ _ _ _ _ _ _ c.requires.activity c.go.ensures.line c.in-ScanWait.is c.go-in-ScanWait.ensures.line c.go-in-ScanWait-2.ensures.line c.go-in-ScanWait-3.ensures.line).entered c.requires.scan
+returns-in-ScanWait-clause-entered c = (settles_on _ _ _ _ _ _ _ _ _ _ _ _ _ c.requires.activity c.go_draw.ensures.line c.in-ScanWait.is c.go_draw-in-ScanWait.ensures.line c.go_draw-in-ScanWait-2.ensures.line c.go_draw-in-ScanWait-3.ensures.line).entered c.requires.scan
 
 pub returns-in-ScanWait-clause-call : goal.returns-in-ScanWait-clause-call
-returns-in-ScanWait-clause-call c = (settles_on _ _ _ _ _ _ _ _ _ _ _ _ _ c.requires.activity c.go.ensures.line c.in-ScanWait.is c.go-in-ScanWait.ensures.line c.go-in-ScanWait-2.ensures.line c.go-in-ScanWait-3.ensures.line).call
+returns-in-ScanWait-clause-call c = (settles_on _ _ _ _ _ _ _ _ _ _ _ _ _ c.requires.activity c.go_draw.ensures.line c.in-ScanWait.is c.go_draw-in-ScanWait.ensures.line c.go_draw-in-ScanWait-2.ensures.line c.go_draw-in-ScanWait-3.ensures.line).call
 
 pub returns-in-ScanWait-clause-unread : goal.returns-in-ScanWait-clause-unread
-returns-in-ScanWait-clause-unread c = (settles_on _ _ _ _ _ _ _ _ _ _ _ _ _ c.requires.activity c.go.ensures.line c.in-ScanWait.is c.go-in-ScanWait.ensures.line c.go-in-ScanWait-2.ensures.line c.go-in-ScanWait-3.ensures.line).has_read
+returns-in-ScanWait-clause-unread c = (settles_on _ _ _ _ _ _ _ _ _ _ _ _ _ c.requires.activity c.go_draw.ensures.line c.in-ScanWait.is c.go_draw-in-ScanWait.ensures.line c.go_draw-in-ScanWait-2.ensures.line c.go_draw-in-ScanWait-3.ensures.line).has_read
 
 pub returns-in-ScanWait-clause-spent : goal.returns-in-ScanWait-clause-spent
 returns-in-ScanWait-clause-spent c = (
-  c.go.result,
-  met_clock c.requires.activity c.go.ensures.met (prefix_trans _ _ _ c.go-in-ScanWait.ensures.goes.seen (prefix_trans _ _ _ c.go-in-ScanWait-2.ensures.goes.seen c.go-in-ScanWait-3.ensures.goes.seen)),
-  (settles_on _ _ _ _ _ _ _ _ _ _ _ _ _ c.requires.activity c.go.ensures.line c.in-ScanWait.is c.go-in-ScanWait.ensures.line c.go-in-ScanWait-2.ensures.line c.go-in-ScanWait-3.ensures.line).spent,
+  c.go_draw.result,
+  met_clock c.requires.activity c.go_draw.ensures.met (prefix_trans _ _ _ c.go_draw-in-ScanWait.ensures.goes.seen (prefix_trans _ _ _ c.go_draw-in-ScanWait-2.ensures.goes.seen c.go_draw-in-ScanWait-3.ensures.goes.seen)),
+  (settles_on _ _ _ _ _ _ _ _ _ _ _ _ _ c.requires.activity c.go_draw.ensures.line c.in-ScanWait.is c.go_draw-in-ScanWait.ensures.line c.go_draw-in-ScanWait-2.ensures.line c.go_draw-in-ScanWait-3.ensures.line).spent,
 )
 
 pub returns-in_default-clause-entered : goal.returns-in_default-clause-entered
-returns-in_default-clause-entered c = (settles_spent _ _ _ _ c.requires.activity c.go.ensures.line c.in_default.not-ScanWait).entered c.requires.scan
+returns-in_default-clause-entered c = (settles_spent _ _ _ _ c.requires.activity c.go_draw.ensures.line c.in_default.not-ScanWait).entered c.requires.scan
 
 pub returns-in_default-clause-call : goal.returns-in_default-clause-call
-returns-in_default-clause-call c = (settles_spent _ _ _ _ c.requires.activity c.go.ensures.line c.in_default.not-ScanWait).call
+returns-in_default-clause-call c = (settles_spent _ _ _ _ c.requires.activity c.go_draw.ensures.line c.in_default.not-ScanWait).call
 
 pub returns-in_default-clause-unread : goal.returns-in_default-clause-unread
-returns-in_default-clause-unread c = (settles_spent _ _ _ _ c.requires.activity c.go.ensures.line c.in_default.not-ScanWait).has_read
+returns-in_default-clause-unread c = (settles_spent _ _ _ _ c.requires.activity c.go_draw.ensures.line c.in_default.not-ScanWait).has_read
 
 pub returns-in_default-clause-spent : goal.returns-in_default-clause-spent
-returns-in_default-clause-spent c = (c.go.result, met_clock c.requires.activity c.go.ensures.met (prefix_self _), (settles_spent _ _ _ _ c.requires.activity c.go.ensures.line c.in_default.not-ScanWait).spent)
+returns-in_default-clause-spent c = (c.go_draw.result, met_clock c.requires.activity c.go_draw.ensures.met (prefix_self _), (settles_spent _ _ _ _ c.requires.activity c.go_draw.ensures.line c.in_default.not-ScanWait).spent)
 
 pub returns-in-ScanWait-clause-none : goal.returns-in-ScanWait-clause-none
 returns-in-ScanWait-clause-none c =
-    let drawing = ap (λ (k : Local). k.activity) (waits _ _ _ _ c.in-ScanWait.is c.go-in-ScanWait.ensures.line) in
-    let settling = ap (λ (k : Local). k.activity) (draws _ _ _ _ drawing c.go-in-ScanWait-2.ensures.line) in
-    let one = none_at c.go.ensures.goes c.requires.activity c.go.ensures.only (λ h. h) in
-    let two = none_at c.go-in-ScanWait.ensures.goes c.in-ScanWait.is c.go-in-ScanWait.ensures.only (λ h. h) in
-    let three = none_at c.go-in-ScanWait-2.ensures.goes drawing c.go-in-ScanWait-2.ensures.only (λ h. h) in
-    let four = none_at c.go-in-ScanWait-3.ensures.goes settling c.go-in-ScanWait-3.ensures.only (λ h. h) in
-    let last = none_trans c.go-in-ScanWait-2.ensures.goes c.go-in-ScanWait-3.ensures.goes three four in
-    let later = goes_trans _ _ _ _ c.go-in-ScanWait-2.ensures.goes c.go-in-ScanWait-3.ensures.goes in
-    none_trans c.go.ensures.goes (goes_trans _ _ _ _ c.go-in-ScanWait.ensures.goes later) one (none_trans c.go-in-ScanWait.ensures.goes later two last)
+    let drawing = ap (λ (k : Local). k.activity) (waits _ _ _ _ c.in-ScanWait.is c.go_draw-in-ScanWait.ensures.line) in
+    let settling = ap (λ (k : Local). k.activity) (draws _ _ _ _ drawing c.go_draw-in-ScanWait-2.ensures.line) in
+    let one = none_at c.go_draw.ensures.goes c.requires.activity c.go_draw.ensures.only (λ h. h) in
+    let two = none_at c.go_draw-in-ScanWait.ensures.goes c.in-ScanWait.is c.go_draw-in-ScanWait.ensures.only (λ h. h) in
+    let three = none_at c.go_draw-in-ScanWait-2.ensures.goes drawing c.go_draw-in-ScanWait-2.ensures.only (λ h. h) in
+    let four = none_at c.go_draw-in-ScanWait-3.ensures.goes settling c.go_draw-in-ScanWait-3.ensures.only (λ h. h) in
+    let last = none_trans c.go_draw-in-ScanWait-2.ensures.goes c.go_draw-in-ScanWait-3.ensures.goes three four in
+    let later = goes_trans _ _ _ _ c.go_draw-in-ScanWait-2.ensures.goes c.go_draw-in-ScanWait-3.ensures.goes in
+    none_trans c.go_draw.ensures.goes (goes_trans _ _ _ _ c.go_draw-in-ScanWait.ensures.goes later) one (none_trans c.go_draw-in-ScanWait.ensures.goes later two last)
 
 pub returns-in_default-clause-none : goal.returns-in_default-clause-none
-returns-in_default-clause-none c = none_at c.go.ensures.goes c.requires.activity c.go.ensures.only (λ h. h)
+returns-in_default-clause-none c = none_at c.go_draw.ensures.goes c.requires.activity c.go_draw.ensures.only (λ h. h)

@@ -3,7 +3,7 @@ use Rattle.std.proofs.Common.{arith, ap, length, take}
 use Rattle.std.proofs.lemmas.List.{length-take-le}
 use Rattle.std.proofs.lemmas.List.Sums.{length-filter, count_by-le-length}
 use Rattle.kw_world.specs.Marks.{is_other}
-use Rattle.kw_world.proofs.marks.Marks.forget.Goals as goal
+use Rattle.kw_world.proofs.marks.Marks.keep_others.Goals as goal
 
 pub push-requires : goal.push-requires
 push-requires c =

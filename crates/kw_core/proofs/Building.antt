@@ -1,0 +1,258 @@
+-- The ways that the events of a rebalance may go by which new rows are taken, written, linked in place of the full row and made normal, and
+-- the full row is retired, or by which what was taken is given back.
+--
+-- As in `Arrow` there is one constructor for each way, and it carries what the event found: whether a row was free, whether a guess served,
+-- what a link leads to, and whether that is marked. What has no event of its own has a type in `NextBuilt`.
+use Rattle.std.proofs.Common.{ℕ, ◌≡◌, ◌≢◌, ◌⊎◌, inl, inr, ◌+◌, ◌<◌, ◌≤◌, ◌==◌, Option, Some, None, Bool, true, false, nat_lt, length, arith, refl, sym, ◌∙◌, ap, if◌then◌else◌}
+use Rattle.std.proofs.lemmas.Bool.Decides.{nat_tests}
+use Rattle.kw_words.specs.declared.layout.Name.TheVariants as name
+use Rattle.kw_words.specs.declared.link.Link.{Link}
+use Rattle.kw_words.specs.declared.state.State.{State}
+use Rattle.kw_words.specs.declared.state.State.TheVariants.{Free, Infant, Normal, Leader, Follower, Retired}
+use Rattle.kw_words.specs.Link.{link_of}
+use Rattle.kw_words.specs.State.{state_of, state_word}
+use Rattle.kw_world.specs.declared.activity.Activity.{Activity}
+use Rattle.kw_world.specs.declared.activity.Activity.TheVariants.{SeekFirst, Seek, TakeRow, GiveBack, WriteCount, WriteMin, WriteNext, WriteFirst, WritePend, WriteKey, WriteValue, WriteVersion, WriteAfter, Before, BeforeGuess, BeforeHead, BeforeLink, BeforeMin, Replace, Normalise, Number, Retire}
+use Rattle.kw_world.specs.declared.event.Choice.{Choice}
+use Rattle.kw_world.specs.declared.event.Choice.TheVariants.{Begin, Go, Guess, Stop}
+use Rattle.kw_world.specs.declared.local.Local.{Local}
+use Rattle.kw_world.specs.declared.rebalance.Afterwards.TheVariants.{TryAgain, MoveLeft}
+use Rattle.kw_world.specs.EngageTransitions.{again}
+use Rattle.kw_world.specs.ReplaceTransitions.{at_before, before_transition, guess_before, link_before, replaced, replaced_link, row_before, row_replaced}
+use Rattle.kw_world.specs.SeekTransitions.{at_infant, give_back, given_back, has_more, seek_first_transition, seek_met, seeking, take_row, with_row}
+use Rattle.kw_world.specs.Sizes.{Sizes}
+use Rattle.kw_world.specs.Step.{followed}
+use Rattle.kw_world.specs.Table.{transition}
+use Rattle.kw_world.specs.Transition.{Outcome, row_linked, row_or_first, to}
+use Rattle.kw_world.specs.WriteTransitions.{unmarked_link}
+use Rattle.kw_core.specs.Stages.{IsReached}
+use Rattle.kw_core.specs.Words.{Words, least_in, next_in}
+use Rattle.kw_core.proofs.NextBuilt.{GivenBack, NextBack, NextBefore, NextNewCell, NextNewEntry, NextSeek, NextTaken, next_back, next_before, next_given, next_new_cell, next_new_entry, next_seek, next_taken}
+
+-- the activity is one of these
+abbrev pub IsBuilding : Activity → Type 0
+IsBuilding SeekFirst = Unit {0}
+IsBuilding Seek = Unit {0}
+IsBuilding TakeRow = Unit {0}
+IsBuilding GiveBack = Unit {0}
+IsBuilding WriteCount = Unit {0}
+IsBuilding WriteMin = Unit {0}
+IsBuilding WriteNext = Unit {0}
+IsBuilding WriteFirst = Unit {0}
+IsBuilding (WritePend i) = Unit {0}
+IsBuilding (WriteKey j) = Unit {0}
+IsBuilding (WriteValue j) = Unit {0}
+IsBuilding (WriteVersion j) = Unit {0}
+IsBuilding (WriteAfter j) = Unit {0}
+IsBuilding Before = Unit {0}
+IsBuilding BeforeGuess = Unit {0}
+IsBuilding BeforeHead = Unit {0}
+IsBuilding BeforeLink = Unit {0}
+IsBuilding BeforeMin = Unit {0}
+IsBuilding Replace = Unit {0}
+IsBuilding Normalise = Unit {0}
+IsBuilding Number = Unit {0}
+IsBuilding Retire = Unit {0}
+IsBuilding _ = ⊥
+
+-- a link to this row that is marked
+abbrev pub marked_link : Option ℕ → Link
+marked_link q = record { row = q; marked = true }
+
+-- from such an activity to what the seat knows next
+pub data Building (z : Sizes) (v : Words) (choice : Choice) (l : Local) : Activity → Local → Type 0 where
+  -- free rows are sought and taken. A search begins at the row that the seat guesses, or else where it stands
+  first_is_free : (q : ℕ) → (choice ≡ Guess q) ⊎ (q ≡ l.rebalance.sought) → state_of (v (name.State q)) ≡ Some Free → Building z v choice l SeekFirst (record (seeking q l) { activity = TakeRow })
+  first_is_taken : (q rows : ℕ) (next : Local) → (choice ≡ Guess q) ⊎ (q ≡ l.rebalance.sought) → state_of (v (name.State q)) ≢ Some Free → NextSeek rows (seeking q l) next → Building z v choice l SeekFirst next
+  sought_is_free : state_of (v (name.State l.rebalance.sought)) ≡ Some Free → Building z v choice l Seek (record l { activity = TakeRow })
+  sought_is_taken : (rows : ℕ) (next : Local) → state_of (v (name.State l.rebalance.sought)) ≢ Some Free → NextSeek rows l next → Building z v choice l Seek next
+  takes_row : (rows : ℕ) (next : Local) → v (name.State l.rebalance.sought) ≡ state_word Free → NextTaken rows (with_row l) next → Building z v choice l TakeRow next
+  loses_row : (rows : ℕ) (next : Local) → v (name.State l.rebalance.sought) ≢ state_word Free → NextSeek rows l next → Building z v choice l TakeRow next
+  gives_one_back : l.rebalance.at + 1 < length l.rebalance.taken → Building z v choice l GiveBack (record (at_infant (l.rebalance.at + 1) l) { activity = GiveBack })
+  gives_last_back : (next : Local) → length l.rebalance.taken ≤ l.rebalance.at + 1 → GivenBack l l.rebalance.afterwards next → Building z v choice l GiveBack next
+  -- they are written
+  writes_count : Building z v choice l WriteCount (record l { activity = WriteMin })
+  writes_least : Building z v choice l WriteMin (record l { activity = WriteNext })
+  writes_link : Building z v choice l WriteNext (record l { activity = WriteFirst })
+  writes_first : (next : Local) → NextNewEntry z 0 l next → Building z v choice l WriteFirst next
+  writes_entry : (i : ℕ) (next : Local) → NextNewEntry z (i + 1) l next → Building z v choice l (WritePend i) next
+  writes_key : (j : ℕ) → Building z v choice l (WriteKey j) (record l { activity = WriteValue j })
+  writes_value : (j : ℕ) → Building z v choice l (WriteValue j) (record l { activity = WriteVersion j })
+  writes_version : (j : ℕ) → Building z v choice l (WriteVersion j) (record l { activity = WriteAfter j })
+  writes_after : (j : ℕ) (next : Local) → NextNewCell z (j + 1) l next → Building z v choice l (WriteAfter j) next
+  -- the row before the full one is found
+  begins_before : (next : Local) → NextBefore (row_or_first (row_linked (link_of (v name.Head)))) l next → Building z v choice l Before next
+  guesses_before : (q : ℕ) → choice ≡ Guess q → state_of (v (name.State q)) ≡ Some Normal → Building z v choice l Before (record l { rebalance = record l.rebalance { before = Some q }; activity = BeforeGuess })
+  guess_before_fails : Building z v choice l Before (record l { activity = BeforeHead })
+  before_serves : least_in v (row_or_first l.rebalance.before) < l.lower → Building z v choice l BeforeGuess (record l { rebalance = record l.rebalance { least = least_in v (row_or_first l.rebalance.before) }; activity = BeforeLink })
+  before_is_above : l.lower ≤ least_in v (row_or_first l.rebalance.before) → Building z v choice l BeforeGuess (record l { rebalance = record l.rebalance { before = None }; activity = BeforeHead })
+  takes_head_before : (next : Local) → NextBefore (row_or_first (row_linked (link_of (v name.Head)))) l next → Building z v choice l BeforeHead next
+  leads_to_full : link_of (v (name.Next (row_or_first l.rebalance.before))) ≡ Some (unmarked_link (Some l.row)) → Building z v choice l BeforeLink (record l { activity = Replace })
+  leads_on_marked : (next : Local) → link_of (v (name.Next (row_or_first l.rebalance.before))) ≡ Some (marked_link (Some l.row)) → NextBack MoveLeft l next → Building z v choice l BeforeLink next
+  leads_to_other : (q : ℕ) → next_in v (row_or_first l.rebalance.before) ≡ Some q → q ≢ l.row → Building z v choice l BeforeLink (record l { candidate = q; activity = BeforeMin })
+  leads_nowhere : (next : Local) → next_in v (row_or_first l.rebalance.before) ≡ None → NextBack TryAgain l next → Building z v choice l BeforeLink next
+  walks_before : least_in v l.candidate < l.lower → Building z v choice l BeforeMin (record (at_before (Some l.candidate) (least_in v l.candidate) l) { activity = BeforeLink })
+  walks_past : (next : Local) → l.lower ≤ least_in v l.candidate → NextBack TryAgain l next → Building z v choice l BeforeMin next
+  -- the new rows are linked in place of the full one, which is retired
+  replaces_row : link_of (v (replaced_link l.rebalance.before)) ≡ Some (unmarked_link (Some l.row)) → Building z v choice l Replace (record (at_infant 0 l) { activity = Normalise })
+  is_marked_before : (next : Local) → link_of (v (replaced_link l.rebalance.before)) ≡ Some (marked_link (Some l.row)) → NextBack MoveLeft l next → Building z v choice l Replace next
+  is_replaced : (next : Local) → row_linked (link_of (v (replaced_link l.rebalance.before))) ≢ Some l.row → NextBack TryAgain l next → Building z v choice l Replace next
+  makes_normal : l.rebalance.at + 1 < length l.rebalance.taken → Building z v choice l Normalise (record (at_infant (l.rebalance.at + 1) l) { activity = Normalise })
+  makes_last_normal : length l.rebalance.taken ≤ l.rebalance.at + 1 → Building z v choice l Normalise (record l { activity = Number })
+  draws_number : Building z v choice l Number (record l { rebalance = record l.rebalance { number = v name.Epoch }; activity = Retire })
+  retires_row : Building z v choice l Retire (again l).local
+
+-- Tests of the table.
+
+eq_from : (x y : ℕ) → (x == y) ≡ true → x ≡ y
+eq_from x y e = grind (arith, nat_tests)
+
+eq_not : (x y : ℕ) → (x == y) ≡ false → x ≢ y
+eq_not x y f e = grind (arith, nat_tests)
+
+below : (x y : ℕ) → nat_lt x y ≡ true → x < y
+below x y e = grind (arith, nat_tests)
+
+not_below : (x y : ℕ) → nat_lt x y ≡ false → y ≤ x
+not_below x y e = grind (arith, nat_tests)
+
+-- The table goes one of these ways.
+
+module _ (z : Sizes) (rows : ℕ) (v : Words) (s : ℕ) (choice : Choice) (l : Local) where
+  -- a search at the row q, whose state is met
+  seek_arrow : (q : ℕ) (a : Activity) (x : Option State) (k : Local) → state_of (v (name.State q)) ≡ x → (state_of (v (name.State q)) ≡ Some Free → Building z v choice l a (record k { activity = TakeRow })) →
+      ((next : Local) → state_of (v (name.State q)) ≢ Some Free → NextSeek rows k next → Building z v choice l a next) → Building z v choice l a (seek_met rows x k).local
+  seek_arrow q a (Some Free) k e free taken = free e
+  seek_arrow q a (Some (Infant seat)) k e free taken = taken _ (λ c. let y : Some (Infant seat) ≡ Some Free = sym e ∙ c in cc) (next_seek rows k)
+  seek_arrow q a (Some Normal) k e free taken = taken _ (λ c. let y : Some Normal ≡ Some Free = sym e ∙ c in cc) (next_seek rows k)
+  seek_arrow q a (Some (Leader count)) k e free taken = taken _ (λ c. let y : Some (Leader count) ≡ Some Free = sym e ∙ c in cc) (next_seek rows k)
+  seek_arrow q a (Some (Follower leader)) k e free taken = taken _ (λ c. let y : Some (Follower leader) ≡ Some Free = sym e ∙ c in cc) (next_seek rows k)
+  seek_arrow q a (Some (Retired number)) k e free taken = taken _ (λ c. let y : Some (Retired number) ≡ Some Free = sym e ∙ c in cc) (next_seek rows k)
+  seek_arrow q a None k e free taken = taken _ (λ c. let y : None ≡ Some Free = sym e ∙ c in cc) (next_seek rows k)
+
+  first_arrow : (q : ℕ) → (choice ≡ Guess q) ⊎ (q ≡ l.rebalance.sought) → Building z v choice l SeekFirst (seek_met rows (state_of (v (name.State q))) (seeking q l)).local
+  first_arrow q c = seek_arrow q SeekFirst (state_of (v (name.State q))) (seeking q l) refl (first_is_free q c) (λ next n k. first_is_taken q rows next c n k)
+
+  seek_first_arrow : (c : Choice) → choice ≡ c → Building z v choice l SeekFirst (followed rows (seek_first_transition c l) (v (seek_first_transition c l).operation.name)).local
+  seek_first_arrow (Begin call) e = first_arrow l.rebalance.sought (inr refl)
+  seek_first_arrow Go e = first_arrow l.rebalance.sought (inr refl)
+  seek_first_arrow (Guess r) e = first_arrow r (inl e)
+  seek_first_arrow Stop e = first_arrow l.rebalance.sought (inr refl)
+
+  guess_before_arrow : (r : ℕ) (x : Option State) → choice ≡ Guess r → state_of (v (name.State r)) ≡ x → Building z v choice l Before (guess_before r x l).local
+  guess_before_arrow r (Some Free) c e = guess_before_fails
+  guess_before_arrow r (Some (Infant seat)) c e = guess_before_fails
+  guess_before_arrow r (Some Normal) c e = guesses_before r c e
+  guess_before_arrow r (Some (Leader count)) c e = guess_before_fails
+  guess_before_arrow r (Some (Follower leader)) c e = guess_before_fails
+  guess_before_arrow r (Some (Retired number)) c e = guess_before_fails
+  guess_before_arrow r None c e = guess_before_fails
+
+  before_arrow : (c : Choice) → choice ≡ c → Building z v choice l Before (followed rows (before_transition c l) (v (before_transition c l).operation.name)).local
+  before_arrow (Begin call) e = begins_before _ (next_before _ l)
+  before_arrow Go e = begins_before _ (next_before _ l)
+  before_arrow (Guess r) e = guess_before_arrow r (state_of (v (name.State r))) e refl
+  before_arrow Stop e = begins_before _ (next_before _ l)
+
+  -- what the link of the row before is found to lead to
+  before_link_arrow : (x : Option Link) → link_of (v (name.Next (row_or_first l.rebalance.before))) ≡ x → Building z v choice l BeforeLink (link_before x l).local
+  before_link_arrow (Some link) e = met link.row link.marked e
+    where
+      met : (y : Option ℕ) (marked : Bool) → link_of (v (name.Next (row_or_first l.rebalance.before))) ≡ Some (record { row = y; marked = marked }) → Building z v choice l BeforeLink (row_before y marked l).local
+      met (Some r) marked h = here (r == l.row) marked refl h
+        where
+          here : (b c : Bool) → (r == l.row) ≡ b → link_of (v (name.Next (row_or_first l.rebalance.before))) ≡ Some (record { row = Some r; marked = c }) →
+              Building z v choice l BeforeLink (let x : Outcome = if b then (if c then give_back MoveLeft l else to Replace l) else to BeforeMin (record l { candidate = r }) in x).local
+          here true true i k = leads_on_marked _ (k ∙ ap (λ (x : ℕ). Some (marked_link (Some x))) (eq_from r l.row i)) (next_back MoveLeft l)
+          here true false i k = leads_to_full (k ∙ ap (λ (x : ℕ). Some (unmarked_link (Some x))) (eq_from r l.row i))
+          here false c i k = leads_to_other r (ap row_linked k) (eq_not r l.row i)
+      met None marked h = leads_nowhere _ (ap row_linked h) (next_back TryAgain l)
+  before_link_arrow None e = leads_nowhere _ (ap row_linked e) (next_back TryAgain l)
+
+  -- what the link that is exchanged is found to lead to
+  replace_arrow : (x : Option Link) → link_of (v (replaced_link l.rebalance.before)) ≡ x → Building z v choice l Replace (replaced x l).local
+  replace_arrow (Some link) e = met link.row link.marked e
+    where
+      met : (y : Option ℕ) (marked : Bool) → link_of (v (replaced_link l.rebalance.before)) ≡ Some (record { row = y; marked = marked }) → Building z v choice l Replace (row_replaced y marked l).local
+      met (Some r) marked h = here (r == l.row) marked refl h
+        where
+          here : (b c : Bool) → (r == l.row) ≡ b → link_of (v (replaced_link l.rebalance.before)) ≡ Some (record { row = Some r; marked = c }) →
+              Building z v choice l Replace (let x : Outcome = if b then (if c then give_back MoveLeft l else to Normalise (at_infant 0 l)) else give_back TryAgain l in x).local
+          here true true i k = is_marked_before _ (k ∙ ap (λ (x : ℕ). Some (marked_link (Some x))) (eq_from r l.row i)) (next_back MoveLeft l)
+          here true false i k = replaces_row (k ∙ ap (λ (x : ℕ). Some (unmarked_link (Some x))) (eq_from r l.row i))
+          here false c i k = is_replaced _ (λ q. let y : Some r ≡ Some l.row = sym (ap row_linked k) ∙ q in eq_not r l.row i (cc)) (next_back TryAgain l)
+      met None marked h = is_replaced _ (λ q. let y : None ≡ Some l.row = sym (ap row_linked h) ∙ q in cc) (next_back TryAgain l)
+  replace_arrow None e = is_replaced _ (λ q. let y : None ≡ Some l.row = sym (ap row_linked e) ∙ q in cc) (next_back TryAgain l)
+
+  -- so each event of these does
+  pub building : (a : Activity) → IsBuilding a → Building z v choice l a (followed rows (transition z a s choice l) (v (transition z a s choice l).operation.name)).local
+  building SeekFirst o = seek_first_arrow choice refl
+  building Seek o = seek_arrow l.rebalance.sought Seek (state_of (v (name.State l.rebalance.sought))) l refl sought_is_free (λ next n k. sought_is_taken rows next n k)
+  building TakeRow o = met (v (name.State l.rebalance.sought) == state_word Free) refl
+    where
+      met : (b : Bool) → (v (name.State l.rebalance.sought) == state_word Free) ≡ b → Building z v choice l TakeRow (take_row rows b l).local
+      met true e = takes_row rows _ (eq_from _ _ e) (next_taken rows (with_row l))
+      met false e = loses_row rows _ (eq_not _ _ e) (next_seek rows l)
+  building GiveBack o = met (has_more l) refl
+    where
+      met : (b : Bool) → has_more l ≡ b → Building z v choice l GiveBack (let x : Outcome = if b then to GiveBack (at_infant (l.rebalance.at + 1) l) else given_back l.rebalance.afterwards l in x).local
+      met true e = gives_one_back (below _ _ e)
+      met false e = gives_last_back _ (not_below _ _ e) (next_given l)
+  building WriteCount o = writes_count
+  building WriteMin o = writes_least
+  building WriteNext o = writes_link
+  building WriteFirst o = writes_first _ (next_new_entry z 0 l)
+  building (WritePend i) o = writes_entry i _ (next_new_entry z (i + 1) l)
+  building (WriteKey j) o = writes_key j
+  building (WriteValue j) o = writes_value j
+  building (WriteVersion j) o = writes_version j
+  building (WriteAfter j) o = writes_after j _ (next_new_cell z (j + 1) l)
+  building Before o = before_arrow choice refl
+  building BeforeGuess o = met (nat_lt (least_in v (row_or_first l.rebalance.before)) l.lower) refl
+    where
+      met : (b : Bool) → nat_lt (least_in v (row_or_first l.rebalance.before)) l.lower ≡ b →
+          Building z v choice l BeforeGuess (let x : Outcome = if b then to BeforeLink (record l { rebalance = record l.rebalance { least = least_in v (row_or_first l.rebalance.before) } }) else to BeforeHead (record l { rebalance = record l.rebalance { before = None } }) in x).local
+      met true e = before_serves (below _ _ e)
+      met false e = before_is_above (not_below _ _ e)
+  building BeforeHead o = takes_head_before _ (next_before _ l)
+  building BeforeLink o = before_link_arrow (link_of (v (name.Next (row_or_first l.rebalance.before)))) refl
+  building BeforeMin o = met (nat_lt (least_in v l.candidate) l.lower) refl
+    where
+      met : (b : Bool) → nat_lt (least_in v l.candidate) l.lower ≡ b → Building z v choice l BeforeMin (let x : Outcome = if b then to BeforeLink (at_before (Some l.candidate) (least_in v l.candidate) l) else give_back TryAgain l in x).local
+      met true e = walks_before (below _ _ e)
+      met false e = walks_past _ (not_below _ _ e) (next_back TryAgain l)
+  building Replace o = replace_arrow (link_of (v (replaced_link l.rebalance.before))) refl
+  building Normalise o = met (has_more l) refl
+    where
+      met : (b : Bool) → has_more l ≡ b → Building z v choice l Normalise (let x : Outcome = if b then to Normalise (at_infant (l.rebalance.at + 1) l) else to Number l in x).local
+      met true e = makes_normal (below _ _ e)
+      met false e = makes_last_normal (not_below _ _ e)
+  building Number o = draws_number
+  building Retire o = retires_row
+  building _ o = absurd o
+
+-- no seat comes to one of these activities as yet
+pub never_built : {A : Type 0} (z : Sizes) (a : Activity) → IsBuilding a → IsReached z a → A
+never_built z SeekFirst b o = absurd o
+never_built z Seek b o = absurd o
+never_built z TakeRow b o = absurd o
+never_built z GiveBack b o = absurd o
+never_built z WriteCount b o = absurd o
+never_built z WriteMin b o = absurd o
+never_built z WriteNext b o = absurd o
+never_built z WriteFirst b o = absurd o
+never_built z (WritePend i) b o = absurd o
+never_built z (WriteKey j) b o = absurd o
+never_built z (WriteValue j) b o = absurd o
+never_built z (WriteVersion j) b o = absurd o
+never_built z (WriteAfter j) b o = absurd o
+never_built z Before b o = absurd o
+never_built z BeforeGuess b o = absurd o
+never_built z BeforeHead b o = absurd o
+never_built z BeforeLink b o = absurd o
+never_built z BeforeMin b o = absurd o
+never_built z Replace b o = absurd o
+never_built z Normalise b o = absurd o
+never_built z Number b o = absurd o
+never_built z Retire b o = absurd o
+never_built z _ b o = absurd b

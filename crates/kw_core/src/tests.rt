@@ -1,0 +1,144 @@
+//! What one event adds to the record, where a seat freezes the entries of a full row, or settles a scan.
+ghost use Rattle.std.specs.Prelude.{◌≡◌, Some};
+ghost use Rattle.kw_world.specs.Sane.{IsEntry, IsLocal};
+ghost use Rattle.kw_world.specs.Sizes.{product};
+ghost use Rattle.kw_world.specs.declared.activity.Activity.{Activity};
+
+use crate::change::{Happening, Settled, change_of, settled_scan};
+use crate::history::{Change, History};
+use crate::seat_log::{Remark, SeatLog};
+use kw_words::kind::Kind;
+use kw_words::pend::Pend;
+use kw_words::sizes::CELLS;
+use kw_world::activity::Activity;
+use kw_world::event::Choice;
+use kw_world::local::Local;
+use std::alloc::Global;
+use std::test::Fail;
+
+// The seat 0 tries to freeze the entry of seat 3 in row 0, where it found this one.
+fn at_an_entry(alloc: Global, entry: Pend) -> Local
+    requires { IsEntry product (Some entry) }
+    ensures ranges { IsLocal product result }
+    ensures at { result.activity ≡ Activity.Freeze 3 }
+    ensures row { result.row ≡ 0 }
+{
+    let mut local = Local::idle(alloc);
+    local.activity = Activity::Freeze(3);
+    local.rebalance.entry = entry;
+    local
+}
+
+// Its event, where the entry is this word by now.
+fn finding(found: u64) -> Happening
+    ensures { result.found ≡ found }
+{
+    Happening {
+        seat: 0,
+        choice: Choice::Go,
+        found,
+        kind: Kind::FreezePend,
+        clock: 1,
+    }
+}
+
+// Of row 0 cell 5 alone was given, to attempt 2.
+fn with_one_given() -> [Option<usize>; CELLS] {
+    let mut origins = [None; CELLS];
+    origins[5] = Some(2);
+    origins
+}
+
+// the cell 5 pending has the word 1 + 4 * 5
+#[test]
+fn a_frozen_pending_entry_loses_its_attempt(rt: HostRuntime) -> Result<(), Fail> {
+    let local = at_an_entry(rt.alloc(), Pend::Pending(5));
+    let origins = with_one_given();
+    let change = change_of(&local, finding(21), &SeatLog::new(), origins.as_slice())?;
+    assert_eq!(rt; change, Change::Loses(2));
+    Ok(())
+}
+
+// it was stamped before: the cell 5 stamped with the version 3 has the word 2 + 4 * 5 + 2^15 * 3
+#[test]
+fn an_entry_that_is_another_by_now_loses_none(rt: HostRuntime) -> Result<(), Fail> {
+    let local = at_an_entry(rt.alloc(), Pend::Pending(5));
+    let origins = with_one_given();
+    let change = change_of(&local, finding(98_326), &SeatLog::new(), origins.as_slice())?;
+    assert_eq!(rt; change, Change::Nothing);
+    Ok(())
+}
+
+#[test]
+fn a_frozen_idle_entry_loses_no_attempt(rt: HostRuntime) -> Result<(), Fail> {
+    let local = at_an_entry(rt.alloc(), Pend::Idle);
+    let origins = with_one_given();
+    let change = change_of(&local, finding(0), &SeatLog::new(), origins.as_slice())?;
+    assert_eq!(rt; change, Change::Nothing);
+    Ok(())
+}
+
+// A scan that waits since the clock 4 tries to settle.
+fn at_a_scan(alloc: Global) -> Local
+    ensures ranges { IsLocal product result }
+    ensures at { result.activity ≡ Activity.ScanSettle }
+    ensures row { result.row ≡ 0 }
+{
+    let mut local = Local::idle(alloc);
+    local.activity = Activity::ScanSettle;
+    local.waiting = 4;
+    local
+}
+
+// the word of a scan that waits since the clock 4 is 1 + 4 * 4
+#[test]
+fn a_scan_that_settles_keeps_its_own_draw(rt: HostRuntime) -> Result<(), Fail> {
+    let local = at_a_scan(rt.alloc());
+    let mut log = SeatLog::new();
+    log.drawn = 7;
+    assert_eq!(rt;
+        settled_scan(&local, finding(17), &log),
+        Some(Settled { seat: 0, at: 7 })
+    );
+    let history = History::new(rt.alloc());
+    let origins = with_one_given();
+    let remark = Remark::of(&local, finding(17), origins.as_slice(), &history, 9);
+    assert_eq!(rt; remark, Remark::Same);
+    Ok(())
+}
+
+// the word of a scan that has drawn the version 5 is 2 + 4 * 5
+#[test]
+fn a_scan_that_was_helped_has_the_draw_of_its_helper(rt: HostRuntime) -> Result<(), Fail> {
+    let local = at_a_scan(rt.alloc());
+    let log = SeatLog::new();
+    assert_eq!(rt; settled_scan(&local, finding(22), &log), None);
+    let history = History::new(rt.alloc());
+    let origins = with_one_given();
+    let remark = Remark::of(&local, finding(22), origins.as_slice(), &history, 9);
+    assert_eq!(rt; remark, Remark::DrawsVersion(9));
+    Ok(())
+}
+
+// A seat helps the scan of seat 2, which waits since the clock 4.
+fn at_a_helped_scan(alloc: Global) -> Local
+    ensures ranges { IsLocal product result }
+{
+    let mut local = Local::idle(alloc);
+    local.activity = Activity::HelpSettle(2);
+    local.rebalance.waiting = 4;
+    local
+}
+
+#[test]
+fn a_helper_settles_the_scan_of_another_seat(rt: HostRuntime) -> Result<(), Fail> {
+    let local = at_a_helped_scan(rt.alloc());
+    let mut log = SeatLog::new();
+    log.drawn = 7;
+    assert_eq!(rt;
+        settled_scan(&local, finding(17), &log),
+        Some(Settled { seat: 2, at: 7 })
+    );
+    assert_eq!(rt; settled_scan(&local, finding(0), &log), None);
+    Ok(())
+}

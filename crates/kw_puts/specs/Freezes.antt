@@ -1,0 +1,112 @@
+-- What holds of the rows that seats freeze: a count that is frozen gives no cell any more, an entry that was passed is never pending again,
+-- and the stamped cells that are not listed are remembered.
+use Rattle.std.specs.Prelude.{ℕ, ◌≡◌, ◌⊎◌, ◌<◌, true, Option, Some, All, length}
+use Rattle.kw_words.specs.declared.layout.Name.TheVariants as name
+use Rattle.kw_words.specs.declared.pend.Pend.{Pend}
+use Rattle.kw_words.specs.declared.pend.Pend.TheVariants.{Idle, Pending, Stamped, Frozen}
+use Rattle.kw_words.specs.Pend.{pend_word}
+use Rattle.kw_words.specs.Count.{count_of}
+use Rattle.kw_world.specs.declared.activity.Activity.{Activity}
+use Rattle.kw_world.specs.declared.activity.Activity.TheVariants.{FreezeLook, Freeze, ScanLook, HelpDraw, HelpSettle, TakeFrom, TakeKey, TakeVersion, TakeValue, TakeRestKey, TakeRestValue, SeekFirst, Seek, TakeRow, GiveBack, WriteCount, WriteMin, WriteNext, WriteFirst, WritePend, WriteKey, WriteValue, WriteVersion, WriteAfter, Before, BeforeGuess, BeforeHead, BeforeLink, BeforeMin, Replace}
+use Rattle.kw_world.specs.declared.local.Local.{Local}
+use Rattle.kw_world.specs.declared.marks.Mark.{Mark}
+use Rattle.kw_world.specs.Marks.{is_marked}
+use Rattle.kw_world.specs.Sane.{frozen_by}
+use Rattle.kw_world.specs.Sizes.{Sizes}
+use Rattle.kw_core.specs.History.{History, attempt}
+use Rattle.kw_core.specs.Listed.{Listed}
+use Rattle.kw_core.specs.Run.{Origins}
+use Rattle.kw_core.specs.Stages.{IsFresh}
+use Rattle.kw_core.specs.Words.{Words}
+use Rattle.kw_shape.specs.RowsIn.{has_frozen}
+
+-- the row is frozen: it gives no cell any more
+abbrev pub IsFrozen : Words → ℕ → Type 0
+IsFrozen v r = has_frozen (count_of (v (name.Count r))) ≡ true
+
+-- The entry that a seat is to freeze.
+
+-- such an entry is idle or pending: a stamped one is remembered, and a frozen one is passed over
+abbrev pub IsUnsettled : Pend → Type 0
+IsUnsettled Idle = Unit {0}
+IsUnsettled (Pending cell) = Unit {0}
+IsUnsettled (Stamped cell version) = ⊥
+IsUnsettled Frozen = ⊥
+
+-- what the seat found in the entry that it is to freeze
+abbrev pub IsToFreeze : Activity → Local → Type 0
+IsToFreeze (Freeze i) l = IsUnsettled l.rebalance.entry
+IsToFreeze _ l = Unit {0}
+
+-- The row that a seat has frozen.
+
+-- the seat has frozen the count of its row, and has neither replaced the row nor given it up
+abbrev pub HasFrozen : Activity → Type 0
+HasFrozen (FreezeLook i) = Unit {0}
+HasFrozen (Freeze i) = Unit {0}
+HasFrozen (ScanLook i) = Unit {0}
+HasFrozen (HelpDraw i) = Unit {0}
+HasFrozen (HelpSettle i) = Unit {0}
+HasFrozen TakeFrom = Unit {0}
+HasFrozen TakeKey = Unit {0}
+HasFrozen TakeVersion = Unit {0}
+HasFrozen TakeValue = Unit {0}
+HasFrozen TakeRestKey = Unit {0}
+HasFrozen TakeRestValue = Unit {0}
+HasFrozen SeekFirst = Unit {0}
+HasFrozen Seek = Unit {0}
+HasFrozen TakeRow = Unit {0}
+HasFrozen GiveBack = Unit {0}
+HasFrozen WriteCount = Unit {0}
+HasFrozen WriteMin = Unit {0}
+HasFrozen WriteNext = Unit {0}
+HasFrozen WriteFirst = Unit {0}
+HasFrozen (WritePend i) = Unit {0}
+HasFrozen (WriteKey j) = Unit {0}
+HasFrozen (WriteValue j) = Unit {0}
+HasFrozen (WriteVersion j) = Unit {0}
+HasFrozen (WriteAfter j) = Unit {0}
+HasFrozen Before = Unit {0}
+HasFrozen BeforeGuess = Unit {0}
+HasFrozen BeforeHead = Unit {0}
+HasFrozen BeforeLink = Unit {0}
+HasFrozen BeforeMin = Unit {0}
+HasFrozen Replace = Unit {0}
+HasFrozen _ = ⊥
+
+-- no put of seat j gets a version in row q any more: its entry is frozen, or is stamped already, or it is idle and the seat has no cell
+-- of the row that it may announce
+pub data IsSettled (v : Words) (locals : ℕ → Option Local) (q j : ℕ) : Type 0 where
+  settled_frozen : v (name.Pend q j) ≡ pend_word Frozen → IsSettled v locals q j
+  settled_stamped : (cell version : ℕ) → v (name.Pend q j) ≡ pend_word (Stamped cell version) → IsSettled v locals q j
+  settled_idle : v (name.Pend q j) ≡ pend_word Idle → ((k : Local) → locals j ≡ Some k → IsFresh k.activity → k.row ≡ q → ⊥) → IsSettled v locals q j
+
+-- the count of the row is frozen, and each entry that the seat has passed is settled
+pub record Freezes (z : Sizes) (v : Words) (locals : ℕ → Option Local) (a : Activity) (l : Local) : Type 0 where
+  pub count : HasFrozen a → IsFrozen v l.row
+  pub settled : HasFrozen a → (j : ℕ) → j < z.seats → j < frozen_by z a → IsSettled v locals l.row j
+
+-- What a seat that freezes a row remembers of it.
+
+-- a cell that is remembered is that of an attempt that is stamped with the remembered version
+pub record IsMarkOf (h : History) (o : Origins) (row : ℕ) (m : Mark) : Type 0 where
+  pub put : ℕ
+  pub origin : o row m.cell ≡ Some put
+  pub stamped : (attempt h put).is_stamped ≡ true
+  pub version : (attempt h put).version ≡ m.version
+
+-- the seat passes the entries of its row, or looks at the scans, and has gathered no cell
+abbrev pub IsBeforeTaking : Activity → Type 0
+IsBeforeTaking (FreezeLook i) = Unit {0}
+IsBeforeTaking (Freeze i) = Unit {0}
+IsBeforeTaking (ScanLook i) = Unit {0}
+IsBeforeTaking (HelpDraw i) = Unit {0}
+IsBeforeTaking (HelpSettle i) = Unit {0}
+IsBeforeTaking _ = ⊥
+
+-- what is remembered is the cells of stamped attempts. Each stamped attempt of the row whose seat's entry was passed is remembered, or
+-- its cell is listed, until the seat walks along the list
+pub record Remembers (z : Sizes) (h : History) (o : Origins) (f : Listed) (a : Activity) (l : Local) : Type 0 where
+  pub marks : HasFrozen a → All (IsMarkOf h o l.row) l.rebalance.marks
+  pub noted : IsBeforeTaking a → (p : ℕ) → p < length h.attempts → (attempt h p).row ≡ l.row → (attempt h p).is_stamped ≡ true → (attempt h p).seat < frozen_by z a →
+      (is_marked (attempt h p).cell l.rebalance.marks ≡ true) ⊎ (f l.row (attempt h p).cell ≡ true)

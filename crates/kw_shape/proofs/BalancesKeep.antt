@@ -1,0 +1,232 @@
+-- Every event keeps what a seat knows of the full row that it rebalances.
+use Rattle.std.proofs.Common.{ℕ, ◌≡◌, ◌≢◌, ◌⊎◌, inl, inr, ◌+◌, ◌≤◌, true, Some, arith, refl, sym, ◌∙◌, ap, subst, slice_get, length}
+use Rattle.std.proofs.lemmas.Bool.{cases_eq}
+use Rattle.kw_words.specs.declared.layout.Name.TheVariants as name
+use Rattle.kw_words.specs.declared.state.State.TheVariants as state
+use Rattle.kw_words.specs.State.{IsState, state_of, state_word}
+use Rattle.kw_rows.specs.Group.{View, Alone, Elsewhere, Group, IsAlone, Marking, Named, Opened}
+use Rattle.kw_rows.specs.Ledger as kw_rows
+use Rattle.kw_rows.specs.Ledger.{IsFresh}
+use Rattle.kw_rows.specs.RowState as row
+use Rattle.kw_rows.specs.Structure.{Structure}
+use Rattle.kw_rows.proofs.Named.{held_by}
+use Rattle.kw_rows.proofs.Views.{alone, leads, opens}
+use Rattle.kw_world.specs.declared.activity.Activity.{Activity}
+use Rattle.kw_world.specs.declared.activity.Activity.TheVariants.{BalClock, BalEpoch, BalState, BalNormal, Engage, MarkLink, Decide, FreezeCount, FreezeLook, Freeze, ScanLook, HelpDraw, HelpSettle, TakeFrom, TakeKey, TakeVersion, TakeValue, TakeRestKey, TakeRestValue, SeekFirst, Seek, TakeRow, GiveBack, WriteCount, WriteMin, WriteNext, WriteFirst, WritePend, WriteKey, WriteValue, WriteVersion, WriteAfter, Before, BeforeGuess, BeforeHead, BeforeLink, BeforeMin, Replace}
+use Rattle.kw_world.specs.declared.event.Choice.{Choice}
+use Rattle.kw_world.specs.declared.local.Local.{Local}
+use Rattle.kw_world.specs.EngageTransitions.{to_rebalance}
+use Rattle.kw_world.specs.Sizes.{Sizes}
+use Rattle.kw_world.specs.Step.{word}
+use Rattle.kw_core.specs.Run.{Run}
+use Rattle.kw_core.specs.declared.stage.Stage.{Stage}
+use Rattle.kw_core.specs.declared.stage.Stage.TheVariants.{Rebalancing}
+use Rattle.kw_core.specs.Stages.{stage_of, IsAtRow, IsBalancingStage, IsPassingStage, IsBalancing, IsPassing, IsPastStart}
+use Rattle.kw_core.specs.Words.{Words, least_in, next_in}
+use Rattle.kw_core.proofs.Arrows.{Arrow, NextLook, NextRest, answers, clock_serves, decides, ends_scan, engages, epoch_serves, finds_infant, finds_leader, finds_normal, finds_other, finds_stamped, gathers_rest, helps, is_engaged, is_passed, key_above, list_ends, lists, looks, marks_link, marks_led, meets_neither, meets_stamped, normalises, rest_passed, rests, scans_on, finds_full, takes_full, announces_full, stamps_full, freezes_count, meets_idle, meets_unstamped, remembers, remembers_last, meets_frozen, meets_frozen_last, freezes_entry, freezes_last, looks_again, meets_quiet, meets_quiet_last, helps_scan, meets_drawn, meets_drawn_last, draws_for, settles_scan, settles_last, finds_drawn, finds_drawn_last, finds_no_scan, finds_no_scan_last, take_leads, takes_left, takes_key, takes_version, keeps_taken, takes_left_key, keeps_left, takes_no_more, keeps_no_more, goes_no_further, builds, finds_none, is_not_own, is_refused, takes_none}
+use Rattle.kw_core.proofs.Building.{never_built}
+use Rattle.kw_core.proofs.Frame.{WritesPass}
+use Rattle.kw_core.proofs.Happens.{Happens}
+use Rattle.kw_shape.proofs.OwnRows.{own_rely}
+use Rattle.kw_shape.proofs.RelyRows.{RelyRows, is_passing}
+use Rattle.kw_shape.proofs.RowsKeep.{balance_at, decided_state, engaged_state, group_keeps, kinds_at, others_kept, read_state, rely_rows, row_marked, row_next, structure_keeps}
+use Rattle.kw_shape.proofs.Walking.{past}
+use Rattle.kw_shape.specs.Balances.{Balances, view_of}
+use Rattle.kw_shape.specs.RowsIn.{rows_in}
+use Rattle.kw_shape.specs.Shape.{Shape, Walks}
+
+-- a seat that rebalances may name the rows of its view
+pub named : (v : Words) (g : kw_rows.Ledger) (t : ℕ) (a : Activity) (l : Local) → Balances v g t a l → Named g t (view_of a l)
+named v g t (MarkLink count) l b = b.fresh tt
+named v g t (Decide count) l b = b.fresh tt
+named v g t FreezeCount l b = b.fresh tt
+named v g t (FreezeLook i) l b = b.fresh tt
+named v g t (Freeze i) l b = b.fresh tt
+named v g t (ScanLook i) l b = b.fresh tt
+named v g t (HelpDraw i) l b = b.fresh tt
+named v g t (HelpSettle i) l b = b.fresh tt
+named v g t TakeFrom l b = b.fresh tt
+named v g t TakeKey l b = b.fresh tt
+named v g t TakeVersion l b = b.fresh tt
+named v g t TakeValue l b = b.fresh tt
+named v g t TakeRestKey l b = b.fresh tt
+named v g t TakeRestValue l b = b.fresh tt
+named v g t SeekFirst l b = b.fresh tt
+named v g t Seek l b = b.fresh tt
+named v g t TakeRow l b = b.fresh tt
+named v g t GiveBack l b = b.fresh tt
+named v g t WriteCount l b = b.fresh tt
+named v g t WriteMin l b = b.fresh tt
+named v g t WriteNext l b = b.fresh tt
+named v g t WriteFirst l b = b.fresh tt
+named v g t (WritePend i) l b = b.fresh tt
+named v g t (WriteKey j) l b = b.fresh tt
+named v g t (WriteValue j) l b = b.fresh tt
+named v g t (WriteVersion j) l b = b.fresh tt
+named v g t (WriteAfter j) l b = b.fresh tt
+named v g t Before l b = b.fresh tt
+named v g t BeforeGuess l b = b.fresh tt
+named v g t BeforeHead l b = b.fresh tt
+named v g t BeforeLink l b = b.fresh tt
+named v g t BeforeMin l b = b.fresh tt
+named v g t Replace l b = b.fresh tt
+named v g t _ l b = tt
+
+-- a seat that rebalances is in its pass
+passes_then : (stage : Stage) → IsBalancingStage stage → IsPassingStage stage
+passes_then Rebalancing b = tt
+passes_then _ b = absurd b
+
+in_pass : (a : Activity) → IsBalancing a → (IsPassing a → ⊥) → ⊥
+in_pass a b n = n (passes_then (stage_of a) b)
+
+-- a seat that does not rebalance knows nothing
+pub outside : (v : Words) (g : kw_rows.Ledger) (t : ℕ) (a : Activity) (l : Local) → (IsBalancing a → ⊥) → Group (rows_in v) g (view_of a l) → Balances v g t a l
+outside v g t a l n b = record { fresh = λ x. absurd (n x); lower = λ x. absurd (n x); group = b }
+
+look_outside : (v : Words) (g : kw_rows.Ledger) (t : ℕ) (z : Sizes) (j : ℕ) (next : Activity) (l : Local) → NextLook z j next → Balances v g t next l
+look_outside v g t z j next l (looks o) = outside v g t _ l (λ x. x) tt
+look_outside v g t z j next l (lists o) = outside v g t _ l (λ x. x) tt
+
+rest_outside : (v : Words) (g : kw_rows.Ledger) (t : ℕ) (l next : Local) → NextRest l next → Balances v g t next.activity next
+rest_outside v g t l next (rests m o) = outside v g t _ _ (λ x. x) tt
+rest_outside v g t l next (answers o n) = outside v g t _ _ (λ x. x) tt
+rest_outside v g t l next (ends_scan o y n) = outside v g t _ _ (λ x. x) tt
+rest_outside v g t l next (scans_on q o y n w) = outside v g t _ _ (λ x. x) tt
+
+module _ (z : Sizes) (r r' : Run) (s : ℕ) (choice : Choice) (l : Local) (a : Activity) (l' : Local) (h : Happens z r r' s choice l l' a) (i : Shape z r) where
+  -- the row at which the seat was is the one that it rebalances
+  stays : (b : Activity) (k : Local) → IsPassing a → (WritesPass a → ⊥) → IsFresh r.ledger.rows s l.row → l.lower ≡ least_in (word z r.world) l.row → k.row ≡ l.row → k.lower ≡ l.lower → Group (rows_in (word z r'.world)) r'.ledger.rows (view_of b k) → Balances (word z r'.world) r'.ledger.rows s b k
+  stays b k p n fresh lower row low g =
+      let rely = own_rely z r r' s choice l a l' h i p n in
+      record {
+        fresh = λ x. subst (IsFresh r'.ledger.rows s) (sym row) (rely.fresh l.row fresh);
+        lower = λ x. low ∙ lower ∙ sym (rely.least l.row fresh) ∙ ap (least_in (word z r'.world)) (sym row);
+        group = g;
+      }
+
+  -- a seat that rebalances goes on with its row
+  goes_on : (b : Activity) (k : Local) → IsBalancing a → IsPassing a → (WritesPass a → ⊥) → k.row ≡ l.row → k.lower ≡ l.lower → Group (rows_in (word z r'.world)) r'.ledger.rows (view_of b k) → Balances (word z r'.world) r'.ledger.rows s b k
+  goes_on b k x p n row low g = let y = balance_at a h i in stays b k p n (y.fresh x) (y.lower x) row low g
+
+  -- a put at its row rebalances it
+  meets_full : IsAtRow a → IsPassing a → (WritesPass a → ⊥) → Balances (word z r'.world) r'.ledger.rows s BalClock (to_rebalance l).local
+  meets_full x p n =
+      let w = subst (λ b. Walks (word z r.world) r.ledger.rows s b l) h.activity (i.walks s l h.knows) in
+      stays BalClock _ p n (w.at x).fresh (w.lower (past a x)) refl refl tt
+
+  -- the row leads from now on, as the seat finds or makes it
+  found_leader : (n : ℕ) (k : Local) → IsBalancing a → IsPassing a → (WritesPass a → ⊥) → k.row ≡ l.row → k.lower ≡ l.lower → (rows_in (word z r'.world)).state l.row ≡ row.Leader n → Balances (word z r'.world) r'.ledger.rows s (MarkLink n) k
+  found_leader n k x p w row low e =
+      let b = balance_at a h i in
+      let f = (own_rely z r r' s choice l a l' h i p w).fresh l.row (b.fresh x) in
+      goes_on (MarkLink n) k x p w row low
+      (subst (λ q. Group (rows_in (word z r'.world)) r'.ledger.rows (Marking q n)) (sym row) (leads (rows_in (word z r'.world)) r'.ledger.rows _ (structure_keeps a h i) l.row n (held_by r'.ledger.rows s l.row f) e))
+
+  -- a seat whose row is led alone goes on with it
+  keeps_alone : (b : Activity) (k : Local) → IsBalancing a → IsPassing a → (WritesPass a → ⊥) → k.row ≡ l.row → k.lower ≡ l.lower → view_of a l ≡ Alone l.row l.rebalance.after → view_of b k ≡ Alone l.row l.rebalance.after → Balances (word z r'.world) r'.ledger.rows s b k
+  keeps_alone b k x p n row low was now =
+      let y = balance_at a h i in
+      let g = group_keeps a h i s (view_of a l) (named _ _ s a l y) y.group in
+      goes_on b k x p n row low (subst (Group (rows_in (word z r'.world)) r'.ledger.rows) (was ∙ sym now) g)
+
+-- by the arrow that the seat takes
+pub balances_own : (z : Sizes) (r r' : Run) (s : ℕ) (choice : Choice) (l : Local) (a : Activity) (l' : Local) → Arrow z (word z r.world) s choice l a l' → Happens z r r' s choice l l' a → Shape z r → Balances (word z r'.world) r'.ledger.rows s l'.activity l'
+balances_own z r r' s choice l a l' (builds b next y o t) h i = never_built z b y o
+balances_own z r r' s choice l a l' (finds_full e f) h i = meets_full z r r' s choice l _ l' h i tt tt (λ x. x)
+balances_own z r r' s choice l a l' (takes_full e f) h i = meets_full z r r' s choice l _ l' h i tt tt (λ x. x)
+balances_own z r r' s choice l a l' (announces_full e f) h i = meets_full z r r' s choice l _ l' h i tt tt (λ x. x)
+balances_own z r r' s choice l a l' (stamps_full e f) h i = meets_full z r r' s choice l _ l' h i tt tt (λ x. x)
+balances_own z r r' s choice l a l' (clock_serves e) h i = goes_on z r r' s choice l _ l' h i BalEpoch _ tt tt (λ x. x) refl refl tt
+balances_own z r r' s choice l a l' (epoch_serves e) h i = goes_on z r r' s choice l _ l' h i BalState _ tt tt (λ x. x) refl refl tt
+balances_own z r r' s choice l a l' (finds_infant seat e) h i = goes_on z r r' s choice l _ l' h i (BalNormal seat) _ tt tt (λ x. x) refl refl tt
+balances_own z r r' s choice l a l' (finds_normal e) h i = goes_on z r r' s choice l _ l' h i Engage _ tt tt (λ x. x) refl refl tt
+balances_own z r r' s choice l a l' (finds_leader count e o) h i = found_leader z r r' s choice l _ l' h i count _ tt tt (λ x. x) refl refl (read_state BalState h i _ e (λ x. x))
+balances_own z r r' s choice l a l' (normalises seat) h i = goes_on z r r' s choice l _ l' h i BalState _ tt tt (λ x. x) refl refl tt
+balances_own z r r' s choice l a l' (engages e) h i = found_leader z r r' s choice l _ l' h i 0 _ tt tt (λ x. x) refl refl (engaged_state h e)
+balances_own z r r' s choice l a l' (is_engaged e) h i = goes_on z r r' s choice l _ l' h i BalState _ tt tt (λ x. x) refl refl tt
+balances_own z r r' s choice l a l' (marks_link count e) h i = goes_on z r r' s choice l _ l' h i (Decide 1) _ tt tt (λ x. x) refl refl (subst (λ q. Group (rows_in (word z r'.world)) r'.ledger.rows (Opened l.row q)) (row_next count h i) opened)
+  where
+    known : Group (rows_in (word z r'.world)) r'.ledger.rows (Marking l.row 0)
+    known =
+        let b = balance_at (MarkLink count) h i in
+        subst (λ n. Group (rows_in (word z r'.world)) r'.ledger.rows (Marking l.row n)) e (group_keeps (MarkLink count) h i s (Marking l.row count) (b.fresh tt) b.group)
+
+    opened : Group (rows_in (word z r'.world)) r'.ledger.rows (Opened l.row ((rows_in (word z r'.world)).next l.row))
+    opened = opens (rows_in (word z r'.world)) r'.ledger.rows l.row known (row_marked count h i)
+balances_own z r r' s choice l a l' (marks_led count e f) h i = goes_on z r r' s choice l _ l' h i FreezeCount _ tt tt (λ x. x) refl refl (subst (λ q. Group (rows_in (word z r'.world)) r'.ledger.rows (Alone l.row q)) (row_next count h i) led)
+  where
+    one : count ≡ 1
+    one = omega (arith, (kinds_at (MarkLink count) h i).kind.1, e)
+
+    known : Group (rows_in (word z r'.world)) r'.ledger.rows (Marking l.row 1)
+    known =
+        let b = balance_at (MarkLink count) h i in
+        subst (λ n. Group (rows_in (word z r'.world)) r'.ledger.rows (Marking l.row n)) one (group_keeps (MarkLink count) h i s (Marking l.row count) (b.fresh tt) b.group)
+
+    led : Group (rows_in (word z r'.world)) r'.ledger.rows (Alone l.row ((rows_in (word z r'.world)).next l.row))
+    led = alone (rows_in (word z r'.world)) r'.ledger.rows _ (structure_keeps (MarkLink count) h i) l.row known (row_marked count h i)
+balances_own z r r' s choice l a l' (decides count n e o f) h i = goes_on z r r' s choice l _ l' h i FreezeCount _ tt tt (λ x. x) refl refl (opened.0, λ x. record { either = inl (decided_state count h i n e o) })
+  where
+    opened : Group (rows_in (word z r'.world)) r'.ledger.rows (Opened l.row l.rebalance.after)
+    opened = let b = balance_at (Decide count) h i in group_keeps (Decide count) h i s (Opened l.row l.rebalance.after) (b.fresh tt) b.group
+balances_own z r r' s choice l a l' (meets_stamped j c version next y n) h i = look_outside _ _ s z _ next _ n
+balances_own z r r' s choice l a l' (meets_neither j next y n) h i = look_outside _ _ s z _ next _ n
+balances_own z r r' s choice l a l' (is_passed next y n) h i = look_outside _ _ s z _ next _ n
+balances_own z r r' s choice l a l' (helps next y n) h i = look_outside _ _ s z _ next _ n
+balances_own z r r' s choice l a l' (finds_stamped c version next y n) h i = look_outside _ _ s z _ next _ n
+balances_own z r r' s choice l a l' (finds_other next y n) h i = look_outside _ _ s z _ next _ n
+balances_own z r r' s choice l a l' (list_ends next e n) h i = rest_outside _ _ s _ next n
+balances_own z r r' s choice l a l' (key_above next y n) h i = rest_outside _ _ s _ next n
+balances_own z r r' s choice l a l' (rest_passed next y n) h i = rest_outside _ _ s _ next n
+balances_own z r r' s choice l a l' (gathers_rest next n) h i = rest_outside _ _ s _ next n
+balances_own z r r' s choice l a l' freezes_count h i = keeps_alone z r r' s choice l _ l' h i (FreezeLook 0) _ tt tt (λ x. x) refl refl refl refl
+balances_own z r r' s choice l a l' (meets_idle j e) h i = keeps_alone z r r' s choice l _ l' h i (Freeze j) _ tt tt (λ x. x) refl refl refl refl
+balances_own z r r' s choice l a l' (meets_unstamped j c e) h i = keeps_alone z r r' s choice l _ l' h i (Freeze j) _ tt tt (λ x. x) refl refl refl refl
+balances_own z r r' s choice l a l' (remembers j c version e o) h i = keeps_alone z r r' s choice l _ l' h i (FreezeLook (j + 1)) _ tt tt (λ x. x) refl refl refl refl
+balances_own z r r' s choice l a l' (remembers_last j c version e o) h i = keeps_alone z r r' s choice l _ l' h i (ScanLook 0) _ tt tt (λ x. x) refl refl refl refl
+balances_own z r r' s choice l a l' (meets_frozen j e o) h i = keeps_alone z r r' s choice l _ l' h i (FreezeLook (j + 1)) _ tt tt (λ x. x) refl refl refl refl
+balances_own z r r' s choice l a l' (meets_frozen_last j e o) h i = keeps_alone z r r' s choice l _ l' h i (ScanLook 0) _ tt tt (λ x. x) refl refl refl refl
+balances_own z r r' s choice l a l' (freezes_entry j e o) h i = keeps_alone z r r' s choice l _ l' h i (FreezeLook (j + 1)) _ tt tt (λ x. x) refl refl refl refl
+balances_own z r r' s choice l a l' (freezes_last j e o) h i = keeps_alone z r r' s choice l _ l' h i (ScanLook 0) _ tt tt (λ x. x) refl refl refl refl
+balances_own z r r' s choice l a l' (looks_again j e) h i = keeps_alone z r r' s choice l _ l' h i (FreezeLook j) _ tt tt (λ x. x) refl refl refl refl
+balances_own z r r' s choice l a l' (meets_quiet j e o) h i = keeps_alone z r r' s choice l _ l' h i (ScanLook (j + 1)) _ tt tt (λ x. x) refl refl refl refl
+balances_own z r r' s choice l a l' (meets_quiet_last j e o) h i = keeps_alone z r r' s choice l _ l' h i TakeFrom _ tt tt (λ x. x) refl refl refl refl
+balances_own z r r' s choice l a l' (helps_scan j clock e) h i = keeps_alone z r r' s choice l _ l' h i (HelpDraw j) _ tt tt (λ x. x) refl refl refl refl
+balances_own z r r' s choice l a l' (meets_drawn j version e o) h i = keeps_alone z r r' s choice l _ l' h i (ScanLook (j + 1)) _ tt tt (λ x. x) refl refl refl refl
+balances_own z r r' s choice l a l' (meets_drawn_last j version e o) h i = keeps_alone z r r' s choice l _ l' h i TakeFrom _ tt tt (λ x. x) refl refl refl refl
+balances_own z r r' s choice l a l' (draws_for j) h i = keeps_alone z r r' s choice l _ l' h i (HelpSettle j) _ tt tt (λ x. x) refl refl refl refl
+balances_own z r r' s choice l a l' (settles_scan j e o) h i = keeps_alone z r r' s choice l _ l' h i (ScanLook (j + 1)) _ tt tt (λ x. x) refl refl refl refl
+balances_own z r r' s choice l a l' (settles_last j e o) h i = keeps_alone z r r' s choice l _ l' h i TakeFrom _ tt tt (λ x. x) refl refl refl refl
+balances_own z r r' s choice l a l' (finds_drawn j version e o) h i = keeps_alone z r r' s choice l _ l' h i (ScanLook (j + 1)) _ tt tt (λ x. x) refl refl refl refl
+balances_own z r r' s choice l a l' (finds_drawn_last j version e o) h i = keeps_alone z r r' s choice l _ l' h i TakeFrom _ tt tt (λ x. x) refl refl refl refl
+balances_own z r r' s choice l a l' (finds_no_scan j e o) h i = keeps_alone z r r' s choice l _ l' h i (ScanLook (j + 1)) _ tt tt (λ x. x) refl refl refl refl
+balances_own z r r' s choice l a l' (finds_no_scan_last j e o) h i = keeps_alone z r r' s choice l _ l' h i TakeFrom _ tt tt (λ x. x) refl refl refl refl
+balances_own z r r' s choice l a l' (take_leads c e) h i = keeps_alone z r r' s choice l _ l' h i TakeKey _ tt tt (λ x. x) refl refl refl refl
+balances_own z r r' s choice l a l' (takes_left m e n) h i = keeps_alone z r r' s choice l _ l' h i TakeRestKey _ tt tt (λ x. x) refl refl refl refl
+balances_own z r r' s choice l a l' takes_key h i = keeps_alone z r r' s choice l _ l' h i TakeVersion _ tt tt (λ x. x) refl refl refl refl
+balances_own z r r' s choice l a l' takes_version h i = keeps_alone z r r' s choice l _ l' h i TakeValue _ tt tt (λ x. x) refl refl refl refl
+balances_own z r r' s choice l a l' keeps_taken h i = keeps_alone z r r' s choice l _ l' h i TakeFrom _ tt tt (λ x. x) refl refl refl refl
+balances_own z r r' s choice l a l' takes_left_key h i = keeps_alone z r r' s choice l _ l' h i TakeRestValue _ tt tt (λ x. x) refl refl refl refl
+balances_own z r r' s choice l a l' (keeps_left m n) h i = keeps_alone z r r' s choice l _ l' h i TakeRestKey _ tt tt (λ x. x) refl refl refl refl
+balances_own z r r' s choice l a l' (takes_no_more e n f) h i = goes_no_further z.form h.reached f
+balances_own z r r' s choice l a l' (keeps_no_more n f) h i = goes_no_further z.form h.reached f
+balances_own z r r' s choice l a l' _ h i = outside _ _ s _ _ (λ x. x) tt
+
+-- another seat
+pub balances_other : (z : Sizes) (r r' : Run) (s : ℕ) (choice : Choice) (l : Local) (a : Activity) (l' : Local) → Happens z r r' s choice l l' a → Shape z r → (t : ℕ) (k : Local) → t ≢ s → slice_get r.world.locals t ≡ Some k → Balances (word z r'.world) r'.ledger.rows t k.activity k
+balances_other z r r' s choice l a l' h i t k d g = record {
+  fresh = λ x. let p = rely x in p.fresh k.row (b.fresh x);
+  lower = λ x. let p = rely x in b.lower x ∙ sym (p.least k.row (b.fresh x));
+  group = group_keeps a h i t (view_of k.activity k) (named _ _ t k.activity k b) b.group;
+}
+  where
+    b : Balances (word z r.world) r.ledger.rows t k.activity k
+    b = i.balances t k g
+
+    rely : IsBalancing k.activity → RelyRows (word z r.world) (word z r'.world) r.ledger.rows r'.ledger.rows t
+    rely x = which (is_passing k.activity)
+      where
+        which : IsPassing k.activity ⊎ (IsPassing k.activity → ⊥) → RelyRows (word z r.world) (word z r'.world) r.ledger.rows r'.ledger.rows t
+        which (inl y) = let p = (i.passes t k g).in_pass y in rely_rows a h i t p.since p.passes (others_kept a h t d ∙ p.passes)
+        which (inr n) = absurd (in_pass k.activity x n)

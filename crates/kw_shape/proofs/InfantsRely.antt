@@ -1,0 +1,100 @@
+-- An event of one seat leaves the infants of every other: the rows on which it acts were linked, or are its own infants, or are free.
+use Rattle.std.proofs.Common.{ℕ, suc, ◌≡◌, ◌≢◌, ◌⊎◌, inl, inr, false, true, List, [], ◌∷◌, Some, arith, refl, sym, ◌∙◌, ap, subst, slice_get}
+use Rattle.std.proofs.lemmas.Bool.{cases_eq}
+use Rattle.std.proofs.lemmas.Option.{same_Some}
+use Rattle.kw_words.specs.declared.layout.Name.{Name}
+use Rattle.kw_words.specs.declared.layout.Name.TheVariants as name
+use Rattle.kw_words.specs.declared.state.State.TheVariants as state
+use Rattle.kw_words.specs.Layout.{IsWithin}
+use Rattle.kw_words.specs.State.{state_word}
+use Rattle.kw_rows.specs.Events.{IsIn}
+use Rattle.kw_rows.specs.Ledger.{Ledger, Infant, Live, Dead}
+use Rattle.kw_rows.specs.Rows.{WasLinked}
+use Rattle.kw_rows.specs.States.{States}
+use Rattle.kw_world.specs.declared.activity.Activity.{Activity}
+use Rattle.kw_world.specs.declared.activity.Activity.TheVariants.{TakeRow, GiveBack, WriteCount, WriteMin, WriteNext, WriteFirst, WritePend, WriteKey, WriteValue, WriteVersion, WriteAfter, Replace, Normalise}
+use Rattle.kw_world.specs.declared.event.Choice.{Choice}
+use Rattle.kw_world.specs.declared.local.Local.{Local}
+use Rattle.kw_world.specs.SeekTransitions.{infant}
+use Rattle.kw_world.specs.Sizes.{Sizes}
+use Rattle.kw_world.specs.Step.{word}
+use Rattle.kw_core.specs.Ledger as ledger
+use Rattle.kw_core.specs.Run.{Run}
+use Rattle.kw_core.proofs.Fates.{fate_stays, none_taken}
+use Rattle.kw_core.proofs.Frame.{unwritten}
+use Rattle.kw_core.proofs.Happens.{Happens}
+use Rattle.kw_core.proofs.InfantFrames.{Target, NoRow, OwnRow, NewRow, SoughtRow, RowBefore, IsTarget, row_in, row_stays, target_of}
+use Rattle.kw_shape.proofs.InfantsOwn.{infant_not_free}
+use Rattle.kw_shape.proofs.InfantsStay.{RelyInfants, infant_at, is_state}
+use Rattle.kw_shape.specs.Infants.{Infants, IsInfantOf}
+use Rattle.kw_shape.specs.RowsIn.{rows_in}
+
+-- a row that was linked is nobody's infant
+pub linked_not_infant : {A : Type 0} (g : Ledger) (t q : ℕ) → WasLinked g q → IsInfantOf g t q → A
+linked_not_infant g t q (inl a) x = let e : Live ≡ Infant = sym a ∙ x.status in absurd (cc)
+linked_not_infant g t q (inr a) x = let e : Dead ≡ Infant = sym a ∙ x.status in absurd (cc)
+
+-- an infant has one owner
+one_owner : {A : Type 0} (g : Ledger) (t s q : ℕ) → t ≢ s → IsInfantOf g t q → IsInfantOf g s q → A
+one_owner g t s q d x y = absurd (d (sym x.owner ∙ y.owner))
+
+-- a row of a list stands at some place there
+pub place_of_row : (xs : List ℕ) (q : ℕ) → IsIn xs q → (i : ℕ) × (slice_get xs i ≡ Some q)
+place_of_row [] q i = absurd i
+place_of_row (x ∷ xs) q (inl e) = (0, ap Some (sym e))
+place_of_row (x ∷ xs) q (inr i) = let y = place_of_row xs q i in (suc y.0, y.1)
+
+-- the state of a row is no other word
+no_state : {A : Type 0} (q : ℕ) (n : Name) → is_state n ≡ false → Some (name.State q) ≡ Some n → A
+no_state q n f e = let x : true ≡ false = ap is_state (same_Some (name.State q) n e) ∙ f in absurd (cc)
+
+module _ {z : Sizes} {r r' : Run} {s : ℕ} {choice : Choice} {l l' : Local} where
+  -- the word of an infant of the seat t is none that the event writes, where the row of the acting seat, and the one before it, were linked
+  words_kept : (a : Activity) → Happens z r r' s choice l l' a → (t : ℕ) → t ≢ s → Infants z (word z r.world) r.ledger.rows s a l → (target_of a ≡ OwnRow → WasLinked r.ledger.rows l.row) → (target_of a ≡ RowBefore → (p : ℕ) → l.rebalance.before ≡ Some p → WasLinked r.ledger.rows p) →
+      (q : ℕ) → IsInfantOf r.ledger.rows t q → (n : Name) → row_in n ≡ Some q → is_state n ≡ false → IsWithin z.seats z.cells r.world.rows n → word z r'.world n ≡ word z r.world n
+  words_kept TakeRow h t d x own before q y n e f i = unwritten TakeRow h n i (no_state l.rebalance.sought n f)
+  words_kept GiveBack h t d x own before q y n e f i = unwritten GiveBack h n i (no_state (infant l) n f)
+  words_kept Normalise h t d x own before q y n e f i = unwritten Normalise h n i (no_state (infant l) n f)
+  words_kept Replace h t d x own before q y n e f i = row_stays Replace h n q e i (λ p. linked_not_infant r.ledger.rows t q (before refl q p) y)
+  words_kept WriteCount h t d x own before q y n e f i = row_stays WriteCount h n q e i (λ m. one_owner r.ledger.rows t s q d y (subst (IsInfantOf r.ledger.rows s) (sym m) (x.owned l.rebalance.at (infant l) tt (infant_at l (x.hand tt)))))
+  words_kept WriteMin h t d x own before q y n e f i = row_stays WriteMin h n q e i (λ m. one_owner r.ledger.rows t s q d y (subst (IsInfantOf r.ledger.rows s) (sym m) (x.owned l.rebalance.at (infant l) tt (infant_at l (x.hand tt)))))
+  words_kept WriteNext h t d x own before q y n e f i = row_stays WriteNext h n q e i (λ m. one_owner r.ledger.rows t s q d y (subst (IsInfantOf r.ledger.rows s) (sym m) (x.owned l.rebalance.at (infant l) tt (infant_at l (x.hand tt)))))
+  words_kept WriteFirst h t d x own before q y n e f i = row_stays WriteFirst h n q e i (λ m. one_owner r.ledger.rows t s q d y (subst (IsInfantOf r.ledger.rows s) (sym m) (x.owned l.rebalance.at (infant l) tt (infant_at l (x.hand tt)))))
+  words_kept (WritePend j) h t d x own before q y n e f i = row_stays (WritePend j) h n q e i (λ m. one_owner r.ledger.rows t s q d y (subst (IsInfantOf r.ledger.rows s) (sym m) (x.owned l.rebalance.at (infant l) tt (infant_at l (x.hand tt)))))
+  words_kept (WriteKey j) h t d x own before q y n e f i = row_stays (WriteKey j) h n q e i (λ m. one_owner r.ledger.rows t s q d y (subst (IsInfantOf r.ledger.rows s) (sym m) (x.owned l.rebalance.at (infant l) tt (infant_at l (x.hand tt)))))
+  words_kept (WriteValue j) h t d x own before q y n e f i = row_stays (WriteValue j) h n q e i (λ m. one_owner r.ledger.rows t s q d y (subst (IsInfantOf r.ledger.rows s) (sym m) (x.owned l.rebalance.at (infant l) tt (infant_at l (x.hand tt)))))
+  words_kept (WriteVersion j) h t d x own before q y n e f i = row_stays (WriteVersion j) h n q e i (λ m. one_owner r.ledger.rows t s q d y (subst (IsInfantOf r.ledger.rows s) (sym m) (x.owned l.rebalance.at (infant l) tt (infant_at l (x.hand tt)))))
+  words_kept (WriteAfter j) h t d x own before q y n e f i = row_stays (WriteAfter j) h n q e i (λ m. one_owner r.ledger.rows t s q d y (subst (IsInfantOf r.ledger.rows s) (sym m) (x.owned l.rebalance.at (infant l) tt (infant_at l (x.hand tt)))))
+  words_kept a h t d x own before q y n e f i = row_stays a h n q e i (by_target (target_of a) refl (λ c. cc) (λ c. cc) (λ c. cc))
+    where
+      by_target : (c : Target) → target_of a ≡ c → (target_of a ≡ NewRow → ⊥) → (target_of a ≡ SoughtRow → ⊥) → (target_of a ≡ RowBefore → ⊥) → IsTarget c l q → ⊥
+      by_target NoRow k new sought left m = m
+      by_target OwnRow k new sought left m = linked_not_infant r.ledger.rows t q (subst (WasLinked r.ledger.rows) (sym m) (own k)) y
+      by_target NewRow k new sought left m = new k
+      by_target SoughtRow k new sought left m = sought k
+      by_target RowBefore k new sought left m = left k
+
+  -- nor does its fate change
+  fates_kept : (a : Activity) → Happens z r r' s choice l l' a → (t : ℕ) → t ≢ s → States (rows_in (word z r.world)) r.ledger.rows → Infants z (word z r.world) r.ledger.rows s a l → (target_of a ≡ RowBefore → WasLinked r.ledger.rows l.row) →
+      (q : ℕ) → IsInfantOf r.ledger.rows t q → r'.ledger.rows.fates q ≡ r.ledger.rows.fates q
+  fates_kept TakeRow h t d states x full q y = which (cases_eq (word z r.world (name.State l.rebalance.sought)) (state_word state.Free))
+    where
+      which : (word z r.world (name.State l.rebalance.sought) ≡ state_word state.Free) ⊎ (word z r.world (name.State l.rebalance.sought) ≡ state_word state.Free → ⊥) → r'.ledger.rows.fates q ≡ r.ledger.rows.fates q
+      which (inl e) = fate_stays TakeRow h q (λ c. infant_not_free (word z r.world) r.ledger.rows t q states y (ap (λ k. word z r.world (name.State k)) c ∙ e))
+      which (inr n) = ap (λ (g : ledger.Ledger). g.rows.fates q) (none_taken h n)
+  fates_kept GiveBack h t d states x full q y = fate_stays GiveBack h q (λ c. one_owner r.ledger.rows t s q d y (subst (IsInfantOf r.ledger.rows s) (sym c) (x.owned l.rebalance.at (infant l) (omega arith) (infant_at l (x.hand tt)))))
+  fates_kept Replace h t d states x full q y = fate_stays Replace h q acts
+    where
+      acts : (q ≡ l.row) ⊎ IsIn l.rebalance.taken q → ⊥
+      acts (inl c) = linked_not_infant r.ledger.rows t q (subst (WasLinked r.ledger.rows) (sym c) (full refl)) y
+      acts (inr c) = let p = place_of_row l.rebalance.taken q c in one_owner r.ledger.rows t s q d y (x.owned p.0 q tt p.1)
+  fates_kept a h t d states x full q y = fate_stays a h q (λ c. c)
+
+  -- so the infants of another seat stay
+  pub rely_infants : (a : Activity) → Happens z r r' s choice l l' a → (t : ℕ) → t ≢ s → States (rows_in (word z r.world)) r.ledger.rows → Infants z (word z r.world) r.ledger.rows s a l →
+      (target_of a ≡ OwnRow → WasLinked r.ledger.rows l.row) → (target_of a ≡ RowBefore → WasLinked r.ledger.rows l.row × ((p : ℕ) → l.rebalance.before ≡ Some p → WasLinked r.ledger.rows p)) →
+      RelyInfants z r.world.rows (word z r.world) (word z r'.world) r.ledger.rows r'.ledger.rows t
+  rely_infants a h t d states x own before = record {
+    fates = fates_kept a h t d states x (λ e. (before e).0);
+    words = λ q y o n e f i. words_kept a h t d x own (λ c. (before c).1) q y n e f i;
+  }

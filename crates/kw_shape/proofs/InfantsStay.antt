@@ -1,0 +1,101 @@
+-- What an event of another seat leaves to a seat of its infants and of the row before its full one: they are its infants still, each word
+-- that it wrote stands, and the row before is as it was.
+use Rattle.std.proofs.Common.{ℕ, ◌≡◌, inl, inr, ◌<◌, Bool, false, true, Some, arith, refl, sym, ◌∙◌, ap, length, slice_get}
+use Rattle.std.proofs.lemmas.Option.{slice_get-get_or}
+use Rattle.kw_words.specs.declared.layout.Name.{Name}
+use Rattle.kw_words.specs.declared.layout.Name.TheVariants as name
+use Rattle.kw_words.specs.Layout.{IsWithin}
+use Rattle.kw_rows.specs.Ledger.{Fate, Ledger, IsDead}
+use Rattle.kw_world.specs.declared.activity.Activity.{Activity}
+use Rattle.kw_world.specs.declared.activity.Activity.TheVariants.{Before, BeforeLink, BeforeMin, GiveBack, Replace}
+use Rattle.kw_world.specs.declared.local.Local.{Local}
+use Rattle.kw_world.specs.SeekTransitions.{at_infant, infant}
+use Rattle.kw_world.specs.Sizes.{Sizes}
+use Rattle.kw_core.specs.Words.{Words, least_in}
+use Rattle.kw_core.proofs.InfantFrames.{row_in}
+use Rattle.kw_shape.proofs.RelyRows.{RelyRows}
+use Rattle.kw_shape.specs.Infants.{HasAtHand, Infants, IsInfantOf, IsNursed, IsWhole, IsWriting, Nursing, Writes, Links, Written, nursing_of}
+use Rattle.kw_shape.specs.Search.{IsMeasured, IsSearching, IsLeft, Search}
+
+-- the word is the state of a row
+abbrev pub is_state : Name → Bool
+is_state (name.State q) = true
+is_state _ = false
+
+-- what stays of the infants of seat t, in a table of so many rows: their fates, and their words but for their states, of which the laws of rows say what they
+-- are
+pub record RelyInfants (z : Sizes) (rows : ℕ) (v v' : Words) (g g' : Ledger) (t : ℕ) : Type 0 where
+  pub fates : (q : ℕ) → IsInfantOf g t q → g'.fates q ≡ g.fates q
+  pub words : (q : ℕ) → IsInfantOf g t q → q < rows → (n : Name) → row_in n ≡ Some q → is_state n ≡ false → IsWithin z.seats z.cells rows n → v' n ≡ v n
+
+-- where the words of a row stay, what was written of it stands
+pub written_stays : (z : Sizes) (rows : ℕ) (v v' : Words) (a : Activity) (l : Local) (q : ℕ) → q < rows → ((n : Name) → row_in n ≡ Some q → is_state n ≡ false → IsWithin z.seats z.cells rows n → v' n ≡ v n) → Written z v a l q → Written z v' a l q
+written_stays z rows v v' a l q i same w = record {
+  count = λ x. same (name.Count q) refl refl i ∙ w.count x;
+  least = λ x. same (name.Min q) refl refl i ∙ w.least x;
+  next = λ x. same (name.Next q) refl refl i ∙ w.next x;
+  first = λ x. same (name.First q) refl refl i ∙ w.first x;
+  entries = λ k o x. same (name.Pend q k) refl refl (i, o) ∙ w.entries k o x;
+  keys = λ j o y x. same (name.Key q j) refl refl (i, o) ∙ w.keys j o y x;
+  values = λ j o y x. same (name.Value q j) refl refl (i, o) ∙ w.values j o y x;
+  versions = λ j o x. same (name.Version q j) refl refl (i, o) ∙ w.versions j o x;
+  afters = λ j o x. same (name.After q j) refl refl (i, o) ∙ w.afters j o x;
+}
+
+-- a row is still an infant of the seat
+pub infant_stays : (g g' : Ledger) (t q : ℕ) → g'.fates q ≡ g.fates q → IsInfantOf g t q → IsInfantOf g' t q
+infant_stays g g' t q e x = record { status = ap (λ (f : Fate). f.status) e ∙ x.status; owner = ap (λ (f : Fate). f.owner) e ∙ x.owner }
+
+-- rows that are written whole, and the one that is being written, are infants of the seat
+pub whole_nursed : (n : Nursing) (l : Local) (i : ℕ) → IsWhole n l i → IsNursed n l i
+whole_nursed Writes l i x = tt
+whole_nursed Links l i x = tt
+whole_nursed _ l i x = absurd x
+
+pub writing_nursed : (n : Nursing) (l : Local) (i : ℕ) → IsWriting n → IsNursed n l i
+writing_nursed Writes l i x = tt
+writing_nursed _ l i x = absurd x
+
+pub writing_hand : (n : Nursing) → IsWriting n → HasAtHand n
+writing_hand Writes x = tt
+writing_hand _ x = absurd x
+
+-- the row at hand is the taken one at that place
+pub infant_at : (l : Local) → l.rebalance.at < length l.rebalance.taken → slice_get l.rebalance.taken l.rebalance.at ≡ Some (infant l)
+infant_at l i = slice_get-get_or l.rebalance.taken l.rebalance.at 0 i
+
+-- the infants of a seat stay
+pub infants_stable : (z : Sizes) (rows : ℕ) (v v' : Words) (g g' : Ledger) (t : ℕ) (a : Activity) (l : Local) → RelyInfants z rows v v' g g' t → ((i q : ℕ) → slice_get l.rebalance.taken i ≡ Some q → q < rows) → Infants z v g t a l → Infants z v' g' t a l
+infants_stable z rows v v' g g' t a l y inside x = record {
+  owned = λ i q n e. let o = x.owned i q n e in infant_stays g g' t q (y.fates q o) o;
+  apart = x.apart;
+  hand = x.hand;
+  enough = x.enough;
+  whole = λ i q n e. written_stays z rows v v' Before (at_infant i l) q (inside i q e) (y.words q (x.owned i q (whole_nursed (nursing_of a) l i n) e) (inside i q e)) (x.whole i q n e);
+  words = λ n.
+      let e = infant_at l (x.hand (writing_hand (nursing_of a) n)) in
+      let i = inside l.rebalance.at (infant l) e in
+      written_stays z rows v v' a l (infant l) i (y.words (infant l) (x.owned l.rebalance.at (infant l) (writing_nursed (nursing_of a) l l.rebalance.at n) e) i) (x.words n);
+}
+
+-- a row whose least key the seat knows is one that it may name
+measured : (a : Activity) (l : Local) → IsMeasured a l → IsSearching a l
+measured BeforeLink l m = tt
+measured BeforeMin l m = tt
+measured Replace l m = tt
+measured GiveBack l m = m
+measured _ l m = absurd m
+
+-- the row before the full one stays: it and the full row may be named still, their least keys are as they were, and a dead full row is dead
+pub search_stable : (v v' : Words) (g g' : Ledger) (t : ℕ) (a : Activity) (l : Local) → RelyRows v v' g g' t → (IsDead g l.row → IsDead g' l.row) → Search v g t a l → Search v' g' t a l
+search_stable v v' g g' t a l y dead x = record {
+  some = x.some;
+  fresh = λ p s e. y.fresh p (x.fresh p s e);
+  least = λ p m e. x.least p m e ∙ sym (y.least p (x.fresh p (measured a l m) e));
+  left = λ p m e. which p (y.least p (x.fresh p (measured a l m) e)) (x.left p m e);
+  met = λ m. y.fresh l.candidate (x.met m);
+}
+  where
+    which : (p : ℕ) → least_in v' p ≡ least_in v p → IsLeft v g l p → IsLeft v' g' l p
+    which p e (inl o) = inl (omega (arith, e, o))
+    which p e (inr o) = inr (dead o.0, o.1)
