@@ -13,8 +13,8 @@ use std::thread;
 /// The greatest key.
 const LAST_KEY: u32 = 4_294_967_295;
 
-/// How often a thread of a test tries before it gives up.
-const MOST_TRIES: u32 = 1_000_000;
+/// How often a thread of a test tries before it gives up: minutes, since another thread may wait long for a processor of a busy machine.
+const MOST_TRIES: u32 = 1_000_000_000;
 
 fn entry(min: u32, row: u32) -> Entry {
     Entry { min, row }
@@ -144,11 +144,12 @@ fn guess_until_both(index: &Index, flag: &AtomicBool) -> Sightings {
             Some(1) => seen.first = true,
             Some(2) => seen.second = true,
             Some(_) => seen.other = true,
-            None => thread::yield_now(),
+            None => {}
         }
         if seen.first && seen.second {
             break;
         }
+        thread::yield_now();
     }
     flag.store(true, Ordering::SeqCst);
     seen
