@@ -5,19 +5,28 @@
   tools/check_program.py --program 'COMMAND'    another program, with the same words
 
 Each case has its words, its standard input and output, and what the process must print, say on standard error, and end with. It was
-worked out by hand, and the summary by a generator in Python. The last line says how many cases passed; the status is 1 where one did not."""
+worked out by hand, and the summary by a generator in Python.
+
+Each script of the folder `scripts` beside this file is run three times: it must print its `.printed`, its record must be its `.record`, and
+that must be judged good. Its name says what it shows. Most of its lines name the kind of the one step that they make, and the positions in
+the record count all steps, so that together they tell each step of the calls. What is printed comes from a simulator of the same event
+table that was written apart from this program, and none is in the repository.
+
+The last line says how many cases passed; the status is 1 where one did not."""
 
 import argparse
 import shlex
 import subprocess
 import sys
 from collections import namedtuple
+from pathlib import Path
 
 from kiwi_map import KIWI
 
 # What is wrong with a stream: standard input is a folder, which cannot be read; standard output is a device that is full.
 FOLDER, FULL = "/", "/dev/full"
 LONG = b"get 1\n" * 3_000_000
+SCRIPTS = Path(__file__).resolve().parent / "scripts"
 
 # A put that is stamped and goes on, and a get that finds it; its record; and a record whose order has a call behind a later one.
 SCRIPT = b"call 0 put 5 10\nuntil 0 stamp\ncall 1 get 5\ngo 1 100\n"
@@ -55,6 +64,16 @@ CASES = (
 )
 
 
+def script_cases():
+    """The cases of the stored scripts."""
+    for path in sorted(path for path in SCRIPTS.iterdir() if path.suffix == ".script"):
+        name, script = path.stem.replace("_", " "), path.read_bytes()
+        record = path.with_suffix(".record").read_bytes()
+        yield Case(name, "simulate", script, printed=path.with_suffix(".printed").read_bytes())
+        yield Case(f"{name}: its record", "simulate --record", script, printed=record)
+        yield Case(f"{name}: its record is good", "judge", record, printed=b"yes\n")
+
+
 def ended(program, case):
     """What the process of a case prints, what it says on standard error, and its status."""
     words = [*program, *case.words.split()]
@@ -79,12 +98,13 @@ def main():
     program = shlex.split(options.program) if options.program else [KIWI]
     subprocess.run([*program, "replay"], input=b"", check=False)  # proves and builds the program, which the first run says on standard error
     failed = 0
-    for case in CASES:
+    cases = (*CASES, *script_cases())
+    for case in cases:
         got, wanted = ended(program, case), (case.printed, case.said, case.status)
         if got != wanted:
             failed += 1
             print(f"{case.name}: `{case.words}`\n  got    {got}\n  wanted {wanted}")
-    print(f"{len(CASES) - failed} passed, {failed} failed")
+    print(f"{len(cases) - failed} passed, {failed} failed")
     return 1 if failed else 0
 
 

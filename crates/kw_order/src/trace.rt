@@ -178,6 +178,4 @@ pub fn order(alloc: Global, trace: &Trace) -> Result<Vec<CallName>, Memory>
 }
 
 #[cfg(test)]
-mod events_tests;
-#[cfg(test)]
 mod tests;
