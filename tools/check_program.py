@@ -1,11 +1,12 @@
 #!/usr/bin/env python3
-"""Runs the built program as a process and checks what no clause can say: the status with which `main` ends, and its fault line.
+"""Runs the built program as a process and checks what it prints, and what no clause can say: the status with which `main` ends, and its
+fault line.
 
   tools/check_program.py                        the program that ./kiwi builds
   tools/check_program.py --program 'COMMAND'    another program, with the same words
 
 Each case has its words, its standard input and output, and what the process must print, say on standard error, and end with. It was
-worked out by hand, and the summary by a generator in Python.
+worked out by hand, and the summaries by a generator in Python.
 
 Each script of the folder `scripts` beside this file is run three times: it must print its `.printed`, its record must be its `.record`, and
 that must be judged good. Its name says what it shows. Most of its lines name the kind of the one step that they make, and the positions in
@@ -33,18 +34,54 @@ SCRIPT = b"call 0 put 5 10\nuntil 0 stamp\ncall 1 get 5\ngo 1 100\n"
 RECORD = b"done 1.1 11 26 get 5: 10\nopen 0.1 0 put 5 10\norder 0.1 1.1\n"
 TURNED = b"done 0.1 0 5 put 5 10: ok\ndone 1.1 6 9 get 5: 10\norder 1.1 0.1\n"
 
+# A put that was refused, and a get that finds nothing of it.
+REFUSED = b"done 0.1 0 5 put 5 10: no rows\ndone 0.2 6 9 get 5: none\norder 0.1 0.2"
+
+# Lines of `replay`: each form of a range; three of the greatest values and their sum; keys put out of order, and lists of them; many puts of
+# one key; and more keys than one row holds, with all pairs.
+RANGES = b"sum 1 3\ncount 1 3\nleast 1 3\ngreatest 1 3\nlist 1 3\n"
+GREATEST = b"".join(b"put %d 9223372036854775807\n" % key for key in (0, 7, 4294967295)) + b"sum 0 4294967295\n"
+PAIRS = b"put 9 90\nput 4294967295 1\nput 3 30\nput 7 70\nput 0 5\nput 7 71\nlist 0 4294967295\nlist 3 7\nlist 9 3\n"
+ONE = b"".join(b"put 7 %d\n" % value for value in range(1, 201)) + b"get 7\n"
+MANY = b"".join(b"put %d %d\n" % (key, key) for key in range(1, 66)) + b"sum 1 65\nlist 1 65\n"
+ALL = b" ".join(b"%d=%d" % (key, key) for key in range(1, 66))
+
+# The summaries of a thousand lines and of ten thousand.
+THOUSAND = b"puts 610\ndels 126\ngets 264\nfound 24\ncount 560\nsum 8968157\nleast 30\ngreatest 32724\n"
+TEN_THOUSAND = b"puts 6209\ndels 1273\ngets 2518\nfound 1140\ncount 2815\nsum 45459495\nleast 0\ngreatest 32724\n"
+
 Case = namedtuple("Case", "name words given output printed said status", defaults=(b"", None, b"", b"", 0))
 
 CASES = (
-    Case("all is printed", "replay", b"put 5 50\nget 5\n", printed=b"ok\n50\n"),
+    Case("no lines", "replay"),
+    Case("all is printed", "replay", b"put 5 50\nget 5\nsum 0 9\n", printed=b"ok\n50\n50\n"),
+    Case("keys without a value", "replay", b"get 7\nsum 3 2\nleast 0 9\n", printed=b"none\n0\nnone\n"),
+    Case("the value that was put last", "replay", b"get 5\nput 5 50\nput 5 51\nget 5\nget 4\n", printed=b"none\nok\nok\n51\nnone\n"),
+    Case("a key that is deleted", "replay", b"del 5\nget 5\nput 5 50\ndel 5\nget 5\ncount 0 4294967295\n", printed=b"ok\nnone\nok\nok\nnone\n0\n"),
+    Case("a key that is deleted twice", "replay", b"put 5 1\ndel 5\ndel 5\nget 5\nlist 0 9\n", printed=b"ok\nok\nok\nnone\nempty\n"),
+    Case("each form of a range", "replay", b"put 1 5\nput 2 0\nput 3 9\n" + RANGES, printed=b"ok\nok\nok\n14\n3\n0\n9\n1=5 2=0 3=9\n"),
+    Case("each form of a range of no values", "replay", RANGES, printed=b"0\n0\nnone\nnone\nempty\n"),
+    Case("no line feed at the end", "replay", b"put 1 5\nput 2 3\ncount 2 9", printed=b"ok\nok\n1\n"),
+    Case("a sum past 64 bits", "replay", GREATEST, printed=b"ok\nok\nok\n27670116110564327421\n"),
+    Case("pairs in the order of their keys", "replay", PAIRS, printed=6 * b"ok\n" + b"0=5 3=30 7=71 9=90 4294967295=1\n3=30 7=71\nempty\n"),
+    Case("many puts of one key", "replay", ONE, printed=200 * b"ok\n" + b"200\n"),
+    Case("more keys than one row holds", "replay", MANY, printed=65 * b"ok\n" + b"2145\n" + ALL + b"\n"),
     Case("workers and rows", "replay --rows 64 --workers 8", b"put 5 50\nwait\nsum 0 9\n", printed=b"ok\n50\n"),
     Case("a script", "simulate", b"", printed=b"order none\n"),
     Case("a script with a flag before an option", "simulate --record --rows 64", b"", printed=b"order none\n"),
+    Case("a script of more rows", "simulate --rows 70", b"guess 0 69\n", printed=b"order none\n"),
     Case("a script's record", "simulate --record", SCRIPT, printed=RECORD),
     Case("a good record", "judge", RECORD, printed=b"yes\n"),
     Case("a record with a call missing", "judge", RECORD.replace(b" 1.1\n", b"\n"), printed=b"no: missing 1.1\n", said=b"not legal\n", status=7),
     Case("a record with its order turned round", "judge", TURNED, printed=b"no: late 0.1 1.1\n", said=b"not legal\n", status=7),
+    Case("a record with a wrong reply", "judge", RECORD.replace(b": 10", b": 11"), printed=b"no: wrong 1.1\n", said=b"not legal\n", status=7),
+    Case("a record with a name twice", "judge", RECORD.replace(b"0.1 1.1", b"0.1 0.1"), printed=b"no: twice 0.1\n", said=b"not legal\n", status=7),
+    Case("a record with no such call", "judge", RECORD.replace(b"0.1 1.1", b"0.1 7.7"), printed=b"no: unknown 7.7\n", said=b"not legal\n", status=7),
+    Case("a record with a refused put", "judge", REFUSED, printed=b"yes\n"),
     Case("a summary", "gen 7 3", printed=b"puts 3\ndels 0\ngets 0\nfound 0\ncount 3\nsum 22218\nleast 3365\ngreatest 10868\n"),
+    Case("a summary of many lines", "gen 1 1000", printed=THOUSAND),
+    Case("a summary of many lines by workers", "gen 1 1000 --workers 4", printed=THOUSAND),
+    Case("a summary of more lines", "gen --rows 64 1 10000", printed=TEN_THOUSAND),
     Case("no such command", "rollup", said=b"bad words\n", status=2),
     Case("a worker too many", "replay --workers 9", said=b"bad words\n", status=2),
     Case("a script recorded twice", "simulate --record --record", said=b"bad words\n", status=2),
@@ -55,11 +92,15 @@ CASES = (
     Case("a bad line", "replay", b"get 1\nget\n", said=b"bad line 2\n", status=3),
     Case("a bad line of a script", "simulate", b"call 9 get 1\n", said=b"bad line 1\n", status=3),
     Case("a bad line of a recorded script", "simulate --record", b"call 9 get 1\n", said=b"bad line 1\n", status=3),
+    Case("a bad line of a recorded script of more rows", "simulate --rows 70 --record", b"call 0 put 5 10\ngo 0 0\n", said=b"bad line 2\n", status=3),
+    Case("a row that a script has not", "simulate", b"guess 0 69\n", said=b"bad line 1\n", status=3),
     Case("a record without an order", "judge", b"done 0.1 0 5 get 5: none\n", said=b"bad line 2\n", status=3),
     Case("no record", "judge", b"", said=b"bad line 1\n", status=3),
     Case("an input that is too long", "replay", LONG, said=b"input too long\n", status=3),
     Case("an input that cannot be read", "replay", FOLDER, said=b"read fault\n", status=4),
     Case("an output that is full", "replay", b"get 1\n", FULL, said=b"write fault\n", status=5),
+    Case("an output that is full of a script's text", "simulate", b"", FULL, said=b"write fault\n", status=5),
+    Case("an output that is full of a summary", "gen 1 3", b"", FULL, said=b"write fault\n", status=5),
     Case("an output that is full of what is wrong", "judge", TURNED, FULL, said=b"write fault\n", status=5),
 )
 

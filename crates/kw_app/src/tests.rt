@@ -11,10 +11,7 @@ use std::test::Fail;
 use std::thread::Threads;
 
 mod generated;
-mod lines;
-mod scripts;
 mod streams;
-mod verdicts;
 mod workers;
 
 const ROOM: u32 = 65_536;
@@ -75,20 +72,6 @@ fn expect_end(
     assert_eq!(rt; ended.outcome.line, line);
     assert_eq!(rt; ended.written.as_slice(), text);
     Ok(())
-}
-
-/// Replays the lines and expects this status, this line and this text.
-fn expect_replay<R: Threads + Wait + Sync + Abort>(
-    rt: &R,
-    alloc: Global,
-    input: &str,
-    status: Status,
-    line: u32,
-    text: &str,
-) -> Result<(), Fail> {
-    let bytes = Vec::from_slice(alloc, input.as_bytes())?;
-    let ended = ran(rt, alloc, &["replay"], bytes, &[], ROOM)?;
-    expect_end(rt, &ended, status, line, text.as_bytes())
 }
 
 /// Replays the lines by this many workers, and expects that all are answered, with this text.

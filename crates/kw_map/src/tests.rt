@@ -1,78 +1,16 @@
-//! What the gatherers make of pairs, and what is handed to them of the cells of a row.
+//! What is handed to gatherers of the cells of a row.
 ghost use Rattle.std.specs.Prelude.{◌≡◌, None, All};
 ghost use Rattle.kw_words.specs.Plain.{IsValue};
-ghost use Rattle.kw_map.specs.Gather.{IsBelow};
 
 use crate::gather::{Gather, Stop, take_pairs};
 use crate::gather_list::ListGather;
-use crate::gather_numbers::{CountGather, GreatestGather, LeastGather, SumGather};
+use crate::gather_numbers::{CountGather, SumGather};
 use kw_cells::cell::Cell;
 use kw_world::gathered::Gathered;
 use std::test::Fail;
 
 /// The greatest value that a key may have.
 const GREATEST_VALUE: u64 = 9223372036854775807;
-
-/// Hands over the pairs 1=5, 2=0 and 3=9.
-fn take_three<G: Gather>(into: &mut G) -> Result<(), Stop>
-    requires { IsBelow (G.last into.old) 1 }
-{
-    into.take(1, 5)?;
-    into.take(2, 0)?;
-    into.take(3, 9)
-}
-
-#[test]
-fn sums_the_values(rt: HostRuntime) {
-    let mut sum = SumGather::new();
-    assert_eq!(rt; sum.total(), 0);
-    assert_eq!(rt; take_three(&mut sum), Ok(()));
-    assert_eq!(rt; sum.total(), 14);
-}
-
-#[test]
-fn sums_past_64_bits(rt: HostRuntime) -> Result<(), Fail> {
-    let mut sum = SumGather::new();
-    sum.take(0, GREATEST_VALUE)?;
-    sum.take(7, GREATEST_VALUE)?;
-    sum.take(4294967295, GREATEST_VALUE)?;
-    assert_eq!(rt; sum.total(), 27670116110564327421);
-    Ok(())
-}
-
-#[test]
-fn counts_a_pair_whatever_its_value(rt: HostRuntime) {
-    let mut count = CountGather::new();
-    assert_eq!(rt; count.total(), 0);
-    assert_eq!(rt; take_three(&mut count), Ok(()));
-    assert_eq!(rt; count.total(), 3);
-}
-
-#[test]
-fn the_least_of_nothing_is_none(rt: HostRuntime) {
-    let mut least = LeastGather::new();
-    assert_eq!(rt; least.least(), None);
-    assert_eq!(rt; take_three(&mut least), Ok(()));
-    assert_eq!(rt; least.least(), Some(0));
-}
-
-#[test]
-fn the_greatest_may_come_last(rt: HostRuntime) {
-    let mut greatest = GreatestGather::new();
-    assert_eq!(rt; greatest.greatest(), None);
-    assert_eq!(rt; take_three(&mut greatest), Ok(()));
-    assert_eq!(rt; greatest.greatest(), Some(9));
-}
-
-#[test]
-fn a_list_has_all_pairs_in_order(rt: HostRuntime) {
-    let mut list = ListGather::new(rt.alloc());
-    assert_eq!(rt; take_three(&mut list), Ok(()));
-    let pairs = list.finish();
-    assert_eq!(rt; pairs.pairs(), [(1, 5), (2, 0), (3, 9)].as_slice());
-    let none = ListGather::new(rt.alloc()).finish();
-    assert_eq!(rt; none.pairs(), [].as_slice());
-}
 
 /// Gathers one more cell, whose value is below `VALUE_END`.
 fn add(row: &mut Gathered, key: u32, version: u64, place: u32, value: Option<u64>)

@@ -5,8 +5,7 @@ ghost use Rattle.kw_world.specs.Opening.{IsOpening};
 ghost use Rattle.kw_world.specs.Sizes.{product};
 ghost use Rattle.kw_map.specs.Kiwi.{IsIdle};
 
-use crate::gather_list::ListGather;
-use crate::gather_numbers::{CountGather, SumGather};
+use crate::gather_numbers::SumGather;
 use crate::kiwi::{Kiwi, PutEnd, ScanEnd};
 use crate::tests::Roomy;
 use kw_model::memory::Memory;
@@ -53,31 +52,6 @@ pub(crate) fn put_each<R: Wait>(
 }
 
 #[test]
-fn a_key_has_the_value_that_was_put_last(rt: HostRuntime) -> Result<(), Fail> {
-    let (kiwi, mut pass) = open_one(rt.alloc(), 1)?;
-    assert_eq!(rt; kiwi.get(&mut pass, 5), None);
-    assert_eq!(rt; kiwi.put(&rt, &mut pass, 5, 50), Ok(()));
-    assert_eq!(rt; kiwi.put(&rt, &mut pass, 5, 51), Ok(()));
-    assert_eq!(rt; kiwi.get(&mut pass, 5), Some(51));
-    assert_eq!(rt; kiwi.get(&mut pass, 4), None);
-    Ok(())
-}
-
-#[test]
-fn a_key_that_is_deleted_has_no_value(rt: HostRuntime) -> Result<(), Fail> {
-    let (kiwi, mut pass) = open_one(rt.alloc(), 1)?;
-    assert_eq!(rt; kiwi.delete(&rt, &mut pass, 5), Ok(()));
-    assert_eq!(rt; kiwi.get(&mut pass, 5), None);
-    assert_eq!(rt; kiwi.put(&rt, &mut pass, 5, 50), Ok(()));
-    assert_eq!(rt; kiwi.delete(&rt, &mut pass, 5), Ok(()));
-    assert_eq!(rt; kiwi.get(&mut pass, 5), None);
-    let mut count = CountGather::new();
-    assert_eq!(rt; kiwi.scan(&mut pass, 0, 4294967295, &mut count), Ok(()));
-    assert_eq!(rt; count.total(), 0);
-    Ok(())
-}
-
-#[test]
 fn a_full_row_refuses_and_keeps_what_it_has(rt: HostRuntime) -> Result<(), Fail> {
     let (kiwi, mut pass) = open_one(rt.alloc(), 1)?;
     assert_eq!(rt; put_each(&rt, &kiwi, &mut pass, 0, ROW, 7), Ok(()));
@@ -89,27 +63,6 @@ fn a_full_row_refuses_and_keeps_what_it_has(rt: HostRuntime) -> Result<(), Fail>
     let mut sum = SumGather::new();
     assert_eq!(rt; kiwi.scan(&mut pass, 0, 4294967295, &mut sum), Ok(()));
     assert_eq!(rt; sum.total(), 448);
-    Ok(())
-}
-
-#[test]
-fn a_scan_gives_the_pairs_of_its_range_in_order(rt: HostRuntime) -> Result<(), Fail> {
-    let (kiwi, mut pass) = open_one(rt.alloc(), 1)?;
-    for (key, value) in [(9, 90), (4294967295, 1), (3, 30), (7, 70), (0, 5), (7, 71)] {
-        assert_eq!(rt; kiwi.put(&rt, &mut pass, key, value), Ok(()));
-    }
-    let mut all = ListGather::new(rt.alloc());
-    assert_eq!(rt; kiwi.scan(&mut pass, 0, 4294967295, &mut all), Ok(()));
-    assert_eq!(rt;
-        all.finish().pairs(),
-        [(0, 5), (3, 30), (7, 71), (9, 90), (4294967295, 1)].as_slice()
-    );
-    let mut some = ListGather::new(rt.alloc());
-    assert_eq!(rt; kiwi.scan(&mut pass, 3, 7, &mut some), Ok(()));
-    assert_eq!(rt; some.finish().pairs(), [(3, 30), (7, 71)].as_slice());
-    let mut none = ListGather::new(rt.alloc());
-    assert_eq!(rt; kiwi.scan(&mut pass, 9, 3, &mut none), Ok(()));
-    assert_eq!(rt; none.finish().pairs(), [].as_slice());
     Ok(())
 }
 

@@ -1,4 +1,4 @@
-//! The lines of `gen`, asked of the map and of the plain list. The summaries are those of a map in another language.
+//! The lines of `gen`, asked of the map. The summaries are those of a map in another language.
 use super::{Ended, ROOM, expect_end, ran};
 use crate::outcome::Status;
 use std::alloc::Global;
@@ -47,49 +47,5 @@ fn generated_lines_that_fit_one_row_run_on_the_map(rt: HostRuntime) -> Result<()
         let ended = summarised(&rt, rt.alloc(), texts, text)?;
         assert!(rt; ended.outcome.front.is_some(), "of {texts:?}");
     }
-    Ok(())
-}
-
-#[test]
-fn more_generated_lines_are_summarised_alike_for_every_number_of_workers(
-    rt: HostRuntime,
-) -> Result<(), Fail> {
-    let runs: [(&[&str], &str); 4] = [
-        (
-            &["gen", "1", "1000"],
-            "puts 610\ndels 126\ngets 264\nfound 24\ncount 560\nsum 8968157\nleast 30\ngreatest 32724\n",
-        ),
-        (
-            &["gen", "1", "1000", "--workers", "4"],
-            "puts 610\ndels 126\ngets 264\nfound 24\ncount 560\nsum 8968157\nleast 30\ngreatest 32724\n",
-        ),
-        (
-            &["gen", "1", "1000", "--workers", "4"],
-            "puts 610\ndels 126\ngets 264\nfound 24\ncount 560\nsum 8968157\nleast 30\ngreatest 32724\n",
-        ),
-        (
-            &["gen", "--rows", "64", "1", "10000"],
-            "puts 6209\ndels 1273\ngets 2518\nfound 1140\ncount 2815\nsum 45459495\nleast 0\ngreatest 32724\n",
-        ),
-    ];
-    for (texts, text) in runs {
-        let ended = summarised(&rt, rt.alloc(), texts, text)?;
-        assert!(rt; ended.outcome.front.is_none(), "of {texts:?}");
-    }
-    Ok(())
-}
-
-#[test]
-fn a_sink_that_fills_up_holds_a_prefix_of_the_summary(rt: HostRuntime) -> Result<(), Fail> {
-    let ended = ran(
-        &rt,
-        rt.alloc(),
-        &["gen", "1", "3"],
-        Vec::new(rt.alloc()),
-        &[],
-        10,
-    )?;
-    assert_eq!(rt; ended.outcome.status, Status::WriteFault);
-    assert_eq!(rt; ended.written.as_slice(), b"puts 2\ndel".as_slice());
     Ok(())
 }
