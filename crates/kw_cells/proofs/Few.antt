@@ -1,12 +1,13 @@
 -- No more cells of one key are kept than one for each needed version, and one more.
-use Rattle.std.proofs.Common.{ℕ, zero, suc, true, false, ◌≡◌, ◌<◌, ◌≤◌, ◌+◌, cond, ltb, List, [], ◌∷◌, sym, ◌∙◌, arith, Any, Contains, length, get_or, inl, inr, ◌⊎◌}
+use Rattle.std.proofs.Common.{ℕ, zero, suc, true, false, All, ◌≡◌, ◌<◌, ◌≤◌, ◌+◌, cond, ltb, List, [], ◌∷◌, sym, ◌∙◌, arith, Any, Contains, length, get_or, inl, inr, ◌⊎◌}
 use Rattle.std.proofs.lemmas.List.{get_or_default}
 use Rattle.std.proofs.lemmas.List.Elements.{Contains-get_or, All-contains}
 use Rattle.std.proofs.lemmas.Bool.{cases_lt}
 use Rattle.std.proofs.lemmas.Bool.Decides.{nat_tests}
 use Rattle.kw_cells.specs.Cells.{is_later, IsBest}
-use Rattle.kw_cells.specs.Kept.{is_below, IsNewest, IsChosen, IsKept, IsKeptList, HasFew}
+use Rattle.kw_cells.specs.Kept.{is_below, IsNewest, IsChosen, IsKept, IsKeptList, AreRising, HasFew, kept_of}
 use Rattle.kw_cells.specs.declared.cell.Cell.{Cell}
+use Rattle.kw_cells.proofs.KeptOf.{kept_of-sound, kept_of-rising}
 use Rattle.kw_cells.proofs.Rising.{keys_rise, AreFew, few_of_each}
 
 -- how many of the versions are below this one
@@ -48,15 +49,12 @@ between cells needed c d (among, which) h same l = go which
         above (inl a) at = omega arith
         above (inr a) at = absurd (let g : is_later d c ≡ false = All-contains (λ (x : Cell). x.key ≡ c.key → x.version ≤ u → is_later x c ≡ false) cells d i.greatest h same a in grind (arith, nat_tests))
 
-module _ (cells : List Cell) (needed : List ℕ) (kept : List Cell) (list : IsKeptList cells needed kept) where
-  -- what the list has at a place is to be kept
-  kept_at : (k : ℕ) (d : Cell) → k < length kept → IsKept cells needed (get_or kept k d)
-  kept_at k d l = (list.exactly (get_or kept k d)).0 (Contains-get_or kept k d l)
-
+-- Rising cells that are all to be kept.
+module _ (cells : List Cell) (needed : List ℕ) (kept : List Cell) (rising : AreRising kept) (kept_at : All (IsKept cells needed) kept) where
   -- from one cell of a key to the next a needed version is passed
   step : (k : ℕ) (d : Cell) → k + 1 < length kept → (get_or kept k d).key ≡ (get_or kept (k + 1) d).key → count_below (get_or kept k d).version needed + 1 ≤ count_below (get_or kept (k + 1) d).version needed
   step k d l same =
-      let r : is_below (get_or kept k d) (get_or kept (k + 1) d) ≡ true = list.rising k (k + 1) d (omega arith) l in
+      let r : is_below (get_or kept k d) (get_or kept (k + 1) d) ≡ true = rising k (k + 1) d (omega arith) l in
       let v : (get_or kept k d).version < (get_or kept (k + 1) d).version = grind (arith, nat_tests) in
       let a = kept_at k d (omega arith) in
       let b = kept_at (k + 1) d l in
@@ -70,8 +68,8 @@ module _ (cells : List Cell) (needed : List ℕ) (kept : List Cell) (list : IsKe
       let e : i + suc j ≡ i + j + 1 = omega arith in
       let n : i + j + 1 < length kept = omega arith in
       let s : (get_or kept i d).key ≡ (get_or kept (i + j + 1) d).key = rw e at same in
-      let a = keys_rise kept list.rising i (i + j) d (omega arith) (omega arith) in
-      let b = keys_rise kept list.rising (i + j) (i + j + 1) d (omega arith) n in
+      let a = keys_rise kept rising i (i + j) d (omega arith) (omega arith) in
+      let b = keys_rise kept rising (i + j) (i + j + 1) d (omega arith) n in
       let here : (get_or kept i d).key ≡ (get_or kept (i + j) d).key = omega arith in
       let next : (get_or kept (i + j) d).key ≡ (get_or kept (i + j + 1) d).key = omega arith in
       let h = many i j d (omega arith) here in
@@ -83,8 +81,16 @@ module _ (cells : List Cell) (needed : List ℕ) (kept : List Cell) (list : IsKe
   few_apart i d l same = absurd (let m = many i (length needed + 1) d l same in let a = at_most (get_or kept (i + (length needed + 1)) d).version needed in omega arith)
 
   -- and no key has more
-  pub has_few : HasFew (length needed + 1) kept
-  has_few = few_of_each kept list.rising (length needed + 1) few_apart
+  pub few_of_each_key : HasFew (length needed + 1) kept
+  few_of_each_key = few_of_each kept rising (length needed + 1) few_apart
+
+-- so no key of the kept list has more
+pub has_few : (cells : List Cell) (needed : List ℕ) (kept : List Cell) → IsKeptList cells needed kept → HasFew (length needed + 1) kept
+has_few cells needed kept list = few_of_each_key cells needed kept list.rising (λ k d l. (list.exactly (get_or kept k d)).0 (Contains-get_or kept k d l))
+
+-- and so it is of the cells that the function keeps
+pub few_of_kept : (cells : List Cell) (needed : List ℕ) → HasFew (length needed + 1) (kept_of cells needed)
+few_of_kept cells needed = few_of_each_key cells needed (kept_of cells needed) (kept_of-rising cells needed) (kept_of-sound cells needed)
 
 -- no more than a greater number
 pub few_within : (a b : ℕ) (kept : List Cell) → a ≤ b → HasFew a kept → HasFew b kept

@@ -306,12 +306,12 @@ module _ (cells : List Cell) (needed : List ℕ) where
       grind (arith, nat_tests))
 
   -- each cell of the function's list is to be kept
-  kept_of-sound : All (IsKept cells needed) (kept_of cells needed)
+  pub kept_of-sound : All (IsKept cells needed) (kept_of cells needed)
   unfolding kept_of
   kept_of-sound k d l = (kept_is cells needed (get_or (kept_of cells needed) k d) (kept_of-given cells needed k d l)).0 (filter_passes (is_kept cells needed) (rising_of cells) k d l)
 
   -- its cells rise by key and version
-  kept_of-rising : AreRising (kept_of cells needed)
+  pub kept_of-rising : AreRising (kept_of cells needed)
   unfolding kept_of AreBefore
   kept_of-rising i j d g l = chosen_below (get_or (kept_of cells needed) i d) (get_or (kept_of cells needed) j d) (kept_of-sound i d (omega arith)).0 (kept_of-given cells needed j d l) (AllPairs-filter (λ x y. is_before x y ≡ true) (is_kept cells needed) (rising_of cells) (rising_of-before cells) i j d g l)
 

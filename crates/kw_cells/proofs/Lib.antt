@@ -12,6 +12,8 @@ pub mod Moved
 pub mod Few
 pub mod Starts
 pub mod StartsOf
+pub mod CutAt
+pub mod StartsMade
 pub mod KeptOf
 pub mod Worked
 pub mod Rooms

@@ -33,7 +33,7 @@ use Rattle.kw_world.specs.declared.local.Local.{Local}
 use Rattle.kw_world.specs.declared.limits.TheConstants.{NEWEST}
 use Rattle.kw_world.specs.declared.event.Choice.{Choice}
 use Rattle.kw_world.specs.declared.event.Choice.TheVariants.{Begin, Go, Guess, Stop}
-use Rattle.kw_world.specs.Sizes.{Form, Refused, Decided, Gathered, IsFreezing, IsRebalancing, Sizes}
+use Rattle.kw_world.specs.Sizes.{Form, Refused, Alone, IsRebalancing, Sizes}
 use Rattle.kw_world.specs.Local.{resting}
 use Rattle.kw_world.specs.Calls.{first_key, last_key, is_in_range, is_scan, is_range_empty}
 use Rattle.kw_world.specs.Transition.{Outcome, to, leave, row_linked, row_or_first}
@@ -43,9 +43,9 @@ use Rattle.kw_world.specs.declared.marks.Mark.{Mark}
 use Rattle.kw_world.specs.Marks.{unmarked, least_mark}
 use Rattle.kw_world.specs.ReadTransitions.{to_look, look_met, help_met, remembering, reaching, rest_of, to_rest, list_met, list_past, row_read, get_answered, scan_ended, scan_on, with_pairs, row_scanned, gathering}
 use Rattle.kw_world.specs.PutTransitions.{full_in, full, has_room, given_of, stamp_met}
-use Rattle.kw_world.specs.EngageTransitions.{to_rebalance, again, refuse, state_met, engaged, followed_by, led_in, led_alone, decided}
+use Rattle.kw_world.specs.EngageTransitions.{to_rebalance, again, refuse, state_met, engaged, followed_by, decided}
 use Rattle.kw_world.specs.FreezeTransitions.{count_frozen, to_scans, to_freeze_look, marking, freezing, freeze_met, entry_tried, to_scan_look, needing, scan_met, scan_helped}
-use Rattle.kw_world.specs.TakeTransitions.{to_take, planned, left_of, to_left, taking, take_met, take_version, keeping, take_past, packed_in, packed}
+use Rattle.kw_world.specs.TakeTransitions.{to_take, planned, left_of, to_left, taking, take_met, take_version, keeping, take_past}
 use Rattle.kw_world.specs.ListTransitions.{link_name, meeting, losing, to_insert, insert_from, insert_past, is_newer, insert_tried}
 use Rattle.kw_world.specs.Table.{transition}
 use Rattle.kw_world.specs.Step.{followed, is_skipped}
@@ -185,10 +185,8 @@ pub data Arrow (z : Sizes) (v : Words) (s : ℕ) (choice : Choice) (l : Local) :
   engages : v (name.State l.row) ≡ state_word Normal → Arrow z v s choice l Engage (record l { activity = MarkLink 0 })
   is_engaged : v (name.State l.row) ≢ state_word Normal → Arrow z v s choice l Engage (record l { activity = BalState })
   marks_link : (count : ℕ) → count ≡ 0 → Arrow z v s choice l (MarkLink count) (record (followed_by (next_in v l.row) l) { activity = Decide 1 })
-  marks_led : (count : ℕ) → count ≢ 0 → z.form ≢ Decided → Arrow z v s choice l (MarkLink count) (record (followed_by (next_in v l.row) l) { activity = FreezeCount })
-  marks_last : (count : ℕ) → count ≢ 0 → z.form ≡ Decided → Arrow z v s choice l (MarkLink count) (refuse NoRows (followed_by (next_in v l.row) l)).local
-  decides : (count n : ℕ) → state_of (v (name.State l.row)) ≡ Some (Leader n) → n ≤ 1 → z.form ≢ Decided → Arrow z v s choice l (Decide count) (record l { activity = FreezeCount })
-  decides_last : (count n : ℕ) → state_of (v (name.State l.row)) ≡ Some (Leader n) → n ≤ 1 → z.form ≡ Decided → Arrow z v s choice l (Decide count) (refuse NoRows l).local
+  marks_led : (count : ℕ) → count ≢ 0 → Arrow z v s choice l (MarkLink count) (record (followed_by (next_in v l.row) l) { activity = FreezeCount })
+  decides : (count n : ℕ) → state_of (v (name.State l.row)) ≡ Some (Leader n) → n ≤ 1 → Arrow z v s choice l (Decide count) (record l { activity = FreezeCount })
   decides_not : (count : ℕ) → Arrow z v s choice l (Decide count) (again l).local
   -- the full row is frozen
   freezes_count : Arrow z v s choice l FreezeCount (count_frozen l).local
@@ -217,15 +215,13 @@ pub data Arrow (z : Sizes) (v : Words) (s : ℕ) (choice : Choice) (l : Local) :
   -- the full row's cells are gathered
   take_leads : (c : ℕ) → cell_of_link_word (v (link_name l.row l.link)) ≡ Some c → Arrow z v s choice l TakeFrom (record (taking z c l) { activity = TakeKey })
   takes_left : (m : Mark) → cell_of_link_word (v (link_name l.row l.link)) ≡ None → least_mark l.rebalance.marks ≡ Some m → Arrow z v s choice l TakeFrom (record l { place = m.cell; place_version = m.version; rebalance = record l.rebalance { marks = unmarked m.cell l.rebalance.marks }; activity = TakeRestKey })
-  takes_no_more : cell_of_link_word (v (link_name l.row l.link)) ≡ None → least_mark l.rebalance.marks ≡ None → z.form ≢ Gathered → Arrow z v s choice l TakeFrom (record (planned z l) { activity = SeekFirst })
-  takes_last : cell_of_link_word (v (link_name l.row l.link)) ≡ None → least_mark l.rebalance.marks ≡ None → z.form ≡ Gathered → Arrow z v s choice l TakeFrom (refuse NoRows (planned z l)).local
+  takes_no_more : cell_of_link_word (v (link_name l.row l.link)) ≡ None → least_mark l.rebalance.marks ≡ None → Arrow z v s choice l TakeFrom (record (planned z l) { activity = SeekFirst })
   takes_key : Arrow z v s choice l TakeKey (record l { place_key = key_of_word (v (name.Key l.row l.place)); activity = TakeVersion })
   takes_version : Arrow z v s choice l TakeVersion (take_version (version_of_word (v (name.Version l.row l.place))) l).local
   keeps_taken : Arrow z v s choice l TakeValue (take_past (keeping z (value_of_word (v (name.Value l.row l.place))) l)).local
   takes_left_key : Arrow z v s choice l TakeRestKey (record l { place_key = key_of_word (v (name.Key l.row l.place)); activity = TakeRestValue })
   keeps_left : (m : Mark) → least_mark l.rebalance.marks ≡ Some m → Arrow z v s choice l TakeRestValue (record (keeping z (value_of_word (v (name.Value l.row l.place))) l) { place = m.cell; place_version = m.version; rebalance = record (keeping z (value_of_word (v (name.Value l.row l.place))) l).rebalance { marks = unmarked m.cell l.rebalance.marks }; activity = TakeRestKey })
-  keeps_no_more : least_mark l.rebalance.marks ≡ None → z.form ≢ Gathered → Arrow z v s choice l TakeRestValue (record (planned z (keeping z (value_of_word (v (name.Value l.row l.place))) l)) { activity = SeekFirst })
-  keeps_last : least_mark l.rebalance.marks ≡ None → z.form ≡ Gathered → Arrow z v s choice l TakeRestValue (refuse NoRows (planned z (keeping z (value_of_word (v (name.Value l.row l.place))) l))).local
+  keeps_no_more : least_mark l.rebalance.marks ≡ None → Arrow z v s choice l TakeRestValue (record (planned z (keeping z (value_of_word (v (name.Value l.row l.place))) l)) { activity = SeekFirst })
   -- new rows are taken, written, linked and made normal, and the full one is retired: a type of its own has the ways that these may go
   builds : (c : Activity) (next : Local) → IsBuilding c → IsReached z c → Building z v choice l c next → Arrow z v s choice l c next
 
@@ -296,23 +292,13 @@ next_rest l = met (least_mark l.remembered) refl
     met (Some m) e = rests m e
     met None e = read_arrow l l.call e refl
 
--- what follows at a full row, in any form
+-- what follows at a full row, in either form
 full_arrow : (z : Sizes) (v : Words) (s : ℕ) (choice : Choice) (l : Local) (a : Activity) → (z.form ≡ Refused → Arrow z v s choice l a (leave NoRows l).local) → (IsRebalancing z.form → Arrow z v s choice l a (to_rebalance l).local) → Arrow z v s choice l a (full z l).local
 full_arrow z v s choice l a refuses rebalances = by z.form refl
   where
     by : (f : Form) → z.form ≡ f → Arrow z v s choice l a (full_in f l).local
     by Refused e = refuses e
-    by Decided e = rebalances (subst IsRebalancing (sym e) tt)
-    by Gathered e = rebalances (subst IsRebalancing (sym e) tt)
-
--- and at one that is led alone
-led_arrow : (z : Sizes) (v : Words) (s : ℕ) (choice : Choice) (l k : Local) (a : Activity) → (z.form ≢ Decided → Arrow z v s choice l a (record k { activity = FreezeCount })) → (z.form ≡ Decided → Arrow z v s choice l a (refuse NoRows k).local) → Arrow z v s choice l a (led_alone z k).local
-led_arrow z v s choice l k a freezes ends = by z.form refl
-  where
-    by : (f : Form) → z.form ≡ f → Arrow z v s choice l a (led_in f k).local
-    by Refused e = freezes (λ f. let x : Refused ≡ Decided = sym e ∙ f in cc)
-    by Decided e = ends e
-    by Gathered e = freezes (λ f. let x : Gathered ≡ Decided = sym e ∙ f in cc)
+    by Alone e = rebalances (subst IsRebalancing (sym e) tt)
 
 -- the next entry, or the scans
 next_entry : (z : Sizes) (j : ℕ) (l : Local) (P : Local → Type 0) → (j < z.seats → P (record l { activity = FreezeLook j })) → (z.seats ≤ j → P (to_scans l).local) → P (to_freeze_look z j l).local
@@ -337,27 +323,6 @@ next_left z l P on last = met (least_mark l.rebalance.marks) refl
     met : (o : Option Mark) → least_mark l.rebalance.marks ≡ o → P (left_of z o l).local
     met (Some m) e = on m e
     met None e = last e
-
--- and once all cells are gathered
-packed_arrow : (z : Sizes) (v : Words) (s : ℕ) (choice : Choice) (l k : Local) (a : Activity) → (z.form ≢ Gathered → Arrow z v s choice l a (record (planned z k) { activity = SeekFirst })) → (z.form ≡ Gathered → Arrow z v s choice l a (refuse NoRows (planned z k)).local) → Arrow z v s choice l a (packed z k).local
-packed_arrow z v s choice l k a seeks ends = by z.form refl
-  where
-    by : (f : Form) → z.form ≡ f → Arrow z v s choice l a (packed_in f (planned z k)).local
-    by Refused e = seeks (λ f. let x : Refused ≡ Gathered = sym e ∙ f in cc)
-    by Decided e = seeks (λ f. let x : Decided ≡ Gathered = sym e ∙ f in cc)
-    by Gathered e = ends e
-
--- a form that goes on past the decision freezes the row
-pub goes_to_freeze : (f : Form) → IsRebalancing f → f ≢ Decided → IsFreezing f
-goes_to_freeze Refused b d = absurd b
-goes_to_freeze Decided b d = absurd (d refl)
-goes_to_freeze Gathered b d = tt
-
--- a form that freezes the row goes no further than to gather its cells
-pub goes_no_further : {A : Type 0} (f : Form) → IsFreezing f → f ≢ Gathered → A
-goes_no_further Refused b d = absurd b
-goes_no_further Decided b d = absurd b
-goes_no_further Gathered b d = absurd (d refl)
 
 module _ (z : Sizes) (rows : ℕ) (v : Words) (s : ℕ) (choice : Choice) (l : Local) where
   enter_arrow : (c : Option Call) → l.call ≡ c → Arrow z v s choice l Enter (entered c l).local
@@ -469,14 +434,14 @@ module _ (z : Sizes) (rows : ℕ) (v : Words) (s : ℕ) (choice : Choice) (l : L
   balance_arrow (Some (Retired number)) e = finds_other_state
   balance_arrow None e = finds_other_state
 
-  decide_arrow : (count : ℕ) (x : Option State) → state_of (v (name.State l.row)) ≡ x → Arrow z v s choice l (Decide count) (decided z x l).local
+  decide_arrow : (count : ℕ) (x : Option State) → state_of (v (name.State l.row)) ≡ x → Arrow z v s choice l (Decide count) (decided x l).local
   decide_arrow count (Some Free) e = decides_not count
   decide_arrow count (Some (Infant seat)) e = decides_not count
   decide_arrow count (Some Normal) e = decides_not count
   decide_arrow count (Some (Leader n)) e = met (nat_le n 1) refl
     where
-      met : (b : Bool) → nat_le n 1 ≡ b → Arrow z v s choice l (Decide count) (let x : Outcome = if b then led_alone z l else again l in x).local
-      met true h = led_arrow z v s choice l l (Decide count) (decides count n e (at_most _ _ h)) (decides_last count n e (at_most _ _ h))
+      met : (b : Bool) → nat_le n 1 ≡ b → Arrow z v s choice l (Decide count) (let x : Outcome = if b then to FreezeCount l else again l in x).local
+      met true h = decides count n e (at_most _ _ h)
       met false h = decides_not count
   decide_arrow count (Some (Follower leader)) e = decides_not count
   decide_arrow count (Some (Retired number)) e = decides_not count
@@ -510,7 +475,7 @@ module _ (z : Sizes) (rows : ℕ) (v : Words) (s : ℕ) (choice : Choice) (l : L
 
   take_arrow : (x : Option ℕ) → cell_of_link_word (v (link_name l.row l.link)) ≡ x → Arrow z v s choice l TakeFrom (take_met z x l).local
   take_arrow (Some c) e = take_leads c e
-  take_arrow None e = next_left z l (Arrow z v s choice l TakeFrom) (λ m n. takes_left m e n) (λ n. packed_arrow z v s choice l l TakeFrom (takes_no_more e n) (takes_last e n))
+  take_arrow None e = next_left z l (Arrow z v s choice l TakeFrom) (λ m n. takes_left m e n) (takes_no_more e)
 
   insert_arrow : (x : Option ℕ) → cell_of_link_word (v (link_name l.row l.link)) ≡ x → Arrow z v s choice l InsFrom (insert_from z x l).local
   insert_arrow (Some c) e = meets_cell c e
@@ -628,9 +593,9 @@ module _ (z : Sizes) (rows : ℕ) (v : Words) (s : ℕ) (choice : Choice) (l : L
       met false e = is_engaged (eq_not _ _ e)
   arrow (MarkLink count) o b m = met (count == 0) refl
     where
-      met : (b : Bool) → (count == 0) ≡ b → Arrow z v s choice l (MarkLink count) (let x : Outcome = if b then to (Decide 1) (followed_by (next_in v l.row) l) else led_alone z (followed_by (next_in v l.row) l) in x).local
+      met : (b : Bool) → (count == 0) ≡ b → Arrow z v s choice l (MarkLink count) (let x : Outcome = if b then to (Decide 1) (followed_by (next_in v l.row) l) else to FreezeCount (followed_by (next_in v l.row) l) in x).local
       met true e = marks_link count (eq_from _ _ e)
-      met false e = led_arrow z v s choice l (followed_by (next_in v l.row) l) (MarkLink count) (marks_led count (eq_not _ _ e)) (marks_last count (eq_not _ _ e))
+      met false e = marks_led count (eq_not _ _ e)
   arrow (Decide count) o b m = decide_arrow count (state_of (v (name.State l.row))) refl
   arrow FreezeCount o b m = freezes_count
   arrow (FreezeLook i) o b m = freeze_arrow i (pend_of (v (name.Pend l.row i))) refl
@@ -647,7 +612,7 @@ module _ (z : Sizes) (rows : ℕ) (v : Words) (s : ℕ) (choice : Choice) (l : L
   arrow TakeVersion o b m = takes_version
   arrow TakeValue o b m = keeps_taken
   arrow TakeRestKey o b m = takes_left_key
-  arrow TakeRestValue o b m = next_left z (keeping z (value_of_word (v (name.Value l.row l.place))) l) (Arrow z v s choice l TakeRestValue) keeps_left (λ n. packed_arrow z v s choice l (keeping z (value_of_word (v (name.Value l.row l.place))) l) TakeRestValue (keeps_no_more n) (keeps_last n))
+  arrow TakeRestValue o b m = next_left z (keeping z (value_of_word (v (name.Value l.row l.place))) l) (Arrow z v s choice l TakeRestValue) keeps_left keeps_no_more
   arrow SeekFirst o b m = builds SeekFirst _ tt o (building z rows v s choice l SeekFirst tt)
   arrow Seek o b m = builds Seek _ tt o (building z rows v s choice l Seek tt)
   arrow TakeRow o b m = builds TakeRow _ tt o (building z rows v s choice l TakeRow tt)

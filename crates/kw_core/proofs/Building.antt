@@ -25,7 +25,6 @@ use Rattle.kw_world.specs.Step.{followed}
 use Rattle.kw_world.specs.Table.{transition}
 use Rattle.kw_world.specs.Transition.{Outcome, row_linked, row_or_first, to}
 use Rattle.kw_world.specs.WriteTransitions.{unmarked_link}
-use Rattle.kw_core.specs.Stages.{IsReached}
 use Rattle.kw_core.specs.Words.{Words, least_in, next_in}
 use Rattle.kw_core.proofs.NextBuilt.{GivenBack, NextBack, NextBefore, NextNewCell, NextNewEntry, NextSeek, NextTaken, next_back, next_before, next_given, next_new_cell, next_new_entry, next_seek, next_taken}
 
@@ -230,29 +229,3 @@ module _ (z : Sizes) (rows : ℕ) (v : Words) (s : ℕ) (choice : Choice) (l : L
   building Number o = draws_number
   building Retire o = retires_row
   building _ o = absurd o
-
--- no seat comes to one of these activities as yet
-pub never_built : {A : Type 0} (z : Sizes) (a : Activity) → IsBuilding a → IsReached z a → A
-never_built z SeekFirst b o = absurd o
-never_built z Seek b o = absurd o
-never_built z TakeRow b o = absurd o
-never_built z GiveBack b o = absurd o
-never_built z WriteCount b o = absurd o
-never_built z WriteMin b o = absurd o
-never_built z WriteNext b o = absurd o
-never_built z WriteFirst b o = absurd o
-never_built z (WritePend i) b o = absurd o
-never_built z (WriteKey j) b o = absurd o
-never_built z (WriteValue j) b o = absurd o
-never_built z (WriteVersion j) b o = absurd o
-never_built z (WriteAfter j) b o = absurd o
-never_built z Before b o = absurd o
-never_built z BeforeGuess b o = absurd o
-never_built z BeforeHead b o = absurd o
-never_built z BeforeLink b o = absurd o
-never_built z BeforeMin b o = absurd o
-never_built z Replace b o = absurd o
-never_built z Normalise b o = absurd o
-never_built z Number b o = absurd o
-never_built z Retire b o = absurd o
-never_built z _ b o = absurd b

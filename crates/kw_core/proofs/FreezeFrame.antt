@@ -11,12 +11,12 @@ use Rattle.kw_words.specs.declared.pend.Pend.TheVariants as pend
 use Rattle.kw_words.specs.declared.scan.ScanWord.TheVariants as scan
 use Rattle.kw_words.specs.Count.{count_of}
 use Rattle.kw_words.specs.Pend.{pend_of, pend_word}
-use Rattle.kw_words.specs.Scan.{scan_of, scan_word}
+use Rattle.kw_words.specs.Scan.{scan_of}
 use Rattle.kw_words.proofs.CountWords.{count_of_next, count_of_frozen}
 use Rattle.kw_words.proofs.PendWords.{pend_of-Frozen}
 use Rattle.kw_words.proofs.ScanWords.{scan_of-scan_word, scan_word_of}
 use Rattle.kw_world.specs.declared.activity.Activity.{Activity}
-use Rattle.kw_world.specs.declared.activity.Activity.TheVariants.{ScanWait, ScanDraw, ScanSettle, Walk, LookHelp, ClearScan, PutAdd, Announce, Stamp, Insert, PutClear, FreezeCount, Freeze, HelpDraw, HelpSettle, WriteCount, WritePend, Replace}
+use Rattle.kw_world.specs.declared.activity.Activity.TheVariants.{ScanWait, ScanDraw, ScanSettle, Walk, LookHelp, ClearScan, PutAdd, Announce, Stamp, Insert, FreezeCount, Freeze, HelpDraw, HelpSettle, Replace}
 use Rattle.kw_world.specs.declared.event.Choice.{Choice}
 use Rattle.kw_world.specs.declared.local.Local.{Local}
 use Rattle.kw_world.specs.PutTransitions.{has_room, given_of}
@@ -25,10 +25,10 @@ use Rattle.kw_world.specs.Sizes.{Sizes}
 use Rattle.kw_world.specs.Step.{word}
 use Rattle.kw_world.specs.WalkTransitions.{is_stopped}
 use Rattle.kw_core.specs.Run.{Run}
-use Rattle.kw_core.specs.Stages.{IsReached, IsHelp, IsPutClear}
 use Rattle.kw_core.specs.Words.{Words, given_in}
-use Rattle.kw_core.proofs.Frame.{WritesOwnEntry, writes, unwritten, no_link, same_count, same_pend, same_scan}
+use Rattle.kw_core.proofs.Frame.{writes, unwritten, no_link, no_replaced, same_scan}
 use Rattle.kw_core.proofs.Happens.{Happens, exchanged, not_exchanged}
+use Rattle.kw_core.proofs.InfantFrames.{count_stays, entry_stays}
 
 -- Which activities write a word of a family.
 
@@ -54,52 +54,27 @@ abbrev pub SettlesScan : ℕ → Activity → Type 0
 SettlesScan t (HelpSettle i) = t ≡ i
 SettlesScan t _ = ⊥
 
--- an entry is not written, unless the seat writes its own there, helps, or freezes it
-not_entry : (z : Sizes) (a : Activity) (s : ℕ) (b : Bool) (l : Local) (q t : ℕ) → IsReached z a → (WritesOwnEntry a → q ≡ l.row → t ≡ s → ⊥) → (IsHelp a → q ≡ l.row → t ≡ l.looked → ⊥) → (FreezesEntry t a → q ≡ l.row → ⊥) → writes a s b l ≢ Some (name.Pend q t)
-not_entry z (WritePend i) s b l q t o f g k e = absurd o
-not_entry z Replace s b l q t o f g k e = absurd o
-not_entry z (Freeze i) s b l q t o f g k e = let x = same_pend l.row i q t e in k (sym x.1) (sym x.0)
-not_entry z Announce s b l q t o f g k e = let x = same_pend l.row s q t e in f tt (sym x.0) (sym x.1)
-not_entry z Stamp s b l q t o f g k e = let x = same_pend l.row s q t e in f tt (sym x.0) (sym x.1)
-not_entry z PutClear s b l q t o f g k e = let x = same_pend l.row s q t e in f tt (sym x.0) (sym x.1)
-not_entry z LookHelp s b l q t o f g k e = let x = same_pend l.row l.looked q t e in g tt (sym x.0) (sym x.1)
-not_entry z Insert s b l q t o f g k e = no_link l.row l.link (name.Pend q t) refl e
-not_entry z Walk s true l q t o f g k e = let x : Some (name.Scan s) ≡ Some (name.Pend q t) = e in cc
-not_entry z Walk s false l q t o f g k e = let x : None ≡ Some (name.Pend q t) = e in cc
-not_entry z _ s b l q t o f g k e = cc
-
--- a count is not written, unless the seat adds to it or freezes it
-no_count : (z : Sizes) (a : Activity) (s : ℕ) (b : Bool) (l : Local) (q : ℕ) → IsReached z a → (ChangesCount a → q ≡ l.row → ⊥) → writes a s b l ≢ Some (name.Count q)
-no_count z WriteCount s b l q o f e = absurd o
-no_count z Replace s b l q o f e = absurd o
-no_count z PutAdd s b l q o f e = f tt (sym (same_count l.row q e))
-no_count z FreezeCount s b l q o f e = f tt (sym (same_count l.row q e))
-no_count z Insert s b l q o f e = no_link l.row l.link (name.Count q) refl e
-no_count z Walk s true l q o f e = let x : Some (name.Scan s) ≡ Some (name.Count q) = e in cc
-no_count z Walk s false l q o f e = let x : None ≡ Some (name.Count q) = e in cc
-no_count z _ s b l q o f e = cc
-
 -- the clock is not written, unless the seat draws
-no_clock : (z : Sizes) (a : Activity) (s : ℕ) (b : Bool) (l : Local) → IsReached z a → (DrawsVersion a → ⊥) → writes a s b l ≢ Some name.Clock
-no_clock z Replace s b l o f e = absurd o
-no_clock z ScanDraw s b l o f e = f tt
-no_clock z (HelpDraw i) s b l o f e = f tt
-no_clock z Insert s b l o f e = no_link l.row l.link name.Clock refl e
-no_clock z Walk s true l o f e = let x : Some (name.Scan s) ≡ Some name.Clock = e in cc
-no_clock z Walk s false l o f e = let x : None ≡ Some name.Clock = e in cc
-no_clock z _ s b l o f e = cc
+no_clock : (a : Activity) (s : ℕ) (b : Bool) (l : Local) → (DrawsVersion a → ⊥) → writes a s b l ≢ Some name.Clock
+no_clock Replace s b l f e = no_replaced l.rebalance.before name.Clock refl e
+no_clock ScanDraw s b l f e = f tt
+no_clock (HelpDraw i) s b l f e = f tt
+no_clock Insert s b l f e = no_link l.row l.link name.Clock refl e
+no_clock Walk s true l f e = let x : Some (name.Scan s) ≡ Some name.Clock = e in cc
+no_clock Walk s false l f e = let x : None ≡ Some name.Clock = e in cc
+no_clock _ s b l f e = cc
 
 -- the scan of another seat is not written, unless the seat settles it
-no_scan : (z : Sizes) (a : Activity) (s : ℕ) (b : Bool) (l : Local) (t : ℕ) → IsReached z a → t ≢ s → (SettlesScan t a → ⊥) → writes a s b l ≢ Some (name.Scan t)
-no_scan z Replace s b l t o d f e = absurd o
-no_scan z (HelpSettle i) s b l t o d f e = f (sym (same_scan i t e))
-no_scan z ScanWait s b l t o d f e = d (sym (same_scan s t e))
-no_scan z ScanSettle s b l t o d f e = d (sym (same_scan s t e))
-no_scan z (ClearScan answer) s b l t o d f e = d (sym (same_scan s t e))
-no_scan z Insert s b l t o d f e = no_link l.row l.link (name.Scan t) refl e
-no_scan z Walk s true l t o d f e = d (sym (same_scan s t e))
-no_scan z Walk s false l t o d f e = let x : None ≡ Some (name.Scan t) = e in cc
-no_scan z _ s b l t o d f e = cc
+no_scan : (a : Activity) (s : ℕ) (b : Bool) (l : Local) (t : ℕ) → t ≢ s → (SettlesScan t a → ⊥) → writes a s b l ≢ Some (name.Scan t)
+no_scan Replace s b l t d f e = no_replaced l.rebalance.before (name.Scan t) refl e
+no_scan (HelpSettle i) s b l t d f e = f (sym (same_scan i t e))
+no_scan ScanWait s b l t d f e = d (sym (same_scan s t e))
+no_scan ScanSettle s b l t d f e = d (sym (same_scan s t e))
+no_scan (ClearScan answer) s b l t d f e = d (sym (same_scan s t e))
+no_scan Insert s b l t d f e = no_link l.row l.link (name.Scan t) refl e
+no_scan Walk s true l t d f e = d (sym (same_scan s t e))
+no_scan Walk s false l t d f e = let x : None ≡ Some (name.Scan t) = e in cc
+no_scan _ s b l t d f e = cc
 
 -- what becomes of a count over an event: it is as it was, one more cell is asked for, or it is frozen
 pub data CountStep (v v' : Words) (q : ℕ) : Type 0 where
@@ -108,13 +83,13 @@ pub data CountStep (v v' : Words) (q : ℕ) : Type 0 where
   count_frozen : (c : Counted) → count_of (v (name.Count q)) ≡ Some c → count_of (v' (name.Count q)) ≡ Some (record c { frozen = true }) → CountStep v v' q
 
 -- as many cells as before were asked for, or one more
-given_by : (v v' : Words) (q : ℕ) → CountStep v v' q → given_in v q ≤ given_in v' q
+pub given_by : (v v' : Words) (q : ℕ) → CountStep v v' q → given_in v q ≤ given_in v' q
 given_by v v' q (count_same e) = omega (arith, ap (λ w. given_of (count_of w)) e)
 given_by v v' q (count_more c e f) = rw (e, f) (omega arith)
 given_by v v' q (count_frozen c e f) = rw (e, f) (omega arith)
 
 -- a frozen count stays frozen
-frozen_by : (v v' : Words) (q : ℕ) (c : Counted) → CountStep v v' q → count_of (v (name.Count q)) ≡ Some c → c.frozen ≡ true → (d : Counted) × (count_of (v' (name.Count q)) ≡ Some d) × (d.frozen ≡ true)
+pub frozen_by : (v v' : Words) (q : ℕ) (c : Counted) → CountStep v v' q → count_of (v (name.Count q)) ≡ Some c → c.frozen ≡ true → (d : Counted) × (count_of (v' (name.Count q)) ≡ Some d) × (d.frozen ≡ true)
 frozen_by v v' q c (count_same e) y f = (c, ap count_of e ∙ y, f)
 frozen_by v v' q c (count_more d e g) y f = let x : Some d ≡ Some c = sym e ∙ y in (record d { given = d.given + 1 }, g, cc)
 frozen_by v v' q c (count_frozen d e g) y f = (record d { frozen = true }, g, refl)
@@ -131,32 +106,27 @@ no_room z w c e f = rw (e, f) refl
 module _ {z : Sizes} {r r' : Run} {s : ℕ} {choice : Choice} {l l' : Local} where
   -- When a word is kept.
 
-  -- an entry is kept, unless the seat writes its own there, helps, or freezes it
-  pub entry_stays : (a : Activity) → Happens z r r' s choice l l' a → (q t : ℕ) → q < r.world.rows → t < z.seats → (WritesOwnEntry a → q ≡ l.row → t ≡ s → ⊥) → (IsHelp a → q ≡ l.row → t ≡ l.looked → ⊥) → (FreezesEntry t a → q ≡ l.row → ⊥) → word z r'.world (name.Pend q t) ≡ word z r.world (name.Pend q t)
-  entry_stays a h q t i o f g k = unwritten a h (name.Pend q t) (i, o) (not_entry z a s (is_stopped choice l) l q t h.reached f g k)
-
-  -- a count is kept, unless the seat adds to it or freezes it
-  pub count_stays : (a : Activity) → Happens z r r' s choice l l' a → (q : ℕ) → q < r.world.rows → (ChangesCount a → q ≡ l.row → ⊥) → word z r'.world (name.Count q) ≡ word z r.world (name.Count q)
-  count_stays a h q i f = unwritten a h (name.Count q) i (no_count z a s (is_stopped choice l) l q h.reached f)
-
   -- the clock is kept, unless the seat draws
   pub clock_stays : (a : Activity) → Happens z r r' s choice l l' a → (DrawsVersion a → ⊥) → word z r'.world name.Clock ≡ word z r.world name.Clock
-  clock_stays a h f = unwritten a h name.Clock tt (no_clock z a s (is_stopped choice l) l h.reached f)
+  clock_stays a h f = unwritten a h name.Clock tt (no_clock a s (is_stopped choice l) l f)
 
   -- the scan of another seat is kept, unless the seat settles it
   pub scan_stays : (a : Activity) → Happens z r r' s choice l l' a → (t : ℕ) → t < z.seats → t ≢ s → (SettlesScan t a → ⊥) → word z r'.world (name.Scan t) ≡ word z r.world (name.Scan t)
-  scan_stays a h t o d f = unwritten a h (name.Scan t) o (no_scan z a s (is_stopped choice l) l t h.reached d f)
+  scan_stays a h t o d f = unwritten a h (name.Scan t) o (no_scan a s (is_stopped choice l) l t d f)
 
   -- Counts and the clock.
 
-  -- what an event leaves of a count
-  pub count_step : (a : Activity) → Happens z r r' s choice l l' a → (q : ℕ) → q < r.world.rows → IsGiven (count_of (word z r.world (name.Count q))) → CountStep (word z r.world) (word z r'.world) q
-  count_step PutAdd h q i g = which (cases_eq q l.row)
+  -- what becomes of a count where the seat asks for a cell
+  pub count_asked : Happens z r r' s choice l l' PutAdd → (q : ℕ) → q < r.world.rows → IsGiven (count_of (word z r.world (name.Count q))) → CountStep (word z r.world) (word z r'.world) q
+  count_asked h q i g = which (cases_eq q l.row)
     where
       which : (q ≡ l.row) ⊎ (q ≡ l.row → ⊥) → CountStep (word z r.world) (word z r'.world) q
       which (inl e) = subst (CountStep (word z r.world) (word z r'.world)) (sym e) (added_step (word z r.world) (word z r'.world) l.row _ h.changed.same refl (subst (λ x. IsGiven (count_of (word z r.world (name.Count x)))) e g))
-      which (inr d) = count_same (count_stays PutAdd h q i (λ x e. d e))
-  count_step FreezeCount h q i g = which (cases_eq q l.row)
+      which (inr d) = count_same (count_stays PutAdd h q i d)
+
+  -- and where it freezes its row
+  pub count_frozen_now : Happens z r r' s choice l l' FreezeCount → (q : ℕ) → q < r.world.rows → IsGiven (count_of (word z r.world (name.Count q))) → CountStep (word z r.world) (word z r'.world) q
+  count_frozen_now h q i g = which (cases_eq q l.row)
     where
       frozen : (x : Option Counted) → count_of (word z r.world (name.Count l.row)) ≡ x → IsGiven x → CountStep (word z r.world) (word z r'.world) l.row
       frozen (Some c) e y = count_frozen c e (ap count_of h.changed.same ∙ count_of_frozen (word z r.world (name.Count l.row)) c e)
@@ -164,16 +134,7 @@ module _ {z : Sizes} {r r' : Run} {s : ℕ} {choice : Choice} {l l' : Local} whe
 
       which : (q ≡ l.row) ⊎ (q ≡ l.row → ⊥) → CountStep (word z r.world) (word z r'.world) q
       which (inl e) = subst (CountStep (word z r.world) (word z r'.world)) (sym e) (frozen _ refl (subst (λ x. IsGiven (count_of (word z r.world (name.Count x)))) e g))
-      which (inr d) = count_same (count_stays FreezeCount h q i (λ x e. d e))
-  count_step a h q i g = count_same (count_stays a h q i (λ x e. x))
-
-  -- no count falls
-  pub given_never_falls : (a : Activity) → Happens z r r' s choice l l' a → (q : ℕ) → q < r.world.rows → IsGiven (count_of (word z r.world (name.Count q))) → given_in (word z r.world) q ≤ given_in (word z r'.world) q
-  given_never_falls a h q i g = given_by (word z r.world) (word z r'.world) q (count_step a h q i g)
-
-  -- a frozen count stays frozen
-  pub frozen_lasts : (a : Activity) → Happens z r r' s choice l l' a → (q : ℕ) (c : Counted) → q < r.world.rows → IsGiven (count_of (word z r.world (name.Count q))) → count_of (word z r.world (name.Count q)) ≡ Some c → c.frozen ≡ true → (d : Counted) × (count_of (word z r'.world (name.Count q)) ≡ Some d) × (d.frozen ≡ true)
-  frozen_lasts a h q c i g e f = frozen_by (word z r.world) (word z r'.world) q c (count_step a h q i g) e f
+      which (inr d) = count_same (count_stays FreezeCount h q i d)
 
   -- the count that a seat freezes is frozen, and as many cells were asked for as before
   pub freezes_given : Happens z r r' s choice l l' FreezeCount → (c : Counted) → count_of (word z r.world (name.Count l.row)) ≡ Some c → count_of (word z r'.world (name.Count l.row)) ≡ Some (record c { frozen = true })
@@ -215,15 +176,23 @@ module _ {z : Sizes} {r r' : Run} {s : ℕ} {choice : Choice} {l l' : Local} whe
 
 -- A frozen entry.
 
+-- the seat exchanges an entry
+abbrev pub ExchangesEntry : Activity → Type 0
+ExchangesEntry Announce = Unit {0}
+ExchangesEntry Stamp = Unit {0}
+ExchangesEntry LookHelp = Unit {0}
+ExchangesEntry (Freeze j) = Unit {0}
+ExchangesEntry _ = ⊥
+
 -- neither an idle nor a pending entry is a frozen one
-not_idle : pend_word pend.Frozen ≢ pend_word pend.Idle
+pub not_idle : pend_word pend.Frozen ≢ pend_word pend.Idle
 not_idle e = omega (arith, e)
 
-not_pending : (c : ℕ) → pend_word pend.Frozen ≢ pend_word (pend.Pending c)
+pub not_pending : (c : ℕ) → pend_word pend.Frozen ≢ pend_word (pend.Pending c)
 not_pending c e = omega (arith, e)
 
 -- a frozen entry stays one, if it does at the one place that an event writes
-frozen_at : (v v' : Words) (row i q t : ℕ) → (v (name.Pend row i) ≡ pend_word pend.Frozen → v' (name.Pend row i) ≡ pend_word pend.Frozen) → ((q ≡ row → t ≡ i → ⊥) → v' (name.Pend q t) ≡ v (name.Pend q t)) → v (name.Pend q t) ≡ pend_word pend.Frozen → v' (name.Pend q t) ≡ pend_word pend.Frozen
+pub frozen_at : (v v' : Words) (row i q t : ℕ) → (v (name.Pend row i) ≡ pend_word pend.Frozen → v' (name.Pend row i) ≡ pend_word pend.Frozen) → ((q ≡ row → t ≡ i → ⊥) → v' (name.Pend q t) ≡ v (name.Pend q t)) → v (name.Pend q t) ≡ pend_word pend.Frozen → v' (name.Pend q t) ≡ pend_word pend.Frozen
 frozen_at v v' row i q t here there = which (cases_eq q row) (cases_eq t i)
   where
     which : (q ≡ row) ⊎ (q ≡ row → ⊥) → (t ≡ i) ⊎ (t ≡ i → ⊥) → v (name.Pend q t) ≡ pend_word pend.Frozen → v' (name.Pend q t) ≡ pend_word pend.Frozen
@@ -232,18 +201,17 @@ frozen_at v v' row i q t here there = which (cases_eq q row) (cases_eq t i)
     which (inr d) y e = there (λ u w. d u) ∙ e
 
 module _ {z : Sizes} {r r' : Run} {s : ℕ} {choice : Choice} {l l' : Local} where
-  -- a frozen entry stays frozen, unless its seat clears it
-  pub frozen_entry_lasts : (a : Activity) → Happens z r r' s choice l l' a → (q t : ℕ) → q < r.world.rows → t < z.seats → (IsPutClear a → q ≡ l.row → t ≡ s → ⊥) → word z r.world (name.Pend q t) ≡ pend_word pend.Frozen → word z r'.world (name.Pend q t) ≡ pend_word pend.Frozen
-  frozen_entry_lasts Announce h q t i o f e =
-      frozen_at (word z r.world) (word z r'.world) l.row s q t (λ y. not_exchanged _ _ _ _ h.changed.same (λ u. not_idle (sym y ∙ u)) ∙ y) (λ d. entry_stays Announce h q t i o (λ x u w. d u w) (λ x u w. x) (λ x u. x)) e
-  frozen_entry_lasts Stamp h q t i o f e =
-      frozen_at (word z r.world) (word z r'.world) l.row s q t (λ y. not_exchanged _ _ _ _ h.changed.same (λ u. not_pending l.cell (sym y ∙ u)) ∙ y) (λ d. entry_stays Stamp h q t i o (λ x u w. d u w) (λ x u w. x) (λ x u. x)) e
-  frozen_entry_lasts LookHelp h q t i o f e =
-      frozen_at (word z r.world) (word z r'.world) l.row l.looked q t (λ y. not_exchanged _ _ _ _ h.changed.same (λ u. not_pending l.met (sym y ∙ u)) ∙ y) (λ d. entry_stays LookHelp h q t i o (λ x u w. x) (λ x u w. d u w) (λ x u. x)) e
-  frozen_entry_lasts (Freeze j) h q t i o f e = frozen_at (word z r.world) (word z r'.world) l.row j q t (here (cases_eq _ _)) (λ d. entry_stays (Freeze j) h q t i o (λ x u w. x) (λ x u w. x) (λ x u. d u x)) e
+  -- a frozen entry stays frozen where a seat exchanges one
+  pub frozen_entry_lasts : (a : Activity) → ExchangesEntry a → Happens z r r' s choice l l' a → (q t : ℕ) → q < r.world.rows → t < z.seats → word z r.world (name.Pend q t) ≡ pend_word pend.Frozen → word z r'.world (name.Pend q t) ≡ pend_word pend.Frozen
+  frozen_entry_lasts Announce x h q t i o e =
+      frozen_at (word z r.world) (word z r'.world) l.row s q t (λ y. not_exchanged _ _ _ _ h.changed.same (λ u. not_idle (sym y ∙ u)) ∙ y) (λ d. entry_stays Announce h q t i o (λ c. d c.0 c.1)) e
+  frozen_entry_lasts Stamp x h q t i o e =
+      frozen_at (word z r.world) (word z r'.world) l.row s q t (λ y. not_exchanged _ _ _ _ h.changed.same (λ u. not_pending l.cell (sym y ∙ u)) ∙ y) (λ d. entry_stays Stamp h q t i o (λ c. d c.0 c.1)) e
+  frozen_entry_lasts LookHelp x h q t i o e =
+      frozen_at (word z r.world) (word z r'.world) l.row l.looked q t (λ y. not_exchanged _ _ _ _ h.changed.same (λ u. not_pending l.met (sym y ∙ u)) ∙ y) (λ d. entry_stays LookHelp h q t i o (λ c. d c.0 c.1)) e
+  frozen_entry_lasts (Freeze j) x h q t i o e = frozen_at (word z r.world) (word z r'.world) l.row j q t (here (cases_eq _ _)) (λ d. entry_stays (Freeze j) h q t i o (λ c. d c.0 c.1)) e
     where
       here : (word z r.world (name.Pend l.row j) ≡ pend_word l.rebalance.entry) ⊎ (word z r.world (name.Pend l.row j) ≡ pend_word l.rebalance.entry → ⊥) → word z r.world (name.Pend l.row j) ≡ pend_word pend.Frozen → word z r'.world (name.Pend l.row j) ≡ pend_word pend.Frozen
       here (inl y) w = entry_frozen j h y
       here (inr d) w = entry_left j h d ∙ w
-  frozen_entry_lasts PutClear h q t i o f e = entry_stays PutClear h q t i o (λ x u w. f tt u w) (λ x u w. x) (λ x u. x) ∙ e
-  frozen_entry_lasts a h q t i o f e = entry_stays a h q t i o (λ x u w. x) (λ x u w. x) (λ x u. x) ∙ e
+  frozen_entry_lasts _ x h q t i o e = absurd x

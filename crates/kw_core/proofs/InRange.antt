@@ -1,10 +1,11 @@
 -- What a seat remembers, gathers and answers is in range where its parts are.
-use Rattle.std.proofs.Common.{ℕ, zero, suc, ◌≡◌, inl, inr, ◌+◌, ◌-◌, ◌<◌, ◌≤◌, Bool, true, false, Option, Some, None, List, [], ◌∷◌, arith, refl, sym, subst, All, length, nat_lt, if◌then◌else◌, unwrap_or}
-use Rattle.std.proofs.lemmas.List.Elements.{All-nil, All-cons, All-head, All-tail, All-contains}
+use Rattle.std.proofs.Common.{ℕ, zero, suc, ◌≡◌, ◌⊎◌, inl, inr, ◌+◌, ◌-◌, ◌<◌, ◌≤◌, Bool, true, false, Option, Some, None, List, [], ◌∷◌, arith, refl, sym, subst, All, length, nat_lt, if◌then◌else◌, unwrap_or, get_or, slice_get, slice_index, drop}
+use Rattle.std.proofs.lemmas.List.Elements.{All-nil, All-cons, All-head, All-tail, All-contains, All-take, All-drop}
 use Rattle.std.proofs.lemmas.List.Elements.{All-filter}
 use Rattle.std.proofs.lemmas.List.Sums.{length-filter, count_by-le-length}
 use Rattle.std.proofs.lemmas.Bool.Decides.{nat_tests}
-use Rattle.std.proofs.lemmas.Option.{same_Some}
+use Rattle.std.proofs.lemmas.List.{get_or_past}
+use Rattle.std.proofs.lemmas.Option.{same_Some, slice_get_cases, slice_get_within, get_or_from_slice_get}
 use Rattle.kw_words.specs.declared.sizes.TheConstants.{KEY_END, VALUE_END, VERSION_END}
 use Rattle.kw_words.specs.Plain.{IsValue, value_of_word, version_of_word}
 use Rattle.kw_words.proofs.PlainWords.{number_word-number_of_word, IsCounted-number_of_word, value_word-value_of_word}
@@ -14,6 +15,7 @@ use Rattle.kw_words.specs.declared.link.Link.{Link}
 use Rattle.kw_words.specs.Scan.{scan_of}
 use Rattle.kw_words.proofs.ScanWords.{IsScan-scan_of}
 use Rattle.kw_cells.specs.declared.cell.Cell as kw_cell
+use Rattle.kw_cells.specs.Cuts.{end_of}
 use Rattle.kw_cells.specs.Cells.{best_of, value_in, shown_at, pairs_of}
 use Rattle.kw_cells.specs.InOrder.{with_cell}
 use Rattle.kw_cells.proofs.InOrder.{length-with_cell, with_cell-all}
@@ -33,7 +35,9 @@ use Rattle.kw_world.specs.Marks.{is_other, unmarked, lesser_of, least_mark}
 use Rattle.kw_world.specs.Transition.{row_linked}
 use Rattle.kw_world.specs.ScanTransitions.{version_settled, answer_or_stopped}
 use Rattle.kw_world.specs.ReadTransitions.{cell_in_hand, gathering}
-use Rattle.kw_world.specs.Sane.{IsVersion, IsValueWord, IsLinkBelow, IsRowBelow, IsCall, IsPair, IsAnswer, IsCopy}
+use Rattle.kw_world.specs.SeekTransitions.{infant}
+use Rattle.kw_world.specs.WriteTransitions.{infant_cells}
+use Rattle.kw_world.specs.Sane.{IsVersion, IsValueWord, IsLinkBelow, IsRowBelow, IsLocalBelow, IsCall, IsPair, IsAnswer, IsCopy}
 
 -- Marks and versions.
 
@@ -179,3 +183,20 @@ stopped_in_range answer (Begin call) h = h
 stopped_in_range answer Go h = h
 stopped_in_range answer (Guess r) h = h
 stopped_in_range answer Stop h = tt
+
+-- New rows.
+
+-- the taken row at hand is one of the table's
+pub infant_in_range : (rows : ℕ) (l : Local) → IsLocalBelow rows l → infant l < rows
+infant_in_range rows l b = which (slice_get_cases l.rebalance.taken l.rebalance.at).1
+  where
+    which : ((x : ℕ) × (l.rebalance.at < length l.rebalance.taken) × (slice_get l.rebalance.taken l.rebalance.at ≡ Some x) × (get_or l.rebalance.taken l.rebalance.at x ≡ x)) ⊎ ((length l.rebalance.taken ≤ l.rebalance.at) × (slice_get l.rebalance.taken l.rebalance.at ≡ None)) → infant l < rows
+    which (inl x) = b.rebalance.taken l.rebalance.at 0 x.1
+    which (inr x) = subst (λ q. q < rows) (sym (get_or_past l.rebalance.taken l.rebalance.at 0 x.0)) (omega (arith, b.row))
+
+-- what the kept cells have, the one that is written has
+pub infant_cell_in_range : (P : kw_cell.Cell → Type 0) (l : Local) (j : ℕ) (c : kw_cell.Cell) → All P l.rebalance.kept → slice_get (infant_cells l) j ≡ Some c → P c
+infant_cell_in_range P l j c h e =
+    let n : ℕ = slice_index l.rebalance.starts l.rebalance.at in
+    let g : All P (infant_cells l) = All-take P (end_of l.rebalance.kept l.rebalance.starts l.rebalance.at - n) (drop n l.rebalance.kept) (All-drop P n l.rebalance.kept h) in
+    subst P (get_or_from_slice_get (infant_cells l) j c c e) (g j c (slice_get_within (infant_cells l) j c e))

@@ -32,7 +32,7 @@ use Rattle.kw_world.specs.WalkTransitions.{is_stopped}
 use Rattle.kw_world.specs.WriteTransitions.{first_listed, infant_cells, infant_count, infant_least, infant_link, key_in, listed_after, unmarked_link, version_in}
 use Rattle.kw_world.proofs.Transitions.{link_within}
 use Rattle.kw_core.specs.Run.{Run}
-use Rattle.kw_core.proofs.Frame.{no_link, unwritten, writes}
+use Rattle.kw_core.proofs.Frame.{no_link, no_replaced, unwritten, writes}
 use Rattle.kw_core.proofs.Happens.{Happens, exchanged, not_exchanged}
 
 -- The places that events change.
@@ -145,16 +145,6 @@ same_link x (Some c) q (Some d) e = let f : name.After x c ≡ name.After q d = 
 same_link x (Some c) q None e = let f : Some (name.After x c) ≡ Some (name.First q) = e in absurd (cc)
 same_link x None q (Some d) e = let f : Some (name.First x) ≡ Some (name.After q d) = e in absurd (cc)
 same_link x None q None e = let f : name.First x ≡ name.First q = same_Some (name.First x) (name.First q) e in (cc, refl)
-
--- a link between rows is no word of another family
-abbrev is_between : Name → Bool
-is_between name.Head = true
-is_between (name.Next q) = true
-is_between _ = false
-
-no_replaced : {A : Type 0} (before : Option ℕ) (n : Name) → is_between n ≡ false → Some (replaced_link before) ≡ Some n → A
-no_replaced (Some p) n f e = let x : true ≡ false = ap is_between (same_Some (name.Next p) n e) ∙ f in absurd (cc)
-no_replaced None n f e = let x : true ≡ false = ap is_between (same_Some name.Head n e) ∙ f in absurd (cc)
 
 -- the one that is exchanged
 replaces_next : (before : Option ℕ) (q : ℕ) → Some (replaced_link before) ≡ Some (name.Next q) → before ≡ Some q

@@ -61,6 +61,15 @@ announced_within h p s = which (cases_lt p (length h.attempts))
     which (inl x) = x
     which (inr x) = let e : attempt h p ≡ no_attempt = get_or_past h.attempts p no_attempt x in let f : false ≡ true = sym (ap (λ (q : Attempt). q.is_announced) e) ∙ s in absurd (cc)
 
+-- so is one that is stamped
+pub stamped_within : (h : History) (p : ℕ) → (attempt h p).is_stamped ≡ true → p < length h.attempts
+unfolding attempt no_attempt
+stamped_within h p s = which (cases_lt p (length h.attempts))
+  where
+    which : (p < length h.attempts) ⊎ (length h.attempts ≤ p) → p < length h.attempts
+    which (inl x) = x
+    which (inr x) = let e : attempt h p ≡ no_attempt = get_or_past h.attempts p no_attempt x in let f : false ≡ true = sym (ap (λ (q : Attempt). q.is_stamped) e) ∙ s in absurd (cc)
+
 -- what stays of an attempt
 pub record Stays (h h' : History) (p : ℕ) : Type 0 where
   pub grows : AttemptGrows h h' (now h) p

@@ -43,6 +43,8 @@ use Rattle.kw_world.specs.WriteTransitions.{infant_cells}
 use Rattle.kw_world.specs.Step.{word, transition_at, moved_of, followed, is_skipped}
 -- a scan that an event settles, and where its version was drawn
 pub use Rattle.kw_core.specs.declared.change.Settled.{Settled}
+-- a cell that an event writes, and the attempt for which it stands
+pub use Rattle.kw_core.specs.declared.change.Copied.{Copied}
 -- what a seat did last
 pub use Rattle.kw_core.specs.declared.seat_log.SeatLog.{SeatLog}
 use Rattle.kw_core.specs.History.{History, Logged, Drawn}
@@ -231,6 +233,16 @@ with_settled None settled t = settled t
 abbrev pub copied : Origins → ℕ → Option kw_cell.Cell → Option ℕ
 copied o row (Some c) = o row c.place
 copied o row None = None
+
+-- the cell whose origin an event of a seat that knows l sets: the one whose version it writes, of the row that it builds
+abbrev pub copied_cell : Activity → Local → Origins → Option Copied
+copied_cell (WriteVersion j) l o = Some (record { row = infant l; cell = j; attempt = copied o l.row (slice_get (infant_cells l) j) })
+copied_cell _ l o = None
+
+-- the origins with that of a cell that is written
+abbrev pub with_copied : Option Copied → Origins → Origins
+with_copied (Some x) o = with_copy o x.row x.cell x.attempt
+with_copied None o = o
 
 -- the origins after the event of an activity: a cell is given to a put by the sum that asks for it, and stands for a copied attempt from the
 -- event on that writes its version

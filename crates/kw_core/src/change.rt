@@ -13,7 +13,9 @@ ghost use Rattle.kw_world.specs.Calls.{first_key, put_value};
 ghost use Rattle.kw_world.specs.PutTransitions.{has_room, given_of};
 ghost use Rattle.kw_world.specs.Answers.{reply_of};
 ghost use Rattle.kw_world.specs.Sane.{IsLocal, IsCall, IsVersion, CanBegin, CanBeginAt, IsSane};
-ghost use Rattle.kw_core.specs.Run.{change_of, beginning, helping, freezing, losing, settled_scan, settling, answering, drawing, best_id, id_at};
+ghost use Rattle.kw_world.specs.SeekTransitions.{infant};
+ghost use Rattle.kw_world.specs.WriteTransitions.{infant_cells};
+ghost use Rattle.kw_core.specs.Run.{copied, copied_cell, change_of, beginning, helping, freezing, losing, settled_scan, settling, answering, drawing, best_id, id_at};
 ghost use Rattle.kw_core.specs.Recording.{origin_in};
 ghost use Rattle.kw_core.specs.Happenings.{happening_at, logged_of};
 
@@ -24,6 +26,7 @@ use kw_cells::cell::{Cell, best};
 use kw_model::call::Call;
 use kw_model::memory::Memory;
 use kw_step_put::resume_put::room;
+use kw_step_rebal::infant::{infant, infant_cells};
 use kw_words::kind::Kind;
 use kw_words::layout::{Layout, Name};
 use kw_words::pend::Pend;
@@ -122,6 +125,54 @@ fn settling(seat: u32, clock: u64, found: u64, log: &SeatLog) -> Option<Settled>
         })
     } else {
         None
+    }
+}
+
+/// A cell that an event writes, and the attempt for which it stands from there on: that of the cell of which it is a copy, or none.
+#[derive(Clone, Copy, Debug, PartialEq, Eq)]
+pub struct Copied {
+    /// The row that is built.
+    pub row: u32,
+    /// Its cell.
+    pub cell: u32,
+    /// The attempt.
+    pub attempt: Option<usize>,
+}
+
+/// The cell whose origin the event sets that is made by a seat that knows `local`: the one whose version it writes.
+pub fn copied_cell(local: &Local, origins: &[Option<usize>]) -> Option<Copied>
+    requires { IsLocal product local.now }
+    ensures { result ≡ copied_cell local.now.activity local.now (origin_in product origins.now) }
+{
+    match local.activity {
+        Activity::WriteVersion(cell) => Some(Copied {
+            row: infant(local),
+            cell,
+            attempt: attempt_copied(local, cell, origins),
+        }),
+        _ => None,
+    }
+}
+
+/// The attempt of the kept cell that is written at this place, or none where the row has no cell for it.
+fn attempt_copied(local: &Local, cell: u32, origins: &[Option<usize>]) -> Option<usize>
+    requires { IsLocal product local.now }
+    ensures { result ≡ copied (origin_in product origins.now) local.now.row
+        (slice_get (infant_cells local.now) cell) }
+{
+    match infant_cells(local).get(cell as usize) {
+        Some(kept) => origin_or_none(origins, local.row, kept.place),
+        None => None,
+    }
+}
+
+/// The attempt to which a cell was given, or none where there is no such cell.
+fn origin_or_none(origins: &[Option<usize>], row: u32, cell: u32) -> Option<usize>
+    ensures { result ≡ origin_in product origins.now row cell }
+{
+    match origins.get(row as usize * CELLS + cell as usize) {
+        Some(origin) => *origin,
+        None => None,
     }
 }
 

@@ -1,18 +1,23 @@
-//! What one event adds to the record, where a seat freezes the entries of a full row, or settles a scan.
-ghost use Rattle.std.specs.Prelude.{◌≡◌, Some};
+//! What one event adds to the record, where a seat freezes the entries of a full row, settles a scan, or writes a copy of a cell.
+ghost use Rattle.std.specs.Prelude.{◌≡◌, ◌<◌, Some};
+ghost use Rattle.kw_words.specs.declared.sizes.TheConstants.{CELLS};
 ghost use Rattle.kw_world.specs.Sane.{IsEntry, IsLocal};
 ghost use Rattle.kw_world.specs.Sizes.{product};
 ghost use Rattle.kw_world.specs.declared.activity.Activity.{Activity};
 
-use crate::change::{Happening, Settled, change_of, settled_scan};
+use crate::change::{Copied, Happening, Settled, change_of, copied_cell, settled_scan};
 use crate::history::{Change, History};
 use crate::seat_log::{Remark, SeatLog};
+use kw_cells::cell::Cell;
+use kw_cells::keep::Kept;
+use kw_cells::pack::RowCuts;
 use kw_words::kind::Kind;
 use kw_words::pend::Pend;
 use kw_words::sizes::CELLS;
 use kw_world::activity::Activity;
 use kw_world::event::Choice;
 use kw_world::local::Local;
+use kw_world::rebuilt::{KeptCells, Starts};
 use std::alloc::Global;
 use std::test::Fail;
 
@@ -140,5 +145,51 @@ fn a_helper_settles_the_scan_of_another_seat(rt: HostRuntime) -> Result<(), Fail
         Some(Settled { seat: 2, at: 7 })
     );
     assert_eq!(rt; settled_scan(&local, finding(0), &log), None);
+    Ok(())
+}
+
+// A seat writes the version of this cell of its new row 3, whose one kept cell stood at the place 5 of row 0.
+fn at_a_copy(alloc: Global, cell: u32) -> Local
+    requires { cell < CELLS }
+    ensures ranges { IsLocal product result }
+{
+    let mut kept = Kept::new();
+    kept.push(Cell {
+        key: 45,
+        version: 1,
+        place: 5,
+        value: None,
+    });
+    let mut starts = RowCuts::new();
+    starts.push(0);
+    let mut local = Local::idle(alloc);
+    local.activity = Activity::WriteVersion(cell);
+    local.rebalance.kept = KeptCells::of(kept);
+    local.rebalance.starts = Starts::of(starts);
+    local.rebalance.taken.push(3);
+    local
+}
+
+#[test]
+fn a_copy_stands_for_the_attempt_of_its_cell(rt: HostRuntime) -> Result<(), Fail> {
+    let origins = with_one_given();
+    let local = at_a_copy(rt.alloc(), 0);
+    assert_eq!(rt;
+        copied_cell(&local, origins.as_slice()),
+        Some(Copied {
+            row: 3,
+            cell: 0,
+            attempt: Some(2)
+        })
+    );
+    let local = at_a_copy(rt.alloc(), 1);
+    assert_eq!(rt;
+        copied_cell(&local, origins.as_slice()),
+        Some(Copied {
+            row: 3,
+            cell: 1,
+            attempt: None
+        })
+    );
     Ok(())
 }

@@ -32,7 +32,7 @@ use Rattle.kw_world.specs.ScanTransitions.{entered, answer_or_stopped, settled, 
 use Rattle.kw_world.specs.WalkTransitions.{arrive, guess_met, is_stop, is_stopped, link_met, start_transition, walk_min, walk_transition}
 use Rattle.kw_world.specs.SeekTransitions.{seek_first_transition}
 use Rattle.kw_world.specs.ReplaceTransitions.{before_transition}
-use Rattle.kw_world.specs.Sizes.{Form, Refused, Decided, Gathered, Sizes}
+use Rattle.kw_world.specs.Sizes.{Form, Refused, Alone, Sizes}
 use Rattle.kw_world.specs.Table.{transition}
 use Rattle.kw_follow.specs.Following.{carried}
 use Rattle.kw_follow.proofs.Carries.{Carries, either}
@@ -113,8 +113,7 @@ module _ (c : Choice) where
 
   fulls : (f : Form) (l : Local) → Carries c l.pairs (full_in f l) (full_in f (carried l))
   fulls Refused l = record { local = refl; done = refl; held = λ g. refl }
-  fulls Decided l = record { local = refl; done = refl; held = λ g. refl }
-  fulls Gathered l = record { local = refl; done = refl; held = λ g. refl }
+  fulls Alone l = record { local = refl; done = refl; held = λ g. refl }
 
   stamps : (z : Sizes) (e : Option Pend) (l : Local) → Carries c l.pairs (stamp_met z e l) (stamp_met z e (carried l))
   stamps z (Some pend.Idle) l = fulls z.form l

@@ -22,12 +22,12 @@ use Rattle.kw_world.specs.declared.marks.Mark.{Mark}
 use Rattle.kw_world.specs.declared.rebalance.Afterwards.{Afterwards}
 use Rattle.kw_world.specs.declared.rebalance.Afterwards.TheVariants.{TryAgain, Refuse, MoveLeft}
 use Rattle.kw_world.specs.Marks.{least_mark}
-use Rattle.kw_world.specs.Sizes.{Form, Refused, Decided, Gathered, Sizes}
+use Rattle.kw_world.specs.Sizes.{Sizes}
 use Rattle.kw_world.specs.Table.{transition}
 use Rattle.kw_world.specs.Transition.{row_linked, row_or_first}
-use Rattle.kw_world.specs.EngageTransitions.{is_alone, state_met, engaged, followed_by, led_in, link_marked, decided}
+use Rattle.kw_world.specs.EngageTransitions.{is_alone, state_met, engaged, link_marked, decided}
 use Rattle.kw_world.specs.FreezeTransitions.{to_freeze_look, marking, freeze_met, entry_tried, to_scan_look, needing, scan_met, scan_helped}
-use Rattle.kw_world.specs.TakeTransitions.{packed_in, planned, left_of, take_met, keeping}
+use Rattle.kw_world.specs.TakeTransitions.{left_of, take_met, keeping}
 use Rattle.kw_world.specs.SeekTransitions.{given_back, give_back, gave_back, has_more, to_seek, seek_met, seeking, seek_first_transition, with_row, take_row}
 use Rattle.kw_world.specs.WriteTransitions.{infant_cells, row_written, to_write_cell, to_write_entry}
 use Rattle.kw_world.specs.ReplaceTransitions.{first_before, guess_before, before_transition, row_before, link_before, row_replaced, replaced}
@@ -95,22 +95,17 @@ module _ (c : Choice) where
   engaged_carries true l = record { local = refl; done = refl; held = λ g. refl }
   engaged_carries false l = record { local = refl; done = refl; held = λ g. refl }
 
-  led_carries : (f : Form) (l : Local) → Carries c l.pairs (led_in f l) (led_in f (carried l))
-  led_carries Refused l = record { local = refl; done = refl; held = λ g. refl }
-  led_carries Decided l = record { local = refl; done = refl; held = λ g. refl }
-  led_carries Gathered l = record { local = refl; done = refl; held = λ g. refl }
+  marked_carries : (count : ℕ) (after : Option ℕ) (l : Local) → Carries c l.pairs (link_marked count after l) (link_marked count after (carried l))
+  marked_carries count after l = either c (count == 0) l.pairs _ _ _ _ (record { local = refl; done = refl; held = λ g. refl }) (record { local = refl; done = refl; held = λ g. refl })
 
-  marked_carries : (z : Sizes) (count : ℕ) (after : Option ℕ) (l : Local) → Carries c l.pairs (link_marked z count after l) (link_marked z count after (carried l))
-  marked_carries z count after l = either c (count == 0) l.pairs _ _ _ _ (record { local = refl; done = refl; held = λ g. refl }) (led_carries z.form (followed_by after l))
-
-  decided_carries : (z : Sizes) (state : Option State) (l : Local) → Carries c l.pairs (decided z state l) (decided z state (carried l))
-  decided_carries z (Some Free) l = record { local = refl; done = refl; held = λ g. refl }
-  decided_carries z (Some (Infant seat)) l = record { local = refl; done = refl; held = λ g. refl }
-  decided_carries z (Some Normal) l = record { local = refl; done = refl; held = λ g. refl }
-  decided_carries z (Some (Leader count)) l = either c (is_alone count) l.pairs _ _ _ _ (led_carries z.form l) (record { local = refl; done = refl; held = λ g. refl })
-  decided_carries z (Some (Follower leader)) l = record { local = refl; done = refl; held = λ g. refl }
-  decided_carries z (Some (Retired number)) l = record { local = refl; done = refl; held = λ g. refl }
-  decided_carries z None l = record { local = refl; done = refl; held = λ g. refl }
+  decided_carries : (state : Option State) (l : Local) → Carries c l.pairs (decided state l) (decided state (carried l))
+  decided_carries (Some Free) l = record { local = refl; done = refl; held = λ g. refl }
+  decided_carries (Some (Infant seat)) l = record { local = refl; done = refl; held = λ g. refl }
+  decided_carries (Some Normal) l = record { local = refl; done = refl; held = λ g. refl }
+  decided_carries (Some (Leader count)) l = either c (is_alone count) l.pairs _ _ _ _ (record { local = refl; done = refl; held = λ g. refl }) (record { local = refl; done = refl; held = λ g. refl })
+  decided_carries (Some (Follower leader)) l = record { local = refl; done = refl; held = λ g. refl }
+  decided_carries (Some (Retired number)) l = record { local = refl; done = refl; held = λ g. refl }
+  decided_carries None l = record { local = refl; done = refl; held = λ g. refl }
 
   freeze_looks : (z : Sizes) (i : ℕ) (l : Local) → Carries c l.pairs (to_freeze_look z i l) (to_freeze_look z i (carried l))
   freeze_looks z i l = either c (nat_lt i z.seats) l.pairs _ _ _ _ (record { local = refl; done = refl; held = λ g. refl }) (record { local = refl; done = refl; held = λ g. refl })
@@ -145,14 +140,9 @@ module _ (c : Choice) where
   helped_carries z i (Some (scan.Drawn version)) l = scan_looks z (i + 1) (needing version l)
   helped_carries z i None l = scan_looks z (i + 1) l
 
-  packed_carries : (f : Form) (l : Local) → Carries c l.pairs (packed_in f l) (packed_in f (carried l))
-  packed_carries Refused l = record { local = refl; done = refl; held = λ g. refl }
-  packed_carries Decided l = record { local = refl; done = refl; held = λ g. refl }
-  packed_carries Gathered l = record { local = refl; done = refl; held = λ g. refl }
-
   left_carries : (z : Sizes) (m : Option Mark) (l : Local) → Carries c l.pairs (left_of z m l) (left_of z m (carried l))
   left_carries z (Some m) l = record { local = refl; done = refl; held = λ g. refl }
-  left_carries z None l = packed_carries z.form (planned z l)
+  left_carries z None l = record { local = refl; done = refl; held = λ g. refl }
 
   take_carries : (z : Sizes) (cell : Option ℕ) (l : Local) → Carries c l.pairs (take_met z cell l) (take_met z cell (carried l))
   take_carries z (Some cell) l = record { local = refl; done = refl; held = λ g. refl }
@@ -243,8 +233,8 @@ module _ (c : Choice) where
   rebalance_carries z BalState s l rows told u = state_carries (state_of told) l
   rebalance_carries z (BalNormal seat) s l rows told u = record { local = refl; done = refl; held = λ g. refl }
   rebalance_carries z Engage s l rows told u = engaged_carries (told == state_word Normal) l
-  rebalance_carries z (MarkLink count) s l rows told u = marked_carries z count (row_linked (link_of told)) l
-  rebalance_carries z (Decide count) s l rows told u = decided_carries z (state_of told) l
+  rebalance_carries z (MarkLink count) s l rows told u = marked_carries count (row_linked (link_of told)) l
+  rebalance_carries z (Decide count) s l rows told u = decided_carries (state_of told) l
   rebalance_carries z FreezeCount s l rows told u = record { local = refl; done = refl; held = λ g. refl }
   rebalance_carries z (FreezeLook i) s l rows told u = freeze_carries z i (pend_of told) l
   rebalance_carries z (Freeze i) s l rows told u = entry_carries z i (told == pend_word l.rebalance.entry) l

@@ -1,5 +1,5 @@
 -- The events of a put at its row: what each asks, and what follows.
-use Rattle.std.proofs.Common.{◌≡◌, ℕ, Option, Some, None, arith, refl, sym, ap, subst}
+use Rattle.std.proofs.Common.{◌≡◌, ℕ, true, false, Option, Some, None, arith, refl, sym, ap, subst}
 use Rattle.kw_words.specs.declared.kind.Kind.{Kind}
 use Rattle.kw_words.specs.declared.kind.Kind.TheVariants as kind
 use Rattle.kw_words.specs.declared.pend.Pend.TheVariants.{Pending, Stamped}
@@ -17,7 +17,7 @@ use Rattle.kw_world.specs.Sane.{IsCellBelow, IsLocal}
 use Rattle.kw_world.specs.Sizes.{product}
 use Rattle.kw_world.specs.Step.{next_of, transition_of}
 use Rattle.kw_world.specs.Table.{transition}
-use Rattle.kw_core.specs.Stages.{IsAtPut, IsBusy}
+use Rattle.kw_core.specs.Stages.{IsBusy, is_putting}
 use Rattle.kw_table.specs.declared.pass.Pass.{Pass}
 use Rattle.kw_table.specs.declared.shared.Shared.{Shared}
 use Rattle.kw_table.specs.Passes.{view, operation, Asks}
@@ -50,7 +50,7 @@ pub stamped_fits : (l : Local) → IsLocal product l → IsPend (Stamped l.cell 
 stamped_fits l k = (omega (arith, k.cell), k.version.0, k.version.1)
 
 -- a put at its row is in the middle of its call
-pub put_within : (a : Activity) → IsAtPut a → IsWithinCall a
+pub put_within : (a : Activity) → is_putting a ≡ true → IsWithinCall a
 put_within PutCount m = tt
 put_within PutAdd m = tt
 put_within PutKey m = tt
@@ -65,7 +65,7 @@ put_within InsVer m = tt
 put_within InsSet m = tt
 put_within Insert m = tt
 put_within PutClear m = tt
-put_within _ m = absurd m
+put_within _ m = let x : false ≡ true = m in absurd (cc)
 
 -- a store, and an exchange, with the words that code packs
 pub asks_stored_at : (s : Shared) (p : Pass) (l : Local) (a : Activity) (k : Kind) (n m : Name) (x y : ℕ) → Follows s p l → l.activity ≡ a → IsBusy a → n ≡ m → x ≡ y → operation k m (Store y) ≡ (transition product a (view p).number Go l).operation → Asks s p Go (operation k n (Store x))

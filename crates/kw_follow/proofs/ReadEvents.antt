@@ -25,7 +25,7 @@ use Rattle.kw_table.specs.declared.pass.Pass.{Pass}
 use Rattle.kw_table.specs.declared.shared.Shared.{Shared}
 use Rattle.kw_table.specs.Passes.{view, operation, Asks, Makes}
 use Rattle.kw_table.specs.Views.{local_in}
-use Rattle.kw_follow.specs.Following.{Follows, carried, unpaired}
+use Rattle.kw_follow.specs.Following.{Follows, carried, as_carried}
 use Rattle.kw_follow.proofs.Growing.{IsStaying}
 use Rattle.kw_follow.proofs.OneEvent.{follows_from, same_activity}
 use Rattle.kw_follow.proofs.PutEvents.{asks_at}
@@ -106,15 +106,15 @@ module _ (s : Shared) (p q : Pass) (l m : Local) (told : ℕ) (f : Follows s p l
   carries_in k at = taking_carries product k.activity k (view p).opening.rows told at
 
   -- code has what it then carries
-  code_reads : (rows : ℕ) → rows ≡ (view p).opening.rows → m ≡ unpaired l (next_of product rows Go l told) → m ≡ carried (local_in (view q))
+  code_reads : (rows : ℕ) → rows ≡ (view p).opening.rows → m ≡ as_carried l (next_of product rows Go l told) → m ≡ carried (local_in (view q))
   code_reads rows is line =
       let k : Local = local_in (view p) in
       let at : IsTaking k.activity = subst IsTaking (sym (same_activity s p l f)) taking in
       line
-      ∙ (ap (λ n. unpaired l (next_of product n Go l told)) is
-      ∙ (ap (λ (x : Local). unpaired x (next_of product (view p).opening.rows Go x told)) f.carries
+      ∙ (ap (λ n. as_carried l (next_of product n Go l told)) is
+      ∙ (ap (λ (x : Local). as_carried x (next_of product (view p).opening.rows Go x told)) f.carries
       ∙ (carries_in k at
       ∙ ap carried (sym seat_reads))))
 
-  pub read_follows : (rows : ℕ) → rows ≡ (view p).opening.rows → m ≡ unpaired l (next_of product rows Go l told) → Follows s q m
+  pub read_follows : (rows : ℕ) → rows ≡ (view p).opening.rows → m ≡ as_carried l (next_of product rows Go l told) → Follows s q m
   read_follows rows is line = follows_from s q m makes.of_table (code_reads rows is line)

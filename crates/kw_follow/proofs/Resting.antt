@@ -15,7 +15,7 @@ use Rattle.kw_reads.specs.Inv.{Inv}
 use Rattle.kw_core.specs.Run.{Run, goes_on, history, start}
 use Rattle.kw_shape.specs.Shape.{Words}
 use Rattle.kw_core.proofs.Arrows.{Arrow, builds, NextLook, NextRest, rests, answers, ends_scan, scans_on, looks, lists, leaves, meets_stamped, meets_neither, is_passed, helps, finds_stamped, finds_other, list_ends, key_above, rest_passed, gathers_rest}
-use Rattle.kw_core.proofs.Building.{never_built}
+use Rattle.kw_core.proofs.BuiltNext.{IsAfterBuilding, built_next}
 use Rattle.kw_core.proofs.Events.{may_come}
 use Rattle.kw_core.proofs.Happens.{happens, each_seat}
 use Rattle.kw_reads.proofs.Keeps.{inv_goes_on}
@@ -42,10 +42,15 @@ rest_rests l k (answers w e) = tt
 rest_rests l k (ends_scan w e f) = tt
 rest_rests l k (scans_on q w e f g) = tt
 
+-- what follows the building of rows does not end the call
+after_rests : (b : Activity) (k : Local) → IsAfterBuilding b → Rests b k
+after_rests Idle k x = absurd x
+after_rests _ k x = tt
+
 -- so it is after every event
 arrow_rests : (z : Sizes) (v : Words) (s : ℕ) (choice : Choice) (l : Local) (a : Activity) (k : Local) → Arrow z v s choice l a k → Rests k.activity k
 arrow_rests z v s choice l a k (leaves answer) = refl
-arrow_rests z v s choice l a k (builds b next y o t) = never_built z b y o
+arrow_rests z v s choice l a k (builds b next y o t) = after_rests k.activity k (built_next z v choice l b k t)
 arrow_rests z v s choice l a k (meets_stamped i c version next e n) = look_rests z _ next _ n
 arrow_rests z v s choice l a k (meets_neither i next e n) = look_rests z _ next _ n
 arrow_rests z v s choice l a k (is_passed next e n) = look_rests z _ next _ n

@@ -23,8 +23,8 @@ carried l = record l { number = 1; pairs = [] }
 
 -- what code that had the first local has after an event from which this follows in the core: the same, but for the number of calls and
 -- the pairs, which stay
-abbrev pub unpaired : Local → Outcome → Local
-unpaired l o = record o.local { number = l.number; pairs = l.pairs }
+abbrev pub as_carried : Local → Outcome → Local
+as_carried l o = record o.local { number = l.number; pairs = l.pairs }
 
 -- the pairs that the pass's seat has added
 abbrev pub held : Pass → List (ℕ × ℕ)

@@ -2,8 +2,8 @@
 //!
 //! What the local does next says which step it is, and the core says what follows from the word that was found: nothing else is asked.
 //! A put makes nine events for its cell, and then goes along the row's list, with two or three events for each cell that it passes.
-ghost use Rattle.std.specs.Prelude.{◌≡◌};
-ghost use Rattle.kw_core.specs.Stages.{IsAtPut};
+ghost use Rattle.std.specs.Prelude.{◌≡◌, true};
+ghost use Rattle.kw_core.specs.Stages.{is_putting};
 ghost use Rattle.kw_world.specs.Sizes.{product};
 ghost use Rattle.kw_world.specs.Step.{next_of};
 ghost use Rattle.kw_world.specs.Transition.{outcome};
@@ -257,7 +257,7 @@ fn exchange_link(shared: &Shared, pass: &mut Pass, local: &mut Local) -> Happene
 #[inline(always)]
 fn put_event(shared: &Shared, pass: &mut Pass, local: &mut Local) -> Happened
     requires follows { Follows shared.now pass.old local.old }
-    requires putting { IsAtPut local.old.activity }
+    requires putting { is_putting local.old.activity ≡ true }
     ensures makes { Makes shared.now pass.old Choice.Go result.told pass.new }
     ensures line { outcome local.new result.done ≡ next_of product shared.now.opening.rows Choice.Go
         local.old result.told }
@@ -285,7 +285,7 @@ fn put_event(shared: &Shared, pass: &mut Pass, local: &mut Local) -> Happened
 #[inline(always)]
 pub fn go_put(shared: &Shared, pass: &mut Pass, local: &mut Local) -> u64
     requires follows { Follows shared.now pass.old local.old }
-    requires putting { IsAtPut local.old.activity }
+    requires putting { is_putting local.old.activity ≡ true }
     ensures goes { GoesTo shared.now pass.old pass.new }
     ensures follows { Follows shared.now pass.new local.new }
     ensures line { outcome local.new Moved ≡ next_of product (view pass.old).opening.rows Choice.Go

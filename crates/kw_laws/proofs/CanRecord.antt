@@ -27,7 +27,7 @@ use Rattle.kw_core.specs.Noted.{IsWithin, MayNote}
 use Rattle.kw_core.specs.Step.{Keeps}
 use Rattle.kw_core.specs.Appended.{appended}
 use Rattle.kw_reads.specs.Inv.{Inv}
-use Rattle.kw_core.specs.Run.{Run, Origins, change_of, found_by, beginning, helping, noted_by, freezing, settled_scan}
+use Rattle.kw_core.specs.Run.{Run, Origins, change_of, found_by, beginning, helping, noted_by, freezing, settled_scan, copied_cell}
 use Rattle.kw_core.specs.declared.seat_log.SeatLog.{SeatLog}
 use Rattle.kw_lists.specs.Rows.{Row}
 use Rattle.kw_cells.proofs.InOrder.{place_in-within}
@@ -38,12 +38,13 @@ use Rattle.kw_reads.proofs.ApartKeeps.{hand_fresh, gather_room}
 use Rattle.kw_core.specs.Stages.{IsTaking}
 use Rattle.kw_core.specs.Recording.{Recording, origin_in}
 use Rattle.kw_core.specs.Remarks.{remark_of, HasRoomFor}
-use Rattle.kw_laws.specs.Recorder.{Records, CanSettle, IsInTable, log_of, happening_at, logged_of, entry_of, draw_of, IsScanBelow}
+use Rattle.kw_laws.specs.Recorder.{Records, CanSettle, IsInTable, log_of, happening_at, logged_of, entry_of, draw_of, IsScanBelow, IsCopyIn}
 use Rattle.kw_core.proofs.Events.{IsBegun}
 use Rattle.kw_core.proofs.Happens.{happens}
+use Rattle.kw_core.proofs.InRange.{infant_in_range}
 use Rattle.kw_reads.proofs.HistoryKeeps.{may_note}
 use Rattle.kw_core.proofs.Appended.{within_appended}
-use Rattle.kw_laws.proofs.Recorded.{GivesNone, none_of, none_helping, place_within, room_given, prepared, change_recorded, none_freezing, scan_below}
+use Rattle.kw_laws.proofs.Recorded.{GivesNone, none_of, none_helping, place_within, room_given, prepared, change_recorded, none_freezing, scan_below, copy_below}
 
 -- a change that may happen names calls and attempts that are there
 within_of : (h : History) (e : Logged) (c : Change) → Keeps h → MayNote h e c → IsWithin h c
@@ -104,11 +105,11 @@ in_table z k e (Ends x reply answer draw) b = tt
 -- Cells that are gathered.
 
 -- there are as many attempts as gathered cells
-as_many : (h : History) (q : ℕ) (call : Option Call) (cells : List kw_cell.Cell) (ids : List ℕ) → AreCopies h q call cells ids → length cells ≡ length ids
-as_many h q call [] [] a = refl
-as_many h q call [] (p ∷ ids) a = absurd a
-as_many h q call (c ∷ cells) [] a = absurd a
-as_many h q call (c ∷ cells) (p ∷ ids) a = ap suc (as_many h q call cells ids a.1)
+as_many : (h : History) (o : Origins) (q : ℕ) (call : Option Call) (cells : List kw_cell.Cell) (ids : List ℕ) → AreCopies h o q call cells ids → length cells ≡ length ids
+as_many h o q call [] [] a = refl
+as_many h o q call [] (p ∷ ids) a = absurd a
+as_many h o q call (c ∷ cells) [] a = absurd a
+as_many h o q call (c ∷ cells) (p ∷ ids) a = ap suc (as_many h o q call cells ids a.1)
 
 -- a reader loads the value of the cell in hand, which it gathers
 abbrev Gathering : Activity → Type 0
@@ -166,6 +167,7 @@ can_settle z k r e l i inv begins knows moves = record {
   room = room_for z l.activity (offered r.world.rows e.choice) l (found_by z r.world e l) (origin_in z k.origins) k.history (draw_of k e.seat) (log_of k e.seat) taken;
   scan = subst (λ (n : ℕ). IsScanBelow n (settled_scan l.activity e.seat l (found_by z r.world e l) (log_of k e.seat))) (sym i.scans) (scan_below z l.activity e.seat l (found_by z r.world e l) (log_of k e.seat) (omega (arith, slice_get_within r.world.locals e.seat l knows, inv.shape.sane.seats)) known.ranges.activity);
   origin = in_table z k at _ (subst (λ (n : ℕ). IsGivenBelow z n change) (sym i.cells) (given_below z l.activity e.seat (offered r.world.rows e.choice) l (found_by z r.world e l) (log_of k e.seat) (origin_in z k.origins) r.world.rows known.below.row));
+  copy = subst (λ (n : ℕ). IsCopyIn z n (copied_cell l.activity l (origin_in z k.origins))) (sym i.cells) (copy_below z l.activity l (origin_in z k.origins) r.world.rows (infant_in_range r.world.rows l known.below) known.ranges.activity);
 }
   where
     at : Logged
@@ -182,7 +184,7 @@ can_settle z k r e l i inv begins knows moves = record {
 
     taken : Gathering l.activity → (length (log_of k e.seat).ids < z.cells) × (length l.gathered ≡ length (log_of k e.seat).ids)
     taken is =
-        let copies = as_many r.history l.row l.call l.gathered (r.seats e.seat).ids ((inv.readers.gathers e.seat l knows).taking (gathering_takes l.activity is)) in
+        let copies = as_many r.history r.origin l.row l.call l.gathered (r.seats e.seat).ids ((inv.readers.gathers e.seat l knows).taking (gathering_takes l.activity is)) in
         let same = ap (λ (x : SeatLog). length x.ids) (i.logs e.seat (slice_get_within r.world.locals e.seat l knows)) in
         let room = gathering_room z _ l.activity l is (inv.readers.walks e.seat l knows) (inv.readers.apart e.seat l knows (gathering_takes l.activity is)) known.ranges.place in
         (omega (arith, copies, same, room), omega (arith, copies, same))

@@ -1,5 +1,5 @@
 -- The laws, from what every event keeps.
-use Rattle.std.proofs.Common.{ℕ, zero, suc, ◌≡◌, ◌⊎◌, inl, inr, ◌+◌, ◌<◌, ◌≤◌, true, false, Some, None, List, [], ◌∷◌, get_or, arith, refl, sym, ◌∙◌, subst, slice_get, length}
+use Rattle.std.proofs.Common.{ℕ, zero, suc, ◌≡◌, ◌⊎◌, inl, inr, ◌+◌, ◌<◌, ◌≤◌, true, false, Some, List, [], ◌∷◌, get_or, arith, refl, sym, ◌∙◌, subst, slice_get, length}
 use Rattle.std.specs.Prelude.{Contains}
 use Rattle.kw_words.specs.declared.layout.Name.TheVariants as name
 use Rattle.kw_words.specs.declared.scan.ScanWord.TheVariants.{Waiting, Drawn}
@@ -18,13 +18,13 @@ use Rattle.kw_world.specs.Calls.{first_key}
 use Rattle.kw_world.specs.Step.{word}
 use Rattle.kw_core.specs.History.{History}
 use Rattle.kw_core.specs.Events.{is_valid}
-use Rattle.kw_core.specs.Run.{Run, history}
+use Rattle.kw_core.specs.Run.{Origins, Run, history}
 use Rattle.kw_core.specs.Words.{least_in}
 use Rattle.kw_rows.specs.Ledger.{IsFresh}
 use Rattle.kw_rows.proofs.Named.{above_least, held_by}
 use Rattle.kw_shape.specs.RowsIn.{rows_in}
 use Rattle.kw_shape.specs.Shape.{Walks}
-use Rattle.kw_shape.proofs.RowsStay.{fresh_linked, holds_wanted, next_known}
+use Rattle.kw_shape.proofs.RowsStay.{fresh_linked, holds_wanted}
 use Rattle.kw_core.specs.Stages.{IsAtRow, IsAtListed, IsKeeping, IsWaiting, IsInserting, IsUnlisted, IsMeeting}
 use Rattle.kw_lists.specs.Rows.{Row, IsBehind, IsSound}
 use Rattle.kw_lists.specs.Walks.{IsWalking}
@@ -38,12 +38,14 @@ use Rattle.kw_reads.specs.Readers.{IsDue, ReadsList, IsCopyOf, AreCopies}
 use Rattle.kw_reads.proofs.WalksKeep.{has_met}
 use Rattle.kw_reads.specs.Replies.{RisesBelow}
 use Rattle.kw_reads.specs.Inv.{Inv}
-use Rattle.kw_laws.specs.Unfrozen.{FreezesNone, IsUnfrozen}
+use Rattle.kw_laws.specs.Unfrozen.{RebalancesNone, IsUnfrozen}
 use Rattle.kw_laws.specs.Laws.{IsWaitingOrDrawn, IsGathered, KeepsLaws}
 use Rattle.kw_core.proofs.Attempts.{in_range}
 use Rattle.kw_reads.proofs.Keeps.{inv_holds}
 use Rattle.kw_shape.proofs.Walking.{past}
-use Rattle.kw_laws.proofs.Unfrozen.{finds_own, finds_idle, unfrozen_holds}
+use Rattle.kw_shape.proofs.RowsStay.{next_known}
+use Rattle.kw_laws.proofs.Unfrozen.{finds_own, finds_idle, unfrozen_holds, uncopied_holds}
+use Rattle.kw_laws.proofs.Uncopied.{AreUncopied}
 use Rattle.kw_core.specs.Stages.{HasDrawn, IsPublished}
 use Rattle.kw_reads.specs.Replies.{IsCovered}
 use Rattle.kw_puts.proofs.OwnScans.{covering_draws}
@@ -59,18 +61,18 @@ rising_from low from [] o h = tt
 rising_from low from (p ∷ pairs) o h = (omega (arith, h.0), h.1)
 
 -- the cell beside a gathered attempt
-beside : (h : History) (q : ℕ) (l : Local) (cells : List kw_cell.Cell) (ids : List ℕ) (p : ℕ) → AreCopies h q l.call cells ids → Contains ids p → (c : kw_cell.Cell) × Contains cells c × IsCopyOf h q l.call c p
-beside h q l [] [] p a n = absurd (omega (arith, n.1))
-beside h q l [] (x ∷ ids) p a n = absurd a
-beside h q l (c ∷ cells) [] p a n = absurd a
-beside h q l (c ∷ cells) (x ∷ ids) p a n = which (λ m. beside h q l cells ids p a.1 m) n.0 n.1 n.2
+beside : (h : History) (o : Origins) (q : ℕ) (l : Local) (cells : List kw_cell.Cell) (ids : List ℕ) (p : ℕ) → AreCopies h o q l.call cells ids → Contains ids p → (c : kw_cell.Cell) × Contains cells c × IsCopyOf h o q l.call c p
+beside h o q l [] [] p a n = absurd (omega (arith, n.1))
+beside h o q l [] (x ∷ ids) p a n = absurd a
+beside h o q l (c ∷ cells) [] p a n = absurd a
+beside h o q l (c ∷ cells) (x ∷ ids) p a n = which (λ m. beside h o q l cells ids p a.1 m) n.0 n.1 n.2
   where
-    further : (c : kw_cell.Cell) × Contains cells c × IsCopyOf h q l.call c p → (d : kw_cell.Cell) × Contains (c ∷ cells) d × IsCopyOf h q l.call d p
+    further : (c : kw_cell.Cell) × Contains cells c × IsCopyOf h o q l.call c p → (d : kw_cell.Cell) × Contains (c ∷ cells) d × IsCopyOf h o q l.call d p
     further b = (b.0, (suc b.1.0, omega (arith, b.1.1), b.1.2), b.2)
 
-    which : (Contains ids p → (d : kw_cell.Cell) × Contains cells d × IsCopyOf h q l.call d p) → (k : ℕ) → k < length (x ∷ ids) → get_or (x ∷ ids) k p ≡ p → (d : kw_cell.Cell) × Contains (c ∷ cells) d × IsCopyOf h q l.call d p
-    which f zero o e = (c, (0, omega arith, refl), subst (IsCopyOf h q l.call c) e a.0)
-    which f (suc k) o e = further (f (k, omega (arith, o), e))
+    which : (Contains ids p → (d : kw_cell.Cell) × Contains cells d × IsCopyOf h o q l.call d p) → (k : ℕ) → k < length (x ∷ ids) → get_or (x ∷ ids) k p ≡ p → (d : kw_cell.Cell) × Contains (c ∷ cells) d × IsCopyOf h o q l.call d p
+    which f zero w e = (c, (0, omega arith, refl), subst (IsCopyOf h o q l.call c) e a.0)
+    which f (suc k) w e = further (f (k, omega (arith, w), e))
 
 -- a put that has met a cell stands at a link before it
 meets_behind : (z : Sizes) (row : Row) (a : Activity) (l : Local) → IsMeeting a → WalksList z.cells row a l → IsBehind row l.link l.place
@@ -102,8 +104,8 @@ reader_less z row l c s e w =
     omega (arith, walked_most z.cells row (Some c) (l.walked + 1) (walk_goes_on z.cells row l.link l.walked c (s.below c next.listed) next.listed next.behind w))
 
 -- the laws of a run in which all of it holds
-laws_from : (z : Sizes) (r : Run) → Inv z r → (FreezesNone z → IsUnfrozen z r.world) → KeepsLaws z r
-laws_from z r i u = record {
+laws_from : (z : Sizes) (r : Run) → Inv z r → (RebalancesNone z → IsUnfrozen z r.world) → (RebalancesNone z → AreUncopied r) → KeepsLaws z r
+laws_from z r i u own = record {
   sane = i.shape.sane;
   rows = i.shape.rows;
   beyond = i.shape.beyond;
@@ -112,7 +114,7 @@ laws_from z r i u = record {
   numbers = i.shape.numbers;
   links = λ q n. i.shape.rows.closed.rises q n;
   walks = i.shape.walks;
-  after = λ t l g y. next_known z r i.shape t l ((i.shape.walks t l g).at y);
+  after = λ n t l g y. next_known z r i.shape n t l ((i.shape.walks t l g).at y);
   climbs = λ t l g a. let x = subst (λ q. Walks (word z r.world) r.ledger.rows t q l) a (i.shape.walks t l g) in omega (arith, x.lower tt, above l.row (least_in (word z r.world) l.candidate) t x.on.0 x.on.3);
   climbs_on = λ t l g y n e.
       let x = i.shape.walks t l g in
@@ -124,6 +126,7 @@ laws_from z r i u = record {
   covered = λ t l g s a. let d = i.positions.draws t l g in let x : HasDrawn l.activity = subst HasDrawn (sym a) tt in record { drawn = d.drawn s x; drawn_first = d.drawn_first s x; covers = subst (λ q. IsCovered q r.history l (r.seats t)) a (i.replies.pairs t l g).covered };
   early = λ t l g. (i.replies.pairs t l g).early;
   unfrozen = u;
+  uncopied = λ n q c p e. let k = own n q c p e in (k.within, k.row, k.cell);
   announces = finds_idle z r i;
   stamps = λ t l g a. finds_own z r i t l g (subst IsPublished (sym a) tt);
   settles = settles;
@@ -133,7 +136,9 @@ laws_from z r i u = record {
   reader_meets = λ t l g m. reader_behind z _ l.activity l m (i.readers.walks t l g);
   reads_on = λ t l g a c e. reader_less z _ l c (i.lists.leads l.row (fresh_linked r.ledger.rows t l.row ((i.shape.walks t l g).at (subst IsAtRow (sym a) tt)).fresh)) (link_is (word z r.world) l.row l.link ∙ e) (subst (λ q. ReadsList z.cells (list_in (word z r.world) r.listed l.row) q l) a (i.readers.walks t l g));
   stamped = λ p h. let a = i.history.laws.attempted p (in_range r.history p h) in record { announced = a.load h; load = a.at h; found = i.history.laws.loaded p h };
+  given = λ p w. (i.puts.given p w).origin;
   seen = seen;
+  kept = i.contents.kept;
   live = λ t l g y. ((i.shape.walks t l g).at y).fresh;
   holds = λ t l g y. holds_wanted (word z r.world) r.ledger.rows t l ((i.shape.walks t l g).at y);
   history = i.history.laws;
@@ -150,14 +155,14 @@ laws_from z r i u = record {
         which (inl e) = let w = (i.shape.sane.locals t l g).ranges.waiting in rw (e, scan_of-Waiting l.waiting w.0 w.1) refl
         which (inr n) = rw (n.word, scan_of-scan_word (Drawn n.version) n.range) tt
 
-    seen : (t : ℕ) (l : Local) → slice_get r.world.locals t ≡ Some l → IsKeeping l.activity → (q : ℕ) → (r.seats t).read ≡ Some q → (p : ℕ) → IsDue r.history q l.call (r.seats t).looked p → IsGathered r q l p
-    seen t l g y q e p d =
+    seen : (t : ℕ) (l : Local) → slice_get r.world.locals t ≡ Some l → IsKeeping l.activity → (q : ℕ) → (r.seats t).read ≡ Some q → (c p : ℕ) → IsDue r.history r.origin q l.call (r.seats t).looked c p → IsGathered r q l p
+    seen t l g y q e c p d =
         let x = i.readers.seen t l g in
-        let b = beside r.history q l l.gathered (r.seats t).ids p ((i.readers.gathers t l g).kept y q e) (x.taken y q e p d) in
-        record { stamped = x.stamped y q e p d; cell = b.0; among = b.1; copy = b.2 }
+        let b = beside r.history r.origin q l l.gathered (r.seats t).ids p ((i.readers.gathers t l g).kept y q e) (x.taken y q e c p d) in
+        record { stamped = x.stamped y q e c p d; cell = b.0; among = b.1; copy = b.2 }
 
 -- every valid list from an opening keeps the laws
 pub laws_hold : (z : Sizes) (o : Opening) → IsOpening z o → (es : List Event) → is_valid z o es ≡ true → KeepsLaws z (history z o es)
 laws_hold z o i es v =
     let all = inv_holds z o i es v in
-    laws_from z (history z o es) all (λ n. unfrozen_holds z n o i es v)
+    laws_from z (history z o es) all (λ n. unfrozen_holds z n o i es v) (λ n. uncopied_holds z n o i es v)

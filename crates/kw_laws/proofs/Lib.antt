@@ -3,6 +3,7 @@ pub mod Recorded
 pub mod CanRecord
 pub mod Records
 pub mod EndedCalls
+pub mod Uncopied
 pub mod Unfrozen
 pub mod LawProofs
 pub mod Worlds
@@ -20,4 +21,9 @@ pub mod SeatLists
 pub mod SeatTurns
 pub mod SeatApart
 pub mod SeatCalls
+pub mod Along
 pub mod LiveRows
+pub mod CausesLast
+pub mod CausesSearch
+pub mod CausesArrows
+pub mod CausesHold

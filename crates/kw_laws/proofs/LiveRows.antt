@@ -1,38 +1,192 @@
--- The row of a seat is met from Head now, as long as no row is rebalanced, and so not before anything that the seat did.
-use Rattle.std.proofs.Common.{ℕ, ◌≡◌, ◌≤◌, true, Some, List, arith, sym, subst, length, slice_get}
-use Rattle.std.proofs.lemmas.List.{take_all}
+-- The row at which a seat has arrived was met from Head along links at some position since it began its pass, or drew: it is so now, or was
+-- so where the row went out of the list, which was no sooner.
+use Rattle.std.proofs.Common.{ℕ, zero, suc, ◌≡◌, ◌≢◌, ◌⊎◌, inl, inr, ◌<◌, ◌≤◌, true, Some, None, List, [], ◌∷◌, ◌++◌, arith, refl, sym, ◌∙◌, ap, subst, length, slice_get, length-append}
+use Rattle.std.specs.Prelude.{take}
+use Rattle.std.proofs.lemmas.List.{take-append-le, take_all}
+use Rattle.std.proofs.lemmas.Option.{same_Some}
+use Rattle.kw_words.specs.declared.layout.Name.TheVariants as name
+use Rattle.kw_world.specs.declared.activity.Activity.{Activity}
+use Rattle.kw_world.specs.declared.event.Choice.{Choice}
 use Rattle.kw_world.specs.declared.event.Event.{Event}
+use Rattle.kw_world.specs.declared.local.Local.{Local}
 use Rattle.kw_world.specs.declared.opening.Opening.{Opening}
 use Rattle.kw_world.specs.Opening.{IsOpening}
 use Rattle.kw_world.specs.Sizes.{Sizes}
-use Rattle.kw_world.specs.Step.{word}
-use Rattle.kw_core.specs.Events.{world, is_valid, event}
-use Rattle.kw_core.specs.Run.{history}
-use Rattle.kw_core.proofs.Runs.{history-world}
+use Rattle.kw_world.specs.Step.{step, word}
+use Rattle.kw_world.specs.Table.{transition}
+use Rattle.kw_world.specs.WalkTransitions.{offered}
+use Rattle.kw_world.specs.WorldView.{WorldView}
+use Rattle.kw_core.specs.Events.{event, is_valid, may_step, world}
+use Rattle.kw_core.specs.History.{History}
+use Rattle.kw_core.specs.Run.{Run, goes_on, history, logged, noted_by, start}
+use Rattle.kw_core.proofs.Events.{may_come, world-nil, world-snoc}
+use Rattle.kw_core.proofs.Happens.{Happens, each_seat, happens}
+use Rattle.kw_core.proofs.Runs.{goes_on-moved, goes_on-world}
+use Rattle.kw_rows.specs.Ledger.{Dead, Fate, Free, IsDead, Live}
+use Rattle.kw_rows.specs.Rows.{WasLinked}
 use Rattle.kw_shape.proofs.FollowRows.{live_met}
-use Rattle.kw_shape.proofs.RowsStay.{fresh_linked, still_live}
-use Rattle.kw_shape.proofs.ShapeHolds.{shape_holds}
 use Rattle.kw_shape.specs.MetRows.{IsMet}
-use Rattle.kw_laws.specs.Live.{WasMet, AreLive}
-use Rattle.kw_laws.proofs.Occurs.{occurs_within}
+use Rattle.kw_shape.specs.Shape.{Walks}
+use Rattle.kw_reads.specs.Contents.{IsLater, IsSince}
+use Rattle.kw_reads.specs.Inv.{Inv}
+use Rattle.kw_reads.proofs.Keeps.{inv_goes_on}
+use Rattle.kw_reads.proofs.Opens.{inv_start}
+use Rattle.kw_laws.specs.Live.{AreLive, WasMet}
+use Rattle.kw_laws.specs.Mirror.{Occurs}
+use Rattle.kw_laws.proofs.Along.{holds_along}
+use Rattle.kw_shape.proofs.LinkedRows.{ComesNow, GoesNow, linked_before, linked_fate}
+use Rattle.kw_reads.proofs.Later.{at_row_has, later_by}
+use Rattle.kw_reads.proofs.Floors.{IsOnWay, row_from}
+use Rattle.kw_reads.proofs.LaterKeeps.{later_if, later_lasts}
+use Rattle.kw_laws.proofs.Occurs.{occurs_now, occurs_was, occurs_within}
 
--- a row that is met now, since a position of the list
-met_now : (z : Sizes) (o : Opening) (es : List Event) (q since : ℕ) → since ≤ length es → IsMet (word z (world z o es)) q → WasMet z o es q since
-met_now z o es q since s m =
-    let i : length es ≤ length es = omega arith in
-    record { at = length es; not_before = s; within = i; met = subst (λ xs. IsMet (word z (world z o xs)) q) (sym (take_all (length es) es i)) m }
+-- a row that went at this position of the list was met where it went
+record DiedMet (z : Sizes) (o : Opening) (es : List Event) (q gone : ℕ) : Type 0 where
+  within : gone ≤ length es
+  met : IsMet (word z (world z o (take gone es))) q
 
-pub lives : (z : Sizes) (o : Opening) → IsOpening z o → (es : List Event) → is_valid z o es ≡ true → AreLive z o es
-lives z o i es v t l g a = record {
-  passed = λ e since s. met_now z o es l.row since (omega (arith, occurs_within z o es since s.acts.before (event t s.acts.choice) s.acts.occurs)) met;
-  drew = λ e since d. met_now z o es l.row since (omega (arith, occurs_within z o es since d.acts.before (event t d.acts.choice) d.acts.occurs)) met;
+-- at position u the seat makes an event, and is not on its way
+record IsOff (z : Sizes) (o : Opening) (es : List Event) (u t : ℕ) : Type 0 where
+  before : WorldView
+  choice : Choice
+  local : Local
+  occurs : Occurs z o es u before (event t choice)
+  knows : slice_get before.locals t ≡ Some local
+  off : IsOnWay local.activity → ⊥
+
+-- what is kept along a list: dead rows were met where they went, and none of the rows that a walk names went before the walk began
+record Follows (z : Sizes) (o : Opening) (es : List Event) (r : Run) : Type 0 where
+  inv : Inv z r
+  world : world z o es ≡ r.world
+  now : length r.history.log ≡ length es
+  died : (q : ℕ) → IsDead r.ledger.rows q → DiedMet z o es q (r.ledger.rows.fates q).gone
+  later : (t u : ℕ) (l : Local) → slice_get r.world.locals t ≡ Some l → IsOff z o es u t → IsLater r.ledger.rows u l.activity l
+
+-- One more event.
+
+module _ (z : Sizes) (o : Opening) (es : List Event) (e : Event) where
+  -- what was met at a position of the shorter list
+  met_lasts : (q gone : ℕ) → DiedMet z o es q gone → DiedMet z o (es ++ e ∷ []) q gone
+  met_lasts q gone d = record {
+    within = omega (arith, d.within, length-append es (e ∷ []));
+    met = subst (λ xs. IsMet (word z (world z o xs)) q) (sym (take-append-le gone es (e ∷ []) d.within)) d.met;
+  }
+
+module _ (z : Sizes) (o : Opening) (es : List Event) (e : Event) (r r' : Run) (l l' : Local) (a : Activity) (h : Happens z r r' e.seat (offered r.world.rows e.choice) l l' a) (k : Follows z o es r) where
+  -- a row that goes now is met now
+  met_now : (q gone : ℕ) → gone ≡ length r.history.log → IsMet (word z r.world) q → DiedMet z o (es ++ e ∷ []) q gone
+  met_now q gone n m =
+      let f : gone ≡ length es = n ∙ k.now in
+      record {
+        within = omega (arith, f, length-append es (e ∷ []));
+        met = subst (λ w. IsMet (word z w) q) (sym (ap (λ x. world z o (take x (es ++ e ∷ []))) f ∙ (occurs_now z o es e).before ∙ k.world)) m;
+      }
+
+  -- a dead row was so before, or goes now
+  died_keeps : (q : ℕ) → IsDead r'.ledger.rows q → DiedMet z o (es ++ e ∷ []) q (r'.ledger.rows.fates q).gone
+  died_keeps q d = was (linked_before a h k.inv.shape q (inr d))
+    where
+      dead : (r'.ledger.rows.fates q ≡ r.ledger.rows.fates q) ⊎ GoesNow r.ledger.rows r'.ledger.rows e.seat (length r.history.log) q → DiedMet z o (es ++ e ∷ []) q (r'.ledger.rows.fates q).gone
+      dead (inl f) = subst (λ (x : Fate). DiedMet z o (es ++ e ∷ []) q x.gone) (sym f) (met_lasts z o es e q (r.ledger.rows.fates q).gone (k.died q (ap (λ (x : Fate). x.status) (sym f) ∙ d)))
+      dead (inr n) = met_now q (r'.ledger.rows.fates q).gone (ap (λ (x : Fate). x.gone) n.fate) (live_met (word z r.world) r.ledger.rows k.inv.shape.rows.chain q n.live)
+
+      was : WasLinked r.ledger.rows q ⊎ ComesNow (word z r.world) r.ledger.rows r'.ledger.rows e.seat (length r.history.log) l a q → DiedMet z o (es ++ e ∷ []) q (r'.ledger.rows.fates q).gone
+      was (inl x) = dead (linked_fate a h k.inv.shape q x)
+      was (inr n) = let x : Live ≡ Dead = ap (λ (f : Fate). f.status) (sym n.fate) ∙ d in absurd (cc)
+
+  -- the rows that the walk of a seat names after it
+  later_on : (t u : ℕ) (m : Local) → slice_get r'.world.locals t ≡ Some m → IsOff z o (es ++ e ∷ []) u t → IsLater r'.ledger.rows u m.activity m
+  later_on t u m g w = each_seat h (λ v n. IsOff z o (es ++ e ∷ []) u v → IsLater r'.ledger.rows u n.activity n) own others t m g w
+    where
+      -- a seat was not on its way before the event, or it is the one that acts, and is not so now
+      was : (v : ℕ) → IsOff z o (es ++ e ∷ []) u v → IsOff z o es u v ⊎ ((e.seat ≡ v) × (v ≡ e.seat → IsOnWay a → ⊥))
+      was v x = which (occurs_was z o es e u x.before (event v x.choice) x.occurs)
+        where
+          which : Occurs z o es u x.before (event v x.choice) ⊎ ((u ≡ length es) × (e ≡ event v x.choice) × (world z o es ≡ x.before)) → IsOff z o es u v ⊎ ((e.seat ≡ v) × (v ≡ e.seat → IsOnWay a → ⊥))
+          which (inl y) = inl (record { before = x.before; choice = x.choice; local = x.local; occurs = y; knows = x.knows; off = x.off })
+          which (inr y) = inr (
+            ap (λ (d : Event). d.seat) y.1,
+            λ f b.
+                let n : slice_get r.world.locals e.seat ≡ Some x.local = subst (λ (d : WorldView). slice_get d.locals e.seat ≡ Some x.local) (sym y.2 ∙ k.world) (subst (λ d. slice_get x.before.locals d ≡ Some x.local) f x.knows) in
+                x.off (subst IsOnWay (sym (ap (λ (d : Local). d.activity) (same_Some x.local l (sym n ∙ h.knows)) ∙ h.activity)) b),
+          )
+
+      old : (v : ℕ) → IsOff z o es u v → u < length r.history.log
+      old v x = omega (arith, k.now, occurs_within z o es u x.before (event v x.choice) x.occurs)
+
+      walks : Walks (word z r.world) r.ledger.rows e.seat a l
+      walks = subst (λ b. Walks (word z r.world) r.ledger.rows e.seat b l) h.activity (k.inv.shape.walks e.seat l h.knows)
+
+      own : IsOff z o (es ++ e ∷ []) u e.seat → IsLater r'.ledger.rows u l'.activity l'
+      own x = which (was e.seat x)
+        where
+          which : IsOff z o es u e.seat ⊎ ((e.seat ≡ e.seat) × (e.seat ≡ e.seat → IsOnWay a → ⊥)) → IsLater r'.ledger.rows u l'.activity l'
+          which (inl y) = later_lasts a h k.inv u l'.activity l' (old e.seat y) (later_by z (word z r.world) r.ledger.rows e.seat (offered r.world.rows e.choice) l a l' u h.arrow k.inv.shape.rows walks (subst (λ c. IsLater r.ledger.rows u c l) h.activity (k.later e.seat u l h.knows y)))
+          which (inr y) = later_if z r' u l'.activity l' (λ b. absurd (y.1 refl (row_from z (word z r.world) e.seat (offered r.world.rows e.choice) l a l' h.arrow b).0))
+
+      others : (v : ℕ) (n : Local) → v ≢ e.seat → slice_get r.world.locals v ≡ Some n → IsOff z o (es ++ e ∷ []) u v → IsLater r'.ledger.rows u n.activity n
+      others v n d f x = which (was v x)
+        where
+          which : IsOff z o es u v ⊎ ((e.seat ≡ v) × (v ≡ e.seat → IsOnWay a → ⊥)) → IsLater r'.ledger.rows u n.activity n
+          which (inl y) = later_lasts a h k.inv u n.activity n (old v y) (k.later v u n f y)
+          which (inr y) = absurd (d (sym y.0))
+
+  -- all of it after the event
+  follows : Inv z r' → world z o (es ++ e ∷ []) ≡ r'.world → Follows z o (es ++ e ∷ []) r'
+  follows i w = record {
+    inv = i;
+    world = w;
+    now = let x = ap (λ (y : History). length y.log) h.history in omega (arith, x, length-append r.history.log (logged e.seat (transition z a e.seat (offered r.world.rows e.choice) l).operation.kind (word z r.world name.Clock) ∷ []), length-append es (e ∷ []), k.now);
+    died = died_keeps;
+    later = later_on;
+  }
+
+-- one event that may come
+follows_on : (z : Sizes) (o : Opening) (es : List Event) (e : Event) (r : Run) → may_step o r.world e ≡ true → Follows z o es r → Follows z o (es ++ e ∷ []) (goes_on z r e)
+follows_on z o es e r may k =
+    let c = may_come o r.world e may in
+    let noted : goes_on z r e ≡ noted_by z r e c.local = goes_on-moved z r e c.local c.knows c.moves in
+    let w : world z o (es ++ e ∷ []) ≡ (goes_on z r e).world = world-snoc z o es e ∙ ap (λ (x : WorldView). (step z x e).world) k.world ∙ sym (goes_on-world z r e) in
+    let h = happens z r e c.local k.inv.shape.sane (k.inv.shape.kinds e.seat c.local c.knows).reached c.begins c.knows c.moves in
+    subst (Follows z o (es ++ e ∷ [])) (sym noted) (follows z o es e r (noted_by z r e c.local) c.local _ c.local.activity h k (subst (Inv z) noted (inv_goes_on z o r e may k.inv)) (w ∙ ap (λ (x : Run). x.world) noted))
+
+-- no event
+follows_start : (z : Sizes) (o : Opening) → IsOpening z o → Follows z o [] (start z o)
+follows_start z o opening = record {
+  inv = inv_start z o opening;
+  world = world-nil z o;
+  now = refl;
+  died = none_dead;
+  later = λ t u l g x. absurd (nothing _ x.occurs.stands);
 }
   where
-    met : IsMet (word z (world z o es)) l.row
-    met =
-        let s = shape_holds z o es i v in
-        let r = history z o es in
-        let e = history-world z o es in
-        let at = (s.walks t l (subst (λ w. slice_get w.locals t ≡ Some l) (sym e) g)).at a in
-        let live = still_live r.ledger.rows l.row (s.still l.row) (fresh_linked r.ledger.rows t l.row at.fresh) in
-        subst (λ w. IsMet (word z w) l.row) e (live_met (word z r.world) r.ledger.rows s.rows.chain l.row live)
+    nothing : (e : Event) → None ≡ Some e → ⊥
+    nothing e g = cc
+
+    none_dead : (q : ℕ) → IsDead (start z o).ledger.rows q → DiedMet z o [] q ((start z o).ledger.rows.fates q).gone
+    none_dead zero d = let x : Live ≡ Dead = d in absurd (cc)
+    none_dead (suc q) d = let x : Free ≡ Dead = d in absurd (cc)
+
+-- the row of each seat that has arrived
+pub lives : (z : Sizes) (o : Opening) → IsOpening z o → (es : List Event) → is_valid z o es ≡ true → AreLive z o es
+lives z o i es v t l g a = record {
+  passed = λ c u p. met u (known u (record { before = p.acts.before; choice = p.acts.choice; local = p.acts.local; occurs = p.acts.occurs; knows = p.acts.knows; off = λ y. subst IsOnWay p.acts.activity y })) (occurs_within z o es u p.acts.before (event t p.acts.choice) p.acts.occurs);
+  drew = λ c u d. met u (known u (record { before = d.acts.before; choice = d.acts.choice; local = d.acts.local; occurs = d.acts.occurs; knows = d.acts.knows; off = λ y. subst IsOnWay d.acts.activity y })) (occurs_within z o es u d.acts.before (event t d.acts.choice) d.acts.occurs);
+}
+  where
+    k : Follows z o es (history z o es)
+    k = holds_along z o (Follows z o) (follows_on z o) (follows_start z o i) es v
+
+    known : (u : ℕ) → IsOff z o es u t → IsSince (history z o es).ledger.rows u l.row
+    known u x = (k.later t u l (subst (λ (w : WorldView). slice_get w.locals t ≡ Some l) k.world g) x).row (at_row_has l.activity a)
+
+    met : (u : ℕ) → IsSince (history z o es).ledger.rows u l.row → u < length es → WasMet z o es l.row u
+    met u (inl y) w =
+        let n : length es ≤ length es = omega arith in
+        record {
+          at = length es;
+          not_before = omega (arith, w);
+          within = n;
+          met = subst (λ x. IsMet (word z x) l.row) (sym (ap (world z o) (take_all (length es) es n) ∙ k.world)) (live_met (word z (history z o es).world) (history z o es).ledger.rows k.inv.shape.rows.chain l.row y);
+        }
+    met u (inr y) w = let d = k.died l.row y.0 in record { at = ((history z o es).ledger.rows.fates l.row).gone; not_before = omega (arith, y.1); within = d.within; met = d.met }

@@ -17,14 +17,15 @@ use Rattle.kw_core.specs.declared.history.Attempt.{Attempt}
 use Rattle.kw_core.specs.declared.history.End.{End}
 use Rattle.kw_core.specs.History.{attempt, called}
 use Rattle.kw_core.specs.Run.{Run}
-use Rattle.kw_core.specs.Stages.{IsBusy, IsPutting, HasMet, IsStamp, IsHelp}
-use Rattle.kw_puts.specs.Puts.{OwnsAttempt, Helps}
+use Rattle.kw_core.specs.Stages.{IsBusy, IsPutting, IsStamp, IsHelp}
+use Rattle.kw_puts.specs.Puts.{OwnsAttempt}
 use Rattle.kw_puts.specs.Positions.{Calling}
 use Rattle.kw_reads.specs.Inv.{Inv}
 use Rattle.kw_laws.specs.Mirror.{Acts, TakesCell, StampedBy, StampedAt, MirrorsAttempt, NoLoad, announcing, stamping, operation}
 use Rattle.kw_core.proofs.Happens.{Happens}
 use Rattle.kw_core.proofs.Changes.{made}
 use Rattle.kw_core.proofs.RoomBelow.{room_below}
+use Rattle.kw_puts.proofs.Owners.{entry_owner, published_puts}
 use Rattle.kw_puts.proofs.Rely.{SameAttempt}
 use Rattle.kw_reads.proofs.Relying.{goes_on_by}
 use Rattle.kw_core.proofs.Steps.{old_call, none_some}
@@ -89,11 +90,13 @@ module _ (z : Sizes) (o : Opening) (es : List Event) (e : Event) (r r' : Run) (l
         last = rw seat (no_load_lasts z o es e e.seat (r.seats e.seat).loaded (length r.history.log) (omega (arith, k.mirrors.events)) (subst (NoLoad z o es e.seat (r.seats e.seat).loaded) (sym k.mirrors.events) (k.loads e.seat)));
       }
   stamped_so p w (is_helped is origin pending f) =
-      let q : Helps r.history r.origin l.activity l (r.seats e.seat) = i.puts.helps e.seat l h.knows (subst HasMet (sym (h.activity ∙ is)) tt) in
-      let place = i.puts.places.owner l.row l.met p origin in
-      let same : q.put ≡ p = same_Some q.put p (sym q.origin ∙ origin) in
-      let seat : (attempt r.history p).seat ≡ l.looked = ap (λ x. (attempt r.history x).seat) (sym same) ∙ q.seat in
-      subst StampedSo (sym f) (λ x. inr (e.seat, by_helper p place.row place.cell seat is pending))
+      let known = i.shape.sane.locals e.seat l h.knows in
+      let t = entry_owner i.puts l.row l.looked l.met known.below.row known.ranges.looked pending in
+      let q : OwnsAttempt (word z r.world) r.history l.looked t.local.activity t.local (r.seats l.looked) = i.puts.owns l.looked t.local t.knows (published_puts t.local.activity t.published) in
+      let row : (attempt r.history (r.seats l.looked).own).row ≡ l.row = q.row ∙ t.row in
+      let same : (r.seats l.looked).own ≡ p = same_Some _ p (sym (i.puts.given (r.seats l.looked).own q.within).origin ∙ ap (λ x. r.origin x (attempt r.history (r.seats l.looked).own).cell) row ∙ ap (r.origin l.row) t.cell ∙ origin) in
+      let at = λ (P : ℕ → Type 0) (x : P (r.seats l.looked).own). subst P same x in
+      subst StampedSo (sym f) (λ x. inr (e.seat, by_helper p (at (λ y. (attempt r.history y).row ≡ l.row) row) (at (λ y. (attempt r.history y).cell ≡ l.met) t.cell) (at (λ y. (attempt r.history y).seat ≡ l.looked) q.seat) is pending))
     where
       by_helper : (p : ℕ) → (attempt r.history p).row ≡ l.row → (attempt r.history p).cell ≡ l.met → (attempt r.history p).seat ≡ l.looked → a ≡ LookHelp → word z r.world (name.Pend l.row l.looked) ≡ pend_word (pend.Pending l.met) →
           StampedBy z o (es ++ e ∷ []) (record (attempt r.history p) { is_stamped = true; version = l.helping; load = (r.seats e.seat).loaded; at = length r.history.log }) e.seat LookHelp LookClock kind.HelpStamp

@@ -1,27 +1,27 @@
 -- The record mirrors the events of every valid list, by one induction from the front.
-use Rattle.std.proofs.Common.{◌≡◌, true, Some, None, List, [], ◌∷◌, ◌++◌, arith, refl, sym, ◌∙◌, ap, subst, append_assoc, append-nil}
-use Rattle.std.proofs.lemmas.Bool.{and_parts}
+use Rattle.std.proofs.Common.{◌≡◌, true, Some, None, List, [], ◌∷◌, ◌++◌, arith, refl, sym, ◌∙◌, ap, subst}
 use Rattle.kw_world.specs.declared.activity.Activity.{Activity}
 use Rattle.kw_world.specs.declared.local.Local.{Local}
 use Rattle.kw_world.specs.declared.event.Event.{Event}
 use Rattle.kw_world.specs.declared.opening.Opening.{Opening}
 use Rattle.kw_world.specs.Sizes.{Sizes}
 use Rattle.kw_world.specs.WorldView.{WorldView}
-use Rattle.kw_world.specs.Opening.{IsOpening, opened}
+use Rattle.kw_world.specs.Opening.{IsOpening}
 use Rattle.kw_world.specs.WalkTransitions.{offered}
 use Rattle.kw_world.specs.Step.{step}
-use Rattle.kw_core.specs.Events.{world, may_step, is_valid_from, is_valid}
-use Rattle.kw_core.specs.Run.{Run, goes_on, noted_by, run, start, history}
+use Rattle.kw_core.specs.Events.{world, may_step, is_valid}
+use Rattle.kw_core.specs.Run.{Run, goes_on, noted_by, start, history}
 use Rattle.kw_core.specs.Stages.{IsStamp, IsHelp}
 use Rattle.kw_core.specs.Step.{Keeps}
 use Rattle.kw_reads.specs.Inv.{Inv}
 use Rattle.kw_laws.specs.Mirror.{Mirrors}
 use Rattle.kw_core.proofs.Events.{may_come, world-snoc, world-nil}
-use Rattle.kw_core.proofs.Runs.{goes_on-world, goes_on-moved}
+use Rattle.kw_core.proofs.Runs.{goes_on-world, goes_on-moved, history-snoc}
 use Rattle.kw_core.proofs.Happens.{Happens, happens}
 use Rattle.kw_reads.proofs.Keeps.{inv_goes_on}
 use Rattle.kw_shape.proofs.ShapeOpens.{all_resting}
 use Rattle.kw_reads.proofs.Opens.{inv_start}
+use Rattle.kw_laws.proofs.Along.{holds_along}
 use Rattle.kw_laws.proofs.Mirroring.{Kept, events_keep, log_keeps}
 use Rattle.kw_laws.proofs.MirrorSeats.{begun-nil, numbers_keep, running_keeps, loads_keep, stamp_keeps, help_keeps}
 use Rattle.kw_laws.proofs.MirrorAttempts.{attempts_keep}
@@ -52,21 +52,25 @@ kept z o es e r r' l l' a h i j k w = record {
   help = help_keeps z o es e r r' l l' a h k;
 }
 
--- the mirror, and what draws and answers are
+-- what every event keeps, the mirror, and what draws and answers are
 record Whole (z : Sizes) (o : Opening) (es : List Event) (r : Run) : Type 0 where
+  inv : Inv z r
   kept : Kept z o es r
   reads : KeptReads z o es r
 
 -- one event that may come
-kept_goes_on : (z : Sizes) (o : Opening) (es : List Event) (e : Event) (r : Run) → may_step o r.world e ≡ true → Inv z r → Inv z (goes_on z r e) → Whole z o es r → Whole z o (es ++ e ∷ []) (goes_on z r e)
-kept_goes_on z o es e r may i j k =
+kept_goes_on : (z : Sizes) (o : Opening) (es : List Event) (e : Event) (r : Run) → may_step o r.world e ≡ true → Whole z o es r → Whole z o (es ++ e ∷ []) (goes_on z r e)
+kept_goes_on z o es e r may k =
+    let i = k.inv in
+    let j = inv_goes_on z o r e may i in
     let c = may_come o r.world e may in
     let noted : goes_on z r e ≡ noted_by z r e c.local = goes_on-moved z r e c.local c.knows c.moves in
     let w : world z o (es ++ e ∷ []) ≡ (goes_on z r e).world = world-snoc z o es e ∙ ap (λ (x : WorldView). (step z x e).world) k.kept.world ∙ sym (goes_on-world z r e) in
     let h = happens z r e c.local i.shape.sane (i.shape.kinds e.seat c.local c.knows).reached c.begins c.knows c.moves in
     subst (Whole z o (es ++ e ∷ [])) (sym noted) (record {
+      inv = subst (Inv z) noted j;
       kept = kept z o es e r (noted_by z r e c.local) c.local _ c.local.activity h i (subst (λ (x : Run). Keeps x.history) noted j.history) k.kept (w ∙ ap (λ (x : Run). x.world) noted);
-      reads = kept_reads z o es e r (noted_by z r e c.local) c.local _ c.local.activity h i k.kept k.reads;
+      reads = kept_reads z o es e r (noted_by z r e c.local) c.local _ c.local.activity h i k.kept k.reads (history-snoc z o es e ∙ ap (λ x. goes_on z x e) k.reads.led ∙ noted);
     })
 
 -- no event
@@ -93,21 +97,9 @@ kept_start z o = record {
     nothing : (e : Event) → None ≡ Some e → ⊥
     nothing e g = cc
 
--- along a valid list
-kept_along : (z : Sizes) (o : Opening) (xs : List Event) (r : Run) (w : WorldView) (es : List Event) → r.world ≡ w → is_valid_from z o w es ≡ true → Inv z r → Whole z o xs r → Whole z o (xs ++ es) (run z r es)
-unfolding run is_valid_from
-kept_along z o xs r w [] is ok i k = subst (λ q. Whole z o q r) (sym (append-nil xs)) k
-kept_along z o xs r w (e ∷ es) is ok i k =
-    let t = and_parts (may_step o w e) (is_valid_from z o (step z w e).world es) ok in
-    let may : may_step o r.world e ≡ true = subst (λ x. may_step o x e ≡ true) (sym is) t.0 in
-    let j = inv_goes_on z o r e may i in
-    subst (λ q. Whole z o q (run z (goes_on z r e) es)) (append_assoc xs (e ∷ []) es)
-    (kept_along z o (xs ++ e ∷ []) (goes_on z r e) (step z w e).world es (goes_on-world z r e ∙ ap (λ x. (step z x e).world) is) t.1 j (kept_goes_on z o xs e r may i j k))
-
 -- every valid list from an opening
 whole_holds : (z : Sizes) (o : Opening) → IsOpening z o → (es : List Event) → is_valid z o es ≡ true → Whole z o es (history z o es)
-unfolding history is_valid
-whole_holds z o opening es ok = kept_along z o [] (start z o) (opened z o) es refl ok (inv_start z o opening) (record { kept = kept_start z o; reads = reads_start z o })
+whole_holds z o opening = holds_along z o (Whole z o) (kept_goes_on z o) (record { inv = inv_start z o opening; kept = kept_start z o; reads = reads_start z o })
 
 -- its record mirrors its events
 pub mirrors_hold : (z : Sizes) (o : Opening) → IsOpening z o → (es : List Event) → is_valid z o es ≡ true → Mirrors z o es (history z o es).history

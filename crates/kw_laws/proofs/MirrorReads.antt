@@ -1,13 +1,12 @@
 -- That the record says of draws and answers what the events say, kept along a list: beside the mirror, where each scan drew and settled, and
 -- of each busy seat where it read the cells that it has gathered.
 use Rattle.std.proofs.Common.{ℕ, ◌≡◌, ◌⊎◌, inl, inr, ◌<◌, ◌==◌, Bool, true, false, Option, Some, None, List, [], ◌∷◌, ◌++◌, arith, refl, sym, ◌∙◌, ap, subst, length, slice_get, if◌then◌else◌, unwrap_or, Contains}
-use Rattle.std.specs.Prelude.{insert}
+use Rattle.std.specs.Prelude.{insert, take}
+use Rattle.std.proofs.lemmas.List.{take_at, take-append-le}
 use Rattle.kw_core.proofs.Marks.{contains_back}
 use Rattle.std.proofs.lemmas.Option.{same_Some}
 use Rattle.kw_words.specs.declared.kind.Kind.TheVariants as kind
 use Rattle.kw_words.specs.declared.layout.Name.TheVariants as name
-use Rattle.kw_words.specs.declared.scan.ScanWord.TheVariants.{Waiting}
-use Rattle.kw_words.specs.Scan.{scan_word}
 use Rattle.kw_cells.specs.declared.cell.Cell as kw_cell
 use Rattle.kw_cells.specs.Cells.{best_of}
 use Rattle.kw_model.specs.declared.call.Call.{Call}
@@ -16,14 +15,14 @@ use Rattle.kw_world.specs.declared.answer.Answer.{Answer}
 use Rattle.kw_model.specs.declared.call.Reply.TheVariants as reply
 use Rattle.kw_world.specs.declared.answer.Answer.TheVariants.{Done, Value, Absent, Pairs, NoRows, Spent, Stopped}
 use Rattle.kw_world.specs.declared.activity.Activity.{Activity}
-use Rattle.kw_world.specs.declared.activity.Activity.TheVariants.{Idle, ScanDraw, ScanSettle, Look, ListFrom, ListKey, ListVal, RestKey, RestVal, PutAdd, Leave}
+use Rattle.kw_world.specs.declared.activity.Activity.TheVariants.{Idle, ScanSettle, Look, ListFrom, ListKey, ListVal, RestKey, RestVal, PutAdd, Leave}
 use Rattle.kw_world.specs.declared.event.Choice.{Choice}
 use Rattle.kw_world.specs.declared.event.Choice.TheVariants.{Begin, Go, Guess, Stop}
 use Rattle.kw_world.specs.declared.event.Event.{Event}
 use Rattle.kw_world.specs.declared.limits.TheConstants.{NEWEST}
 use Rattle.kw_world.specs.declared.local.Local.{Local}
 use Rattle.kw_world.specs.declared.opening.Opening.{Opening}
-use Rattle.kw_world.specs.declared.operation.Action.TheVariants.{Load, Add}
+use Rattle.kw_world.specs.declared.operation.Action.TheVariants.{Load}
 use Rattle.kw_world.specs.Calls.{is_scan}
 use Rattle.kw_world.specs.PutTransitions.{has_room}
 use Rattle.kw_world.specs.WalkTransitions.{offered}
@@ -31,25 +30,23 @@ use Rattle.kw_world.specs.Sizes.{Sizes}
 use Rattle.kw_world.specs.Step.{word, is_skipped}
 use Rattle.kw_words.specs.Count.{count_of}
 use Rattle.kw_core.specs.declared.history.CallLog.{CallLog}
-use Rattle.kw_core.specs.declared.history.Drawn as history
+use Rattle.kw_core.specs.declared.history.Drawn as drawn
 use Rattle.kw_core.specs.declared.seat_log.SeatLog.{SeatLog}
 use Rattle.kw_core.specs.History.{History, attempt, called}
 use Rattle.kw_core.specs.Run.{Run, Origins, seat_after, is_at_cell, log_gathered, place_gathered, id_at, id_of, answering, drawing}
-use Rattle.kw_core.specs.Stages.{IsBusy, IsUnderway, IsTaking, IsSettling, HasDrawn, HasPlace}
+use Rattle.kw_core.specs.Stages.{IsBusy, IsUnderway, IsTaking, HasDrawn, HasPlace}
 use Rattle.kw_core.proofs.Changes.{made}
 use Rattle.kw_core.proofs.Happens.{Happens, each_seat}
 use Rattle.kw_shape.specs.Shape.{IsKind, IsAnswerOf}
-use Rattle.kw_puts.specs.Puts.{HasCell}
 use Rattle.kw_puts.specs.Positions.{Calling}
 use Rattle.kw_core.proofs.SeatLogs.{settled_same}
-use Rattle.kw_puts.proofs.OwnScans.{drawn_from, not_idle_drawn, draws_no_more, drawn_underway, settling_waits, was_scan, drawn_kept, settle, has_drawn}
 use Rattle.kw_puts.proofs.Rely.{GoesOn}
 use Rattle.kw_reads.specs.Inv.{Inv, lower}
 use Rattle.kw_reads.specs.Readers.{IsInHand}
 use Rattle.kw_reads.proofs.HistoryKeeps.{history_step}
 use Rattle.kw_reads.proofs.Relying.{goes_on_by}
 use Rattle.kw_laws.specs.Mirror.{Acts, operation}
-use Rattle.kw_laws.specs.MirrorReads.{HasSettled, IsLoadingValue, HasRead, MirrorsReads, settling}
+use Rattle.kw_laws.specs.MirrorReads.{HasSettled, IsLoadingValue, HasRead, MirrorsReads}
 use Rattle.kw_laws.proofs.Mirroring.{Kept, acts_here}
 use Rattle.kw_laws.proofs.MirrorScans.{KeptScans, settled_lasts, scans_keep, scans_start}
 use Rattle.kw_laws.proofs.Occurs.{occurs_within, acts_lasts}
@@ -57,13 +54,17 @@ use Rattle.kw_laws.proofs.Over.{CallOver, goes_on, is_ended, IsCallNow, call_ove
 use Rattle.std.proofs.Common.{suc}
 use Rattle.kw_core.specs.Words.{Words}
 use Rattle.kw_core.specs.Step.{Step}
-use Rattle.kw_core.specs.Run.{start}
-use Rattle.kw_core.specs.Stages.{IsWaiting}
-use Rattle.kw_core.proofs.Building.{never_built}
+use Rattle.kw_core.specs.Run.{start, history}
+use Rattle.kw_core.proofs.Building.{IsBuilding}
 use Rattle.kw_core.proofs.Arrows.{builds, Arrow, begins, leaves}
 use Rattle.kw_core.proofs.Happens.{found_at, log_entry}
 use Rattle.kw_puts.proofs.OwnScans.{call_first}
-use Rattle.kw_puts.proofs.Rely.{SameAttempt}
+use Rattle.kw_core.proofs.Runs.{history-nil}
+use Rattle.kw_core.proofs.Steps.{stamped_within}
+use Rattle.kw_rows.specs.Ledger.{Ledger}
+use Rattle.kw_reads.proofs.ApartKeeps.{place_below}
+use Rattle.kw_reads.proofs.BuiltReads.{taking_reads}
+use Rattle.kw_reads.proofs.WalksKeep.{row_linked}
 use Rattle.kw_reads.proofs.CellsKeep.{cells_before, value_stands}
 use Rattle.kw_shape.proofs.ShapeOpens.{all_resting}
 use Rattle.std.proofs.Common.{length-append, ◌≤◌}
@@ -71,18 +72,19 @@ use Rattle.kw_core.specs.declared.history.End.{End}
 use Rattle.kw_core.specs.HistoryLaws.{HistoryLaws, Got, shows, answer_of}
 use Rattle.kw_laws.specs.MirrorReads.{AnswersFrom, GetsRead}
 
--- the draws and the answers of the record; the draws and the settles of the scans; and of a busy seat the loads of the values that it has
--- gathered
+-- the run is that of the list; the draws and the answers of the record; the draws and the settles of the scans; and of a busy seat the loads
+-- of the values that it has gathered
 pub record KeptReads (z : Sizes) (o : Opening) (es : List Event) (r : Run) : Type 0 where
+  pub led : history z o es ≡ r
   pub mirrors : MirrorsReads z o es r.history
   pub scans : KeptScans z o es r
   pub reads : (t : ℕ) (l : Local) → slice_get r.world.locals t ≡ Some l → IsBusy l.activity → (p : ℕ) → Contains (r.seats t).ids p → HasRead z o es r.history t (called r.history (r.seats t).call).first (length es) p
 
 -- What lasts.
 
-read_lasts : (z : Sizes) (o : Opening) (es : List Event) (e : Event) (h h' : History) (og og' : Origins) (s first last till p : ℕ) → last ≤ till → GoesOn h h' og og' → HasRead z o es h s first last p → HasRead z o (es ++ e ∷ []) h' s first till p
-read_lasts z o es e h h' og og' s first last till p w g t =
-    let same = g.attempts p t.within in
+read_lasts : (z : Sizes) (o : Opening) (es : List Event) (e : Event) (h h' : History) (og og' : Origins) (y : Ledger) (s first last till p : ℕ) → last ≤ till → GoesOn h h' og og' y → HasRead z o es h s first last p → HasRead z o (es ++ e ∷ []) h' s first till p
+read_lasts z o es e h h' og og' y s first last till p w g t =
+    let i : t.at ≤ length es = omega (arith, occurs_within z o es t.at t.acts.before _ t.acts.occurs) in
     record {
       within = omega (arith, t.within, g.more_attempts);
       at = t.at;
@@ -91,8 +93,11 @@ read_lasts z o es e h h' og og' s first last till p w g t =
       found = t.found;
       activity = t.activity;
       loads = t.loads;
-      acts = rw (same.row, same.cell) (acts_lasts z o es e t.at s _ _ _ t.acts);
-      value = t.value ∙ sym same.value;
+      row = t.row;
+      cell = t.cell;
+      origin = ap (λ xs. (history z o xs).origin t.row t.cell) (take-append-le t.at es (e ∷ []) i) ∙ t.origin;
+      acts = acts_lasts z o es e t.at s _ _ _ t.acts;
+      value = t.value ∙ sym (g.attempts p t.within).value;
     }
 
 -- The attempts beside gathered cells.
@@ -158,9 +163,15 @@ module _ (z : Sizes) (choice : Choice) (l : Local) (found : ℕ) (next : Activit
   ids_after PutAdd m = inr (inl (tt, left g.ids (has_room z (count_of found)) (record g { own = length h.attempts }) g refl refl))
   ids_after _ m = inr (inl (tt, refl))
 
+-- a seat that builds rows is in its call
+building_underway : (a : Activity) → IsBuilding a → IsUnderway a
+building_underway Idle y = absurd y
+building_underway (Leave answer) y = absurd y
+building_underway _ y = tt
+
 -- a seat that makes a call before and after its event is in it
 stays_busy : (z : Sizes) (v : Words) (s : ℕ) (choice : Choice) (l : Local) (a : Activity) (k : Local) → Arrow z v s choice l a k → IsBusy a → IsBusy k.activity → IsUnderway a
-stays_busy z v s choice l a k (builds act next y o t) b c = never_built z act y o
+stays_busy z v s choice l a k (builds act next y o t) b c = building_underway act y
 stays_busy z v s choice l a k (begins call e m) b c = absurd b
 stays_busy z v s choice l a k (leaves answer) b c = absurd c
 stays_busy z v s choice l a k _ b c = tt
@@ -196,7 +207,7 @@ module _ (z : Sizes) (o : Opening) (es : List Event) (e : Event) (r r' : Run) (l
   step : Step r.history r'.history (log_entry z r a e.seat (offered r.world.rows e.choice) l)
   step = history_step z r r' e.seat (offered r.world.rows e.choice) l a l' h i
 
-  goes : GoesOn r.history r'.history r.origin r'.origin
+  goes : GoesOn r.history r'.history r.origin r'.origin r.ledger.rows
   goes = goes_on_by z r r' e.seat (offered r.world.rows e.choice) l a l' h i
 
   -- the list is longer
@@ -209,20 +220,23 @@ module _ (z : Sizes) (o : Opening) (es : List Event) (e : Event) (r r' : Run) (l
   read_before : IsUnderway a → IsBusy a → (p : ℕ) → Contains (r.seats e.seat).ids p → HasRead z o (es ++ e ∷ []) r'.history e.seat (called r'.history (r'.seats e.seat).call).first (length (es ++ e ∷ [])) p
   read_before u b p c =
       rw (call_first z r r' e.seat (offered r.world.rows e.choice) l a l' h.arrow h (lower i) step u)
-      (read_lasts z o es e r.history r'.history r.origin r'.origin e.seat _ _ _ p longer goes (n.reads e.seat l h.knows (subst IsBusy (sym h.activity) b) p c))
+      (read_lasts z o es e r.history r'.history r.origin r'.origin r.ledger.rows e.seat _ _ _ p longer goes (n.reads e.seat l h.knows (subst IsBusy (sym h.activity) b) p c))
 
   -- the one that it makes now
   read_now : (is : IsLoadingValue a) (p : ℕ) → unwrap_or (r.origin l.row l.place) 0 ≡ p → HasRead z o (es ++ e ∷ []) r'.history e.seat (called r'.history (r'.seats e.seat).call).first (length (es ++ e ∷ [])) p
   read_now is p q = subst (HasRead z o (es ++ e ∷ []) r'.history e.seat (called r'.history (r'.seats e.seat).call).first (length (es ++ e ∷ []))) (sym (ap (λ x. unwrap_or x 0) hand.origin) ∙ q) (record {
-    within = omega (arith, place.within, goes.more_attempts);
+    within = omega (arith, within, goes.more_attempts);
     at = length r.history.log;
     after = omega (arith, call_first z r r' e.seat (offered r.world.rows e.choice) l a l' h.arrow h (lower i) step (loading_calls a is).1, i.history.past.first (r.seats e.seat).call calling.within);
     before = omega (arith, k.mirrors.events, length-append es (e ∷ []));
     found = word z r.world (name.Value l.row l.place);
     activity = a;
     loads = is;
-    acts = rw (same.row, same.cell, place.row, place.cell) (acts_loading a is h);
-    value = value_stands (lower i) l.row l.place hand.put hand.origin hand.stamped ∙ sym same.value;
+    row = l.row;
+    cell = l.place;
+    origin = ap (λ xs. (history z o xs).origin l.row l.place) before_here ∙ ap (λ (x : Run). x.origin l.row l.place) n.led ∙ hand.origin;
+    acts = acts_loading a is h;
+    value = value_stands (lower i) l.row l.place hand.put (row_linked h i (taking_reads a (loading_takes a is))) (place_below h i) hand.origin hand.stamped ∙ sym (goes.attempts hand.put within).value;
   })
     where
       hand : IsInHand r.history r.origin a l
@@ -233,11 +247,12 @@ module _ (z : Sizes) (o : Opening) (es : List Event) (e : Event) (r r' : Run) (l
       acts_loading RestVal x g = acts_here z o es e r r' l l' RestVal g k RestVal (operation kind.LoadValue (name.Value l.row l.place) Load) (word z r.world (name.Value l.row l.place)) refl refl refl
       acts_loading _ x g = absurd x
 
-      place : HasCell r.history l.row l.place hand.put
-      place = i.puts.places.owner l.row l.place hand.put hand.origin
+      -- the list up to the event
+      before_here : take (length r.history.log) (es ++ e ∷ []) ≡ es
+      before_here = take_at es (e ∷ []) (length r.history.log) (sym k.mirrors.events)
 
-      same : SameAttempt r.history r'.history hand.put
-      same = goes.attempts hand.put place.within
+      within : hand.put < length r.history.attempts
+      within = stamped_within r.history hand.put hand.stamped
 
       calling : Calling r.history e.seat l.activity l (r.seats e.seat)
       calling = i.positions.calling e.seat l h.knows (subst IsBusy (sym h.activity) (loading_calls a is).0)
@@ -261,7 +276,7 @@ module _ (z : Sizes) (o : Opening) (es : List Event) (e : Event) (r r' : Run) (l
   reads_keep = each_seat h (λ t m. IsBusy m.activity → (p : ℕ) → Contains (r'.seats t).ids p → HasRead z o (es ++ e ∷ []) r'.history t (called r'.history (r'.seats t).call).first (length (es ++ e ∷ [])) p) reads_own
       (λ t m d g b p c.
       let first = (goes.calls (r.seats t).call (i.positions.calling t m g b).within).first in
-      rw (h.logs t d, first) (read_lasts z o es e r.history r'.history r.origin r'.origin t _ _ _ p longer goes (n.reads t m g b p (subst (λ (q : SeatLog). Contains q.ids p) (h.logs t d) c))))
+      rw (h.logs t d, first) (read_lasts z o es e r.history r'.history r.origin r'.origin r.ledger.rows t _ _ _ p longer goes (n.reads t m g b p (subst (λ (q : SeatLog). Contains q.ids p) (h.logs t d) c))))
 
   -- The record.
 
@@ -276,10 +291,10 @@ module _ (z : Sizes) (o : Opening) (es : List Event) (e : Event) (r r' : Run) (l
   ending_seat x answer is at = ap (λ y. (called r.history y).seat) at ∙ (i.positions.calling e.seat l h.knows (subst IsBusy (sym (h.activity ∙ is)) tt)).seat
 
   -- where a scan that ends drew and settled
-  drew_at_end : (answer : Answer) (d : history.Drawn) → a ≡ Leave answer → drawing answer l (r.seats e.seat) ≡ Some d → HasSettled z o (es ++ e ∷ []) e.seat d.at d.version
+  drew_at_end : (answer : Answer) (d : drawn.Drawn) → a ≡ Leave answer → drawing answer l (r.seats e.seat) ≡ Some d → HasSettled z o (es ++ e ∷ []) e.seat d.at d.version
   drew_at_end Pairs d is g =
       let kind : IsAnswerOf l.call Pairs = subst (λ q. IsKind q l) (h.activity ∙ is) (i.shape.kinds e.seat l h.knows).kind in
-      subst (λ (q : history.Drawn). HasSettled z o (es ++ e ∷ []) e.seat q.at q.version) (same_Some _ d g)
+      subst (λ (q : drawn.Drawn). HasSettled z o (es ++ e ∷ []) e.seat q.at q.version) (same_Some _ d g)
       (settled_lasts z o es e e.seat _ _ (n.scans.settled e.seat l h.knows (pairs_of_scan l.call kind) (subst HasDrawn (sym (h.activity ∙ is)) tt)))
   drew_at_end Done d is g = let x : None ≡ Some d = g in absurd (cc)
   drew_at_end (Value v) d is g = let x : None ≡ Some d = g in absurd (cc)
@@ -288,7 +303,7 @@ module _ (z : Sizes) (o : Opening) (es : List Event) (e : Event) (r r' : Run) (l
   drew_at_end Spent d is g = let x : None ≡ Some d = g in absurd (cc)
   drew_at_end Stopped d is g = let x : None ≡ Some d = g in absurd (cc)
 
-  pub draws_keep : (x : ℕ) (d : history.Drawn) → x < length r'.history.calls → (called r'.history x).draw ≡ Some d → HasSettled z o (es ++ e ∷ []) (called r'.history x).seat d.at d.version
+  pub draws_keep : (x : ℕ) (d : drawn.Drawn) → x < length r'.history.calls → (called r'.history x).draw ≡ Some d → HasSettled z o (es ++ e ∷ []) (called r'.history x).seat d.at d.version
   draws_keep x d w g = which (was x w)
     where
       old : x < length r.history.calls → CallOver r.history r'.history l (r.seats e.seat) a x → HasSettled z o (es ++ e ∷ []) (called r'.history x).seat d.at d.version
@@ -305,13 +320,13 @@ module _ (z : Sizes) (o : Opening) (es : List Event) (e : Event) (r r' : Run) (l
       old : x < length r.history.calls → CallOver r.history r'.history l (r.seats e.seat) a x → HasRead z o (es ++ e ∷ []) r'.history (called r'.history x).seat (called r'.history x).first d.at p
       old v (goes_on t) =
           let same : d.at ≤ d.at = omega arith in
-          rw (t.seat, t.first) (read_lasts z o es e r.history r'.history r.origin r'.origin _ _ _ _ p same goes (n.mirrors.answers x p d v (sym t.end ∙ y) (sym t.answer ∙ g)))
+          rw (t.seat, t.first) (read_lasts z o es e r.history r'.history r.origin r'.origin r.ledger.rows _ _ _ _ p same goes (n.mirrors.answers x p d v (sym t.end ∙ y) (sym t.answer ∙ g)))
       old v (is_ended answer is at f) =
           let c = answer_among l.call l (r.seats e.seat) p (sym (ap (λ (c : CallLog). c.answer) f) ∙ g) in
           let now : length r.history.log ≡ d.at = ap (λ (q : End). q.at) (same_Some _ d (sym (ap (λ (c : CallLog). c.end) f) ∙ y)) in
           let last : length es ≤ d.at = omega (arith, now, k.mirrors.events) in
           rw (ap (λ (c : CallLog). c.seat) f, ap (λ (c : CallLog). c.first) f, ending_seat x answer is at, at)
-          (read_lasts z o es e r.history r'.history r.origin r'.origin e.seat _ _ _ p last goes (n.reads e.seat l h.knows (subst IsBusy (sym (h.activity ∙ is)) tt) p c))
+          (read_lasts z o es e r.history r'.history r.origin r'.origin r.ledger.rows e.seat _ _ _ p last goes (n.reads e.seat l h.knows (subst IsBusy (sym (h.activity ∙ is)) tt) p c))
 
       which : (x < length r.history.calls) ⊎ IsCallNow r.history r'.history e.seat (offered r.world.rows e.choice) l a x → HasRead z o (es ++ e ∷ []) r'.history (called r'.history x).seat (called r'.history x).first d.at p
       which (inl v) = old v (over x v)
@@ -319,12 +334,13 @@ module _ (z : Sizes) (o : Opening) (es : List Event) (e : Event) (r r' : Run) (l
 
   -- All of it.
 
-  pub kept_reads : KeptReads z o (es ++ e ∷ []) r'
-  kept_reads = record { mirrors = record { draws = draws_keep; answers = answers_keep }; scans = scans_keep z o es e r r' l l' a h i k n.scans; reads = reads_keep }
+  pub kept_reads : history z o (es ++ e ∷ []) ≡ r' → KeptReads z o (es ++ e ∷ []) r'
+  kept_reads f = record { led = f; mirrors = record { draws = draws_keep; answers = answers_keep }; scans = scans_keep z o es e r r' l l' a h i k n.scans; reads = reads_keep }
 
 -- no event
 pub reads_start : (z : Sizes) (o : Opening) → KeptReads z o [] (start z o)
 reads_start z o = record {
+  led = history-nil z o;
   mirrors = record { draws = λ x d w. absurd (omega (arith, w)); answers = λ x p d w. absurd (omega (arith, w)) };
   scans = scans_start z o;
   reads = λ t l g u. absurd (subst (λ (m : Local). IsBusy m.activity) (all_resting o.seats t l g) u);

@@ -1,6 +1,6 @@
 -- Where each scan drew and settled, in the words of the events, kept along a list: of a scan that is to settle its own draw, of one that
 -- waits whether it was helped, of one that has its version all of it; and of a seat that is to settle another one's scan its draw.
-use Rattle.std.proofs.Common.{ℕ, ◌≡◌, ◌≢◌, ◌⊎◌, inl, inr, ◌<◌, ◌==◌, true, Option, Some, None, List, [], ◌∷◌, ◌++◌, arith, refl, sym, ◌∙◌, ap, subst, length, length-append, slice_get, if◌then◌else◌, eq-eqb, ne_eqb}
+use Rattle.std.proofs.Common.{ℕ, ◌≡◌, ◌≢◌, ◌⊎◌, inl, inr, ◌<◌, true, Option, Some, None, List, [], ◌∷◌, ◌++◌, arith, refl, sym, ◌∙◌, ap, subst, length, length-append, slice_get, eq-eqb}
 use Rattle.std.proofs.lemmas.Bool.{cases_eq}
 use Rattle.std.proofs.lemmas.Option.{slice_get_within}
 use Rattle.kw_words.specs.declared.kind.Kind.TheVariants as kind
@@ -28,7 +28,8 @@ use Rattle.kw_core.specs.Stages.{IsUnderway, IsSettling, IsWaiting, HasDrawn}
 use Rattle.kw_core.specs.Step.{Step}
 use Rattle.kw_core.specs.Words.{Words}
 use Rattle.kw_core.proofs.Arrows.{builds, Arrow, NextLook, looks, lists, NextRest, rests, answers, ends_scan, scans_on, meets_stamped, meets_neither, is_passed, helps, finds_stamped, finds_other, list_ends, key_above, rest_passed, gathers_rest, settles_empty, settles, draws_for}
-use Rattle.kw_core.proofs.Building.{never_built}
+use Rattle.kw_core.proofs.Building.{IsBuilding}
+use Rattle.kw_core.proofs.BuiltNext.{IsAfterBuilding, built_next}
 use Rattle.kw_core.proofs.Frame.{unwritten}
 use Rattle.kw_core.proofs.FreezeFrame.{scan_stays}
 use Rattle.kw_core.proofs.Happens.{Happens, each_seat, log_entry, chosen, not_chosen, exchanged, not_exchanged}
@@ -122,8 +123,13 @@ rest_helps_none v a l k (answers w e) = tt
 rest_helps_none v a l k (ends_scan w e f) = tt
 rest_helps_none v a l k (scans_on q w e f g) = tt
 
+-- what follows the building of rows settles no scan
+after_helps_none : (v : Words) (a : Activity) (k : Local) (b : Activity) → IsAfterBuilding b → DrewFor v a k b
+after_helps_none v a k (HelpSettle j) x = absurd x
+after_helps_none v a k _ x = tt
+
 helper_drew : (z : Sizes) (v : Words) (s : ℕ) (choice : Choice) (l : Local) (a : Activity) (k : Local) → Arrow z v s choice l a k → DrewFor v a k k.activity
-helper_drew z v s choice l a k (builds b next y o t) = never_built z b y o
+helper_drew z v s choice l a k (builds b next y o t) = after_helps_none v a k k.activity (built_next z v choice l b k t)
 helper_drew z v s choice l a k (draws_for j) = (refl, refl)
 helper_drew z v s choice l a k (meets_stamped i c version next e n) = look_helps_none v a k z _ next n
 helper_drew z v s choice l a k (meets_neither i next e n) = look_helps_none v a k z _ next n
@@ -142,9 +148,14 @@ settling_is : (a : Activity) → IsSettling a → a ≡ ScanSettle
 settling_is ScanSettle x = refl
 settling_is _ x = absurd x
 
+-- it builds no rows
+settling_builds : {A : Type 0} (a : Activity) → IsBuilding a → IsSettling a → A
+settling_builds ScanSettle y x = absurd y
+settling_builds _ y x = absurd x
+
 -- it takes the version that its word has, or its own
 settled_version : (z : Sizes) (v : Words) (s : ℕ) (choice : Choice) (l : Local) (a : Activity) (k : Local) → Arrow z v s choice l a k → IsSettling a → k.version ≡ version_settled (scan_of (v (name.Scan s))) l.drawn
-settled_version z v s choice l a k (builds b next y o t) x = never_built z b y o
+settled_version z v s choice l a k (builds b next y o t) x = settling_builds b y x
 settled_version z v s choice l a k (settles_empty e) x = refl
 settled_version z v s choice l a k (settles e) x = refl
 settled_version z v s choice l a k _ x = absurd x

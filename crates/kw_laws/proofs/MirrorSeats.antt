@@ -8,7 +8,7 @@ use Rattle.kw_words.specs.declared.layout.Name.TheVariants as name
 use Rattle.kw_model.specs.declared.call.Call.{Call}
 use Rattle.kw_world.specs.Answers.{reply_of}
 use Rattle.kw_world.specs.declared.activity.Activity.{Activity}
-use Rattle.kw_world.specs.declared.activity.Activity.TheVariants.{Idle, ScanClock, Start, Walk, Look, LookClock, ListFrom, ListKey, RestKey, RestVal, PutAdd, PutClock, Leave, BalClock, SeekFirst, Before, ScanSettle}
+use Rattle.kw_world.specs.declared.activity.Activity.TheVariants.{Idle, ScanClock, Start, Walk, Look, LookClock, ListFrom, ListKey, RestKey, RestVal, PutAdd, PutClock, Leave, BalClock, SeekFirst, Before, ScanSettle, Stamp, LookHelp}
 use Rattle.kw_world.specs.declared.local.Local.{Local}
 use Rattle.kw_world.specs.declared.event.Choice.{Choice}
 use Rattle.kw_world.specs.declared.event.Choice.TheVariants.{Begin, Go, Guess, Stop}
@@ -20,6 +20,8 @@ use Rattle.kw_world.specs.WorldView.{WorldView}
 use Rattle.kw_world.specs.Opening.{opened}
 use Rattle.kw_world.specs.PutTransitions.{has_room}
 use Rattle.kw_world.specs.WalkTransitions.{offered, start_transition, walk_transition, is_stopped}
+use Rattle.kw_world.specs.ReplaceTransitions.{before_transition}
+use Rattle.kw_world.specs.SeekTransitions.{seek_first_transition}
 use Rattle.kw_world.specs.Table.{transition}
 use Rattle.kw_world.specs.Step.{word, step, kind_of}
 use Rattle.kw_core.specs.Events.{world, walked, event}
@@ -27,12 +29,13 @@ use Rattle.kw_core.specs.History.{History, called}
 use Rattle.kw_core.specs.declared.history.CallLog.{CallLog}
 use Rattle.kw_core.specs.Run.{Run, Origins, seat_after, log_begun, log_gathered, place_gathered, is_at_cell}
 use Rattle.kw_core.specs.declared.seat_log.SeatLog.{SeatLog}
-use Rattle.kw_core.specs.Stages.{IsBusy, IsStamp, IsHelp, IsUnderway, IsStaying, IsReached}
+use Rattle.kw_core.specs.Stages.{IsBusy, IsStamp, IsHelp, IsUnderway, IsStaying}
 use Rattle.kw_core.specs.Words.{Words}
 use Rattle.kw_laws.specs.Mirror.{Occurs, Acts, NoLoad, operation, is_begun, begins_by, begun_from, begun}
 use Rattle.kw_core.proofs.Happens.{Happens, each_seat, found_at, knows_next, knows_other}
 use Rattle.kw_core.proofs.Changes.{made}
-use Rattle.kw_core.proofs.Building.{never_built}
+use Rattle.kw_core.proofs.Building.{IsBuilding}
+use Rattle.kw_core.proofs.BuiltNext.{IsAfterBuilding, built_goes, built_next}
 use Rattle.kw_core.proofs.Arrows.{builds, Arrow, NextLook, looks, lists, NextRest, rests, answers, ends_scan, scans_on}
 use Rattle.kw_core.proofs.Arrows.{begins, loads_to_help, loads_clock, meets_stamped, meets_neither, is_passed, helps, finds_stamped, finds_other, list_ends, key_above, rest_passed, gathers_rest, leaves}
 use Rattle.kw_shape.proofs.NextCalls.{cell_call}
@@ -71,9 +74,14 @@ begun_offered Idle rows (Guess q) = met (nat_lt q rows)
 begun_offered Idle rows Stop = refl
 begun_offered _ rows choice = refl
 
+-- a seat that builds rows begins no call
+built_begins_none : (b : Activity) (choice : Choice) → IsBuilding b → is_begun b choice ≡ false
+built_begins_none Idle choice y = absurd y
+built_begins_none _ choice y = refl
+
 -- a seat counts the calls that it begins
 arrow_counts : (z : Sizes) (v : Words) (s : ℕ) (choice : Choice) (l : Local) (a : Activity) (k : Local) → Arrow z v s choice l a k → k.number ≡ l.number + (if is_begun a choice then 1 else 0)
-arrow_counts z v s choice l a k (builds b next y o t) = never_built z b y o
+arrow_counts z v s choice l a k (builds b next y o t) = let x = (built_goes z v choice l b k t).number in rw (built_begins_none b choice y) (omega (arith, x))
 arrow_counts z v s choice l a k (begins call e b) = rw e refl
 arrow_counts z v s choice l a k (list_ends next e n) = let x = cell_call _ _ n in omega (arith, x.1)
 arrow_counts z v s choice l a k (key_above next e n) = let x = cell_call _ _ n in omega (arith, x.1)
@@ -97,9 +105,20 @@ next_look_busy : (z : Sizes) (j : ℕ) (next : Activity) → NextLook z j next �
 next_look_busy z j next (looks w) = tt
 next_look_busy z j next (lists w) = tt
 
+-- nor does what follows the building of rows end a call, or lead to a stamp or to help
+after_busy : (b : Activity) → IsAfterBuilding b → IsBusy b
+after_busy Idle x = absurd x
+after_busy _ x = tt
+
+after_stamp : {A : Type 0} (b : Activity) → IsAfterBuilding b → IsStamp b ⊎ IsHelp b → A
+after_stamp Stamp x u = absurd x
+after_stamp LookHelp x u = absurd x
+after_stamp _ x (inl u) = absurd u
+after_stamp _ x (inr u) = absurd u
+
 -- a seat that does not leave is in a call afterwards
 pub arrow_busy : (z : Sizes) (v : Words) (s : ℕ) (choice : Choice) (l : Local) (a : Activity) (k : Local) → Arrow z v s choice l a k → IsStaying a → IsBusy k.activity
-arrow_busy z v s choice l a k (builds b next y o t) u = never_built z b y o
+arrow_busy z v s choice l a k (builds b next y o t) u = after_busy k.activity (built_next z v choice l b k t)
 arrow_busy z v s choice l a k (leaves answer) u = absurd u
 arrow_busy z v s choice l a k (meets_stamped i c version next e n) u = next_look_busy z _ next n
 arrow_busy z v s choice l a k (meets_neither i next e n) u = next_look_busy z _ next n
@@ -131,7 +150,7 @@ rest_stamp l k (scans_on q w e f g) (inr x) = absurd x
 
 -- a seat that is to stamp has just loaded its version
 arrow_stamp : (z : Sizes) (v : Words) (s : ℕ) (choice : Choice) (l : Local) (a : Activity) (k : Local) → Arrow z v s choice l a k → IsStamp k.activity → (a ≡ PutClock) × (k.version ≡ v name.Clock)
-arrow_stamp z v s choice l a k (builds b next y o t) u = never_built z b y o
+arrow_stamp z v s choice l a k (builds b next y o t) u = after_stamp k.activity (built_next z v choice l b k t) (inl u)
 arrow_stamp z v s choice l a k loads_clock u = (refl, refl)
 arrow_stamp z v s choice l a k (meets_stamped i c version next e n) u = look_stamp z _ next n (inl u)
 arrow_stamp z v s choice l a k (meets_neither i next e n) u = look_stamp z _ next n (inl u)
@@ -147,7 +166,7 @@ arrow_stamp z v s choice l a k _ u = absurd u
 
 -- so has a seat that is to help
 arrow_help : (z : Sizes) (v : Words) (s : ℕ) (choice : Choice) (l : Local) (a : Activity) (k : Local) → Arrow z v s choice l a k → IsHelp k.activity → (a ≡ LookClock) × (k.helping ≡ v name.Clock)
-arrow_help z v s choice l a k (builds b next y o t) u = never_built z b y o
+arrow_help z v s choice l a k (builds b next y o t) u = after_stamp k.activity (built_next z v choice l b k t) (inr u)
 arrow_help z v s choice l a k loads_to_help u = (refl, refl)
 arrow_help z v s choice l a k (meets_stamped i c version next e n) u = look_stamp z _ next n (inr u)
 arrow_help z v s choice l a k (meets_neither i next e n) u = look_stamp z _ next n (inr u)
@@ -167,40 +186,52 @@ arrow_help z v s choice l a k _ u = absurd u
 abbrev LoadedOver : Sizes → ℕ → Choice → Local → ℕ → Activity → SeatLog → Origins → History → ℕ → Activity → Type 0
 LoadedOver z s choice l found next g o h settled a = ((seat_after z a choice l found next g o h settled).loaded ≡ g.loaded) × ((transition z a s choice l).operation.kind ≢ kind.LoadClock) ⊎ ((seat_after z a choice l found next g o h settled).loaded ≡ length h.log)
 
-loaded_over : (z : Sizes) (s : ℕ) (choice : Choice) (l : Local) (found : ℕ) (next : Activity) (g : SeatLog) (o : Origins) (h : History) (settled : ℕ) (a : Activity) → IsReached z a → LoadedOver z s choice l found next g o h settled a
-loaded_over z s choice l found next g o h settled Idle w = inl (begun choice, λ e. cc)
+loaded_over : (z : Sizes) (s : ℕ) (choice : Choice) (l : Local) (found : ℕ) (next : Activity) (g : SeatLog) (o : Origins) (h : History) (settled : ℕ) (a : Activity) → LoadedOver z s choice l found next g o h settled a
+loaded_over z s choice l found next g o h settled Idle = inl (begun choice, λ e. cc)
   where
     begun : (c : Choice) → (log_begun c (length h.calls) g).loaded ≡ g.loaded
     begun (Begin call) = refl
     begun Go = refl
     begun (Guess q) = refl
     begun Stop = refl
-loaded_over z s choice l found next g o h settled ScanClock w = inr refl
-loaded_over z s choice l found next g o h settled LookClock w = inr refl
-loaded_over z s choice l found next g o h settled PutClock w = inr refl
-loaded_over z s choice l found next g o h settled Start w = inl (refl, starts choice)
+loaded_over z s choice l found next g o h settled ScanClock = inr refl
+loaded_over z s choice l found next g o h settled LookClock = inr refl
+loaded_over z s choice l found next g o h settled PutClock = inr refl
+loaded_over z s choice l found next g o h settled Start = inl (refl, starts choice)
   where
     starts : (c : Choice) → (start_transition c l).operation.kind ≢ kind.LoadClock
     starts (Begin call) e = cc
     starts Go e = cc
     starts (Guess q) e = cc
     starts Stop e = cc
-loaded_over z s choice l found next g o h settled Walk w = inl (refl, walks (is_stopped choice l))
+loaded_over z s choice l found next g o h settled Walk = inl (refl, walks (is_stopped choice l))
   where
     walks : (b : Bool) → (walk_transition b s l).operation.kind ≢ kind.LoadClock
     walks true e = cc
     walks false e = cc
-loaded_over z s choice l found next g o h settled (Look i) w = inl (either (λ (q : SeatLog). q.loaded) (i == 0) (record g { looked = length h.log; ids = []; read = None }) g g.loaded refl refl, λ e. cc)
-loaded_over z s choice l found next g o h settled ListFrom w = inl (either (λ (q : SeatLog). q.loaded) (is_at_cell next) g (record g { read = Some l.row }) g.loaded refl refl, λ e. cc)
-loaded_over z s choice l found next g o h settled ListKey w = inl (either (λ (q : SeatLog). q.loaded) (is_at_cell next) g (record g { read = Some l.row }) g.loaded refl refl, λ e. cc)
-loaded_over z s choice l found next g o h settled RestKey w = inl (either (λ (q : SeatLog). q.loaded) (is_at_cell next) g (record g { read = Some l.row }) g.loaded refl refl, λ e. cc)
-loaded_over z s choice l found next g o h settled RestVal w = let k = log_gathered (o l.row l.place) (place_gathered l found) g in inl (either (λ (q : SeatLog). q.loaded) (is_at_cell next) k (record k { read = Some l.row }) g.loaded refl refl, λ e. cc)
-loaded_over z s choice l found next g o h settled PutAdd w = inl (either (λ (q : SeatLog). q.loaded) (has_room z (count_of found)) (record g { own = length h.attempts }) g g.loaded refl refl, λ e. cc)
-loaded_over z s choice l found next g o h settled ScanSettle w = inl (settled_same (λ (q : SeatLog). q.loaded) l.waiting found settled g refl, λ e. cc)
-loaded_over z s choice l found next g o h settled BalClock w = inr refl
-loaded_over z s choice l found next g o h settled SeekFirst w = absurd w
-loaded_over z s choice l found next g o h settled Before w = absurd w
-loaded_over z s choice l found next g o h settled a w = inl (refl, λ e. cc)
+loaded_over z s choice l found next g o h settled (Look i) = inl (either (λ (q : SeatLog). q.loaded) (i == 0) (record g { looked = length h.log; ids = []; read = None }) g g.loaded refl refl, λ e. cc)
+loaded_over z s choice l found next g o h settled ListFrom = inl (either (λ (q : SeatLog). q.loaded) (is_at_cell next) g (record g { read = Some l.row }) g.loaded refl refl, λ e. cc)
+loaded_over z s choice l found next g o h settled ListKey = inl (either (λ (q : SeatLog). q.loaded) (is_at_cell next) g (record g { read = Some l.row }) g.loaded refl refl, λ e. cc)
+loaded_over z s choice l found next g o h settled RestKey = inl (either (λ (q : SeatLog). q.loaded) (is_at_cell next) g (record g { read = Some l.row }) g.loaded refl refl, λ e. cc)
+loaded_over z s choice l found next g o h settled RestVal = let k = log_gathered (o l.row l.place) (place_gathered l found) g in inl (either (λ (q : SeatLog). q.loaded) (is_at_cell next) k (record k { read = Some l.row }) g.loaded refl refl, λ e. cc)
+loaded_over z s choice l found next g o h settled PutAdd = inl (either (λ (q : SeatLog). q.loaded) (has_room z (count_of found)) (record g { own = length h.attempts }) g g.loaded refl refl, λ e. cc)
+loaded_over z s choice l found next g o h settled ScanSettle = inl (settled_same (λ (q : SeatLog). q.loaded) l.waiting found settled g refl, λ e. cc)
+loaded_over z s choice l found next g o h settled BalClock = inr refl
+loaded_over z s choice l found next g o h settled SeekFirst = inl (refl, seeks choice)
+  where
+    seeks : (c : Choice) → (seek_first_transition c l).operation.kind ≢ kind.LoadClock
+    seeks (Begin call) e = cc
+    seeks Go e = cc
+    seeks (Guess q) e = cc
+    seeks Stop e = cc
+loaded_over z s choice l found next g o h settled Before = inl (refl, befores choice)
+  where
+    befores : (c : Choice) → (before_transition c l).operation.kind ≢ kind.LoadClock
+    befores (Begin call) e = cc
+    befores Go e = cc
+    befores (Guess q) e = cc
+    befores Stop e = cc
+loaded_over z s choice l found next g o h settled a = inl (refl, λ e. cc)
 
 -- One more event.
 
@@ -236,7 +267,7 @@ module _ (z : Sizes) (o : Opening) (es : List Event) (e : Event) (r r' : Run) (l
 
   -- the acting seat's last load
   loads_own : NoLoad z o (es ++ e ∷ []) e.seat (r'.seats e.seat).loaded (length (es ++ e ∷ []))
-  loads_own u w choice f g t c = which (loaded_over z e.seat (offered r.world.rows e.choice) l (found_at z (word z r.world) a e.seat (offered r.world.rows e.choice) l) l'.activity (r.seats e.seat) r.origin r.history (r.settled e.seat) a h.reached)
+  loads_own u w choice f g t c = which (loaded_over z e.seat (offered r.world.rows e.choice) l (found_at z (word z r.world) a e.seat (offered r.world.rows e.choice) l) l'.activity (r.seats e.seat) r.origin r.history (r.settled e.seat) a)
     where
       which : LoadedOver z e.seat (offered r.world.rows e.choice) l (found_at z (word z r.world) a e.seat (offered r.world.rows e.choice) l) l'.activity (r.seats e.seat) r.origin r.history (r.settled e.seat) a → ⊥
       which (inl x) = was (occurs_was z o es e u w (event e.seat choice) t)

@@ -1,5 +1,5 @@
 -- No announcement and no stamp is left out of the record, over one more event.
-use Rattle.std.proofs.Common.{ℕ, ◌≡◌, ◌⊎◌, inl, inr, ◌<◌, Bool, true, false, Option, Some, List, [], ◌∷◌, ◌++◌, arith, refl, sym, ◌∙◌, ap, subst, length}
+use Rattle.std.proofs.Common.{ℕ, ◌≡◌, ◌⊎◌, inl, inr, ◌<◌, Bool, true, false, Option, Some, None, List, [], ◌∷◌, ◌++◌, arith, refl, sym, ◌∙◌, ap, subst, length}
 use Rattle.kw_words.specs.declared.kind.Kind.{Kind}
 use Rattle.kw_words.specs.declared.layout.Name.TheVariants as name
 use Rattle.kw_words.specs.declared.pend.Pend.TheVariants as pend
@@ -18,6 +18,8 @@ use Rattle.kw_world.specs.Sizes.{Sizes}
 use Rattle.kw_world.specs.WorldView.{WorldView}
 use Rattle.kw_world.specs.Transition.{Transition}
 use Rattle.kw_world.specs.WalkTransitions.{offered, start_transition, walk_transition, is_stopped}
+use Rattle.kw_world.specs.ReplaceTransitions.{before_transition, replaced_link}
+use Rattle.kw_world.specs.SeekTransitions.{infant, seek_first_transition}
 use Rattle.kw_world.specs.Table.{transition}
 use Rattle.kw_world.specs.Step.{word, transition_at}
 use Rattle.kw_core.specs.Events.{world, event}
@@ -27,12 +29,13 @@ use Rattle.kw_core.specs.declared.history.Attempt.{Attempt}
 use Rattle.kw_core.specs.declared.history.Change.TheVariants.{Nothing, Announces, Stamps}
 use Rattle.kw_core.specs.Noted.{noted}
 use Rattle.kw_core.specs.Run.{Run, change_of, helping, logged}
-use Rattle.kw_core.specs.Stages.{IsPutting, HasMet, IsReached}
+use Rattle.kw_core.specs.Stages.{IsPutting, HasMet}
 use Rattle.kw_core.specs.Words.{Words}
 use Rattle.kw_reads.specs.Inv.{Inv}
 use Rattle.kw_laws.specs.Mirror.{Occurs, Acts, IsAnnouncementOf, IsStampOf, announcing, stamping}
 use Rattle.kw_core.proofs.Happens.{Happens, found_at, chosen}
 use Rattle.kw_core.proofs.NotedLaws.{attempt_set_same}
+use Rattle.kw_core.proofs.Steps.{announced_within}
 use Rattle.kw_reads.proofs.Relying.{goes_on_by}
 use Rattle.kw_puts.proofs.Rely.{GoesOn}
 use Rattle.kw_laws.proofs.Occurs.{occurs_was}
@@ -59,74 +62,103 @@ stamped_apart c version e = omega (arith, e)
 same_stored : (p w q u : ℕ) → Exchange p w ≡ Exchange q u → w ≡ u
 same_stored p w q u e = cc
 
+-- the link that is exchanged for one to a new row is no entry
+no_replaced : (before : Option ℕ) (q t : ℕ) → replaced_link before ≡ name.Pend q t → ⊥
+no_replaced (Some r) q t e = cc
+no_replaced None q t e = cc
+
 -- only a put that stamps its cell, or a reader that helps, exchanges a pending entry for a stamped one
-stamp_line : (z : Sizes) (v : Words) (s : ℕ) (choice : Choice) (l : Local) (a : Activity) (q t c version : ℕ) → IsReached z a → (transition z a s choice l).operation.name ≡ name.Pend q t → (transition z a s choice l).operation.action ≡ Exchange (pend_word (pend.Pending c)) (pend_word (pend.Stamped c version)) → v (name.Pend q t) ≡ pend_word (pend.Pending c) →
+stamp_line : (z : Sizes) (v : Words) (s : ℕ) (choice : Choice) (l : Local) (a : Activity) (q t c version : ℕ) → (transition z a s choice l).operation.name ≡ name.Pend q t → (transition z a s choice l).operation.action ≡ Exchange (pend_word (pend.Pending c)) (pend_word (pend.Stamped c version)) → v (name.Pend q t) ≡ pend_word (pend.Pending c) →
     (a ≡ Stamp) × (v (name.Pend l.row s) ≡ pend_word (pend.Pending l.cell)) ⊎ (a ≡ LookHelp) × (v (name.Pend l.row l.looked) ≡ pend_word (pend.Pending l.met))
-stamp_line z v s choice l Stamp q t c u k n x f = inl (refl, ap v n ∙ f ∙ sym (same_exchange _ _ _ _ x))
-stamp_line z v s choice l LookHelp q t c u k n x f = inr (refl, ap v n ∙ f ∙ sym (same_exchange _ _ _ _ x))
-stamp_line z v s choice l Announce q t c u k n x f = absurd (pending_apart c (same_exchange _ _ _ _ x))
-stamp_line z v s choice l ScanSettle q t c u k n x f = let y : name.Scan s ≡ name.Pend q t = n in absurd (cc)
-stamp_line z v s choice l Start q t c u k n x f = absurd (starts choice x)
+stamp_line z v s choice l Stamp q t c u n x f = inl (refl, ap v n ∙ f ∙ sym (same_exchange _ _ _ _ x))
+stamp_line z v s choice l LookHelp q t c u n x f = inr (refl, ap v n ∙ f ∙ sym (same_exchange _ _ _ _ x))
+stamp_line z v s choice l Announce q t c u n x f = absurd (pending_apart c (same_exchange _ _ _ _ x))
+stamp_line z v s choice l ScanSettle q t c u n x f = let y : name.Scan s ≡ name.Pend q t = n in absurd (cc)
+stamp_line z v s choice l Start q t c u n x f = absurd (starts choice x)
   where
     starts : (d : Choice) → (start_transition d l).operation.action ≡ Exchange (pend_word (pend.Pending c)) (pend_word (pend.Stamped c u)) → ⊥
     starts (Begin call) y = cc
     starts Go y = cc
     starts (Guess d) y = cc
     starts Stop y = cc
-stamp_line z v s choice l Walk q t c u k n x f = absurd (walks (is_stopped choice l) x)
+stamp_line z v s choice l Walk q t c u n x f = absurd (walks (is_stopped choice l) x)
   where
     walks : (b : Bool) → (walk_transition b s l).operation.action ≡ Exchange (pend_word (pend.Pending c)) (pend_word (pend.Stamped c u)) → ⊥
     walks true y = cc
     walks false y = cc
-stamp_line z v s choice l Insert q t c u k n x f = no_link l.row l.link (name.Pend q t) refl (ap Some n)
-stamp_line z v s choice l (BalNormal seat) q t c u k n x f = let y : name.State l.row ≡ name.Pend q t = n in absurd (cc)
-stamp_line z v s choice l Engage q t c u k n x f = let y : name.State l.row ≡ name.Pend q t = n in absurd (cc)
-stamp_line z v s choice l (Decide count) q t c u k n x f = let y : name.State l.row ≡ name.Pend q t = n in absurd (cc)
-stamp_line z v s choice l (Freeze i) q t c u k n x f = absurd (stamped_apart c u (same_stored _ _ _ _ x))
-stamp_line z v s choice l (HelpSettle i) q t c u k n x f = let y : name.Scan i ≡ name.Pend q t = n in absurd (cc)
-stamp_line z v s choice l TakeRow q t c u k n x f = absurd k
-stamp_line z v s choice l SeekFirst q t c u k n x f = absurd k
-stamp_line z v s choice l Before q t c u k n x f = absurd k
-stamp_line z v s choice l Replace q t c u k n x f = absurd k
-stamp_line z v s choice l Normalise q t c u k n x f = absurd k
-stamp_line z v s choice l a q t c u k n x f = absurd (cc)
+stamp_line z v s choice l Insert q t c u n x f = no_link l.row l.link (name.Pend q t) refl (ap Some n)
+stamp_line z v s choice l (BalNormal seat) q t c u n x f = let y : name.State l.row ≡ name.Pend q t = n in absurd (cc)
+stamp_line z v s choice l Engage q t c u n x f = let y : name.State l.row ≡ name.Pend q t = n in absurd (cc)
+stamp_line z v s choice l (Decide count) q t c u n x f = let y : name.State l.row ≡ name.Pend q t = n in absurd (cc)
+stamp_line z v s choice l (Freeze i) q t c u n x f = absurd (stamped_apart c u (same_stored _ _ _ _ x))
+stamp_line z v s choice l (HelpSettle i) q t c u n x f = let y : name.Scan i ≡ name.Pend q t = n in absurd (cc)
+stamp_line z v s choice l TakeRow q t c u n x f = let y : name.State l.rebalance.sought ≡ name.Pend q t = n in absurd (cc)
+stamp_line z v s choice l SeekFirst q t c u n x f = absurd (seeks choice x)
+  where
+    seeks : (d : Choice) → (seek_first_transition d l).operation.action ≡ Exchange (pend_word (pend.Pending c)) (pend_word (pend.Stamped c u)) → ⊥
+    seeks (Begin call) y = cc
+    seeks Go y = cc
+    seeks (Guess d) y = cc
+    seeks Stop y = cc
+stamp_line z v s choice l Before q t c u n x f = absurd (befores choice x)
+  where
+    befores : (d : Choice) → (before_transition d l).operation.action ≡ Exchange (pend_word (pend.Pending c)) (pend_word (pend.Stamped c u)) → ⊥
+    befores (Begin call) y = cc
+    befores Go y = cc
+    befores (Guess d) y = cc
+    befores Stop y = cc
+stamp_line z v s choice l Replace q t c u n x f = absurd (no_replaced l.rebalance.before q t n)
+stamp_line z v s choice l Normalise q t c u n x f = let y : name.State (infant l) ≡ name.Pend q t = n in absurd (cc)
+stamp_line z v s choice l a q t c u n x f = absurd (cc)
 
 -- only a put that announces its cell exchanges an idle entry for a pending one
-announce_line : (z : Sizes) (v : Words) (s : ℕ) (choice : Choice) (l : Local) (a : Activity) (q t c : ℕ) → IsReached z a → (transition z a s choice l).operation.name ≡ name.Pend q t → (transition z a s choice l).operation.action ≡ Exchange (pend_word pend.Idle) (pend_word (pend.Pending c)) → v (name.Pend q t) ≡ pend_word pend.Idle →
+announce_line : (z : Sizes) (v : Words) (s : ℕ) (choice : Choice) (l : Local) (a : Activity) (q t c : ℕ) → (transition z a s choice l).operation.name ≡ name.Pend q t → (transition z a s choice l).operation.action ≡ Exchange (pend_word pend.Idle) (pend_word (pend.Pending c)) → v (name.Pend q t) ≡ pend_word pend.Idle →
     (a ≡ Announce) × (v (name.Pend l.row s) ≡ pend_word pend.Idle)
-announce_line z v s choice l Announce q t c k n x f = (refl, ap v n ∙ f)
-announce_line z v s choice l Stamp q t c k n x f = absurd (pending_apart l.cell (sym (same_exchange _ _ _ _ x)))
-announce_line z v s choice l LookHelp q t c k n x f = absurd (pending_apart l.met (sym (same_exchange _ _ _ _ x)))
-announce_line z v s choice l ScanSettle q t c k n x f = let y : name.Scan s ≡ name.Pend q t = n in absurd (cc)
-announce_line z v s choice l Start q t c k n x f = absurd (starts choice x)
+announce_line z v s choice l Announce q t c n x f = (refl, ap v n ∙ f)
+announce_line z v s choice l Stamp q t c n x f = absurd (pending_apart l.cell (sym (same_exchange _ _ _ _ x)))
+announce_line z v s choice l LookHelp q t c n x f = absurd (pending_apart l.met (sym (same_exchange _ _ _ _ x)))
+announce_line z v s choice l ScanSettle q t c n x f = let y : name.Scan s ≡ name.Pend q t = n in absurd (cc)
+announce_line z v s choice l Start q t c n x f = absurd (starts choice x)
   where
     starts : (d : Choice) → (start_transition d l).operation.action ≡ Exchange (pend_word pend.Idle) (pend_word (pend.Pending c)) → ⊥
     starts (Begin call) y = cc
     starts Go y = cc
     starts (Guess u) y = cc
     starts Stop y = cc
-announce_line z v s choice l Walk q t c k n x f = absurd (walks (is_stopped choice l) x)
+announce_line z v s choice l Walk q t c n x f = absurd (walks (is_stopped choice l) x)
   where
     walks : (b : Bool) → (walk_transition b s l).operation.action ≡ Exchange (pend_word pend.Idle) (pend_word (pend.Pending c)) → ⊥
     walks true y = cc
     walks false y = cc
-announce_line z v s choice l Insert q t c k n x f = no_link l.row l.link (name.Pend q t) refl (ap Some n)
-announce_line z v s choice l (BalNormal seat) q t c k n x f = let y : name.State l.row ≡ name.Pend q t = n in absurd (cc)
-announce_line z v s choice l Engage q t c k n x f = let y : name.State l.row ≡ name.Pend q t = n in absurd (cc)
-announce_line z v s choice l (Decide count) q t c k n x f = let y : name.State l.row ≡ name.Pend q t = n in absurd (cc)
-announce_line z v s choice l (Freeze i) q t c k n x f = absurd (frozen_apart c (same_stored _ _ _ _ x))
-announce_line z v s choice l (HelpSettle i) q t c k n x f = let y : name.Scan i ≡ name.Pend q t = n in absurd (cc)
-announce_line z v s choice l TakeRow q t c k n x f = absurd k
-announce_line z v s choice l SeekFirst q t c k n x f = absurd k
-announce_line z v s choice l Before q t c k n x f = absurd k
-announce_line z v s choice l Replace q t c k n x f = absurd k
-announce_line z v s choice l Normalise q t c k n x f = absurd k
-announce_line z v s choice l a q t c k n x f = absurd (cc)
+announce_line z v s choice l Insert q t c n x f = no_link l.row l.link (name.Pend q t) refl (ap Some n)
+announce_line z v s choice l (BalNormal seat) q t c n x f = let y : name.State l.row ≡ name.Pend q t = n in absurd (cc)
+announce_line z v s choice l Engage q t c n x f = let y : name.State l.row ≡ name.Pend q t = n in absurd (cc)
+announce_line z v s choice l (Decide count) q t c n x f = let y : name.State l.row ≡ name.Pend q t = n in absurd (cc)
+announce_line z v s choice l (Freeze i) q t c n x f = absurd (frozen_apart c (same_stored _ _ _ _ x))
+announce_line z v s choice l (HelpSettle i) q t c n x f = let y : name.Scan i ≡ name.Pend q t = n in absurd (cc)
+announce_line z v s choice l TakeRow q t c n x f = let y : name.State l.rebalance.sought ≡ name.Pend q t = n in absurd (cc)
+announce_line z v s choice l SeekFirst q t c n x f = absurd (seeks choice x)
+  where
+    seeks : (d : Choice) → (seek_first_transition d l).operation.action ≡ Exchange (pend_word pend.Idle) (pend_word (pend.Pending c)) → ⊥
+    seeks (Begin call) y = cc
+    seeks Go y = cc
+    seeks (Guess d) y = cc
+    seeks Stop y = cc
+announce_line z v s choice l Before q t c n x f = absurd (befores choice x)
+  where
+    befores : (d : Choice) → (before_transition d l).operation.action ≡ Exchange (pend_word pend.Idle) (pend_word (pend.Pending c)) → ⊥
+    befores (Begin call) y = cc
+    befores Go y = cc
+    befores (Guess d) y = cc
+    befores Stop y = cc
+announce_line z v s choice l Replace q t c n x f = absurd (no_replaced l.rebalance.before q t n)
+announce_line z v s choice l Normalise q t c n x f = let y : name.State (infant l) ≡ name.Pend q t = n in absurd (cc)
+announce_line z v s choice l a q t c n x f = absurd (cc)
 
 -- One more event.
 
 module _ (z : Sizes) (o : Opening) (es : List Event) (e : Event) (r r' : Run) (l l' : Local) (a : Activity) (h : Happens z r r' e.seat (offered r.world.rows e.choice) l l' a) (i : Inv z r) (k : Kept z o es r) where
-  goes : GoesOn r.history r'.history r.origin r'.origin
+  goes : GoesOn r.history r'.history r.origin r'.origin r.ledger.rows
   goes = goes_on_by z r r' e.seat (offered r.world.rows e.choice) l a l' h i
 
   -- the entry of the event in the log
@@ -169,8 +201,7 @@ module _ (z : Sizes) (o : Opening) (es : List Event) (e : Event) (r r' : Run) (l
       (noted_here Stamp f.0 ∙ ap (noted r.history it) (chosen (word z r.world (name.Pend l.row e.seat)) (pend_word (pend.Pending l.cell)) (Stamps (r.seats e.seat).own l.version (r.seats e.seat).loaded) Nothing f.1))
   stamps_now x at (inr f) =
       let helped = i.puts.helps e.seat l h.knows (subst HasMet (sym (h.activity ∙ f.0)) tt) in
-      let place = i.puts.places.owner l.row l.met helped.put helped.origin in
-      stamped_now x helped.put l.helping (r.seats e.seat).loaded at place.within
+      stamped_now x helped.put l.helping (r.seats e.seat).loaded at (announced_within r.history helped.put helped.announced)
       (noted_here LookHelp f.0 ∙ ap (noted r.history it) (chosen (word z r.world (name.Pend l.row l.looked)) (pend_word (pend.Pending l.met)) (helping (r.origin l.row l.met) l.helping (r.seats e.seat).loaded) Nothing f.1 ∙ ap (λ (p : Option ℕ). helping p l.helping (r.seats e.seat).loaded) helped.origin))
 
   -- an operation that stands at the end is that of the event's line, and the word is the one that it found
@@ -194,7 +225,7 @@ module _ (z : Sizes) (o : Opening) (es : List Event) (e : Event) (r r' : Run) (l
           record { place = y.place; within = omega (arith, y.within, goes.more_attempts); is_announced = g.0; announced = g.1 ∙ y.announced }
       which (inr f) =
           let u = line_here s b (announcing q s cell) (pend_word pend.Idle) (record { before = t.before; choice = t.choice; local = t.local; occurs = subst (λ y. Occurs z o (es ++ e ∷ []) y t.before (event s t.choice)) f.0 t.occurs; knows = t.knows; activity = t.activity; operates = t.operates; finds = t.finds }) f.1 f.2 in
-          let v = announce_line z (word z r.world) e.seat (offered r.world.rows e.choice) l a q s _ h.reached (ap (λ (p : Operation). p.name) u.0) (ap (λ (p : Operation). p.action) u.0) u.1 in
+          let v = announce_line z (word z r.world) e.seat (offered r.world.rows e.choice) l a q s _ (ap (λ (p : Operation). p.name) u.0) (ap (λ (p : Operation). p.action) u.0) u.1 in
           announced_now x (f.0 ∙ sym k.mirrors.events) v.0 v.1
 
   pub all_stamped_keep : (x s q seat cell version : ℕ) (b : Activity) (kd : Kind) → Acts z o (es ++ e ∷ []) x s b (stamping kd q seat cell version) (pend_word (pend.Pending cell)) → IsStampOf r'.history x
@@ -207,5 +238,5 @@ module _ (z : Sizes) (o : Opening) (es : List Event) (e : Event) (r r' : Run) (l
           record { place = y.place; within = omega (arith, y.within, goes.more_attempts); is_put = g.0; at = g.3 ∙ y.at }
       which (inr f) =
           let u = line_here s b (stamping kd q seat cell version) (pend_word (pend.Pending cell)) (record { before = t.before; choice = t.choice; local = t.local; occurs = subst (λ y. Occurs z o (es ++ e ∷ []) y t.before (event s t.choice)) f.0 t.occurs; knows = t.knows; activity = t.activity; operates = t.operates; finds = t.finds }) f.1 f.2 in
-          let v = stamp_line z (word z r.world) e.seat (offered r.world.rows e.choice) l a q seat cell _ h.reached (ap (λ (p : Operation). p.name) u.0) (ap (λ (p : Operation). p.action) u.0) u.1 in
+          let v = stamp_line z (word z r.world) e.seat (offered r.world.rows e.choice) l a q seat cell _ (ap (λ (p : Operation). p.name) u.0) (ap (λ (p : Operation). p.action) u.0) u.1 in
           stamps_now x (f.0 ∙ sym k.mirrors.events) v

@@ -12,6 +12,7 @@ use Rattle.kw_words.specs.Pend.{pend_word}
 use Rattle.kw_words.specs.declared.scan.ScanWord.TheVariants.{Waiting}
 use Rattle.kw_words.specs.Scan.{scan_word}
 use Rattle.kw_words.specs.Count.{count_of}
+use Rattle.kw_cells.specs.declared.cell.Cell as kw_cell
 use Rattle.kw_world.specs.declared.activity.Activity.{Activity}
 use Rattle.kw_world.specs.declared.activity.Activity.TheVariants.{Idle, Look, LookHelp, ListVal, RestVal, PutAdd, Announce, Stamp, Freeze, WriteVersion, ScanSettle, HelpSettle}
 use Rattle.kw_world.specs.declared.local.Local.{Local}
@@ -21,7 +22,9 @@ use Rattle.kw_world.specs.declared.event.Choice.TheVariants.{Begin, Go, Guess, S
 use Rattle.kw_world.specs.Sizes.{Sizes}
 use Rattle.kw_world.specs.PutTransitions.{has_room, given_of}
 use Rattle.kw_world.specs.WalkTransitions.{offered}
-use Rattle.kw_world.specs.Sane.{IsSane, IsKnown, IsEntry, IsActivity}
+use Rattle.kw_world.specs.Sane.{IsSane, IsKnown, IsEntry, IsPlaced, IsActivity}
+use Rattle.kw_world.specs.SeekTransitions.{infant}
+use Rattle.kw_world.specs.WriteTransitions.{infant_cells}
 use Rattle.kw_world.specs.Step.{followed, transition_at, is_skipped, step, Stepped, stepped, moved_of}
 use Rattle.kw_world.specs.declared.event.StepDone.{StepDone}
 use Rattle.kw_world.specs.WorldView.{WorldView}
@@ -34,14 +37,15 @@ use Rattle.kw_core.specs.declared.history.Change.{Change}
 use Rattle.kw_core.specs.declared.history.Change.TheVariants.{Nothing, Begins, Adds, Announces, Loses, Stamps, Ends}
 use Rattle.kw_core.specs.Noted.{noted}
 use Rattle.kw_core.specs.Appended.{appended}
-use Rattle.kw_core.specs.Stages.{IsReached}
-use Rattle.kw_core.specs.Run.{Run, Origins, change_of, seat_after, origins_after, with_seat, with_origin, found_by, beginning, helping, noted_by, no_log, goes_on, freezing, losing, settled_scan, with_settled}
+use Rattle.kw_core.specs.Run.{Run, Origins, change_of, seat_after, origins_after, with_seat, with_copy, copied, copied_cell, found_by, beginning, helping, noted_by, no_log, goes_on, freezing, losing, settled_scan, with_settled}
+use Rattle.kw_core.specs.declared.change.Copied.{Copied}
 use Rattle.kw_core.specs.declared.change.Settled.{Settled}
 use Rattle.kw_core.specs.declared.seat_log.SeatLog.{SeatLog}
 use Rattle.kw_core.specs.Recording.{Recording, origin_in}
 use Rattle.kw_core.specs.Remarks.{remark_of, remarked}
-use Rattle.kw_laws.specs.Recorder.{Records, log_of, happening_at, logged_of, entry_of, origins_with, settled_by, draw_of, draws_with, IsScanBelow}
+use Rattle.kw_laws.specs.Recorder.{Records, log_of, happening_at, logged_of, entry_of, origins_with, settled_by, draw_of, draws_with, copies_with, IsCopyIn, IsScanBelow}
 use Rattle.kw_core.proofs.Appended.{settled_noted}
+use Rattle.kw_core.proofs.InRange.{infant_in_range, infant_cell_in_range}
 
 -- The log of the seat.
 
@@ -145,46 +149,65 @@ none_freezing (pend.Pending c) row o = lost (o row c)
 none_freezing (pend.Stamped c version) row o = tt
 none_freezing pend.Frozen row o = tt
 
--- the origins with what the change adds, where the attempt p is the next one
-origins_noted : (z : Sizes) (a : Activity) (s : ℕ) (choice : Choice) (l : Local) (found : ℕ) (g : SeatLog) (o p : Origins) (h : History) (n : ℕ) (xs : List (Option ℕ)) (rows : ℕ) → n ≡ length h.attempts → length xs ≡ rows * z.cells → l.row < rows → IsReached z a →
-    ((q c : ℕ) → q < rows → c < z.cells → origin_in z xs q c ≡ p q c) → (q c : ℕ) → q < rows → c < z.cells → origin_in z (origins_with z (change_of z a s choice l found g o) n xs) q c ≡ origins_after z a l found p h q c
-origins_noted z PutAdd s choice l found g o p h n xs rows is len below reached same q c v w = met (has_room z (count_of found)) refl
+-- the origins with that of one cell set
+origin_set : (z : Sizes) (xs : List (Option ℕ)) (rows row cell : ℕ) (x : Option ℕ) (p : Origins) → length xs ≡ rows * z.cells → row < rows → cell < z.cells → ((q c : ℕ) → q < rows → c < z.cells → origin_in z xs q c ≡ p q c) →
+    (q c : ℕ) → q < rows → c < z.cells → origin_in z (set xs (row * z.cells + cell) x) q c ≡ with_copy p row cell x q c
+origin_set z xs rows row cell x p len below in_row same q c v w = which (cases_eq (q * z.cells + c) (row * z.cells + cell))
   where
-    given : ℕ
-    given = given_of (count_of found)
+    elsewhere : q * z.cells + c ≢ row * z.cells + cell → (q ≡ row) ⊎ (q ≢ row) → (c ≡ cell) ⊎ (c ≢ cell) → with_copy p row cell x q c ≡ p q c
+    elsewhere f (inl a) (inl b) = absurd (f (rw (a, b) refl))
+    elsewhere f (inl a) (inr b) = rw (eq-eqb q row a, ne_eqb c cell b) refl
+    elsewhere f (inr a) b = rw (ne_eqb q row a) refl
 
-    where_at : (q * z.cells + c ≡ l.row * z.cells + given) ⊎ (q * z.cells + c ≢ l.row * z.cells + given) → given < z.cells → origin_in z (set xs (l.row * z.cells + given) (Some n)) q c ≡ with_origin p l.row given (length h.attempts) q c
-    where_at (inl e) u =
-        let t = one_place z.cells q c l.row given w u e in
-        let x : l.row * z.cells + given < length xs = omega (arith, len, place_within z.cells l.row given rows below u) in
-        rw (eq-eqb q l.row t.0, eq-eqb c given t.1, e, get_or-set_same xs (l.row * z.cells + given) (Some n) None x, is) refl
-    where_at (inr f) u = rw (get_or-set_other xs (l.row * z.cells + given) (q * z.cells + c) (Some n) None f) (same q c v w ∙ sym (elsewhere (cases_eq q l.row) (cases_eq c given)))
-      where
-        elsewhere : (q ≡ l.row) ⊎ (q ≢ l.row) → (c ≡ given) ⊎ (c ≢ given) → with_origin p l.row given (length h.attempts) q c ≡ p q c
-        elsewhere (inl a) (inl b) = absurd (f (rw (a, b) refl))
-        elsewhere (inl a) (inr b) = rw (eq-eqb q l.row a, ne_eqb c given b) refl
-        elsewhere (inr a) b = rw (ne_eqb q l.row a) refl
+    which : (q * z.cells + c ≡ row * z.cells + cell) ⊎ (q * z.cells + c ≢ row * z.cells + cell) → origin_in z (set xs (row * z.cells + cell) x) q c ≡ with_copy p row cell x q c
+    which (inl e) =
+        let t = one_place z.cells q c row cell w in_row e in
+        let y : row * z.cells + cell < length xs = omega (arith, len, place_within z.cells row cell rows below in_row) in
+        rw (eq-eqb q row t.0, eq-eqb c cell t.1, e) (get_or-set_same xs (row * z.cells + cell) x None y)
+    which (inr f) = rw (get_or-set_other xs (row * z.cells + cell) (q * z.cells + c) x None f) (same q c v w ∙ sym (elsewhere f (cases_eq q row) (cases_eq c cell)))
 
+-- a kept cell is a copy of the same attempt in origins that agree on it
+copied_same : (o p : Origins) (row : ℕ) (x : Option kw_cell.Cell) → ((c : kw_cell.Cell) → x ≡ Some c → o row c.place ≡ p row c.place) → copied o row x ≡ copied p row x
+copied_same o p row (Some c) e = e c refl
+copied_same o p row None e = refl
+
+-- the origins with what the change adds, where the attempt p is the next one, and with the copy that the event writes, if it writes one
+origins_noted : (z : Sizes) (a : Activity) (s : ℕ) (choice : Choice) (l : Local) (found : ℕ) (g : SeatLog) (o p : Origins) (h : History) (n : ℕ) (xs : List (Option ℕ)) (rows : ℕ) → n ≡ length h.attempts → length xs ≡ rows * z.cells → l.row < rows → infant l < rows → IsActivity z a →
+    ((j : ℕ) (c : kw_cell.Cell) → slice_get (infant_cells l) j ≡ Some c → o l.row c.place ≡ p l.row c.place) → ((q c : ℕ) → q < rows → c < z.cells → origin_in z xs q c ≡ p q c) →
+    (q c : ℕ) → q < rows → c < z.cells → origin_in z (copies_with z (copied_cell a l o) (origins_with z (change_of z a s choice l found g o) n xs)) q c ≡ origins_after z a l found p h q c
+origins_noted z PutAdd s choice l found g o p h n xs rows is len below new y kept same q c v w = met (has_room z (count_of found)) refl
+  where
     met : (b : Bool) → has_room z (count_of found) ≡ b → origin_in z (origins_with z (change_of z PutAdd s choice l found g o) n xs) q c ≡ origins_after z PutAdd l found p h q c
-    met true e = rw e (where_at (cases_eq (q * z.cells + c) (l.row * z.cells + given)) (room_given z (count_of found) e))
+    met true e = rw (e, sym is) (origin_set z xs rows l.row (given_of (count_of found)) (Some n) p len below (room_given z (count_of found) e) same q c v w)
     met false e = rw e (same q c v w)
-origins_noted z Idle s choice l found g o p h n xs rows is len below reached same q c v w = begins choice
+origins_noted z Idle s choice l found g o p h n xs rows is len below new y kept same q c v w = begins choice
   where
     begins : (x : Choice) → origin_in z (origins_with z (beginning x s l) n xs) q c ≡ p q c
     begins (Begin call) = same q c v w
     begins Go = same q c v w
     begins (Guess r) = same q c v w
     begins Stop = same q c v w
-origins_noted z LookHelp s choice l found g o p h n xs rows is len below reached same q c v w =
+origins_noted z LookHelp s choice l found g o p h n xs rows is len below new y kept same q c v w =
     rw (none_given z (if found == pend_word (pend.Pending l.met) then helping (o l.row l.met) l.helping g.loaded else Nothing) n xs (none_of (found == pend_word (pend.Pending l.met)) _ Nothing (none_helping (o l.row l.met) l.helping g.loaded) tt)) (same q c v w)
-origins_noted z Announce s choice l found g o p h n xs rows is len below reached same q c v w =
+origins_noted z Announce s choice l found g o p h n xs rows is len below new y kept same q c v w =
     rw (none_given z (if found == pend_word pend.Idle then Announces g.own else Nothing) n xs (none_of (found == pend_word pend.Idle) (Announces g.own) Nothing tt tt)) (same q c v w)
-origins_noted z Stamp s choice l found g o p h n xs rows is len below reached same q c v w =
+origins_noted z Stamp s choice l found g o p h n xs rows is len below new y kept same q c v w =
     rw (none_given z (if found == pend_word (pend.Pending l.cell) then Stamps g.own l.version g.loaded else Nothing) n xs (none_of (found == pend_word (pend.Pending l.cell)) (Stamps g.own l.version g.loaded) Nothing tt tt)) (same q c v w)
-origins_noted z (Freeze i) s choice l found g o p h n xs rows is len below reached same q c v w =
+origins_noted z (Freeze i) s choice l found g o p h n xs rows is len below new y kept same q c v w =
     rw (none_given z (if found == pend_word l.rebalance.entry then freezing l.rebalance.entry l.row o else Nothing) n xs (none_of (found == pend_word l.rebalance.entry) _ Nothing (none_freezing l.rebalance.entry l.row o) tt)) (same q c v w)
-origins_noted z (WriteVersion j) s choice l found g o p h n xs rows is len below reached same q c v w = absurd reached
-origins_noted z _ s choice l found g o p h n xs rows is len below reached same q c v w = same q c v w
+origins_noted z (WriteVersion j) s choice l found g o p h n xs rows is len below new y kept same q c v w =
+    origin_set z xs rows (infant l) j _ p len new y same q c v w ∙ ap (λ x. with_copy p (infant l) j x q c) (copied_same o p l.row (slice_get (infant_cells l) j) (kept j))
+origins_noted z _ s choice l found g o p h n xs rows is len below new y kept same q c v w = same q c v w
+
+-- the cell that an event writes is one of the table's
+pub copy_below : (z : Sizes) (a : Activity) (l : Local) (o : Origins) (rows : ℕ) → infant l < rows → IsActivity z a → IsCopyIn z (rows * z.cells) (copied_cell a l o)
+copy_below z (WriteVersion j) l o rows new y = place_within z.cells (infant l) j rows new y
+copy_below z _ l o rows new y = tt
+
+-- and with it there are as many origins
+copies_long : (z : Sizes) (x : Option Copied) (xs : List (Option ℕ)) → length (copies_with z x xs) ≡ length xs
+copies_long z (Some x) xs = length-set xs (x.row * z.cells + x.cell) x.attempt
+copies_long z None xs = refl
 
 -- Where the versions of scans were drawn.
 
@@ -264,18 +287,19 @@ change_recorded z k r e l i sane knows =
     (λ c x. i.origins l.row c known.below.row (subst (λ y. IsEntry z (Some y)) x known.ranges.rebalance.entry))
 
 -- the record with what the event adds is that of the run with the event
-pub records_on : (z : Sizes) (k : Recording) (r : Run) (e : Event) (l : Local) → Records z k r → IsSane z r.world → IsReached z l.activity → slice_get r.world.locals e.seat ≡ Some l →
+pub records_on : (z : Sizes) (k : Recording) (r : Run) (e : Event) (l : Local) → Records z k r → IsSane z r.world → slice_get r.world.locals e.seat ≡ Some l →
     Records z (settled_by z (prepared z k r e l) (entry_of z k l (happening_at z r.world e l)) (next_activity z r e l)) (noted_by z r e l)
-records_on z k r e l i sane reached knows = record {
+records_on z k r e l i sane knows = record {
   history = settled_noted k.history (appended k.history at change) _ at change refl refl refl refl ∙ ap (λ (h : History). noted h at change) i.history ∙ ap (λ (c : Change). noted r.history at c) (change_recorded z k r e l i sane knows);
   seats = length-set k.logs e.seat _ ∙ i.seats ∙ sym (length-set r.world.locals e.seat _);
   scans = draws_long (settled_scan l.activity e.seat l found (log_of k e.seat)) k.settled ∙ i.scans;
-  cells = origins_long z change _ k.origins ∙ i.cells;
+  cells = copies_long z (copied_cell l.activity l (origin_in z k.origins)) _ ∙ origins_long z change _ k.origins ∙ i.cells;
   logs = λ s w. logs_set k.logs r.seats e.seat _ _ (omega (arith, inside, i.seats)) log (λ t u. i.logs t (omega (arith, u, i.seats))) s (omega (arith, w, i.seats, length-set r.world.locals e.seat (followed r.world.rows (transition_at z r.world e l) found).local));
   settled = λ s w. draws_noted z.seats k.settled r.settled (settled_scan l.activity e.seat l found (log_of k e.seat)) i.scans (scan_below z l.activity e.seat l found (log_of k e.seat) seat known.ranges.activity) i.settled s w ∙
       ap (λ (g : SeatLog). with_settled (settled_scan l.activity e.seat l found g) r.settled s) (i.logs e.seat inside);
-  origins = λ q c v w. ap (λ (xs : List (Option ℕ)). origin_in z xs q c) (origins_last z k.history at change k.origins) ∙
-      origins_noted z l.activity e.seat choice l found (log_of k e.seat) (origin_in z k.origins) r.origin r.history (length k.history.attempts) k.origins r.world.rows (ap (λ (h : History). length h.attempts) i.history) i.cells known.below.row reached i.origins q c v w;
+  origins = λ q c v w. ap (λ (xs : List (Option ℕ)). origin_in z (copies_with z (copied_cell l.activity l (origin_in z k.origins)) xs) q c) (origins_last z k.history at change k.origins) ∙
+      origins_noted z l.activity e.seat choice l found (log_of k e.seat) (origin_in z k.origins) r.origin r.history (length k.history.attempts) k.origins r.world.rows (ap (λ (h : History). length h.attempts) i.history) i.cells known.below.row (infant_in_range r.world.rows l known.below) known.ranges.activity
+      (λ j c x. i.origins l.row c.place known.below.row (infant_cell_in_range (IsPlaced z) l j c known.ranges.rebalance.places x)) i.origins q c v w;
 }
   where
     choice : Choice

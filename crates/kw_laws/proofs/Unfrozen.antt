@@ -1,5 +1,5 @@
 -- No count is frozen and no entry, in a table in which no seat freezes a row: each event keeps that. What a put finds in its own entry
--- is then what the invariant says, without the case that the entry is frozen.
+-- is then what the invariant says, without the case that the entry is frozen. By the same induction no cell is a copy.
 use Rattle.std.proofs.Common.{ℕ, ◌≡◌, ◌⊎◌, inl, inr, ◌+◌, ◌<◌, ◌≤◌, Bool, true, false, nat_lt, if◌then◌else◌, Option, Some, None, List, arith, refl, sym, ◌∙◌, ap, subst, slice_get}
 use Rattle.std.proofs.lemmas.Bool.{cases_eq}
 use Rattle.std.proofs.lemmas.Option.{slice_get_within}
@@ -13,7 +13,7 @@ use Rattle.kw_words.specs.Pend.{pend_of, pend_word}
 use Rattle.kw_words.proofs.CountWords.{count_of_next}
 use Rattle.kw_words.proofs.PendWords.{pend_of-Idle, pend_of-Pending, pend_of-Stamped, pend_of-Frozen}
 use Rattle.kw_world.specs.declared.activity.Activity.{Activity}
-use Rattle.kw_world.specs.declared.activity.Activity.TheVariants.{LookHelp, PutAdd, Announce, Stamp, PutClear, FreezeCount, Freeze}
+use Rattle.kw_world.specs.declared.activity.Activity.TheVariants.{LookHelp, PutAdd, Announce, Stamp, PutClear, FreezeCount, Freeze, WriteCount, WritePend}
 use Rattle.kw_world.specs.declared.event.Choice.{Choice}
 use Rattle.kw_world.specs.declared.event.Event.{Event}
 use Rattle.kw_world.specs.declared.local.Local.{Local}
@@ -36,15 +36,16 @@ use Rattle.kw_core.specs.Run.{Run, goes_on, start, history}
 use Rattle.kw_core.specs.Stages.{IsPublished}
 use Rattle.kw_core.specs.Words.{Words}
 use Rattle.kw_laws.specs.Laws.{IsIdleOrFrozen, HasCellOrFrozen}
-use Rattle.kw_laws.specs.Unfrozen.{FreezesNone, IsUnfrozenCount, IsUnfrozenEntry, HasCellOfOwn, AreCountsUnfrozen, AreEntriesUnfrozen, IsUnfrozen}
+use Rattle.kw_laws.specs.Unfrozen.{RebalancesNone, IsUnfrozenCount, IsUnfrozenEntry, HasCellOfOwn, AreCountsUnfrozen, AreEntriesUnfrozen, IsUnfrozen}
 use Rattle.kw_core.proofs.Arrows.{not_below}
 use Rattle.kw_core.proofs.Events.{may_come}
-use Rattle.kw_core.proofs.FreezeFrame.{count_stays, entry_stays}
 use Rattle.kw_core.proofs.Happens.{Happens, happens, exchanged, not_exchanged}
+use Rattle.kw_core.proofs.InfantFrames.{count_stays, entry_stays}
 use Rattle.kw_reads.proofs.Keeps.{inv_goes_on}
 use Rattle.kw_reads.proofs.Opens.{inv_start}
 use Rattle.kw_puts.proofs.Owners.{published_puts}
 use Rattle.kw_core.proofs.Runs.{goes_on-moved, holds_of_history}
+use Rattle.kw_laws.proofs.Uncopied.{AreUncopied, cells_keep}
 
 -- Counts.
 
@@ -54,8 +55,9 @@ unfrozen_next w (Some c) e g f = rw (count_of_next w c e (omega (arith, g))) f
 unfrozen_next w None e g f = absurd g
 
 -- an event freezes no count
-counts_keep : (z : Sizes) (r r' : Run) (s : ℕ) (choice : Choice) (l l' : Local) (a : Activity) → Happens z r r' s choice l l' a → FreezesNone z → IsSane z r.world → AreCountsUnfrozen z r.world → (q : ℕ) → q < r.world.rows → IsUnfrozenCount (count_of (word z r'.world (name.Count q)))
+counts_keep : (z : Sizes) (r r' : Run) (s : ℕ) (choice : Choice) (l l' : Local) (a : Activity) → Happens z r r' s choice l l' a → RebalancesNone z → IsSane z r.world → AreCountsUnfrozen z r.world → (q : ℕ) → q < r.world.rows → IsUnfrozenCount (count_of (word z r'.world (name.Count q)))
 counts_keep z r r' s choice l l' FreezeCount h n i f q o = absurd (n h.reached)
+counts_keep z r r' s choice l l' WriteCount h n i f q o = absurd (n h.reached)
 counts_keep z r r' s choice l l' PutAdd h n i f q o = which (cases_eq q l.row)
   where
     which : (q ≡ l.row) ⊎ (q ≡ l.row → ⊥) → IsUnfrozenCount (count_of (word z r'.world (name.Count q)))
@@ -63,8 +65,8 @@ counts_keep z r r' s choice l l' PutAdd h n i f q o = which (cases_eq q l.row)
         let p : l.row < r.world.rows = subst (λ x. x < r.world.rows) e o in
         let x = unfrozen_next (word z r.world (name.Count l.row)) _ refl (i.each (name.Count l.row) p) (f l.row p) in
         subst (λ y. IsUnfrozenCount (count_of (word z r'.world (name.Count y)))) (sym e) (subst (λ w. IsUnfrozenCount (count_of w)) (sym h.changed.same) x)
-    which (inr d) = subst (λ w. IsUnfrozenCount (count_of w)) (sym (count_stays PutAdd h q o (λ x e. d e))) (f q o)
-counts_keep z r r' s choice l l' a h n i f q o = subst (λ w. IsUnfrozenCount (count_of w)) (sym (count_stays a h q o (λ x e. x))) (f q o)
+    which (inr d) = subst (λ w. IsUnfrozenCount (count_of w)) (sym (count_stays PutAdd h q o d)) (f q o)
+counts_keep z r r' s choice l l' a h n i f q o = subst (λ w. IsUnfrozenCount (count_of w)) (sym (count_stays a h q o (λ x. x))) (f q o)
 
 -- Entries.
 
@@ -106,34 +108,36 @@ module _ (z : Sizes) (r r' : Run) (s : ℕ) (choice : Choice) (l l' : Local) (i 
   few cell c = omega (arith, c, i.sized.few_cells)
 
   -- an event freezes no entry
-  entries_keep : (a : Activity) → Happens z r r' s choice l l' a → FreezesNone z → IsUnfrozenEntry (pend_of (word z r'.world (name.Pend q t)))
+  entries_keep : (a : Activity) → Happens z r r' s choice l l' a → RebalancesNone z → IsUnfrozenEntry (pend_of (word z r'.world (name.Pend q t)))
   entries_keep (Freeze j) h n = absurd (n h.reached)
+  entries_keep (WritePend j) h n = absurd (n h.reached)
   entries_keep Announce h n =
       let k = known Announce h in
       entry_at (word z r'.world) q t l.row s (exchange_keeps _ _ _ _ h.changed.same (f l.row s k.below.row h.seat) (pending_unfrozen l.cell (few l.cell k.ranges.cell)))
-      (λ d. same_entry (entry_stays Announce h q t o w (λ x e u. d e u) (λ x. absurd x) (λ x. absurd x)))
+      (λ d. same_entry (entry_stays Announce h q t o w (λ c. d c.0 c.1)))
   entries_keep Stamp h n =
       let k = known Stamp h in
       entry_at (word z r'.world) q t l.row s (exchange_keeps _ _ _ _ h.changed.same (f l.row s k.below.row h.seat) (stamped_unfrozen l.cell l.version (few l.cell k.ranges.cell) k.ranges.version))
-      (λ d. same_entry (entry_stays Stamp h q t o w (λ x e u. d e u) (λ x. absurd x) (λ x. absurd x)))
+      (λ d. same_entry (entry_stays Stamp h q t o w (λ c. d c.0 c.1)))
   entries_keep LookHelp h n =
       let k = known LookHelp h in
       entry_at (word z r'.world) q t l.row l.looked (exchange_keeps _ _ _ _ h.changed.same (f l.row l.looked k.below.row k.ranges.looked) (stamped_unfrozen l.met l.helping (few l.met k.ranges.met) k.ranges.helping))
-      (λ d. same_entry (entry_stays LookHelp h q t o w (λ x. absurd x) (λ x e u. d e u) (λ x. absurd x)))
+      (λ d. same_entry (entry_stays LookHelp h q t o w (λ c. d c.0 c.1)))
   entries_keep PutClear h n =
       entry_at (word z r'.world) q t l.row s (subst (λ x. IsUnfrozenEntry (pend_of x)) (sym h.changed.same) (subst IsUnfrozenEntry (sym pend_of-Idle) tt))
-      (λ d. same_entry (entry_stays PutClear h q t o w (λ x e u. d e u) (λ x. absurd x) (λ x. absurd x)))
-  entries_keep a h n = same_entry (entry_stays a h q t o w (λ x. absurd x) (λ x. absurd x) (λ x. absurd x))
+      (λ d. same_entry (entry_stays PutClear h q t o w (λ c. d c.0 c.1)))
+  entries_keep a h n = same_entry (entry_stays a h q t o w (λ x. x))
 
--- Both hold of every list.
+-- All of it holds of every list.
 
--- the invariant, and that no count and no entry is frozen
+-- the invariant, and that no count and no entry is frozen, and no cell a copy
 record Kept (z : Sizes) (r : Run) : Type 0 where
   inv : Inv z r
   counts : AreCountsUnfrozen z r.world
   entries : AreEntriesUnfrozen z r.world
+  own : AreUncopied r
 
-kept_goes_on : (z : Sizes) → FreezesNone z → (o : Opening) (r : Run) (e : Event) → may_step o r.world e ≡ true → Kept z r → Kept z (goes_on z r e)
+kept_goes_on : (z : Sizes) → RebalancesNone z → (o : Opening) (r : Run) (e : Event) → may_step o r.world e ≡ true → Kept z r → Kept z (goes_on z r e)
 kept_goes_on z n o r e may b =
     let c = may_come o r.world e may in
     let h = happens z r e c.local b.inv.shape.sane (b.inv.shape.kinds e.seat c.local c.knows).reached c.begins c.knows c.moves in
@@ -141,6 +145,7 @@ kept_goes_on z n o r e may b =
       inv = inv_goes_on z o r e may b.inv;
       counts = subst (λ x. AreCountsUnfrozen z x.world) (sym (goes_on-moved z r e c.local c.knows c.moves)) (counts_keep z r _ _ _ _ _ _ h n b.inv.shape.sane b.counts);
       entries = subst (λ x. AreEntriesUnfrozen z x.world) (sym (goes_on-moved z r e c.local c.knows c.moves)) (λ q t o w. entries_keep z r _ _ _ _ _ b.inv.shape.sane b.entries q t o w _ h n);
+      own = subst AreUncopied (sym (goes_on-moved z r e c.local c.knows c.moves)) (λ q k p x. cells_keep z r _ _ _ _ _ b.inv b.own q k p x _ h n);
     }
 
 count_unfrozen : IsUnfrozenCount (count_of 0)
@@ -150,8 +155,8 @@ count_unfrozen = refl
 entry_unfrozen : IsUnfrozenEntry (pend_of 0)
 entry_unfrozen = subst IsUnfrozenEntry (sym pend_of-Idle) tt
 
--- after every valid list no count and no entry is frozen
-kept_holds : (z : Sizes) → FreezesNone z → (o : Opening) → IsOpening z o → (es : List Event) → is_valid z o es ≡ true → Kept z (history z o es)
+-- after every valid list no count and no entry is frozen, and no cell is a copy
+kept_holds : (z : Sizes) → RebalancesNone z → (o : Opening) → IsOpening z o → (es : List Event) → is_valid z o es ≡ true → Kept z (history z o es)
 kept_holds z n o i es v = holds_of_history z o (Kept z) (kept_goes_on z n o) starts es v
   where
     starts : Kept z (start z o)
@@ -159,6 +164,7 @@ kept_holds z n o i es v = holds_of_history z o (Kept z) (kept_goes_on z n o) sta
       inv = inv_start z o i;
       counts = λ q w. subst (λ x. IsUnfrozenCount (count_of x)) (sym (opened-word z o (name.Count q) i.sized w)) count_unfrozen;
       entries = λ q t w u. subst (λ x. IsUnfrozenEntry (pend_of x)) (sym (opened-word z o (name.Pend q t) i.sized (w, u))) entry_unfrozen;
+      own = λ q c p e. let x : None ≡ Some p = e in absurd (cc);
     }
 
 -- a row that is not frozen and has no room has given all its cells
@@ -242,7 +248,11 @@ module _ (z : Sizes) (r : Run) (i : Inv z r) where
   }
 
 -- after every valid list, in a table in which no seat freezes a row, nothing is frozen
-pub unfrozen_holds : (z : Sizes) → FreezesNone z → (o : Opening) → IsOpening z o → (es : List Event) → is_valid z o es ≡ true → IsUnfrozen z (history z o es).world
+pub unfrozen_holds : (z : Sizes) → RebalancesNone z → (o : Opening) → IsOpening z o → (es : List Event) → is_valid z o es ≡ true → IsUnfrozen z (history z o es).world
 unfrozen_holds z n o i es v =
     let b = kept_holds z n o i es v in
     unfrozen z (history z o es) b.inv b.counts b.entries
+
+-- and each cell that stands for an attempt is its own
+pub uncopied_holds : (z : Sizes) → RebalancesNone z → (o : Opening) → IsOpening z o → (es : List Event) → is_valid z o es ≡ true → AreUncopied (history z o es)
+uncopied_holds z n o i es v = (kept_holds z n o i es v).own

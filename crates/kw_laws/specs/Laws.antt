@@ -30,10 +30,12 @@ use Rattle.kw_shape.specs.Passes.{Numbers, Passes}
 use Rattle.kw_shape.specs.RowsIn.{rows_in}
 use Rattle.kw_shape.specs.Shape.{HoldsKey, IsStill, Walks}
 use Rattle.kw_puts.specs.Positions.{IsDrawnAt}
+use Rattle.kw_kept.specs.Kept.{Kept}
+use Rattle.kw_reads.specs.Contents.{Needed, puts_of, rows_of}
 use Rattle.kw_reads.specs.Readers.{IsDue, IsCopyOf}
 use Rattle.kw_reads.specs.Replies.{RisesBelow, Covers}
 use Rattle.kw_world.specs.declared.answer.Answer.TheVariants.{Pairs}
-use Rattle.kw_laws.specs.Unfrozen.{FreezesNone, IsUnfrozen}
+use Rattle.kw_laws.specs.Unfrozen.{IsUnfrozen, RebalancesNone}
 
 -- the entry is idle or frozen
 abbrev pub IsIdleOrFrozen : Option Pend → Type 0
@@ -65,12 +67,12 @@ pub record IsStampedInOrder (h : History) (p : ℕ) : Type 0 where
   pub load : (attempt h p).load < (attempt h p).at
   pub found : Stands h (attempt h p).load LoadClock (attempt h p).version
 
--- the attempt is stamped, and a cell that is gathered is a copy of its own
+-- the attempt is stamped, and a cell that is gathered stands for it
 pub record IsGathered (r : Run) (q : ℕ) (l : Local) (p : ℕ) : Type 0 where
   pub stamped : (attempt r.history p).is_stamped ≡ true
   pub cell : kw_cell.Cell
   pub among : Contains l.gathered cell
-  pub copy : IsCopyOf r.history q l.call cell p
+  pub copy : IsCopyOf r.history r.origin q l.call cell p
 
 -- the pairs that a scan has rise and lie below the key that it wants next, which is in its range
 pub record IsBelowWanted (l : Local) : Type 0 where
@@ -93,8 +95,8 @@ pub record KeepsLaws (z : Sizes) (r : Run) : Type 0 where
   -- rows, and states and marks say what has become of a row. A row that the table does not have is free
   pub rows : Structure (rows_in (word z r.world)) r.ledger.rows (length r.history.log)
   pub beyond : (q : ℕ) → r.world.rows ≤ q → (r.ledger.rows.fates q).status ≡ Free
-  -- as long as no row is rebalanced, none is unlinked: a row is in the list and normal, or free
-  pub still : (q : ℕ) → IsStill r.ledger.rows q
+  -- in a table of a form in which no row is rebalanced none comes or goes: a row is in the list, or free
+  pub still : RebalancesNone z → (q : ℕ) → IsStill r.ledger.rows q
   -- a seat is in a pass as long as its word says so, of an epoch that is not above the present one; numbers are drawn in order
   pub passes : (t : ℕ) (l : Local) → slice_get r.world.locals t ≡ Some l → Passes (word z r.world) r.ledger.rows t l.activity l
   pub numbers : Numbers (word z r.world) r.ledger.rows
@@ -103,8 +105,8 @@ pub record KeepsLaws (z : Sizes) (r : Run) : Type 0 where
   -- each seat is where its call has it: on its walk at a row that is in the list, or was so in its pass, whose minimum it knows, and at
   -- the row of its key with the row after it, which begins where the row's range ends
   pub walks : (t : ℕ) (l : Local) → slice_get r.world.locals t ≡ Some l → Walks (word z r.world) r.ledger.rows t l.activity l
-  -- as long as no row is rebalanced, that is the row to which the link of its row leads
-  pub after : (t : ℕ) (l : Local) → slice_get r.world.locals t ≡ Some l → IsAtRow l.activity → l.next ≡ next_in (word z r.world) l.row
+  -- in such a table that is the row to which the link of its row leads
+  pub after : RebalancesNone z → (t : ℕ) (l : Local) → slice_get r.world.locals t ≡ Some l → IsAtRow l.activity → l.next ≡ next_in (word z r.world) l.row
   -- a walk goes up: the row after the one that it is at has a greater minimum than the seat knows of its own, and so has the row
   -- after that of its key
   pub climbs : (t : ℕ) (l : Local) → slice_get r.world.locals t ≡ Some l → l.activity ≡ WalkMin → l.lower < least_in (word z r.world) l.candidate
@@ -120,8 +122,10 @@ pub record KeepsLaws (z : Sizes) (r : Run) : Type 0 where
   pub covered : (t : ℕ) (l : Local) → slice_get r.world.locals t ≡ Some l → is_scan l.call ≡ true → l.activity ≡ ClearScan Pairs → IsDrawnCover r t l (last_key l.call + 1) l.pairs
   -- a call that has read no row has no pairs
   pub early : (t : ℕ) (l : Local) → slice_get r.world.locals t ≡ Some l → IsEarly l.activity → l.pairs ≡ []
-  -- no count is frozen and no entry, in a table of a form in which no row is
-  pub unfrozen : FreezesNone z → IsUnfrozen z r.world
+  -- no count is frozen and no entry, in a table of a form in which no row is rebalanced
+  pub unfrozen : RebalancesNone z → IsUnfrozen z r.world
+  -- in such a table no cell is a copy: each cell that stands for an attempt stands for one that was added, and is its own
+  pub uncopied : RebalancesNone z → (q c p : ℕ) → r.origin q c ≡ Some p → (p < length r.history.attempts) × ((attempt r.history p).row ≡ q) × ((attempt r.history p).cell ≡ c)
   -- a seat that is to announce a cell finds its entry idle or frozen
   pub announces : (t : ℕ) (l : Local) → slice_get r.world.locals t ≡ Some l → l.activity ≡ Announce → IsIdleOrFrozen (pend_of (word z r.world (name.Pend l.row t)))
   -- a seat that is to stamp its cell finds its entry pending or stamped with it, or frozen
@@ -140,9 +144,14 @@ pub record KeepsLaws (z : Sizes) (r : Run) : Type 0 where
   pub reads_on : (t : ℕ) (l : Local) → slice_get r.world.locals t ≡ Some l → l.activity ≡ ListFrom → (c : ℕ) → cell_of_link_word (word z r.world (link_name l.row l.link)) ≡ Some c → l.walked < z.cells
   -- each stamped put loaded its clock between its announcement and its stamp
   pub stamped : (p : ℕ) → IsPut r.history p → IsStampedInOrder r.history p
-  -- of a row that a seat has read, each attempt that was announced before it looked, and whose key it reads, is lost, or stamped and
-  -- gathered
-  pub seen : (t : ℕ) (l : Local) → slice_get r.world.locals t ≡ Some l → IsKeeping l.activity → (q : ℕ) → (r.seats t).read ≡ Some q → (p : ℕ) → IsDue r.history q l.call (r.seats t).looked p → IsGathered r q l p
+  -- each attempt's cell stands for it
+  pub given : (p : ℕ) → p < length r.history.attempts → r.origin (attempt r.history p).row (attempt r.history p).cell ≡ Some p
+  -- of a row that a seat has read, each attempt for which a cell of the row stands, its own cell or a copy, and which was announced before the
+  -- seat looked, and whose key it reads, is lost, or stamped and gathered
+  pub seen : (t : ℕ) (l : Local) → slice_get r.world.locals t ≡ Some l → IsKeeping l.activity → (q : ℕ) → (r.seats t).read ≡ Some q → (c p : ℕ) → IsDue r.history r.origin q l.call (r.seats t).looked c p → IsGathered r q l p
+  -- the cells of each row of the list show for each of its keys what all stamped puts show, at the newest version and at each that a scan
+  -- needs
+  pub kept : Kept (puts_of r.history) (rows_of z r) (Needed z r)
   -- a seat that is at the row of its key is at a row that is in the list, or was so in its pass, and which may hold the key
   pub live : (t : ℕ) (l : Local) → slice_get r.world.locals t ≡ Some l → IsAtRow l.activity → IsFresh r.ledger.rows t l.row
   pub holds : (t : ℕ) (l : Local) → slice_get r.world.locals t ≡ Some l → IsAtRow l.activity → HoldsKey (word z r.world) r.ledger.rows l.row l.want

@@ -6,3 +6,4 @@ pub mod Mirror
 pub mod SeatCalls
 pub mod Live
 pub mod MirrorReads
+pub mod Causes

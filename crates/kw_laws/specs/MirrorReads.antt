@@ -1,6 +1,6 @@
 -- What a scan drew and what a get answered, in the words of the events: the seat's own draw and the settle by which it has its version, with
--- the draw and the settle of the seat that helped it if one did, and the load of the cell whose value is answered.
-use Rattle.std.specs.Prelude.{ℕ, ◌≡◌, ◌⊎◌, ◌<◌, Some, List, length}
+-- the draw and the settle of the seat that helped it if one did, and the load of the cell whose value is answered: that of the put, or a copy of it.
+use Rattle.std.specs.Prelude.{ℕ, ◌≡◌, ◌⊎◌, ◌<◌, Some, List, length, take}
 use Rattle.kw_words.specs.declared.kind.Kind.TheVariants as kind
 use Rattle.kw_words.specs.declared.layout.Name.TheVariants as name
 use Rattle.kw_words.specs.declared.scan.ScanWord.TheVariants.{Waiting, Drawn}
@@ -16,7 +16,8 @@ use Rattle.kw_world.specs.Sizes.{Sizes}
 use Rattle.kw_core.specs.History.{History, Get, Value, attempt, called}
 use Rattle.kw_core.specs.HistoryLaws.{EndsWith}
 use Rattle.kw_core.specs.declared.history.End.{End}
-use Rattle.kw_core.specs.declared.history.Drawn as history
+use Rattle.kw_core.specs.declared.history.Drawn as drawn
+use Rattle.kw_core.specs.Run.{history}
 use Rattle.kw_laws.specs.Mirror.{Acts, operation}
 
 -- the exchange by which a seat that waits with this clock settles for a version
@@ -56,7 +57,7 @@ IsLoadingValue ListVal = Unit {0}
 IsLoadingValue RestVal = Unit {0}
 IsLoadingValue _ = ⊥
 
--- the seat has read the value of this attempt's cell, after the first position and before the last
+-- the seat has read the value of a cell that stood for this attempt then, after the first position and before the last
 pub record HasRead (z : Sizes) (o : Opening) (es : List Event) (h : History) (s first last p : ℕ) : Type 0 where
   pub within : p < length h.attempts
   pub at : ℕ
@@ -65,10 +66,13 @@ pub record HasRead (z : Sizes) (o : Opening) (es : List Event) (h : History) (s 
   pub found : ℕ
   pub activity : Activity
   pub loads : IsLoadingValue activity
-  pub acts : Acts z o es at s activity (operation kind.LoadValue (name.Value (attempt h p).row (attempt h p).cell) Load) found
+  pub row : ℕ
+  pub cell : ℕ
+  pub origin : (history z o (take at es)).origin row cell ≡ Some p
+  pub acts : Acts z o es at s activity (operation kind.LoadValue (name.Value row cell) Load) found
   pub value : value_of_word found ≡ (attempt h p).value
 
--- the put whose value a get answered is one whose cell it read within its call
+-- the put whose value a get answered is one whose cell, or a copy of it, it read within its call
 pub record AnswersFrom (z : Sizes) (o : Opening) (es : List Event) (h : History) (x at v : ℕ) : Type 0 where
   pub put : ℕ
   pub answer : (called h x).answer ≡ Some put
@@ -78,10 +82,10 @@ pub record AnswersFrom (z : Sizes) (o : Opening) (es : List Event) (h : History)
 -- the record says of draws and answers what the events say
 pub record MirrorsReads (z : Sizes) (o : Opening) (es : List Event) (h : History) : Type 0 where
   -- a scan settled for the version that it ended with, which its own seat drew, or one that helped it
-  pub draws : (x : ℕ) (d : history.Drawn) → x < length h.calls → (called h x).draw ≡ Some d → HasSettled z o es (called h x).seat d.at d.version
-  -- a call that ended with the answer of an attempt has read the attempt's cell
+  pub draws : (x : ℕ) (d : drawn.Drawn) → x < length h.calls → (called h x).draw ≡ Some d → HasSettled z o es (called h x).seat d.at d.version
+  -- a call that ended with the answer of an attempt has read the attempt's cell, or a copy of it
   pub answers : (x p : ℕ) (e : End) → x < length h.calls → (called h x).end ≡ Some e → (called h x).answer ≡ Some p → HasRead z o es h (called h x).seat (called h x).first e.at p
 
--- each get that answered a value has it from a put whose cell it read
+-- each get that answered a value has it from a put whose cell it read, or a copy of it
 abbrev pub GetsRead : Sizes → Opening → List Event → History → Type 0
 GetsRead z o es h = (x key at v : ℕ) → x < length h.calls → EndsWith h x (Get key) at (Value v) → AnswersFrom z o es h x at v

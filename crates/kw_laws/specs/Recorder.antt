@@ -9,7 +9,8 @@ use Rattle.kw_core.specs.Noted.{IsWithin, nothing_yet}
 use Rattle.kw_core.specs.Appended.{settled}
 use Rattle.kw_core.specs.declared.seat_log.SeatLog.{SeatLog}
 use Rattle.kw_core.specs.declared.change.Settled.{Settled}
-use Rattle.kw_core.specs.Run.{Run, change_of, settled_scan, no_log}
+use Rattle.kw_core.specs.declared.change.Copied.{Copied}
+use Rattle.kw_core.specs.Run.{Run, change_of, settled_scan, copied_cell, no_log}
 use Rattle.kw_core.specs.Recording.{Recording, origin_in}
 pub use Rattle.kw_core.specs.Happenings.{happening_at, logged_of}
 use Rattle.kw_core.specs.Remarks.{remark_of, remarked, HasRoomFor}
@@ -46,12 +47,18 @@ entry_of z k l x = record {
   change = change_of z l.activity x.seat x.choice l x.found (log_of k x.seat) (origin_in z k.origins);
   remark = remark_of z l.activity x.choice l x.found (origin_in z k.origins) k.history (draw_of k x.seat);
   scan = settled_scan l.activity x.seat l x.found (log_of k x.seat);
+  copy = copied_cell l.activity l (origin_in z k.origins);
 }
 
 -- the origins with the cell that was given to an attempt
 abbrev pub origins_with : Sizes → Change → ℕ → List (Option ℕ) → List (Option ℕ)
 origins_with z (Adds call seat key value row cell) p origins = set origins (row * z.cells + cell) (Some p)
 origins_with z _ p origins = origins
+
+-- the origins with that of a cell that is written
+abbrev pub copies_with : Sizes → Option Copied → List (Option ℕ) → List (Option ℕ)
+copies_with z (Some x) origins = set origins (x.row * z.cells + x.cell) x.attempt
+copies_with z None origins = origins
 
 -- where the versions of scans were drawn, with that of one that is settled
 abbrev pub draws_with : Option Settled → List ℕ → List ℕ
@@ -64,13 +71,18 @@ settled_by z k entry next = record {
   history = settled (length k.history.log - 1) k.history entry.change;
   logs = set k.logs entry.seat (remarked entry.remark next (log_of k entry.seat));
   settled = draws_with entry.scan k.settled;
-  origins = origins_with z entry.change (length k.history.attempts - 1) k.origins;
+  origins = copies_with z entry.copy (origins_with z entry.change (length k.history.attempts - 1) k.origins);
 }
 
 -- a cell that is given is one of the table's, and its attempt is there
 abbrev pub IsInTable : Sizes → Recording → Change → Type 0
 IsInTable z k (Adds call seat key value row cell) = (row * z.cells + cell < length k.origins) × (1 ≤ length k.history.attempts)
 IsInTable z k _ = Unit {0}
+
+-- a cell that is written is one of so many
+abbrev pub IsCopyIn : Sizes → ℕ → Option Copied → Type 0
+IsCopyIn z cells (Some x) = x.row * z.cells + x.cell < cells
+IsCopyIn z cells None = Unit {0}
 
 -- a scan that is settled is that of a seat
 abbrev pub IsScanBelow : ℕ → Option Settled → Type 0
@@ -85,3 +97,4 @@ pub record CanSettle (z : Sizes) (k : Recording) (entry : Entry) : Type 0 where
   pub room : HasRoomFor z.cells entry.remark (log_of k entry.seat)
   pub scan : IsScanBelow (length k.settled) entry.scan
   pub origin : IsInTable z k entry.change
+  pub copy : IsCopyIn z (length k.origins) entry.copy

@@ -1,5 +1,5 @@
--- What holds in a table of a form in which no row is frozen: no count is frozen, and no entry. A rebalance that goes further freezes
--- both, and so takes these laws away.
+-- What holds in a table of a form in which no row is rebalanced: no count is frozen, and no entry. A rebalance freezes both, and so takes
+-- these laws away.
 --
 -- By them a put that is refused at a row has the one cause that is left: the row has given all its cells.
 use Rattle.std.specs.Prelude.{ℕ, ◌≡◌, ◌<◌, ◌≤◌, false, Option, Some, None, slice_get}
@@ -11,15 +11,15 @@ use Rattle.kw_words.specs.Count.{count_of}
 use Rattle.kw_words.specs.Pend.{pend_of}
 use Rattle.kw_world.specs.declared.activity.Activity.TheVariants.{Announce, Stamp}
 use Rattle.kw_world.specs.declared.local.Local.{Local}
-use Rattle.kw_world.specs.Sizes.{Sizes, IsFreezing}
+use Rattle.kw_world.specs.Sizes.{Sizes, IsRebalancing}
 use Rattle.kw_world.specs.WorldView.{WorldView}
 use Rattle.kw_world.specs.PutTransitions.{has_room}
 use Rattle.kw_world.specs.Step.{word}
 use Rattle.kw_core.specs.Words.{given_in}
 
--- in a table of this form no seat freezes a row
-abbrev pub FreezesNone : Sizes → Type 0
-FreezesNone z = IsFreezing z.form → ⊥
+-- in a table of this form no seat rebalances a row
+abbrev pub RebalancesNone : Sizes → Type 0
+RebalancesNone z = IsRebalancing z.form → ⊥
 
 -- the count is one, and not frozen
 abbrev pub IsUnfrozenCount : Option Count → Type 0

@@ -15,6 +15,7 @@ ghost use Rattle.kw_world.specs.Opening.{IsOpening};
 ghost use Rattle.kw_world.specs.Sizes.{Sizes};
 ghost use Rattle.kw_core.specs.Events.{is_valid, world, local_of, of_seat, event};
 ghost use Rattle.kw_core.specs.Run.{history};
+ghost use Rattle.kw_laws.specs.Causes.{HaveCauses};
 ghost use Rattle.kw_laws.specs.Laws.{KeepsLaws};
 ghost use Rattle.kw_laws.specs.Live.{AreLive};
 ghost use Rattle.kw_laws.specs.Mirror.{Mirrors};
@@ -41,7 +42,7 @@ pub fn list_laws()
 
 /// The record of every valid list from an opening is what it claims to be: at each position that it names stands the event
 /// that it says, and it leaves no such event out. A scan drew by its own seat and settled for its version, and a get read the cell
-/// of the put whose value it answers.
+/// of the put whose value it answers, or a copy of it.
 pub fn mirror_laws()
     ensures events { (z : Sizes) (o : Opening) (events : List Event) → IsOpening z o →
         is_valid z o events ≡ true → Mirrors z o events (history z o events).history }
@@ -49,6 +50,15 @@ pub fn mirror_laws()
         is_valid z o events ≡ true → MirrorsReads z o events (history z o events).history }
     ensures gets { (z : Sizes) (o : Opening) (events : List Event) → IsOpening z o →
         is_valid z o events ≡ true → GetsRead z o events (history z o events).history }
+{}
+
+/// Each call of the record of a valid list from an opening that was refused has its cause among the events of its seat after its first
+/// one and before its last. As spent it is refused where its seat found the clock or the epoch at its bound. For want of rows it is
+/// refused, where a full row refuses its puts, as its row had given all its cells, and, where a full row is replaced, as one search asked
+/// for each row of the table, and found too few that were free.
+pub fn cause_laws()
+    ensures causes { (z : Sizes) (o : Opening) (events : List Event) → IsOpening z o →
+        is_valid z o events ≡ true → HaveCauses z o events (history z o events).history }
 {}
 
 /// The calls of one seat in a valid list from an opening. No event makes no call, and events of other seats leave the

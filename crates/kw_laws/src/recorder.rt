@@ -1,9 +1,10 @@
 //! The record of a world's events, kept while they are made.
 //!
 //! A `Recorder` holds the history of the events so far and, beside it, what is needed to say what the next event adds to it: what
-//! each seat did last, where the version in each seat's scan was drawn, and to which attempt each cell was given. `step_recorded` makes an event and notes it. What an event
-//! adds is settled before it is made, as `Entry`, for the seat forgets what it knew; all memory is taken then, so that an event
-//! that was made is always noted, and one that was not made leaves no trace.
+//! each seat did last, where the version in each seat's scan was drawn, and to which attempt each cell was given, or of which one it
+//! is a copy. `step_recorded` makes an event and notes it. What an event adds is settled before it is made, as `Entry`, for the seat
+//! forgets what it knew; all memory is taken then, so that an event that was made is always noted, and one that was not made leaves
+//! no trace.
 ghost use Rattle.std.specs.Prelude.{◌≡◌, ◌<◌, ◌≤◌, ◌+◌, ◌*◌, None, IfOk, OnOk, OnErr, length, replicate};
 ghost use Rattle.kw_words.specs.declared.sizes.TheConstants.{CELLS, SEATS};
 ghost use Rattle.kw_world.specs.Sizes.{product};
@@ -14,9 +15,9 @@ ghost use Rattle.kw_core.specs.Appended.{appended};
 ghost use Rattle.kw_core.specs.Run.{Run, goes_on};
 ghost use Rattle.kw_reads.specs.Inv.{Inv};
 ghost use Rattle.kw_core.specs.Recording.{Recording};
-ghost use Rattle.kw_laws.specs.Recorder.{Records, CanSettle, IsScanBelow, draws_with, opening_record, entry_of, settled_by, logged_of};
+ghost use Rattle.kw_laws.specs.Recorder.{Records, CanSettle, IsScanBelow, draws_with, IsCopyIn, copies_with, opening_record, entry_of, settled_by, logged_of};
 
-use kw_core::change::{Happening, Settled, change_of, settled_scan};
+use kw_core::change::{Copied, Happening, Settled, change_of, copied_cell, settled_scan};
 use kw_core::history::{Change, History, Logged};
 use kw_core::seat_log::{Remark, SeatLog};
 use kw_core::step::step;
@@ -36,10 +37,11 @@ pub struct Entry {
     change: Change,
     remark: Remark,
     scan: Option<Settled>,
+    copy: Option<Copied>,
 }
 
 /// The history of the events so far, what each seat did last, where the version in each seat's scan was drawn, and to which attempt
-/// each cell of each row was given.
+/// each cell of each row was given, or of which one it is a copy.
 #[derive(Drop)]
 pub struct Recorder {
     history: History,
@@ -104,12 +106,14 @@ impl Recorder {
         let settled = self.settled[happening.seat as usize];
         let remark = Remark::of(local, happening, &self.origins, &self.history, settled);
         let scan = settled_scan(local, happening, log);
+        let copy = copied_cell(local, &self.origins);
         self.history.append(happening.logged(), &change)?;
         Ok(Entry {
             seat: happening.seat,
             change,
             remark,
             scan,
+            copy,
         })
     }
 
@@ -122,6 +126,7 @@ impl Recorder {
             let attempt = self.history.attempts().len() - 1;
             self.origins[*row as usize * CELLS + *cell as usize] = Some(attempt);
         }
+        note_copy(&mut self.origins, entry.copy);
         self.logs[entry.seat as usize].note(entry.remark, next);
         note_draw(&mut self.settled, entry.scan);
         self.history.settle(entry.change);
@@ -180,6 +185,16 @@ fn note_draw(draws: &mut Vec<u64>, scan: Option<Settled>)
 {
     if let Some(scan) = scan {
         draws[scan.seat as usize] = scan.at;
+    }
+}
+
+// Notes for which attempt a cell stands from here on that is written.
+fn note_copy(origins: &mut Vec<Option<usize>>, copy: Option<Copied>)
+    requires { IsCopyIn product (length origins.old.items) copy }
+    ensures { origins.new.items ≡ copies_with product copy origins.old.items }
+{
+    if let Some(copy) = copy {
+        origins[copy.row as usize * CELLS + copy.cell as usize] = copy.attempt;
     }
 }
 

@@ -19,7 +19,7 @@ use Rattle.kw_world.specs.Transition.{Outcome, outcome, to}
 use Rattle.kw_words.specs.Plain.{key_of_word, version_of_word, cell_of_link_word, cell_link_word}
 use Rattle.kw_world.specs.Calls.{first_key}
 use Rattle.kw_world.specs.ListTransitions.{insert_from, insert_past, insert_tried, is_newer}
-use Rattle.kw_core.specs.Stages.{IsAtPut, IsInserting}
+use Rattle.kw_core.specs.Stages.{IsInserting}
 use Rattle.kw_world.specs.PutTransitions.{full, has_room, given_of, stamp_met}
 use Rattle.kw_world.specs.Sizes.{product}
 use Rattle.kw_world.specs.Step.{word, next_of, transition_of}
@@ -40,24 +40,6 @@ use Rattle.kw_core.specs.Stages.{is_putting}
 use Rattle.kw_live.proofs.Asking.{below_trans, none_at, none_below, once_below}
 use Rattle.kw_follow.proofs.OwnEvents.{goes_trans}
 use Rattle.kw_follow.proofs.Fronts.{met_laws, met_local, met_told, met_row_below, local_at}
-
--- a put that code finds at its row is there
-pub puts_at : (a : Activity) → is_putting a ≡ true → IsAtPut a
-puts_at PutCount e = tt
-puts_at PutAdd e = tt
-puts_at PutKey e = tt
-puts_at PutValue e = tt
-puts_at Announce e = tt
-puts_at PutClock e = tt
-puts_at Stamp e = tt
-puts_at PutVersion e = tt
-puts_at InsFrom e = tt
-puts_at InsKey e = tt
-puts_at InsVer e = tt
-puts_at InsSet e = tt
-puts_at Insert e = tt
-puts_at PutClear e = tt
-puts_at _ e = true_false e refl
 
 -- What a put has found.
 

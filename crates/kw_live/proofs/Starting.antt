@@ -1,5 +1,5 @@
 -- Where calls other than scans stand between the functions that make their events.
-use Rattle.std.proofs.Common.{◌≡◌, ℕ, Some, List, subst}
+use Rattle.std.proofs.Common.{◌≡◌, ℕ, true, Some, List, refl, subst}
 use Rattle.kw_cells.specs.Cells.{shown_at}
 use Rattle.kw_model.specs.declared.call.Call.TheVariants.{Put, Get}
 use Rattle.kw_world.specs.declared.answer.Answer.{Answer}
@@ -8,18 +8,18 @@ use Rattle.kw_world.specs.declared.activity.Activity.{Activity}
 use Rattle.kw_world.specs.declared.activity.Activity.TheVariants.{Start, Leave}
 use Rattle.kw_world.specs.declared.limits.TheConstants.{NEWEST}
 use Rattle.kw_world.specs.declared.local.Local.{Local}
-use Rattle.kw_core.specs.Stages.{IsGoing}
+use Rattle.kw_core.specs.Stages.{is_walking}
 use Rattle.kw_live.specs.Reading.{HasRead, HasReadAs}
 use Rattle.kw_live.specs.Stages.{HasEntered}
 
 -- a put that has entered is to begin its walk
-pub put_starts : (key value : ℕ) (a : Activity) → HasEntered (Put key value) a → IsGoing a
-put_starts key value Start h = tt
+pub put_starts : (key value : ℕ) (a : Activity) → HasEntered (Put key value) a → is_walking a ≡ true
+put_starts key value Start h = refl
 put_starts key value _ h = absurd h
 
 -- so is a get
-pub get_starts : (key : ℕ) (a : Activity) → HasEntered (Get key) a → IsGoing a
-get_starts key Start h = tt
+pub get_starts : (key : ℕ) (a : Activity) → HasEntered (Get key) a → is_walking a ≡ true
+get_starts key Start h = refl
 get_starts key _ h = absurd h
 
 -- a get that has read its row is about to leave

@@ -1,6 +1,6 @@
 //! The walk along the rows to the one whose range holds a key.
-ghost use Rattle.std.specs.Prelude.{◌≡◌, Some};
-ghost use Rattle.kw_core.specs.Stages.{IsGoing};
+ghost use Rattle.std.specs.Prelude.{◌≡◌, true, Some};
+ghost use Rattle.kw_core.specs.Stages.{is_walking};
 ghost use Rattle.kw_table.specs.Passes.{view};
 ghost use Rattle.kw_follow.specs.Calling.{KeepsCalls};
 ghost use Rattle.kw_follow.specs.Following.{Follows, GoesTo, held};
@@ -23,7 +23,7 @@ use kw_world::local::Local;
 /// it and the least key of that one. Least keys rise from row to row, so that the walk ends. Takes no memory.
 pub fn locate(shared: &Shared, pass: &mut Pass, local: &mut Local, guess: Option<u32>)
     requires follows { Follows shared.now pass.old local.old }
-    requires going { IsGoing local.old.activity }
+    requires going { is_walking local.old.activity ≡ true }
     ensures goes { GoesTo shared.now pass.old pass.new }
     ensures follows { Follows shared.now pass.new local.new }
     ensures arrived { local.new.activity ≡ arrived local.old.call }

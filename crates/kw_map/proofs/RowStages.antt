@@ -18,7 +18,7 @@ use Rattle.kw_core.specs.Events.{local_of, world}
 use Rattle.kw_core.specs.Run.{history}
 use Rattle.kw_world.specs.Calls.{is_scan}
 use Rattle.kw_world.specs.Calls as asked
-use Rattle.kw_core.specs.Stages.{IsCovering, IsGoing}
+use Rattle.kw_core.specs.Stages.{IsCovering, is_walking}
 use Rattle.kw_laws.specs.Laws.{IsDrawnCover, KeepsLaws}
 use Rattle.kw_laws.proofs.LawProofs.{laws_hold}
 use Rattle.kw_table.specs.declared.pass.Pass.{Pass}
@@ -87,7 +87,7 @@ pub between_rows : {S : Type 0} (last : S → Option ℕ) (stands : S → Pairs 
     Takes last stands old (pairs_of m.gathered want upto version) new → IsBetween last new m
 between_rows last stands old new want upto version m above (inl g) t =
     let earlier : want ≤ m.want = omega (arith, g.rises) in
-    inl (subst IsGoing (sym g.activity) tt, subst (λ o. IsBelow o m.want) (sym t.last_is) (last_below (last old) (pairs_of m.gathered want upto version) m.want (IsBelow-le (last old) want m.want earlier above) g.above))
+    inl (ap is_walking g.activity, subst (λ o. IsBelow o m.want) (sym t.last_is) (last_below (last old) (pairs_of m.gathered want upto version) m.want (IsBelow-le (last old) want m.want earlier above) g.above))
 between_rows last stands old new want upto version m above (inr e) t = inr e
 
 -- Where the gatherer stopped.

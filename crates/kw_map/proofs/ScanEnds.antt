@@ -10,7 +10,7 @@ use Rattle.kw_world.specs.Calls.{first_key, is_scan}
 use Rattle.kw_world.specs.Sizes.{product}
 use Rattle.kw_world.specs.WorldView.{WorldView}
 use Rattle.kw_core.specs.Run.{history}
-use Rattle.kw_core.specs.Stages.{IsCovering, IsGoing}
+use Rattle.kw_core.specs.Stages.{IsCovering, is_walking}
 use Rattle.kw_laws.proofs.LawProofs.{laws_hold}
 use Rattle.kw_core.proofs.Runs.{history-world}
 use Rattle.kw_laws.proofs.Worlds.{world-local}
@@ -50,7 +50,7 @@ pub entered_between : {S : Type 0} (last : S → Option ℕ) (into : S) (s : Sha
 entered_between {S} last into s p l from upto f call entered stays above = met l.activity refl entered
   where
     met : (a : Activity) → l.activity ≡ a → HasEntered (Scan from upto) a → IsBetween last into l
-    met Start is h = inl (subst IsGoing (sym is) tt, IsBelow-le (last into) from l.want (wants_from s p l from upto f call is) above)
+    met Start is h = inl (ap is_walking is, IsBelow-le (last into) from l.want (wants_from s p l from upto f call is) above)
     met (ClearScan answer.Pairs) is h = inr is
     met (Leave r) is h = absurd (stays r is)
     met _ is h = absurd h

@@ -1,5 +1,5 @@
 -- Where a scan stands between its rows, and what it took when it stopped.
-use Rattle.std.specs.Prelude.{◌≡◌, ◌⊎◌, ℕ, Option, List, take}
+use Rattle.std.specs.Prelude.{◌≡◌, ◌⊎◌, ℕ, true, Option, List, take}
 use mathlib.Core.List.{IsPrefix}
 use Rattle.kw_model.specs.declared.call.Call.{Call}
 use Rattle.kw_world.specs.declared.answer.Answer.TheVariants.{Pairs}
@@ -10,14 +10,14 @@ use Rattle.kw_world.specs.Sizes.{product}
 use Rattle.kw_core.specs.Events.{local_of, world}
 use Rattle.kw_core.specs.Run.{history}
 use Rattle.kw_laws.specs.Laws.{IsDrawnCover}
-use Rattle.kw_core.specs.Stages.{IsGoing}
+use Rattle.kw_core.specs.Stages.{is_walking}
 use Rattle.kw_table.specs.declared.pass.Pass.{Pass}
 use Rattle.kw_table.specs.Passes.{view}
 use Rattle.kw_map.specs.Gather.{IsBelow}
 
 -- the scan is on its way to the row of the key that it wants, and the gatherer took no key from there on; or it has all its pairs
 abbrev pub IsBetween : {S : Type 0} → (S → Option ℕ) → S → Local → Type 0
-IsBetween last s l = (IsGoing l.activity × IsBelow (last s) l.want) ⊎ (l.activity ≡ ClearScan Pairs)
+IsBetween last s l = ((is_walking l.activity ≡ true) × IsBelow (last s) l.want) ⊎ (l.activity ≡ ClearScan Pairs)
 
 -- what the pass's seat knew after these events
 abbrev pub knew : Pass → List Event → Local

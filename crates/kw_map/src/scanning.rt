@@ -2,9 +2,9 @@
 //!
 //! A scan that has entered reads row after row, and hands on the pairs of each as soon as it has them. The functions here take it
 //! from its entry to the point where it is about to leave, with all its pairs or because the gatherer stopped.
-ghost use Rattle.std.specs.Prelude.{◌≡◌, ◌⊎◌, ◌≤◌, ◌++◌, ℕ, Some, [], OnOk, OnErr, MatchResult};
+ghost use Rattle.std.specs.Prelude.{◌≡◌, ◌⊎◌, ◌≤◌, ◌++◌, ℕ, true, Some, [], OnOk, OnErr, MatchResult};
 ghost use Rattle.kw_cells.specs.Cells.{pairs_of};
-ghost use Rattle.kw_core.specs.Stages.{IsGoing};
+ghost use Rattle.kw_core.specs.Stages.{is_walking};
 ghost use Rattle.kw_model.specs.Counts.{CountRose};
 ghost use Rattle.kw_follow.specs.Calling.{KeepsCalls};
 ghost use Rattle.kw_follow.specs.Following.{Follows, GoesTo, held};
@@ -70,7 +70,7 @@ fn gather_row<G: Gather>(
 ) -> Result<(), Stop>
     requires follows { Follows shared.now pass.old local.old }
     requires scan { (from : ℕ) × (local.old.call ≡ Some (Call.Scan from upto)) }
-    requires going { IsGoing local.old.activity }
+    requires going { is_walking local.old.activity ≡ true }
     requires above { IsBelow (G.last into.old) local.old.want }
     ensures goes { GoesTo shared.now pass.old pass.new }
     ensures follows { Follows shared.now pass.new local.new }

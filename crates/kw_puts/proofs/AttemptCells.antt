@@ -18,39 +18,45 @@ use Rattle.kw_core.specs.declared.history.Attempt.{Attempt}
 use Rattle.kw_core.specs.Run.{Run, Origins}
 use Rattle.kw_core.specs.Stages.{IsAtRow, IsPutting, IsFresh, HasKey, IsAnnounce, IsStamped, IsPutVersion}
 use Rattle.kw_core.specs.Words.{Words, given_in}
-use Rattle.kw_rows.specs.Ledger.{Fate, Ledger}
+use Rattle.kw_rows.specs.Ledger.{Ledger}
 use Rattle.kw_rows.specs.Rows.{WasLinked}
 use Rattle.kw_shape.specs.Shape.{HoldsKey, Shape}
-use Rattle.kw_puts.specs.Puts.{IsGivenCell, HasCell, Places, Rises, HasBody, OwnsAttempt, key_in, value_in}
+use Rattle.kw_puts.specs.Puts.{IsGivenCell, HasCell, IsCopyAt, Places, Rises, RisesTo, HasBody, OwnsAttempt, key_in, value_in}
 use Rattle.kw_puts.specs.Freezes.{IsFrozen}
 use Rattle.kw_puts.specs.Below.{Below}
 use Rattle.kw_core.specs.Step.{Step}
 use Rattle.kw_core.proofs.Happens.{log_entry}
 use Rattle.kw_core.proofs.Happens.{Happens}
 use Rattle.kw_core.proofs.Arrows.{Arrow}
-use Rattle.kw_core.proofs.Frame.{key_kept, value_kept, version_kept}
-use Rattle.kw_core.proofs.FreezeFrame.{given_never_falls}
+use Rattle.kw_core.proofs.InfantFrames.{key_stays, value_stays}
 use Rattle.kw_core.proofs.RoomBelow.{room_below}
-use Rattle.kw_puts.proofs.Owners.{true_false, is_own}
+use Rattle.kw_puts.proofs.CellsOf.{cell_within}
+use Rattle.kw_puts.proofs.Owners.{true_false, is_own, row_linked, was_or_not}
 use Rattle.kw_puts.proofs.Rely.{SameAttempt, GoesOn}
 use Rattle.kw_puts.proofs.RelyProof.{key_puts, value_puts, version_puts, goes_on_by, rely_version}
-use Rattle.kw_shape.proofs.RowsKeep.{fates_kept, least_kept}
-use Rattle.kw_shape.proofs.RowsStay.{fresh_linked, holds_first, holds_stays, linked_stays, was_below}
+use Rattle.kw_shape.proofs.RowsStay.{holds_first, holds_stays}
+use Rattle.kw_shape.proofs.LinkedRows.{fresh_linked, was_below}
+use Rattle.kw_puts.proofs.Relinked.{PlacesAt, new_places}
+use Rattle.kw_shape.proofs.LinkedRows.{StaysLinked, linked_keeps}
+use Rattle.kw_shape.proofs.LinkedWords.{linked_given, linked_key, linked_value, linked_version}
 use Rattle.kw_puts.proofs.OwnAttempts.{acting_own}
 use Rattle.kw_puts.proofs.NewAttempts.{IsGiving, IsNew, attempt_was, announced_was, one_more_is, one_more_within, given_was, given_more, origin_new, origin_was, no_room_frozen, stays_frozen}
 
 -- the cell of an attempt, by what the attempt is of
 cell_from : (z : Sizes) (rows : ℕ) (v : Words) (g : Ledger) (h : History) (o : Origins) (p t q c k : ℕ) → (attempt h p).seat ≡ t → (attempt h p).row ≡ q → (attempt h p).cell ≡ c → (attempt h p).key ≡ k →
-    t < z.seats → q < rows → WasLinked g q → c < z.cells → c < given_in v q → o q c ≡ Some p → HoldsKey v g q k → IsGivenCell z rows v g h o p
-cell_from z rows v g h o p t q c k es eq ec ek s b i w u e y = record { seat = rw es s; below = rw eq b; linked = rw eq i; cell = rw ec w; given = rw (eq, ec) u; origin = rw (eq, ec) e; holds = rw (eq, ek) y }
+    t < z.seats → q < rows → WasLinked g q → c < z.cells → c < given_in v q → o q c ≡ Some p → HoldsKey v g q k → (g.fates q).born ≤ (attempt h p).add → IsGivenCell z rows v g h o p
+cell_from z rows v g h o p t q c k es eq ec ek s b i w u e y n = record { seat = rw es s; below = rw eq b; linked = rw eq i; cell = rw ec w; given = rw (eq, ec) u; origin = rw (eq, ec) e; holds = rw (eq, ek) y; born = rw eq n }
 
 -- the cells of attempts: only a put that takes a cell adds to them
 pub given_keeps : (z : Sizes) (r r' : Run) (s : ℕ) (choice : Choice) (l : Local) (a : Activity) (l' : Local) → Arrow z (word z r.world) s choice l a l' → Happens z r r' s choice l l' a → Below z r → Step r.history r'.history (log_entry z r a s choice l) → Shape z r' → (p : ℕ) → p < length r'.history.attempts → IsGivenCell z r'.world.rows (word z r'.world) r'.ledger.rows r'.history r'.origin p
 given_keeps z r r' s choice l a l' b h i st after p o = subst (λ n. IsGivenCell z n (word z r'.world) r'.ledger.rows r'.history r'.origin p) (sym h.rows) (which (attempt_was a h p o))
   where
-    -- a row may still hold a key
-    holds : (q key : ℕ) → HoldsKey (word z r.world) r.ledger.rows q key → HoldsKey (word z r'.world) r'.ledger.rows q key
-    holds q key = holds_stays (word z r.world) (word z r'.world) r.ledger.rows r'.ledger.rows q key (ap (λ (x : Fate). x.upper) (fates_kept a h q)) (least_kept a h i.shape.sane q)
+    -- what stays of a row that is or was linked: it may still hold a key
+    keeps : (q : ℕ) → WasLinked r.ledger.rows q → StaysLinked (word z r.world) (word z r'.world) r.ledger.rows r'.ledger.rows q
+    keeps q k = linked_keeps a h i.shape q k
+
+    holds : (q key : ℕ) → WasLinked r.ledger.rows q → HoldsKey (word z r.world) r.ledger.rows q key → HoldsKey (word z r'.world) r'.ledger.rows q key
+    holds q key k = holds_stays (word z r.world) (word z r'.world) r.ledger.rows r'.ledger.rows q key (keeps q k).upper (keeps q k).least
 
     fresh : IsNew z r r' s l a p → IsGivenCell z r.world.rows (word z r'.world) r'.ledger.rows r'.history r'.origin p
     fresh n =
@@ -62,11 +68,12 @@ given_keeps z r r' s choice l a l' b h i st after p o = subst (λ n. IsGivenCell
         (ap (λ x. x.seat) n.is) (ap (λ x. x.row) n.is) (ap (λ x. x.cell) n.is) (ap (λ x. x.key) n.is)
         h.seat
         below
-        (linked_stays a h l.row linked)
+        (keeps l.row linked).linked
         (room_below z (count_of (word z r.world (name.Count l.row))) n.gives.room)
         (omega (arith, more))
         (origin_new taking n.gives.room ∙ ap Some (sym n.place))
-        (holds l.row (first_key l.call) (holds_first z r s l i.shape h.knows taking.activity))
+        (holds l.row (first_key l.call) linked (holds_first z r s l i.shape h.knows taking.activity))
+        (omega (arith, (keeps l.row linked).born, ap (λ x. x.add) n.is, i.puts.born l.row linked))
 
     which : (p < length r.history.attempts) ⊎ IsNew z r r' s l a p → IsGivenCell z r.world.rows (word z r'.world) r'.ledger.rows r'.history r'.origin p
     which (inl w) =
@@ -77,116 +84,206 @@ given_keeps z r r' s choice l a l' b h i st after p o = subst (λ n. IsGivenCell
         same.seat same.row same.cell same.key
         c.seat
         c.below
-        (linked_stays a h (attempt r.history p).row c.linked)
+        (keeps (attempt r.history p).row c.linked).linked
         c.cell
-        (omega (arith, c.given, given_never_falls a h (attempt r.history p).row c.below (i.shape.sane.each (name.Count (attempt r.history p).row) c.below)))
-        (y.origin (attempt r.history p).row (attempt r.history p).cell p c.origin)
-        (holds (attempt r.history p).row (attempt r.history p).key c.holds)
+        (omega (arith, c.given, linked_given a h i.shape (attempt r.history p).row c.linked))
+        (y.origin (attempt r.history p).row (attempt r.history p).cell p c.linked c.origin)
+        (holds (attempt r.history p).row (attempt r.history p).key c.linked c.holds)
+        (omega (arith, (keeps (attempt r.history p).row c.linked).born, same.add, c.born))
     which (inr n) = fresh n
 
 -- The places of a row.
 
 module _ (z : Sizes) (r r' : Run) (s : ℕ) (choice : Choice) (l : Local) (a : Activity) (l' : Local) (h : Happens z r r' s choice l l' a) (i : Below z r) (st : Step r.history r'.history (log_entry z r a s choice l)) where
   -- the record goes on, and no count falls
-  goes : GoesOn r.history r'.history r.origin r'.origin
+  goes : GoesOn r.history r'.history r.origin r'.origin r.ledger.rows
   goes = goes_on_by z r r' s choice l a l' h i st
 
-  grows : (q : ℕ) → q < r.world.rows → given_in (word z r.world) q ≤ given_in (word z r'.world) q
-  grows q u = given_never_falls a h q u (i.shape.sane.each (name.Count q) u)
+  grows : (q : ℕ) → WasLinked r.ledger.rows q → given_in (word z r.world) q ≤ given_in (word z r'.world) q
+  grows q k = linked_given a h i.shape q k
 
   -- a seat that asks for a cell adds one to the count of its row
   taken_given : a ≡ PutAdd → given_in (word z r'.world) l.row ≡ given_in (word z r.world) l.row + 1
   taken_given e = given_more _ _ (subst (λ x. Happens z r r' s choice l l' x) e h).changed.same (i.shape.sane.each (name.Count l.row) (i.shape.sane.locals s l h.knows).below.row)
 
-  -- an origin is that of an attempt with this cell
-  owner_keeps : (q c p : ℕ) → r'.origin q c ≡ Some p → HasCell r'.history q c p
-  owner_keeps q c p e = which (origin_was a h q c)
-    where
-      fresh : IsGiving z r l a → q ≡ l.row → c ≡ given_in (word z r.world) l.row → p ≡ length r.history.attempts → HasCell r'.history q c p
-      fresh n f g u =
-          let taking = subst (λ x. Happens z r r' s choice l l' x) n.takes h in
-          let is = one_more_is taking n.room in
-          record { within = subst (λ x. x < length r'.history.attempts) (sym u) (one_more_within taking n.room); row = rw u (ap (λ x. x.row) is ∙ sym f); cell = rw u (ap (λ x. x.cell) is ∙ sym g) }
+  -- the attempt of a cell that is given now
+  fresh_cell : (q c p : ℕ) → IsGiving z r l a → q ≡ l.row → c ≡ given_in (word z r.world) l.row → p ≡ length r.history.attempts → HasCell r'.history q c p
+  fresh_cell q c p n f g u =
+      let taking = subst (λ x. Happens z r r' s choice l l' x) n.takes h in
+      let is = one_more_is taking n.room in
+      record { within = subst (λ x. x < length r'.history.attempts) (sym u) (one_more_within taking n.room); row = rw u (ap (λ x. x.row) is ∙ sym f); cell = rw u (ap (λ x. x.cell) is ∙ sym g) }
 
-      which : (r'.origin q c ≡ r.origin q c) ⊎ IsGiving z r l a × (q ≡ l.row) × (c ≡ given_in (word z r.world) l.row) × (r'.origin q c ≡ Some (length r.history.attempts)) → HasCell r'.history q c p
-      which (inl x) =
-          let w = i.puts.places.owner q c p (sym x ∙ e) in
-          let same = goes.attempts p w.within in
-          record { within = omega (arith, w.within, goes.more_attempts); row = same.row ∙ w.row; cell = same.cell ∙ w.cell }
-      which (inr x) = fresh x.0 x.1 x.2 (same_Some p (length r.history.attempts) (sym e ∙ x.3))
+  -- no seat writes into a copy: the cell into which it stores a key, a value or a version is its own
+  not_own : (q c p : ℕ) → r.origin q c ≡ Some p → (attempt r.history p).row ≢ q → IsPutting a → q ≡ l.row → c ≡ l.cell → ⊥
+  not_own q c p e d y f g =
+      let own = i.puts.owns s l h.knows (subst IsPutting (sym h.activity) y) in
+      let origin : r.origin l.row l.cell ≡ Some (r.seats s).own = rw (own.row, own.cell) at (i.puts.given (r.seats s).own own.within).origin in
+      let same : p ≡ (r.seats s).own = same_Some p (r.seats s).own (sym (rw (f, g) at e) ∙ origin) in
+      d (rw same own.row ∙ sym f)
 
-  -- a frozen row stays frozen
-  freeze_lasts : (q : ℕ) → q < r.world.rows → IsFrozen (word z r.world) q → IsFrozen (word z r'.world) q
-  freeze_lasts q w f = stays_frozen a h q w (i.shape.sane.each (name.Count q) w) f
+  -- a copy stays one
+  copy_keeps : (q c p : ℕ) → WasLinked r.ledger.rows q → c < z.cells → r.origin q c ≡ Some p → IsCopyAt (word z r.world) r.ledger.rows r.history q c p → IsCopyAt (word z r'.world) r'.ledger.rows r'.history q c p
+  copy_keeps q c p k o e x =
+      let same = goes.attempts p x.within in
+      let grows = goes.grows.old p x.within in
+      let stamped = grows.stamped x.stamped in
+      record {
+        within = omega (arith, x.within, goes.more_attempts);
+        elsewhere = λ f. x.elsewhere (sym same.row ∙ f);
+        stamped = stamped.0;
+        before = omega (arith, x.before, stamped.3, (linked_keeps a h i.shape q k).born);
+        key = ap key_of_word (linked_key a h i.shape q c k o (λ y f g. not_own q c p e x.elsewhere (key_puts a y).0 f g)) ∙ x.key ∙ sym same.key;
+        value = ap value_of_word (linked_value a h i.shape q c k o (λ y f g. not_own q c p e x.elsewhere (value_puts a y).0 f g)) ∙ x.value ∙ sym same.value;
+        version = linked_version a h i.shape q c k o (λ y f g. not_own q c p e x.elsewhere (version_puts a y) f g) ∙ x.version ∙ sym stamped.1;
+      }
 
-  -- a cell that is given has an origin, or its row is frozen
-  place_keeps : (q c : ℕ) → q < r.world.rows → c < z.cells → c < given_in (word z r'.world) q → ((p : ℕ) × (r'.origin q c ≡ Some p)) ⊎ IsFrozen (word z r'.world) q
-  place_keeps q c w o g = which (cases_lt c (given_in (word z r.world) q)) (given_was a h q w (λ x u. i.shape.sane.each (name.Count x) u))
-    where
-      stays : ((p : ℕ) × (r.origin q c ≡ Some p)) ⊎ IsFrozen (word z r.world) q → ((p : ℕ) × (r'.origin q c ≡ Some p)) ⊎ IsFrozen (word z r'.world) q
-      stays (inl was) = inl (was.0, goes.origin q c was.0 was.1)
-      stays (inr f) = inr (freeze_lasts q w f)
+  -- what was known of the cells of the row before the event is known after it; a row that is linked now is none of these
+  module _ (q : ℕ) (k : WasLinked r.ledger.rows q) where
+    -- a cell is that of an attempt, or a copy
+    owner_keeps : (c p : ℕ) → c < z.cells → r'.origin q c ≡ Some p → HasCell r'.history q c p ⊎ IsCopyAt (word z r'.world) r'.ledger.rows r'.history q c p
+    owner_keeps c p o e = which (origin_was a h i.shape q c k)
+      where
+        stays : r.origin q c ≡ Some p → HasCell r.history q c p ⊎ IsCopyAt (word z r.world) r.ledger.rows r.history q c p → HasCell r'.history q c p ⊎ IsCopyAt (word z r'.world) r'.ledger.rows r'.history q c p
+        stays x (inl w) = let same = goes.attempts p w.within in inl (record { within = omega (arith, w.within, goes.more_attempts); row = same.row ∙ w.row; cell = same.cell ∙ w.cell })
+        stays x (inr w) = inr (copy_keeps q c p k o x w)
 
-      -- the row is asked for the cell: it gives it, or is frozen
-      asked : a ≡ PutAdd → q ≡ l.row → c ≡ given_in (word z r.world) l.row → (b : Bool) → has_room z (count_of (word z r.world (name.Count l.row))) ≡ b → ((p : ℕ) × (r'.origin q c ≡ Some p)) ⊎ IsFrozen (word z r'.world) q
-      asked e f u true m = inl (length r.history.attempts, rw (f, u) (origin_new (subst (λ k. Happens z r r' s choice l l' k) e h) m))
-      asked e f u false m =
-          let below = (i.shape.sane.locals s l h.knows).below.row in
-          let less : given_in (word z r.world) l.row < z.cells = omega (arith, u, o) in
-          inr (rw f (freeze_lasts l.row below (no_room_frozen z (count_of (word z r.world (name.Count l.row))) (i.shape.sane.each (name.Count l.row) below) m less)))
+        which : (r'.origin q c ≡ r.origin q c) ⊎ IsGiving z r l a × (q ≡ l.row) × (c ≡ given_in (word z r.world) l.row) × (r'.origin q c ≡ Some (length r.history.attempts)) → HasCell r'.history q c p ⊎ IsCopyAt (word z r'.world) r'.ledger.rows r'.history q c p
+        which (inl x) = stays (sym x ∙ e) (i.puts.places.owner q c p k o (sym x ∙ e))
+        which (inr x) = inl (fresh_cell q c p x.0 x.1 x.2 (same_Some p (length r.history.attempts) (sym e ∙ x.3)))
 
-      which : (c < given_in (word z r.world) q) ⊎ (given_in (word z r.world) q ≤ c) → (given_in (word z r'.world) q ≡ given_in (word z r.world) q) ⊎ (a ≡ PutAdd) × (q ≡ l.row) → ((p : ℕ) × (r'.origin q c ≡ Some p)) ⊎ IsFrozen (word z r'.world) q
-      which (inl x) y = stays (i.puts.places.given q c w o x)
-      which (inr x) (inl y) = absurd (omega (arith, x, g, y))
-      which (inr x) (inr y) =
-          let more = taken_given y.0 in
-          let f : given_in (word z r.world) l.row ≤ c = rw y.1 at x in
-          let k : c < given_in (word z r'.world) l.row = rw y.1 at g in
-          asked y.0 y.1 (omega (arith, f, k, more)) _ refl
+    -- a frozen row stays frozen
+    freeze_lasts : IsFrozen (word z r.world) q → IsFrozen (word z r'.world) q
+    freeze_lasts f = stays_frozen a h i.shape q k f
 
-  -- a cell that is not given is nobody's
-  nobody_keeps : (q c : ℕ) → q < r.world.rows → c < z.cells → given_in (word z r'.world) q ≤ c → r'.origin q c ≡ None
-  nobody_keeps q c w o g = which (origin_was a h q c)
-    where
-      which : (r'.origin q c ≡ r.origin q c) ⊎ IsGiving z r l a × (q ≡ l.row) × (c ≡ given_in (word z r.world) l.row) × (r'.origin q c ≡ Some (length r.history.attempts)) → r'.origin q c ≡ None
-      which (inl x) = x ∙ i.puts.places.nobody q c w o (omega (arith, g, grows q w))
-      which (inr x) =
-          let f : given_in (word z r'.world) l.row ≤ given_in (word z r.world) l.row = rw (x.1, x.2) at g in
-          absurd (omega (arith, f, taken_given x.0.takes))
+    -- a cell that is given has an origin, or its row is frozen
+    place_keeps : (c : ℕ) → c < z.cells → c < given_in (word z r'.world) q → ((p : ℕ) × (r'.origin q c ≡ Some p)) ⊎ IsFrozen (word z r'.world) q
+    place_keeps c o g = which (cases_lt c (given_in (word z r.world) q)) (given_was a h i.shape q k)
+      where
+        stays : ((p : ℕ) × (r.origin q c ≡ Some p)) ⊎ IsFrozen (word z r.world) q → ((p : ℕ) × (r'.origin q c ≡ Some p)) ⊎ IsFrozen (word z r'.world) q
+        stays (inl was) = inl (was.0, goes.origin q c was.0 k was.1)
+        stays (inr f) = inr (freeze_lasts f)
 
-  -- what is nobody's was so
-  nobody_was : (q c : ℕ) → r'.origin q c ≡ None → r.origin q c ≡ None
-  nobody_was q c e = by (r.origin q c) refl
-    where
-      by : (x : Option ℕ) → r.origin q c ≡ x → r.origin q c ≡ None
-      by (Some p) f = let y : Some p ≡ None = sym (goes.origin q c p f) ∙ e in absurd (cc)
-      by None f = f
+        -- the row is asked for the cell: it gives it, or is frozen
+        asked : a ≡ PutAdd → q ≡ l.row → c ≡ given_in (word z r.world) l.row → (b : Bool) → has_room z (count_of (word z r.world (name.Count l.row))) ≡ b → ((p : ℕ) × (r'.origin q c ≡ Some p)) ⊎ IsFrozen (word z r'.world) q
+        asked e f u true m = inl (length r.history.attempts, rw (f, u) (origin_new (subst (λ k. Happens z r r' s choice l l' k) e h) m))
+        asked e f u false m =
+            let below = (i.shape.sane.locals s l h.knows).below.row in
+            let less : given_in (word z r.world) l.row < z.cells = omega (arith, u, o) in
+            inr (freeze_lasts (rw f (no_room_frozen z (count_of (word z r.world (name.Count l.row))) (i.shape.sane.each (name.Count l.row) below) m less)))
 
-  -- and has no version
-  unstored_keeps : (q c : ℕ) → q < r.world.rows → c < z.cells → r'.origin q c ≡ None → word z r'.world (name.Version q c) ≡ 0
-  unstored_keeps q c w o n = version_kept a h q c w o (λ x e f. stores x e f) ∙ i.puts.places.unstored q c w o (nobody_was q c n)
-    where
-      stores : IsPutVersion a → q ≡ l.row → c ≡ l.cell → ⊥
-      stores x e f =
-          let own = i.puts.owns s l h.knows (subst IsPutting (sym h.activity) (version_puts a x)) in
-          let origin : r.origin l.row l.cell ≡ Some (r.seats s).own = rw (own.row, own.cell) at (i.puts.given (r.seats s).own own.within).origin in
-          let none : r.origin l.row l.cell ≡ None = rw (e, f) at (nobody_was q c n) in
-          let y : Some (r.seats s).own ≡ None = sym origin ∙ none in cc
+        which : (c < given_in (word z r.world) q) ⊎ (given_in (word z r.world) q ≤ c) → (given_in (word z r'.world) q ≡ given_in (word z r.world) q) ⊎ (a ≡ PutAdd) × (q ≡ l.row) → ((p : ℕ) × (r'.origin q c ≡ Some p)) ⊎ IsFrozen (word z r'.world) q
+        which (inl x) y = stays (i.puts.places.given q c k o x)
+        which (inr x) (inl y) = absurd (omega (arith, x, g, y))
+        which (inr x) (inr y) =
+            let more = taken_given y.0 in
+            let f : given_in (word z r.world) l.row ≤ c = rw y.1 at x in
+            let n : c < given_in (word z r'.world) l.row = rw y.1 at g in
+            asked y.0 y.1 (omega (arith, f, n, more)) _ refl
 
--- each cell that a row which is not frozen has given is that of an attempt, and no cell that is not given is anybody's
-pub places_keep : (z : Sizes) (r r' : Run) (s : ℕ) (choice : Choice) (l : Local) (a : Activity) (l' : Local) → Arrow z (word z r.world) s choice l a l' → Happens z r r' s choice l l' a → Below z r → Step r.history r'.history (log_entry z r a s choice l) → Shape z r' → Places z r'.world.rows (word z r'.world) r'.history r'.origin
-places_keep z r r' s choice l a l' b h i st after = subst (λ n. Places z n (word z r'.world) r'.history r'.origin) (sym h.rows) (record {
-  owner = owner_keeps z r r' s choice l a l' h i st;
-  given = place_keeps z r r' s choice l a l' h i st;
-  nobody = nobody_keeps z r r' s choice l a l' h i st;
-  unstored = unstored_keeps z r r' s choice l a l' h i st;
-})
+    -- a cell that is not given is nobody's
+    nobody_keeps : (c : ℕ) → c < z.cells → given_in (word z r'.world) q ≤ c → r'.origin q c ≡ None
+    nobody_keeps c o g = which (origin_was a h i.shape q c k)
+      where
+        which : (r'.origin q c ≡ r.origin q c) ⊎ IsGiving z r l a × (q ≡ l.row) × (c ≡ given_in (word z r.world) l.row) × (r'.origin q c ≡ Some (length r.history.attempts)) → r'.origin q c ≡ None
+        which (inl x) = x ∙ i.puts.places.nobody q c k o (omega (arith, g, grows q k))
+        which (inr x) =
+            let f : given_in (word z r'.world) l.row ≤ given_in (word z r.world) l.row = rw (x.1, x.2) at g in
+            absurd (omega (arith, f, taken_given x.0.takes))
+
+    -- what is nobody's was so
+    nobody_was : (c : ℕ) → r'.origin q c ≡ None → r.origin q c ≡ None
+    nobody_was c e = by (r.origin q c) refl
+      where
+        by : (x : Option ℕ) → r.origin q c ≡ x → r.origin q c ≡ None
+        by (Some p) f = let y : Some p ≡ None = sym (goes.origin q c p k f) ∙ e in absurd (cc)
+        by None f = f
+
+    -- and has no version
+    unstored_keeps : (c : ℕ) → c < z.cells → r'.origin q c ≡ None → word z r'.world (name.Version q c) ≡ 0
+    unstored_keeps c o n = linked_version a h i.shape q c k o (λ x e f. stores x e f) ∙ i.puts.places.unstored q c k o (nobody_was c n)
+      where
+        stores : IsPutVersion a → q ≡ l.row → c ≡ l.cell → ⊥
+        stores x e f =
+            let own = i.puts.owns s l h.knows (subst IsPutting (sym h.activity) (version_puts a x)) in
+            let origin : r.origin l.row l.cell ≡ Some (r.seats s).own = rw (own.row, own.cell) at (i.puts.given (r.seats s).own own.within).origin in
+            let none : r.origin l.row l.cell ≡ None = rw (e, f) at (nobody_was c n) in
+            let y : Some (r.seats s).own ≡ None = sym origin ∙ none in cc
+
+    -- a copy was one before the event: a cell that is given now is its attempt's own
+    pub copy_was : (c p : ℕ) → c < z.cells → r'.origin q c ≡ Some p → (attempt r'.history p).row ≢ q → (r.origin q c ≡ Some p) × (p < length r.history.attempts) × ((attempt r.history p).row ≢ q)
+    copy_was c p o e d = which (origin_was a h i.shape q c k)
+      where
+        which : (r'.origin q c ≡ r.origin q c) ⊎ IsGiving z r l a × (q ≡ l.row) × (c ≡ given_in (word z r.world) l.row) × (r'.origin q c ≡ Some (length r.history.attempts)) → (r.origin q c ≡ Some p) × (p < length r.history.attempts) × ((attempt r.history p).row ≢ q)
+        which (inl x) =
+            let was = sym x ∙ e in
+            let w = cell_within i.puts q c p (i.puts.places.owner q c p k o was) in
+            (was, w, λ f. d ((goes.attempts p w).row ∙ f))
+        which (inr x) = absurd (d (fresh_cell q c p x.0 x.1 x.2 (same_Some p (length r.history.attempts) (sym e ∙ x.3))).row)
+
+    -- the copies stand before the own cells
+    above_keeps : (c d p p' : ℕ) → c < z.cells → d < z.cells → r'.origin q c ≡ Some p → (attempt r'.history p).row ≢ q → r'.origin q d ≡ Some p' → (attempt r'.history p').row ≡ q → c < d
+    above_keeps c d p p' o u e n f m = which (origin_was a h i.shape q d k)
+      where
+        was : (r.origin q c ≡ Some p) × (p < length r.history.attempts) × ((attempt r.history p).row ≢ q)
+        was = copy_was c p o e n
+
+        -- a copy is a cell that was given
+        copied : c < given_in (word z r.world) q
+        copied = by (cases_lt c (given_in (word z r.world) q))
+          where
+            by : (c < given_in (word z r.world) q) ⊎ (given_in (word z r.world) q ≤ c) → c < given_in (word z r.world) q
+            by (inl x) = x
+            by (inr x) = let y : None ≡ Some p = sym (i.puts.places.nobody q c k o x) ∙ was.0 in absurd (cc)
+
+        which : (r'.origin q d ≡ r.origin q d) ⊎ IsGiving z r l a × (q ≡ l.row) × (d ≡ given_in (word z r.world) l.row) × (r'.origin q d ≡ Some (length r.history.attempts)) → c < d
+        which (inl x) =
+            let g = sym x ∙ f in
+            let w = cell_within i.puts q d p' (i.puts.places.owner q d p' k u g) in
+            i.puts.places.above q c d p p' k o u was.0 was.2 g (sym (goes.attempts p' w).row ∙ m)
+        which (inr x) = let y : d ≡ given_in (word z r.world) q = rw x.1 x.2 in omega (arith, copied, y)
+
+    -- and rise
+    rank_keeps : (c d p p' : ℕ) → c < d → d < z.cells → r'.origin q c ≡ Some p → (attempt r'.history p).row ≢ q → r'.origin q d ≡ Some p' → (attempt r'.history p').row ≢ q → RisesTo r'.history p p'
+    rank_keeps c d p p' b u e n f m =
+        let x = copy_was c p (omega (arith, b, u)) e n in
+        let y = copy_was d p' u f m in
+        rise x.1 (stamped_copy x (i.puts.places.owner q c p k (omega (arith, b, u)) x.0)) y.1 (stamped_copy y (i.puts.places.owner q d p' k u y.0)) (i.puts.places.rank q c d p p' k b u x.0 x.2 y.0 y.2)
+      where
+        stamped_copy : {c p : ℕ} → (r.origin q c ≡ Some p) × (p < length r.history.attempts) × ((attempt r.history p).row ≢ q) → HasCell r.history q c p ⊎ IsCopyAt (word z r.world) r.ledger.rows r.history q c p → (attempt r.history p).is_stamped ≡ true
+        stamped_copy x (inl w) = absurd (x.2 w.row)
+        stamped_copy x (inr w) = w.stamped
+
+        rise : p < length r.history.attempts → (attempt r.history p).is_stamped ≡ true → p' < length r.history.attempts → (attempt r.history p').is_stamped ≡ true → RisesTo r.history p p' → RisesTo r'.history p p'
+        rise w s w' s' (inl g) = inl (omega (arith, g, (goes.attempts p w).key, (goes.attempts p' w').key))
+        rise w s w' s' (inr g) = inr ((goes.attempts p w).key ∙ g.0 ∙ sym (goes.attempts p' w').key, omega (arith, g.1, ((goes.grows.old p w).stamped s).1, ((goes.grows.old p' w').stamped s').1))
+
+    -- all of it
+    pub places_at : PlacesAt z (word z r'.world) r'.ledger.rows r'.history r'.origin q
+    places_at = record { owner = owner_keeps; given = place_keeps; nobody = nobody_keeps; unstored = unstored_keeps; above = above_keeps; rank = rank_keeps }
+
+-- whose the cells are of each row that is or was linked: of one that was before the event, and of one that the event links
+pub places_keep : (z : Sizes) (r r' : Run) (s : ℕ) (choice : Choice) (l : Local) (a : Activity) (l' : Local) → Happens z r r' s choice l l' a → Below z r → Step r.history r'.history (log_entry z r a s choice l) → Places z (word z r'.world) r'.ledger.rows r'.history r'.origin
+places_keep z r r' s choice l a l' h i st = record {
+  owner = λ q c p k o e. (at q k).owner c p o e;
+  given = λ q c k o g. (at q k).given c o g;
+  nobody = λ q c k o g. (at q k).nobody c o g;
+  unstored = λ q c k o e. (at q k).unstored c o e;
+  above = λ q c d p p' k o u e n f m. (at q k).above c d p p' o u e n f m;
+  rank = λ q c d p p' k b u e n f m. (at q k).rank c d p p' b u e n f m;
+}
+  where
+    at : (q : ℕ) → WasLinked r'.ledger.rows q → PlacesAt z (word z r'.world) r'.ledger.rows r'.history r'.origin q
+    at q k = which (was_or_not r.ledger.rows q)
+      where
+        which : WasLinked r.ledger.rows q ⊎ (WasLinked r.ledger.rows q → ⊥) → PlacesAt z (word z r'.world) r'.ledger.rows r'.history r'.origin q
+        which (inl w) = places_at z r r' s choice l a l' h i st q w
+        which (inr n) = new_places z r r' s choice l a l' h i st q k n
 
 -- of two attempts of one row the later one has the greater cell
 pub rises_keep : (z : Sizes) (r r' : Run) (s : ℕ) (choice : Choice) (l : Local) (a : Activity) (l' : Local) → Arrow z (word z r.world) s choice l a l' → Happens z r r' s choice l l' a → Below z r → Step r.history r'.history (log_entry z r a s choice l) → Rises r'.history
 rises_keep z r r' s choice l a l' b h i st p q o w e = which (attempt_was a h q w)
   where
-    y : GoesOn r.history r'.history r.origin r'.origin
+    y : GoesOn r.history r'.history r.origin r'.origin r.ledger.rows
     y = goes_on_by z r r' s choice l a l' h i st
 
     which : (q < length r.history.attempts) ⊎ IsNew z r r' s l a q → (attempt r'.history p).cell < (attempt r'.history q).cell
@@ -214,12 +311,12 @@ module _ (z : Sizes) (r r' : Run) (s : ℕ) (choice : Choice) (l : Local) (a : A
   body_key : (attempt r.history p).is_announced ≡ true → key_in (word z r'.world) (attempt r.history p).row (attempt r.history p).cell ≡ (attempt r.history p).key
   body_key y =
       let c = i.puts.given p w in
-      ap key_of_word (key_kept a h (attempt r.history p).row (attempt r.history p).cell c.below c.cell (λ x e f. fresh_apart (key_puts a x) y e f)) ∙ (i.puts.body p w).key y
+      ap key_of_word (linked_key a h i.shape (attempt r.history p).row (attempt r.history p).cell c.linked c.cell (λ x e f. fresh_apart (key_puts a x) y e f)) ∙ (i.puts.body p w).key y
 
   body_value : (attempt r.history p).is_announced ≡ true → value_in (word z r'.world) (attempt r.history p).row (attempt r.history p).cell ≡ (attempt r.history p).value
   body_value y =
       let c = i.puts.given p w in
-      ap value_of_word (value_kept a h (attempt r.history p).row (attempt r.history p).cell c.below c.cell (λ x e f. fresh_apart (value_puts a x) y e f)) ∙ (i.puts.body p w).value y
+      ap value_of_word (linked_value a h i.shape (attempt r.history p).row (attempt r.history p).cell c.linked c.cell (λ x e f. fresh_apart (value_puts a x) y e f)) ∙ (i.puts.body p w).value y
 
 -- and in the cell of the attempt that is announced now
 module _ (z : Sizes) (r r' : Run) (s : ℕ) (choice : Choice) (l : Local) (l' : Local) (h : Happens z r r' s choice l l' Announce) (i : Below z r) where
@@ -229,12 +326,12 @@ module _ (z : Sizes) (r r' : Run) (s : ℕ) (choice : Choice) (l : Local) (l' : 
   announced_key : key_in (word z r'.world) (attempt r.history (r.seats s).own).row (attempt r.history (r.seats s).own).cell ≡ (attempt r.history (r.seats s).own).key
   announced_key =
       let k = i.shape.sane.locals s l h.knows in
-      rw (own.row, own.cell) (ap key_of_word (key_kept Announce h l.row l.cell k.below.row k.ranges.cell (λ x e f. x)) ∙ own.has_key (subst HasKey (sym h.activity) tt))
+      rw (own.row, own.cell) (ap key_of_word (key_stays Announce h l.row l.cell k.below.row k.ranges.cell (λ x. x)) ∙ own.has_key (subst HasKey (sym h.activity) tt))
 
   announced_value : value_in (word z r'.world) (attempt r.history (r.seats s).own).row (attempt r.history (r.seats s).own).cell ≡ (attempt r.history (r.seats s).own).value
   announced_value =
       let k = i.shape.sane.locals s l h.knows in
-      rw (own.row, own.cell) (ap value_of_word (value_kept Announce h l.row l.cell k.below.row k.ranges.cell (λ x e f. x)) ∙ own.has_value (subst IsAnnounce (sym h.activity) tt))
+      rw (own.row, own.cell) (ap value_of_word (value_stays Announce h l.row l.cell k.below.row k.ranges.cell (λ x. x)) ∙ own.has_value (subst IsAnnounce (sym h.activity) tt))
 
 -- a version that is stored is that of the seat's own attempt, which is stamped
 stored_now : (z : Sizes) (r r' : Run) (s : ℕ) (choice : Choice) (l : Local) (a : Activity) (l' : Local) → Happens z r r' s choice l l' a → Below z r → (p : ℕ) → p < length r.history.attempts → word z r.world (name.Version (attempt r.history p).row (attempt r.history p).cell) ≡ 0 → word z r'.world (name.Version (attempt r.history p).row (attempt r.history p).cell) ≢ 0 →
@@ -250,9 +347,9 @@ stored_now z r r' s choice l PutVersion l' h i p w e n = which (cases_eq (attemp
           subst (λ q. (attempt r.history q).is_stamped ≡ true) (sym same) (own.stamped (subst IsStamped (sym h.activity) tt)),
           rw (f, g) (h.changed.same ∙ sym (own.version (subst IsStamped (sym h.activity) tt)) ∙ ap (λ q. (attempt r.history q).version) (sym same)),
         )
-    which (inr d) g = let c = i.puts.given p w in absurd (n (version_kept PutVersion h (attempt r.history p).row (attempt r.history p).cell c.below c.cell (λ x f j. d f) ∙ e))
-    which (inl f) (inr d) = let c = i.puts.given p w in absurd (n (version_kept PutVersion h (attempt r.history p).row (attempt r.history p).cell c.below c.cell (λ x j g. d g) ∙ e))
-stored_now z r r' s choice l a l' h i p w e n = let c = i.puts.given p w in absurd (n (version_kept a h (attempt r.history p).row (attempt r.history p).cell c.below c.cell (λ x f g. x) ∙ e))
+    which (inr d) g = let c = i.puts.given p w in absurd (n (linked_version PutVersion h i.shape (attempt r.history p).row (attempt r.history p).cell c.linked c.cell (λ x f j. d f) ∙ e))
+    which (inl f) (inr d) = let c = i.puts.given p w in absurd (n (linked_version PutVersion h i.shape (attempt r.history p).row (attempt r.history p).cell c.linked c.cell (λ x j g. d g) ∙ e))
+stored_now z r r' s choice l a l' h i p w e n = let c = i.puts.given p w in absurd (n (linked_version a h i.shape (attempt r.history p).row (attempt r.history p).cell c.linked c.cell (λ x f g. x) ∙ e))
 
 -- a version that stands in a cell is that of its attempt, which is stamped
 stored_keeps : (z : Sizes) (r r' : Run) (s : ℕ) (choice : Choice) (l : Local) (a : Activity) (l' : Local) → Happens z r r' s choice l l' a → Below z r → (p : ℕ) → p < length r.history.attempts → word z r'.world (name.Version (attempt r.history p).row (attempt r.history p).cell) ≢ 0 →
@@ -264,7 +361,7 @@ stored_keeps z r r' s choice l a l' h i p w n = which (cases_eq (word z r.world 
     which (inr d) =
         let c = i.puts.given p w in
         let b = i.puts.body p w in
-        (b.stamped d, rely_version z r r' s choice l a l' h i (attempt r.history p).row (attempt r.history p).cell c.below c.cell d ∙ b.version d)
+        (b.stamped d, rely_version z r r' s choice l a l' h i (attempt r.history p).row (attempt r.history p).cell c.linked c.cell d ∙ b.version d)
 
 -- the words of the cell of an attempt that was there
 body_stays : (z : Sizes) (r r' : Run) (s : ℕ) (choice : Choice) (l : Local) (a : Activity) (l' : Local) → Happens z r r' s choice l l' a → Below z r → Step r.history r'.history (log_entry z r a s choice l) → (p : ℕ) → p < length r.history.attempts → HasBody (word z r'.world) r'.history p
@@ -275,7 +372,7 @@ body_stays z r r' s choice l a l' h i st p w = record {
   version = λ n. rw (same.row, same.cell) ((stored n).1 ∙ sym (stamped (stored n).0).1);
 }
   where
-    goes : GoesOn r.history r'.history r.origin r'.origin
+    goes : GoesOn r.history r'.history r.origin r'.origin r.ledger.rows
     goes = goes_on_by z r r' s choice l a l' h i st
 
     same : SameAttempt r.history r'.history p
@@ -303,10 +400,10 @@ body_keeps z r r' s choice l a l' b h i st p o = which (attempt_was a h p o)
     unstored : IsNew z r r' s l a p → word z r'.world (name.Version (attempt r'.history p).row (attempt r'.history p).cell) ≡ 0
     unstored n =
         let taking = subst (λ x. Happens z r r' s choice l l' x) n.gives.takes h in
-        let below = (i.shape.sane.locals s l h.knows).below.row in
+        let linked = row_linked z r i.shape s l h.knows (subst IsAtRow (sym taking.activity) tt) in
         let cell = room_below z (count_of (word z r.world (name.Count l.row))) n.gives.room in
         subst (λ (x : Attempt). word z r'.world (name.Version x.row x.cell) ≡ 0) (sym n.is)
-        (version_kept PutAdd taking l.row (given_in (word z r.world) l.row) below cell (λ x e f. x) ∙ i.puts.places.unstored l.row (given_in (word z r.world) l.row) below cell (i.puts.places.nobody l.row (given_in (word z r.world) l.row) below cell (omega arith)))
+        (linked_version PutAdd taking i.shape l.row (given_in (word z r.world) l.row) linked cell (λ x e f. x) ∙ i.puts.places.unstored l.row (given_in (word z r.world) l.row) linked cell (i.puts.places.nobody l.row (given_in (word z r.world) l.row) linked cell (omega arith)))
 
     which : (p < length r.history.attempts) ⊎ IsNew z r r' s l a p → HasBody (word z r'.world) r'.history p
     which (inl w) = body_stays z r r' s choice l a l' h i st p w

@@ -7,7 +7,7 @@ use Rattle.kw_words.specs.declared.pend.Pend.TheVariants as pend
 use Rattle.kw_words.specs.Count.{count_of}
 use Rattle.kw_words.specs.Pend.{pend_word}
 use Rattle.kw_world.specs.declared.activity.Activity.{Activity}
-use Rattle.kw_world.specs.declared.activity.Activity.TheVariants.{PutAdd, Announce, Stamp, PutClear}
+use Rattle.kw_world.specs.declared.activity.Activity.TheVariants.{PutAdd, PutKey, PutValue, Announce, PutClock, Stamp, PutVersion, InsFrom, InsKey, InsVer, InsSet, Insert, PutClear}
 use Rattle.kw_world.specs.declared.local.Local.{Local}
 use Rattle.kw_world.specs.declared.event.Choice.{Choice}
 use Rattle.kw_world.specs.Sizes.{Sizes}
@@ -24,10 +24,10 @@ use Rattle.kw_puts.specs.Below.{Below}
 use Rattle.kw_core.specs.Step.{Step}
 use Rattle.kw_core.proofs.Happens.{log_entry}
 use Rattle.kw_core.proofs.Happens.{Happens, knows_next, knows_other, not_chosen}
-use Rattle.kw_core.proofs.Building.{never_built}
+use Rattle.kw_core.proofs.Building.{IsBuilding}
 use Rattle.kw_core.proofs.Arrows.{builds, Arrow, takes_full, announces_full, stamps_full, IsNotOwn}
 use Rattle.kw_core.proofs.Arrows.{takes_cell, takes_none, stores_key, stores_value, announces, is_refused, loads_clock, stamps, is_stamped, is_not_own, stores_version, meets_cell, meets_none, key_before, key_same, key_after, version_before, version_after, stores_after, inserts, loses, clears}
-use Rattle.kw_core.proofs.Frame.{version_kept}
+use Rattle.kw_core.proofs.InfantFrames.{version_stays}
 use Rattle.kw_puts.proofs.Owners.{true_false}
 use Rattle.kw_puts.proofs.Rely.{SameAttempt}
 use Rattle.kw_puts.proofs.RelyEntry.{attempt_left}
@@ -62,10 +62,26 @@ lost_now z r r' s choice l l' n h i =
     let same = attempt_left r.history r'.history _ (r.seats s).own Nothing tt (h.history ∙ ap (λ c. noted r.history (log_entry z r Stamp s choice l) c) (not_chosen _ _ (Stamps (r.seats s).own l.version (r.seats s).loaded) Nothing unmet)) own.within in
     record { unstamped = rw same (lost_unstamped z r i (r.seats s).own lost); over = inl (rw same lost) }
 
+-- a seat that builds new rows does not put
+pub building_puts : {A : Type 0} (a : Activity) → IsBuilding a → IsPutting a → A
+building_puts PutKey b p = absurd b
+building_puts PutValue b p = absurd b
+building_puts Announce b p = absurd b
+building_puts PutClock b p = absurd b
+building_puts Stamp b p = absurd b
+building_puts PutVersion b p = absurd b
+building_puts InsFrom b p = absurd b
+building_puts InsKey b p = absurd b
+building_puts InsVer b p = absurd b
+building_puts InsSet b p = absurd b
+building_puts Insert b p = absurd b
+building_puts PutClear b p = absurd b
+building_puts _ b p = absurd p
+
 -- the attempt of a seat that puts stays its own, or the seat has cleared its entry, or it never gets a version
 own_goes : (z : Sizes) (r r' : Run) (s : ℕ) (choice : Choice) (l : Local) (a : Activity) (l' : Local) → Arrow z (word z r.world) s choice l a l' → Happens z r r' s choice l l' a → Below z r → IsPutting a →
     IsPutting l'.activity × ((r'.seats s).own ≡ (r.seats s).own) ⊎ (a ≡ PutClear) ⊎ IsOver r'.history (r.seats s).own
-own_goes z r r' s choice l a l' (builds b next y o t) h i p = never_built z b y o
+own_goes z r r' s choice l a l' (builds b next y o t) h i p = building_puts b y p
 own_goes z r r' s choice l a l' stores_key h i p = inl (tt, ap (λ g. g.own) h.log)
 own_goes z r r' s choice l a l' stores_value h i p = inl (tt, ap (λ g. g.own) h.log)
 own_goes z r r' s choice l a l' (announces e) h i p = inl (tt, ap (λ g. g.own) h.log)
@@ -92,7 +108,7 @@ own_goes z r r' s choice l a l' _ h i p = absurd p
 
 -- a seat that is given a cell puts it
 takes_puts : (z : Sizes) (v : Words) (s : ℕ) (choice : Choice) (l : Local) (a : Activity) (l' : Local) → Arrow z v s choice l a l' → a ≡ PutAdd → has_room z (count_of (v (name.Count l.row))) ≡ true → IsPutting l'.activity
-takes_puts z v s choice l a l' (builds b next y o t) e x = never_built z b y o
+takes_puts z v s choice l a l' (builds b next y o t) e x = absurd (subst IsBuilding e y)
 takes_puts z v s choice l a l' (takes_cell m) e x = tt
 takes_puts z v s choice l a l' (takes_none m f) e x = true_false x m
 takes_puts z v s choice l a l' (takes_full m f) e x = true_false x m
@@ -119,7 +135,7 @@ module _ (z : Sizes) (r r' : Run) (s : ℕ) (choice : Choice) (l : Local) (a : A
       let g = (goes.grows.old p w).stamped o.stamped in
       let c = i.puts.given p w in
       let n : word z r.world (name.Version (attempt r.history p).row (attempt r.history p).cell) ≢ 0 = λ e. omega (arith, e, o.version, positive z r i p o.stamped) in
-      record { stamped = g.0; version = rw (same.row, same.cell) (rely_version z r r' s choice l a l' h i (attempt r.history p).row (attempt r.history p).cell c.below c.cell n ∙ o.version ∙ sym g.1) }
+      record { stamped = g.0; version = rw (same.row, same.cell) (rely_version z r r' s choice l a l' h i (attempt r.history p).row (attempt r.history p).cell c.linked c.cell n ∙ o.version ∙ sym g.1) }
 
   -- the attempt of a seat that clears its entry is done
   clears_old : a ≡ PutClear → IsOld (word z r'.world) r'.history (r.seats s).own
@@ -130,7 +146,7 @@ module _ (z : Sizes) (r r' : Run) (s : ℕ) (choice : Choice) (l : Local) (a : A
       let goes = goes_on_by z r r' s choice l a l' h i st in
       let same = goes.attempts (r.seats s).own own.within in
       let g = (goes.grows.old (r.seats s).own own.within).stamped (own.stamped (subst IsStamped (sym clearing.activity) tt)) in
-      let stored = version_kept PutClear clearing l.row l.cell known.below.row known.ranges.cell (λ x e f. x) ∙ own.stored (subst IsStored (sym clearing.activity) tt) in
+      let stored = version_stays PutClear clearing l.row l.cell known.below.row known.ranges.cell (λ x. x) ∙ own.stored (subst IsStored (sym clearing.activity) tt) in
       record { stamped = g.0; version = rw (same.row, same.cell) (rw (own.row, own.cell) stored ∙ sym g.1) }
 
   -- the own attempt of a seat that puts stays current, or its seat has cleared its entry, or it never gets a version: what holds of it then

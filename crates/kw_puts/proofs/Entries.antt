@@ -1,5 +1,5 @@
 -- Every event keeps what holds of the entries of a row, and of the attempt that a reader is to help.
-use Rattle.std.proofs.Common.{ℕ, ◌≡◌, ◌≢◌, ◌⊎◌, inl, inr, ◌<◌, true, Some, arith, refl, sym, ◌∙◌, ap, subst, slice_get}
+use Rattle.std.proofs.Common.{ℕ, ◌≡◌, ◌≢◌, ◌⊎◌, inl, inr, ◌<◌, true, Some, arith, refl, sym, ◌∙◌, ap, subst, slice_get, length}
 use Rattle.std.proofs.lemmas.Bool.{cases_eq}
 use Rattle.std.proofs.lemmas.Option.{same_Some}
 use Rattle.kw_words.specs.declared.layout.Name.TheVariants as name
@@ -8,30 +8,37 @@ use Rattle.kw_words.specs.Pend.{pend_word}
 use Rattle.kw_words.specs.Plain.{key_of_word}
 use Rattle.kw_words.proofs.PendWords.{pend_word_of}
 use Rattle.kw_world.specs.declared.activity.Activity.{Activity}
-use Rattle.kw_world.specs.declared.activity.Activity.TheVariants.{Look, LookKey, LookClock, LookHelp, Announce, Stamp, PutClear, Freeze}
+use Rattle.kw_world.specs.declared.activity.Activity.TheVariants.{Look, LookKey, LookClock, LookHelp, Announce, Stamp, PutClear, Freeze, WritePend}
 use Rattle.kw_world.specs.declared.local.Local.{Local}
 use Rattle.kw_world.specs.declared.event.Choice.{Choice}
+use Rattle.kw_world.specs.SeekTransitions.{infant}
 use Rattle.kw_world.specs.Sizes.{Sizes}
 use Rattle.kw_world.specs.Calls.{is_in_range}
 use Rattle.kw_world.specs.Sane.{IsActivity}
 use Rattle.kw_world.specs.Step.{word}
 use Rattle.kw_core.specs.History.{attempt}
 use Rattle.kw_core.specs.Run.{Run}
-use Rattle.kw_core.specs.Stages.{IsPublished, IsStamped, IsPutClear, HasMet, IsToHelp}
-use Rattle.kw_puts.specs.Puts.{OwnsAttempt, HasCell, Helps, IsPublishedAt}
+use Rattle.kw_core.specs.Stages.{IsAtRow, IsBalancing, IsPutting, IsPublished, IsStamped, IsPutClear, HasMet, IsToHelp}
+use Rattle.kw_puts.specs.Puts.{OwnsAttempt, Helps, IsPublishedAt, key_in}
+use Rattle.kw_puts.proofs.CellsOf.{cell_key}
 use Rattle.kw_puts.specs.Freezes.{IsToFreeze}
 use Rattle.kw_puts.specs.Below.{Below}
 use Rattle.kw_core.specs.Step.{Step}
 use Rattle.kw_core.proofs.Happens.{log_entry}
-use Rattle.kw_core.proofs.Steps.{new_stands}
+use Rattle.kw_core.proofs.Steps.{announced_within, new_stands}
 use Rattle.kw_core.proofs.Happens.{Happens, knows_next, knows_other, not_exchanged}
-use Rattle.kw_core.proofs.Building.{never_built}
+use Rattle.kw_core.proofs.Building.{IsBuilding}
+use Rattle.kw_core.proofs.BuiltNext.{IsAfterBuilding, built_next}
 use Rattle.kw_core.proofs.Arrows.{builds, Arrow, NextLook, looks, lists, NextRest, rests, answers, ends_scan, scans_on, announces_full, stamps_full, IsNotOwn}
 use Rattle.kw_core.proofs.Arrows.{meets_pending, meets_stamped, meets_neither, is_wanted, is_passed, loads_to_help, helps, finds_stamped, finds_other, list_ends, key_above, rest_passed, gathers_rest, announces, is_refused, loads_clock, stamps, is_stamped, is_not_own, stores_version, meets_cell, meets_none, key_before, key_same, key_after, version_before, version_after, stores_after, inserts, loses, clears}
-use Rattle.kw_core.proofs.FreezeFrame.{entry_stays, entry_frozen, entry_left, frozen_entry_lasts}
-use Rattle.kw_puts.proofs.Owners.{IsPendingOf, entry_owner, published_puts}
+use Rattle.kw_core.proofs.FreezeFrame.{entry_frozen, entry_left}
+use Rattle.kw_core.proofs.InfantFrames.{ChangesEntry, entry_stays, entry_written}
+use Rattle.kw_rows.specs.Rows.{WasLinked}
+use Rattle.kw_shape.proofs.LinkedWords.{linked_frozen_entry}
+use Rattle.kw_puts.proofs.Owners.{IsPendingOf, entry_owner, full_linked, published_puts, puts_linked, row_linked, was_or_not}
 use Rattle.kw_puts.proofs.Rely.{SameAttempt, GoesOn}
 use Rattle.kw_puts.proofs.RelyProof.{goes_on_by}
+use Rattle.kw_puts.proofs.DoneAttempts.{building_puts}
 use Rattle.kw_puts.proofs.OwnAttempts.{acting_own, entry_stamped, lost_frozen}
 
 -- The entries.
@@ -45,8 +52,8 @@ idle_stays z r r' s choice l LookHelp l' h i q j w o n e = which (cases_eq q l.r
         let was : word z r.world (name.Pend l.row l.looked) ≡ pend_word pend.Idle = rw (f, g) at e in
         let lost : word z r.world (name.Pend l.row l.looked) ≢ pend_word (pend.Pending l.met) = λ k. let x : pend_word pend.Idle ≡ pend_word (pend.Pending l.met) = sym was ∙ k in omega (arith, x) in
         inl (rw (f, g) (not_exchanged _ _ _ _ h.changed.same lost ∙ was))
-    which (inr d) g = inl (entry_stays LookHelp h q j w o (λ x f k. x) (λ x f k. d f) (λ x f. x) ∙ e)
-    which (inl f) (inr d) = inl (entry_stays LookHelp h q j w o (λ x k g. x) (λ x k g. d g) (λ x f. x) ∙ e)
+    which (inr d) g = inl (entry_stays LookHelp h q j w o (λ x. d x.0) ∙ e)
+    which (inl f) (inr d) = inl (entry_stays LookHelp h q j w o (λ x. d x.1) ∙ e)
 idle_stays z r r' s choice l Stamp l' h i q j w o n e = which (cases_eq q l.row) (cases_eq j s)
   where
     which : (q ≡ l.row) ⊎ (q ≡ l.row → ⊥) → (j ≡ s) ⊎ (j ≡ s → ⊥) → (word z r'.world (name.Pend q j) ≡ pend_word pend.Idle) ⊎ (word z r'.world (name.Pend q j) ≡ pend_word pend.Frozen)
@@ -54,14 +61,14 @@ idle_stays z r r' s choice l Stamp l' h i q j w o n e = which (cases_eq q l.row)
         let was : word z r.world (name.Pend l.row s) ≡ pend_word pend.Idle = rw (f, g) at e in
         let lost : word z r.world (name.Pend l.row s) ≢ pend_word (pend.Pending l.cell) = λ k. let x : pend_word pend.Idle ≡ pend_word (pend.Pending l.cell) = sym was ∙ k in omega (arith, x) in
         inl (rw (f, g) (not_exchanged _ _ _ _ h.changed.same lost ∙ was))
-    which (inr d) g = inl (entry_stays Stamp h q j w o (λ x f k. d f) (λ x f k. x) (λ x f. x) ∙ e)
-    which (inl f) (inr d) = inl (entry_stays Stamp h q j w o (λ x k g. d g) (λ x k g. x) (λ x f. x) ∙ e)
+    which (inr d) g = inl (entry_stays Stamp h q j w o (λ x. d x.0) ∙ e)
+    which (inl f) (inr d) = inl (entry_stays Stamp h q j w o (λ x. d x.1) ∙ e)
 idle_stays z r r' s choice l PutClear l' h i q j w o n e = which (cases_eq q l.row) (cases_eq j s)
   where
     which : (q ≡ l.row) ⊎ (q ≡ l.row → ⊥) → (j ≡ s) ⊎ (j ≡ s → ⊥) → (word z r'.world (name.Pend q j) ≡ pend_word pend.Idle) ⊎ (word z r'.world (name.Pend q j) ≡ pend_word pend.Frozen)
     which (inl f) (inl g) = inl (rw (f, g) h.changed.same)
-    which (inr d) g = inl (entry_stays PutClear h q j w o (λ x f k. d f) (λ x f k. x) (λ x f. x) ∙ e)
-    which (inl f) (inr d) = inl (entry_stays PutClear h q j w o (λ x k g. d g) (λ x k g. x) (λ x f. x) ∙ e)
+    which (inr d) g = inl (entry_stays PutClear h q j w o (λ x. d x.0) ∙ e)
+    which (inl f) (inr d) = inl (entry_stays PutClear h q j w o (λ x. d x.1) ∙ e)
 idle_stays z r r' s choice l (Freeze k) l' h i q j w o n e = which (cases_eq q l.row) (cases_eq j k)
   where
     which : (q ≡ l.row) ⊎ (q ≡ l.row → ⊥) → (j ≡ k) ⊎ (j ≡ k → ⊥) → (word z r'.world (name.Pend q j) ≡ pend_word pend.Idle) ⊎ (word z r'.world (name.Pend q j) ≡ pend_word pend.Frozen)
@@ -70,14 +77,20 @@ idle_stays z r r' s choice l (Freeze k) l' h i q j w o n e = which (cases_eq q l
         tried : (word z r.world (name.Pend l.row k) ≡ pend_word l.rebalance.entry) ⊎ (word z r.world (name.Pend l.row k) ≡ pend_word l.rebalance.entry → ⊥) → (word z r'.world (name.Pend q j) ≡ pend_word pend.Idle) ⊎ (word z r'.world (name.Pend q j) ≡ pend_word pend.Frozen)
         tried (inl x) = inr (rw (f, g) (entry_frozen k h x))
         tried (inr x) = inl (rw (f, g) (entry_left k h x ∙ rw (f, g) at e))
-    which (inr d) g = inl (entry_stays (Freeze k) h q j w o (λ x f k. x) (λ x f k. x) (λ x f. d f) ∙ e)
-    which (inl f) (inr d) = inl (entry_stays (Freeze k) h q j w o (λ x f k. x) (λ x f k. x) (λ x k. d x) ∙ e)
-idle_stays z r r' s choice l Announce l' h i q j w o n e = inl (entry_stays Announce h q j w o (λ x f g. n refl f g) (λ x f g. x) (λ x f. x) ∙ e)
-idle_stays z r r' s choice l a l' h i q j w o n e = inl (entry_stays a h q j w o (λ x f g. x) (λ x f g. x) (λ x f. x) ∙ e)
+    which (inr d) g = inl (entry_stays (Freeze k) h q j w o (λ x. d x.0) ∙ e)
+    which (inl f) (inr d) = inl (entry_stays (Freeze k) h q j w o (λ x. d x.1) ∙ e)
+idle_stays z r r' s choice l Announce l' h i q j w o n e = inl (entry_stays Announce h q j w o (λ x. n refl x.0 x.1) ∙ e)
+idle_stays z r r' s choice l (WritePend k) l' h i q j w o n e = which (cases_eq q (infant l)) (cases_eq j k)
+  where
+    which : (q ≡ infant l) ⊎ (q ≡ infant l → ⊥) → (j ≡ k) ⊎ (j ≡ k → ⊥) → (word z r'.world (name.Pend q j) ≡ pend_word pend.Idle) ⊎ (word z r'.world (name.Pend q j) ≡ pend_word pend.Frozen)
+    which (inl f) (inl g) = inl (rw (f, g) (entry_written k h))
+    which (inr d) g = inl (entry_stays (WritePend k) h q j w o (λ x. d x.0) ∙ e)
+    which (inl f) (inr d) = inl (entry_stays (WritePend k) h q j w o (λ x. d x.1) ∙ e)
+idle_stays z r r' s choice l a l' h i q j w o n e = inl (entry_stays a h q j w o (λ x. x) ∙ e)
 
--- a frozen entry stays so: a seat that is to clear its entry was stamped, and its entry says so
-pub frozen_stays : (z : Sizes) (r r' : Run) (s : ℕ) (choice : Choice) (l : Local) (a : Activity) (l' : Local) → Happens z r r' s choice l l' a → Below z r → (q j : ℕ) → q < r.world.rows → j < z.seats → word z r.world (name.Pend q j) ≡ pend_word pend.Frozen → word z r'.world (name.Pend q j) ≡ pend_word pend.Frozen
-frozen_stays z r r' s choice l PutClear l' h i q j w o e = frozen_entry_lasts PutClear h q j w o stamped e
+-- a frozen entry of a row that is or was linked stays so: a seat that is to clear its entry was stamped, and its entry says so
+pub frozen_stays : (z : Sizes) (r r' : Run) (s : ℕ) (choice : Choice) (l : Local) (a : Activity) (l' : Local) → Happens z r r' s choice l l' a → Below z r → (q j : ℕ) → WasLinked r.ledger.rows q → j < z.seats → word z r.world (name.Pend q j) ≡ pend_word pend.Frozen → word z r'.world (name.Pend q j) ≡ pend_word pend.Frozen
+frozen_stays z r r' s choice l PutClear l' h i q j w o e = linked_frozen_entry PutClear h i.shape q j w o stamped e
   where
     own : OwnsAttempt (word z r.world) r.history s l.activity l (r.seats s)
     own = acting_own z r r' s choice l PutClear l' h i tt
@@ -89,11 +102,34 @@ frozen_stays z r r' s choice l PutClear l' h i q j w o e = frozen_entry_lasts Pu
         let entry = own.entry (subst IsPublished (sym h.activity) tt) ∙ entry_stamped (attempt r.history (r.seats s).own) (own.kept at) (own.stamped at) in
         let y : pend_word pend.Frozen ≡ pend_word (pend.Stamped (attempt r.history (r.seats s).own).cell (attempt r.history (r.seats s).own).version) = sym was ∙ entry in
         omega (arith, y)
-frozen_stays z r r' s choice l a l' h i q j w o e = frozen_entry_lasts a h q j w o (λ x f g. x) e
+frozen_stays z r r' s choice l a l' h i q j w o e = linked_frozen_entry a h i.shape q j w o (λ x f g. x) e
+
+-- an event of a seat that acts on its own row alone, which is or was linked, leaves a frozen entry of any row
+frozen_at_row : (z : Sizes) (r r' : Run) (s : ℕ) (choice : Choice) (l : Local) (a : Activity) (l' : Local) → Happens z r r' s choice l l' a → Below z r → (q j : ℕ) → WasLinked r.ledger.rows l.row → q < r.world.rows → j < z.seats → (ChangesEntry a s l q j → q ≡ l.row) → word z r.world (name.Pend q j) ≡ pend_word pend.Frozen → (word z r'.world (name.Pend q j) ≡ pend_word pend.Idle) ⊎ (word z r'.world (name.Pend q j) ≡ pend_word pend.Frozen)
+frozen_at_row z r r' s choice l a l' h i q j k w o f e = which (was_or_not r.ledger.rows q)
+  where
+    which : WasLinked r.ledger.rows q ⊎ (WasLinked r.ledger.rows q → ⊥) → (word z r'.world (name.Pend q j) ≡ pend_word pend.Idle) ⊎ (word z r'.world (name.Pend q j) ≡ pend_word pend.Frozen)
+    which (inl x) = inr (frozen_stays z r r' s choice l a l' h i q j x o e)
+    which (inr n) = inr (entry_stays a h q j w o (λ x. n (subst (WasLinked r.ledger.rows) (sym (f x)) k)) ∙ e)
+
+-- so of any row it stays so, or is idle, as a new row's are
+frozen_or_new : (z : Sizes) (r r' : Run) (s : ℕ) (choice : Choice) (l : Local) (a : Activity) (l' : Local) → Happens z r r' s choice l l' a → Below z r → (q j : ℕ) → q < r.world.rows → j < z.seats → word z r.world (name.Pend q j) ≡ pend_word pend.Frozen → (word z r'.world (name.Pend q j) ≡ pend_word pend.Idle) ⊎ (word z r'.world (name.Pend q j) ≡ pend_word pend.Frozen)
+frozen_or_new z r r' s choice l (WritePend k) l' h i q j w o e = which (cases_eq q (infant l)) (cases_eq j k)
+  where
+    which : (q ≡ infant l) ⊎ (q ≡ infant l → ⊥) → (j ≡ k) ⊎ (j ≡ k → ⊥) → (word z r'.world (name.Pend q j) ≡ pend_word pend.Idle) ⊎ (word z r'.world (name.Pend q j) ≡ pend_word pend.Frozen)
+    which (inl f) (inl g) = inl (rw (f, g) (entry_written k h))
+    which (inr d) g = inr (entry_stays (WritePend k) h q j w o (λ x. d x.0) ∙ e)
+    which (inl f) (inr d) = inr (entry_stays (WritePend k) h q j w o (λ x. d x.1) ∙ e)
+frozen_or_new z r r' s choice l LookHelp l' h i q j w o e = frozen_at_row z r r' s choice l LookHelp l' h i q j (row_linked z r i.shape s l h.knows (subst IsAtRow (sym h.activity) tt)) w o (λ x. x.0) e
+frozen_or_new z r r' s choice l Announce l' h i q j w o e = frozen_at_row z r r' s choice l Announce l' h i q j (row_linked z r i.shape s l h.knows (subst IsAtRow (sym h.activity) tt)) w o (λ x. x.0) e
+frozen_or_new z r r' s choice l Stamp l' h i q j w o e = frozen_at_row z r r' s choice l Stamp l' h i q j (row_linked z r i.shape s l h.knows (subst IsAtRow (sym h.activity) tt)) w o (λ x. x.0) e
+frozen_or_new z r r' s choice l PutClear l' h i q j w o e = frozen_at_row z r r' s choice l PutClear l' h i q j (row_linked z r i.shape s l h.knows (subst IsAtRow (sym h.activity) tt)) w o (λ x. x.0) e
+frozen_or_new z r r' s choice l (Freeze k) l' h i q j w o e = frozen_at_row z r r' s choice l (Freeze k) l' h i q j (full_linked z r i.shape s l h.knows (subst IsBalancing (sym h.activity) tt)) w o (λ x. x.0) e
+frozen_or_new z r r' s choice l a l' h i q j w o e = inr (entry_stays a h q j w o (λ x. x) ∙ e)
 
 -- a seat whose entry is idle when it announces has announced a cell of its row then
 announces_now : (z : Sizes) (r r' : Run) (s : ℕ) (choice : Choice) (l : Local) (a : Activity) (l' : Local) → Arrow z (word z r.world) s choice l a l' → Happens z r r' s choice l l' a → Below z r → a ≡ Announce → word z r.world (name.Pend l.row s) ≡ pend_word pend.Idle → IsPublished l'.activity × (l'.row ≡ l.row)
-announces_now z r r' s choice l a l' (builds b next y o t) h i e f = never_built z b y o
+announces_now z r r' s choice l a l' (builds b next y o t) h i e f = absurd (subst IsBuilding e y)
 announces_now z r r' s choice l a l' (announces x) h i e y = (tt, refl)
 announces_now z r r' s choice l a l' (is_refused n f) h i e y = absurd (n y)
 announces_now z r r' s choice l a l' (announces_full n f) h i e y = absurd (n y)
@@ -101,11 +137,11 @@ announces_now z r r' s choice l a l' _ h i e y = absurd (cc)
 
 -- the entry of a seat that finds it not its own is frozen
 unstamped_frozen : (z : Sizes) (r r' : Run) (s : ℕ) (choice : Choice) (l : Local) (l' : Local) → IsNotOwn l.cell (word z r.world (name.Pend l.row s)) → Happens z r r' s choice l l' Stamp → Below z r → word z r'.world (name.Pend l.row s) ≡ pend_word pend.Frozen
-unstamped_frozen z r r' s choice l l' n h i = frozen_stays z r r' s choice l Stamp l' h i l.row s (i.shape.sane.locals s l h.knows).below.row h.seat (lost_frozen z r s l i (acting_own z r r' s choice l Stamp l' h i tt) h.knows h.activity n)
+unstamped_frozen z r r' s choice l l' n h i = frozen_stays z r r' s choice l Stamp l' h i l.row s (puts_linked z r i.shape s l h.knows (subst IsPutting (sym h.activity) tt)) h.seat (lost_frozen z r s l i (acting_own z r r' s choice l Stamp l' h i tt) h.knows h.activity n)
 
 -- a seat that has announced a cell goes on with it, or clears its entry, or finds it frozen
 published_goes : (z : Sizes) (r r' : Run) (s : ℕ) (choice : Choice) (l : Local) (a : Activity) (l' : Local) → Arrow z (word z r.world) s choice l a l' → Happens z r r' s choice l l' a → Below z r → IsPublished a → (word z r'.world (name.Pend l.row s) ≡ pend_word pend.Idle) ⊎ (word z r'.world (name.Pend l.row s) ≡ pend_word pend.Frozen) ⊎ IsPublished l'.activity × (l'.row ≡ l.row)
-published_goes z r r' s choice l a l' (builds b next y o t) h i p = never_built z b y o
+published_goes z r r' s choice l a l' (builds b next y o t) h i p = building_puts b y (published_puts b p)
 published_goes z r r' s choice l a l' loads_clock h i p = inr (inr (tt, refl))
 published_goes z r r' s choice l a l' (stamps e) h i p = inr (inr (tt, refl))
 published_goes z r r' s choice l a l' (is_stamped version e) h i p = inr (inr (tt, refl))
@@ -166,7 +202,7 @@ entry_keeps z r r' s choice l a l' b h i q j o e = which (cases_eq j s) (i.puts.
 
     which : (j ≡ s) ⊎ (j ≡ s → ⊥) → (word z r.world (name.Pend q j) ≡ pend_word pend.Idle) ⊎ (word z r.world (name.Pend q j) ≡ pend_word pend.Frozen) ⊎ IsPublishedAt (slice_get r.world.locals) q j → (word z r'.world (name.Pend q j) ≡ pend_word pend.Idle) ⊎ (word z r'.world (name.Pend q j) ≡ pend_word pend.Frozen) ⊎ IsPublishedAt (slice_get r'.world.locals) q j
     which f (inl x) = idle x a refl
-    which f (inr (inl x)) = inr (inl (frozen_stays z r r' s choice l a l' h i q j below e x))
+    which f (inr (inl x)) = idle_or_frozen (frozen_or_new z r r' s choice l a l' h i q j below e x)
     which (inl f) (inr (inr p)) = mine f p
     which (inr d) (inr (inr p)) = inr (inr (record { local = p.local; knows = knows_other h j d ∙ p.knows; published = p.published; row = p.row }))
 
@@ -182,9 +218,14 @@ rest_tries l n (answers o e) = tt
 rest_tries l n (ends_scan o e f) = tt
 rest_tries l n (scans_on q o e f g) = tt
 
+-- a seat that builds new rows freezes no entry
+built_tries : (a : Activity) (k : Local) → IsAfterBuilding a → IsToFreeze a k
+built_tries (Freeze i) k n = absurd n
+built_tries _ k n = tt
+
 -- the acting seat is to freeze an entry only where it found it idle or pending
 pub tries_own : (z : Sizes) (r r' : Run) (s : ℕ) (choice : Choice) (l : Local) (a : Activity) (l' : Local) → Arrow z (word z r.world) s choice l a l' → IsToFreeze l'.activity l'
-tries_own z r r' s choice l a l' (builds b next y o t) = never_built z b y o
+tries_own z r r' s choice l a l' (builds b next y o t) = built_tries next.activity next (built_next z (word z r.world) choice l b next t)
 tries_own z r r' s choice l a l' (meets_stamped j c version next e n) = look_tries z _ next _ n
 tries_own z r r' s choice l a l' (meets_neither j next e n) = look_tries z _ next _ n
 tries_own z r r' s choice l a l' (is_passed next e n) = look_tries z _ next _ n
@@ -209,11 +250,17 @@ cell_meets l n (answers o e) p = absurd p
 cell_meets l n (ends_scan o e f) p = absurd p
 cell_meets l n (scans_on q o e f g) p = absurd p
 
+built_meets : {A : Type 0} (a : Activity) → IsAfterBuilding a → HasMet a → A
+built_meets LookKey n p = absurd n
+built_meets LookClock n p = absurd n
+built_meets LookHelp n p = absurd n
+built_meets _ n p = absurd p
+
 -- a reader meets a pending entry: it is that of the seat's own attempt
 pending_met : (z : Sizes) (r r' : Run) (s : ℕ) (choice : Choice) (l : Local) (j c : ℕ) → word z r.world (name.Pend l.row j) ≡ pend_word (pend.Pending c) → Happens z r r' s choice l (record l { looked = j; met = c; activity = LookKey }) (Look j) → Below z r → Step r.history r'.history (log_entry z r (Look j) s choice l) → Helps r'.history r'.origin LookKey (record l { looked = j; met = c; activity = LookKey }) (r'.seats s)
 pending_met z r r' s choice l j c e h i st = record {
   put = (r.seats j).own;
-  origin = goes.origin l.row c (r.seats j).own (subst (λ x. r.origin x c ≡ Some (r.seats j).own) (own.row ∙ w.row) (subst (λ x. r.origin (attempt r.history (r.seats j).own).row x ≡ Some (r.seats j).own) w.cell (i.puts.given (r.seats j).own own.within).origin));
+  origin = goes.origin l.row c (r.seats j).own linked (subst (λ x. r.origin x c ≡ Some (r.seats j).own) (own.row ∙ w.row) (subst (λ x. r.origin (attempt r.history (r.seats j).own).row x ≡ Some (r.seats j).own) w.cell (i.puts.given (r.seats j).own own.within).origin));
   seat = same.seat ∙ own.seat;
   announced = ((goes.grows.old (r.seats j).own own.within).announced (own.announced w.published)).0;
   key = λ x. absurd x;
@@ -224,48 +271,64 @@ pending_met z r r' s choice l j c e h i st = record {
     w : IsPendingOf z r l.row j c
     w = entry_owner i.puts l.row j c (i.shape.sane.locals s l h.knows).below.row (subst (IsActivity z) h.activity (i.shape.sane.locals s l h.knows).ranges.activity) e
 
+    linked : WasLinked r.ledger.rows l.row
+    linked = row_linked z r i.shape s l h.knows (subst IsAtRow (sym h.activity) tt)
+
     own : OwnsAttempt (word z r.world) r.history j w.local.activity w.local (r.seats j)
     own = i.puts.owns j w.local w.knows (published_puts w.local.activity w.published)
 
-    goes : GoesOn r.history r'.history r.origin r'.origin
+    goes : GoesOn r.history r'.history r.origin r'.origin r.ledger.rows
     goes = goes_on_by z r r' s choice l (Look j) (record l { looked = j; met = c; activity = LookKey }) h i st
 
     same : SameAttempt r.history r'.history (r.seats j).own
     same = goes.attempts (r.seats j).own own.within
+
+-- a reader that has met an entry is at a row
+pub met_at_row : (a : Activity) → HasMet a → IsAtRow a
+met_at_row LookKey m = tt
+met_at_row LookClock m = tt
+met_at_row LookHelp m = tt
+met_at_row _ m = absurd m
 
 -- the attempt that was met, after an event of the reader
 module _ (z : Sizes) (r r' : Run) (s : ℕ) (choice : Choice) (l : Local) (a : Activity) (l' : Local) (h : Happens z r r' s choice l l' a) (i : Below z r) (st : Step r.history r'.history (log_entry z r a s choice l)) (m : HasMet a) where
   helped : Helps r.history r.origin l.activity l (r.seats s)
   helped = i.puts.helps s l h.knows (subst HasMet (sym h.activity) m)
 
-  met_cell : HasCell r.history l.row l.met helped.put
-  met_cell = i.puts.places.owner l.row l.met helped.put helped.origin
+  met_within : helped.put < length r.history.attempts
+  met_within = announced_within r.history helped.put helped.announced
 
-  goes : GoesOn r.history r'.history r.origin r'.origin
+  its_row : WasLinked r.ledger.rows l.row
+  its_row = row_linked z r i.shape s l h.knows (met_at_row l.activity (subst HasMet (sym h.activity) m))
+
+  -- the key of the attempt stands in the cell that was met, be it its own or a copy
+  met_key : key_in (word z r.world) l.row l.met ≡ (attempt r.history helped.put).key
+  met_key = cell_key i.puts l.row l.met helped.put (i.puts.places.owner l.row l.met helped.put its_row (i.shape.sane.locals s l h.knows).ranges.met helped.origin) helped.announced
+
+  goes : GoesOn r.history r'.history r.origin r'.origin r.ledger.rows
   goes = goes_on_by z r r' s choice l a l' h i st
 
   met_origin : r'.origin l.row l.met ≡ Some helped.put
-  met_origin = goes.origin l.row l.met helped.put helped.origin
+  met_origin = goes.origin l.row l.met helped.put its_row helped.origin
 
   met_same : SameAttempt r.history r'.history helped.put
-  met_same = goes.attempts helped.put met_cell.within
+  met_same = goes.attempts helped.put met_within
 
   met_announced : ((attempt r'.history helped.put).is_announced ≡ true) × ((attempt r'.history helped.put).announced ≡ (attempt r.history helped.put).announced)
-  met_announced = (goes.grows.old helped.put met_cell.within).announced helped.announced
+  met_announced = (goes.grows.old helped.put met_within).announced helped.announced
 
 -- its key is one that the reader reads
 key_wanted : (z : Sizes) (r r' : Run) (s : ℕ) (choice : Choice) (l : Local) → is_in_range l.call (key_of_word (word z r.world (name.Key l.row l.met))) ≡ true → Happens z r r' s choice l (record l { activity = LookClock }) LookKey → Below z r → Step r.history r'.history (log_entry z r LookKey s choice l) → Helps r'.history r'.origin LookClock (record l { activity = LookClock }) (r'.seats s)
 key_wanted z r r' s choice l e h i st =
     let l' : Local = record l { activity = LookClock } in
     let k = helped z r r' s choice l LookKey l' h i st tt in
-    let c = met_cell z r r' s choice l LookKey l' h i st tt in
     let same = met_same z r r' s choice l LookKey l' h i st tt in
     record {
       put = k.put;
       origin = met_origin z r r' s choice l LookKey l' h i st tt;
       seat = same.seat ∙ k.seat;
       announced = (met_announced z r r' s choice l LookKey l' h i st tt).0;
-      key = λ x. rw (same.key, ← (i.puts.body k.put c.within).key k.announced, c.row, c.cell) e;
+      key = λ x. rw (same.key, ← met_key z r r' s choice l LookKey l' h i st tt) e;
       after = λ x. absurd x;
       loaded = λ x. absurd x;
     }
@@ -275,7 +338,7 @@ loaded_to_help : (z : Sizes) (r r' : Run) (s : ℕ) (choice : Choice) (l : Local
 loaded_to_help z r r' s choice l h i st =
     let l' : Local = record l { helping = word z r.world name.Clock; activity = LookHelp } in
     let k = helped z r r' s choice l LookClock l' h i st tt in
-    let c = met_cell z r r' s choice l LookClock l' h i st tt in
+    let within = met_within z r r' s choice l LookClock l' h i st tt in
     let same = met_same z r r' s choice l LookClock l' h i st tt in
     let announced = met_announced z r r' s choice l LookClock l' h i st tt in
     subst (Helps r'.history r'.origin LookHelp l') (sym h.log) (record {
@@ -284,13 +347,13 @@ loaded_to_help z r r' s choice l h i st =
       seat = same.seat ∙ k.seat;
       announced = announced.0;
       key = λ x. rw same.key (k.key (subst IsToHelp (sym h.activity) tt));
-      after = λ x. rw announced.1 (i.history.past.announced k.put c.within k.announced);
+      after = λ x. rw announced.1 (i.history.past.announced k.put within k.announced);
       loaded = λ x. new_stands r.history r'.history _ st;
     })
 
 -- the attempt that the acting seat is to help
 pub helps_own : (z : Sizes) (r r' : Run) (s : ℕ) (choice : Choice) (l : Local) (a : Activity) (l' : Local) → Arrow z (word z r.world) s choice l a l' → Happens z r r' s choice l l' a → Below z r → Step r.history r'.history (log_entry z r a s choice l) → HasMet l'.activity → Helps r'.history r'.origin l'.activity l' (r'.seats s)
-helps_own z r r' s choice l a l' (builds b next y o t) h i st p = never_built z b y o
+helps_own z r r' s choice l a l' (builds b next y o t) h i st p = built_meets next.activity (built_next z (word z r.world) choice l b next t) p
 helps_own z r r' s choice l a l' (meets_pending j c e) h i st p = pending_met z r r' s choice l j c (sym (pend_word_of _ _ e)) h i st
 helps_own z r r' s choice l a l' (is_wanted e) h i st p = key_wanted z r r' s choice l e h i st
 helps_own z r r' s choice l a l' loads_to_help h i st p = loaded_to_help z r r' s choice l h i st

@@ -12,7 +12,7 @@ use Rattle.kw_words.specs.Count.{count_of}
 use Rattle.kw_words.specs.Pend.{pend_of, pend_word}
 use Rattle.kw_words.proofs.PendWords.{pend_word_of}
 use Rattle.kw_world.specs.declared.activity.Activity.{Activity}
-use Rattle.kw_world.specs.declared.activity.Activity.TheVariants.{LookHelp, PutAdd, Announce, Stamp, PutClear, FreezeCount, FreezeLook, Freeze, ScanLook, HelpDraw, HelpSettle, TakeFrom, TakeKey, TakeVersion, TakeValue, TakeRestKey, TakeRestValue}
+use Rattle.kw_world.specs.declared.activity.Activity.TheVariants.{LookHelp, PutAdd, Announce, Stamp, PutClear, FreezeCount, FreezeLook, Freeze, ScanLook, HelpDraw, HelpSettle, TakeFrom, TakeKey, TakeVersion, TakeValue, TakeRestKey, TakeRestValue, SeekFirst, Seek, TakeRow, GiveBack, WriteCount, WriteMin, WriteNext, WriteFirst, WritePend, WriteKey, WriteValue, WriteVersion, WriteAfter, Before, BeforeGuess, BeforeHead, BeforeLink, BeforeMin, Replace, Again, BalClock, Leave}
 use Rattle.kw_world.specs.declared.local.Local.{Local}
 use Rattle.kw_world.specs.declared.event.Choice.{Choice}
 use Rattle.kw_world.specs.PutTransitions.{has_room}
@@ -20,14 +20,20 @@ use Rattle.kw_world.specs.Sane.{IsActivity, IsEntry, IsGiven, frozen_by}
 use Rattle.kw_world.specs.Sizes.{Sizes}
 use Rattle.kw_world.specs.Step.{word}
 use Rattle.kw_core.specs.Run.{Run}
-use Rattle.kw_core.specs.Stages.{IsFresh}
+use Rattle.kw_core.specs.Stages.{IsBalancing, IsFresh}
 use Rattle.kw_core.specs.Words.{Words}
-use Rattle.kw_core.proofs.Building.{never_built}
+use Rattle.kw_core.proofs.Building.{Building, IsBuilding, makes_normal, makes_last_normal, draws_number, retires_row}
 use Rattle.kw_core.proofs.Arrows.{builds, Arrow, NextLook, looks, lists, NextRest, rests, answers, ends_scan, scans_on}
 use Rattle.kw_core.proofs.Arrows.{meets_stamped, meets_neither, is_passed, helps, finds_stamped, finds_other, list_ends, key_above, rest_passed, gathers_rest, takes_cell, stores_key, stores_value}
 use Rattle.kw_core.proofs.Arrows.{freezes_count, meets_idle, meets_unstamped, remembers, remembers_last, meets_frozen, meets_frozen_last, freezes_entry, freezes_last, looks_again, meets_quiet, meets_quiet_last, helps_scan, meets_drawn, meets_drawn_last, draws_for, settles_scan, settles_last, finds_drawn, finds_drawn_last, finds_no_scan, finds_no_scan_last}
 use Rattle.kw_core.proofs.Arrows.{take_leads, takes_left, takes_no_more, takes_key, takes_version, keeps_taken, takes_left_key, keeps_left, keeps_no_more}
-use Rattle.kw_core.proofs.FreezeFrame.{entry_stays, entry_frozen, entry_left, freezes_given}
+use Rattle.kw_core.proofs.FreezeFrame.{entry_frozen, entry_left, freezes_given}
+use Rattle.kw_core.proofs.BuiltNext.{IsAfterBuilding, built_keeps, built_next}
+use Rattle.kw_rows.specs.Rows.{WasLinked}
+use Rattle.kw_shape.specs.Shape.{Shape}
+use Rattle.kw_shape.proofs.LinkedRows.{was_below}
+use Rattle.kw_shape.proofs.LinkedWords.{linked_entry}
+use Rattle.kw_puts.proofs.Owners.{full_linked}
 use Rattle.kw_core.proofs.Happens.{Happens, knows_next, knows_other, not_exchanged}
 use Rattle.kw_shape.specs.RowsIn.{has_frozen}
 use Rattle.kw_puts.specs.Freezes.{IsFrozen, IsToFreeze, IsUnsettled, HasFrozen, IsSettled, settled_frozen, settled_stamped, settled_idle, Freezes}
@@ -35,7 +41,7 @@ use Rattle.kw_puts.specs.Below.{Below}
 use Rattle.kw_puts.proofs.Owners.{true_false}
 use Rattle.kw_puts.proofs.RelyEntry.{fresh_puts}
 use Rattle.kw_puts.proofs.NewAttempts.{stays_frozen}
-use Rattle.kw_puts.proofs.OwnAttempts.{look_puts, cell_puts}
+use Rattle.kw_puts.proofs.OwnAttempts.{built_puts, look_puts, cell_puts}
 use Rattle.kw_puts.proofs.Entries.{idle_stays, frozen_stays}
 
 -- A stamped entry.
@@ -63,13 +69,13 @@ not_unsettled (pend.Pending d) c n u e = not_pending c n d e
 not_unsettled (pend.Stamped d m) c n u e = u
 not_unsettled pend.Frozen c n u e = u
 
--- a stamped entry stays so until its seat clears it
-stamped_stays : (z : Sizes) (r r' : Run) (s : ℕ) (choice : Choice) (l : Local) (a : Activity) (l' : Local) → Happens z r r' s choice l l' a → Below z r → (q j c n : ℕ) → q < r.world.rows → j < z.seats → word z r.world (name.Pend q j) ≡ pend_word (pend.Stamped c n) →
+-- a stamped entry of a row that is or was linked stays so until its seat clears it
+stamped_stays : (z : Sizes) (r r' : Run) (s : ℕ) (choice : Choice) (l : Local) (a : Activity) (l' : Local) → Happens z r r' s choice l l' a → Below z r → (q j c n : ℕ) → WasLinked r.ledger.rows q → j < z.seats → word z r.world (name.Pend q j) ≡ pend_word (pend.Stamped c n) →
     (word z r'.world (name.Pend q j) ≡ pend_word (pend.Stamped c n)) ⊎ (a ≡ PutClear) × (q ≡ l.row) × (j ≡ s) × (word z r'.world (name.Pend q j) ≡ pend_word pend.Idle)
-stamped_stays z r r' s choice l Announce l' h i q j c n b o e = inl (kept_at (word z r.world) (word z r'.world) l.row s q j _ (λ y. not_exchanged _ _ _ _ h.changed.same (λ u. not_idle c n (sym y ∙ u)) ∙ y) (λ d. entry_stays Announce h q j b o (λ x u k. d u k) (λ x u k. x) (λ x u. x)) e)
-stamped_stays z r r' s choice l Stamp l' h i q j c n b o e = inl (kept_at (word z r.world) (word z r'.world) l.row s q j _ (λ y. not_exchanged _ _ _ _ h.changed.same (λ u. not_pending c n l.cell (sym y ∙ u)) ∙ y) (λ d. entry_stays Stamp h q j b o (λ x u k. d u k) (λ x u k. x) (λ x u. x)) e)
-stamped_stays z r r' s choice l LookHelp l' h i q j c n b o e = inl (kept_at (word z r.world) (word z r'.world) l.row l.looked q j _ (λ y. not_exchanged _ _ _ _ h.changed.same (λ u. not_pending c n l.met (sym y ∙ u)) ∙ y) (λ d. entry_stays LookHelp h q j b o (λ x u k. x) (λ x u k. d u k) (λ x u. x)) e)
-stamped_stays z r r' s choice l (Freeze m) l' h i q j c n b o e = inl (kept_at (word z r.world) (word z r'.world) l.row m q j _ (λ y. entry_left m h (λ u. not_unsettled l.rebalance.entry c n unsettled (sym y ∙ u)) ∙ y) (λ d. entry_stays (Freeze m) h q j b o (λ x u k. x) (λ x u k. x) (λ x u. d u x)) e)
+stamped_stays z r r' s choice l Announce l' h i q j c n b o e = inl (kept_at (word z r.world) (word z r'.world) l.row s q j _ (λ y. not_exchanged _ _ _ _ h.changed.same (λ u. not_idle c n (sym y ∙ u)) ∙ y) (λ d. linked_entry Announce h i.shape q j b o (λ x u k. d u k) (λ x u k. x) (λ x u. x)) e)
+stamped_stays z r r' s choice l Stamp l' h i q j c n b o e = inl (kept_at (word z r.world) (word z r'.world) l.row s q j _ (λ y. not_exchanged _ _ _ _ h.changed.same (λ u. not_pending c n l.cell (sym y ∙ u)) ∙ y) (λ d. linked_entry Stamp h i.shape q j b o (λ x u k. d u k) (λ x u k. x) (λ x u. x)) e)
+stamped_stays z r r' s choice l LookHelp l' h i q j c n b o e = inl (kept_at (word z r.world) (word z r'.world) l.row l.looked q j _ (λ y. not_exchanged _ _ _ _ h.changed.same (λ u. not_pending c n l.met (sym y ∙ u)) ∙ y) (λ d. linked_entry LookHelp h i.shape q j b o (λ x u k. x) (λ x u k. d u k) (λ x u. x)) e)
+stamped_stays z r r' s choice l (Freeze m) l' h i q j c n b o e = inl (kept_at (word z r.world) (word z r'.world) l.row m q j _ (λ y. entry_left m h (λ u. not_unsettled l.rebalance.entry c n unsettled (sym y ∙ u)) ∙ y) (λ d. linked_entry (Freeze m) h i.shape q j b o (λ x u k. x) (λ x u k. x) (λ x u. d u x)) e)
   where
     unsettled : IsUnsettled l.rebalance.entry
     unsettled = subst (λ x. IsToFreeze x l) h.activity (i.puts.tries s l h.knows)
@@ -77,15 +83,15 @@ stamped_stays z r r' s choice l PutClear l' h i q j c n b o e = which (cases_eq 
   where
     which : (q ≡ l.row) ⊎ (q ≡ l.row → ⊥) → (j ≡ s) ⊎ (j ≡ s → ⊥) → (word z r'.world (name.Pend q j) ≡ pend_word (pend.Stamped c n)) ⊎ (PutClear ≡ PutClear) × (q ≡ l.row) × (j ≡ s) × (word z r'.world (name.Pend q j) ≡ pend_word pend.Idle)
     which (inl f) (inl g) = inr (refl, f, g, rw (f, g) h.changed.same)
-    which (inl f) (inr d) = inl (entry_stays PutClear h q j b o (λ x u k. d k) (λ x u k. x) (λ x u. x) ∙ e)
-    which (inr d) g = inl (entry_stays PutClear h q j b o (λ x u k. d u) (λ x u k. x) (λ x u. x) ∙ e)
-stamped_stays z r r' s choice l a l' h i q j c n b o e = inl (entry_stays a h q j b o (λ x u k. x) (λ x u k. x) (λ x u. x) ∙ e)
+    which (inl f) (inr d) = inl (linked_entry PutClear h i.shape q j b o (λ x u k. d k) (λ x u k. x) (λ x u. x) ∙ e)
+    which (inr d) g = inl (linked_entry PutClear h i.shape q j b o (λ x u k. d u) (λ x u k. x) (λ x u. x) ∙ e)
+stamped_stays z r r' s choice l a l' h i q j c n b o e = inl (linked_entry a h i.shape q j b o (λ x u k. x) (λ x u k. x) (λ x u. x) ∙ e)
 
 -- A settled entry.
 
 -- a seat that has a cell which is not announced had it before its event, or was given it
 fresh_from : (z : Sizes) (v : Words) (s : ℕ) (choice : Choice) (l : Local) (a : Activity) (l' : Local) → Arrow z v s choice l a l' → IsFresh l'.activity → (l'.row ≡ l.row) × (IsFresh a ⊎ (a ≡ PutAdd) × (has_room z (count_of (v (name.Count l.row))) ≡ true))
-fresh_from z v s choice l a l' (builds b next y o t) p = never_built z b y o
+fresh_from z v s choice l a l' (builds b next y o t) p = built_puts next.activity (built_next z v choice l b next t) (fresh_puts next.activity p)
 fresh_from z v s choice l a l' (takes_cell m) p = (refl, inr (refl, m))
 fresh_from z v s choice l a l' stores_key p = (refl, inl tt)
 fresh_from z v s choice l a l' stores_value p = (refl, inl tt)
@@ -100,6 +106,77 @@ fresh_from z v s choice l a l' (key_above next e n) p = cell_puts _ next n (fres
 fresh_from z v s choice l a l' (rest_passed next e n) p = cell_puts _ next n (fresh_puts next.activity p)
 fresh_from z v s choice l a l' (gathers_rest next n) p = cell_puts _ next n (fresh_puts next.activity p)
 fresh_from z v s choice l a l' _ p = absurd p
+
+-- A seat that has frozen its row.
+
+frozen_balances : (a : Activity) → HasFrozen a → IsBalancing a
+frozen_balances (FreezeLook i) x = tt
+frozen_balances (Freeze i) x = tt
+frozen_balances (ScanLook i) x = tt
+frozen_balances (HelpDraw i) x = tt
+frozen_balances (HelpSettle i) x = tt
+frozen_balances TakeFrom x = tt
+frozen_balances TakeKey x = tt
+frozen_balances TakeVersion x = tt
+frozen_balances TakeValue x = tt
+frozen_balances TakeRestKey x = tt
+frozen_balances TakeRestValue x = tt
+frozen_balances SeekFirst x = tt
+frozen_balances Seek x = tt
+frozen_balances TakeRow x = tt
+frozen_balances GiveBack x = tt
+frozen_balances WriteCount x = tt
+frozen_balances WriteMin x = tt
+frozen_balances WriteNext x = tt
+frozen_balances WriteFirst x = tt
+frozen_balances (WritePend i) x = tt
+frozen_balances (WriteKey j) x = tt
+frozen_balances (WriteValue j) x = tt
+frozen_balances (WriteVersion j) x = tt
+frozen_balances (WriteAfter j) x = tt
+frozen_balances Before x = tt
+frozen_balances BeforeGuess x = tt
+frozen_balances BeforeHead x = tt
+frozen_balances BeforeLink x = tt
+frozen_balances BeforeMin x = tt
+frozen_balances Replace x = tt
+frozen_balances _ x = absurd x
+
+-- its row is or was linked
+pub frozen_linked : (z : Sizes) (r : Run) → Shape z r → (t : ℕ) (k : Local) → slice_get r.world.locals t ≡ Some k → HasFrozen k.activity → WasLinked r.ledger.rows k.row
+frozen_linked z r i t k g x = full_linked z r i t k g (frozen_balances k.activity x)
+
+-- where it goes on to build new rows, it builds them
+pub frozen_builds : (a : Activity) → IsAfterBuilding a → HasFrozen a → IsBuilding a
+frozen_builds (FreezeLook i) n x = absurd n
+frozen_builds (Freeze i) n x = absurd n
+frozen_builds (ScanLook i) n x = absurd n
+frozen_builds (HelpDraw i) n x = absurd n
+frozen_builds (HelpSettle i) n x = absurd n
+frozen_builds TakeFrom n x = absurd n
+frozen_builds TakeKey n x = absurd n
+frozen_builds TakeVersion n x = absurd n
+frozen_builds TakeValue n x = absurd n
+frozen_builds TakeRestKey n x = absurd n
+frozen_builds TakeRestValue n x = absurd n
+frozen_builds Again n x = absurd x
+frozen_builds BalClock n x = absurd x
+frozen_builds (Leave answer) n x = absurd x
+frozen_builds _ n x = n
+
+-- where it has not replaced its row after an event, it had not before
+pub built_frozen : (z : Sizes) (v : Words) (choice : Choice) (l : Local) (a : Activity) (k : Local) → Building z v choice l a k → HasFrozen k.activity → HasFrozen a
+built_frozen z v choice l a k (makes_normal o) x = absurd x
+built_frozen z v choice l a k (makes_last_normal o) x = absurd x
+built_frozen z v choice l a k draws_number x = absurd x
+built_frozen z v choice l a k retires_row x = absurd x
+built_frozen z v choice l a k _ x = tt
+
+-- and it has passed all entries
+pub all_passed : (z : Sizes) (a : Activity) → IsBuilding a → frozen_by z a ≡ z.seats
+all_passed z (FreezeLook i) b = absurd b
+all_passed z (Freeze i) b = absurd b
+all_passed z _ b = refl
 
 -- a frozen row gives no cell
 pub frozen_no_room : (z : Sizes) (x : Option Counted) → has_frozen x ≡ true → has_room z x ≡ false
@@ -126,7 +203,7 @@ module _ (z : Sizes) (r r' : Run) (s : ℕ) (choice : Choice) (l : Local) (a : A
       which (inr d) = n k (sym (knows_other h j d) ∙ g) p e
 
   -- a settled entry of a frozen row stays settled
-  pub settled_stays : (q j : ℕ) → q < r.world.rows → j < z.seats → IsFrozen (word z r.world) q → IsSettled (word z r.world) (slice_get r.world.locals) q j → IsSettled (word z r'.world) (slice_get r'.world.locals) q j
+  pub settled_stays : (q j : ℕ) → WasLinked r.ledger.rows q → j < z.seats → IsFrozen (word z r.world) q → IsSettled (word z r.world) (slice_get r.world.locals) q j → IsSettled (word z r'.world) (slice_get r'.world.locals) q j
   settled_stays q j b o f (settled_frozen e) = settled_frozen (frozen_stays z r r' s choice l a l' h i q j b o e)
   settled_stays q j b o f (settled_stamped c n e) = which (stamped_stays z r r' s choice l a l' h i q j c n b o e)
     where
@@ -139,7 +216,7 @@ module _ (z : Sizes) (r r' : Run) (s : ℕ) (choice : Choice) (l : Local) (a : A
       which : (word z r'.world (name.Pend q j) ≡ pend_word (pend.Stamped c n)) ⊎ (a ≡ PutClear) × (q ≡ l.row) × (j ≡ s) × (word z r'.world (name.Pend q j) ≡ pend_word pend.Idle) → IsSettled (word z r'.world) (slice_get r'.world.locals) q j
       which (inl x) = settled_stamped c n x
       which (inr x) = settled_idle x.3 (none_fresh q j f (cleared x.0 x.2))
-  settled_stays q j b o f (settled_idle e n) = which (idle_stays z r r' s choice l a l' h i q j b o announces e)
+  settled_stays q j b o f (settled_idle e n) = which (idle_stays z r r' s choice l a l' h i q j (was_below z r i.shape q b) o announces e)
     where
       announces : a ≡ Announce → q ≡ l.row → j ≡ s → ⊥
       announces x y u = n l (rw u h.knows) (subst IsFresh (sym (h.activity ∙ x)) tt) (sym y)
@@ -148,37 +225,37 @@ module _ (z : Sizes) (r r' : Run) (s : ℕ) (choice : Choice) (l : Local) (a : A
       which (inl x) = settled_idle x (none_fresh q j f n)
       which (inr x) = settled_frozen x
 
-  frozen_still : (q : ℕ) → q < r.world.rows → IsFrozen (word z r.world) q → IsFrozen (word z r'.world) q
-  frozen_still q b f = stays_frozen a h q b (i.shape.sane.each (name.Count q) b) f
+  frozen_still : (q : ℕ) → WasLinked r.ledger.rows q → IsFrozen (word z r.world) q → IsFrozen (word z r'.world) q
+  frozen_still q b f = stays_frozen a h i.shape q b f
 
   -- what another seat has frozen, and what any seat has that does not act on it
   pub freezes_other : (t : ℕ) (k : Local) → slice_get r.world.locals t ≡ Some k → Freezes z (word z r'.world) (slice_get r'.world.locals) k.activity k
   freezes_other t k g =
-      let b = (i.shape.sane.locals t k g).below.row in
+      let b = frozen_linked z r i.shape t k g in
       let was = i.puts.freezes t k g in
       record {
-        count = λ x. frozen_still k.row b (was.count x);
-        settled = λ x j o w. settled_stays k.row j b o (was.count x) (was.settled x j o w);
+        count = λ x. frozen_still k.row (b x) (was.count x);
+        settled = λ x j o w. settled_stays k.row j (b x) o (was.count x) (was.settled x j o w);
       }
 
   -- The acting seat.
 
-  row_below : l.row < r.world.rows
-  row_below = (i.shape.sane.locals s l h.knows).below.row
-
   -- its row was frozen
   module _ (p : HasFrozen a) where
+    its_row : WasLinked r.ledger.rows l.row
+    its_row = frozen_linked z r i.shape s l h.knows (subst HasFrozen (sym h.activity) p)
+
     was_frozen : IsFrozen (word z r.world) l.row
     was_frozen = (i.puts.freezes s l h.knows).count (subst HasFrozen (sym h.activity) p)
 
     -- an entry that it had passed
     passed : (j : ℕ) → j < z.seats → j < frozen_by z a → IsSettled (word z r'.world) (slice_get r'.world.locals) l.row j
-    passed j o w = settled_stays l.row j row_below o was_frozen ((i.puts.freezes s l h.knows).settled (subst HasFrozen (sym h.activity) p) j o (subst (λ b. j < frozen_by z b) (sym h.activity) w))
+    passed j o w = settled_stays l.row j its_row o was_frozen ((i.puts.freezes s l h.knows).settled (subst HasFrozen (sym h.activity) p) j o (subst (λ b. j < frozen_by z b) (sym h.activity) w))
 
     -- what it knows then
     goes_on : (b : Activity) (k : Local) → k.row ≡ l.row → ((j : ℕ) → j < z.seats → j < frozen_by z b → IsSettled (word z r'.world) (slice_get r'.world.locals) l.row j) → Freezes z (word z r'.world) (slice_get r'.world.locals) b k
     goes_on b k e f = record {
-      count = λ x. rw e (frozen_still l.row row_below was_frozen);
+      count = λ x. rw e (frozen_still l.row its_row was_frozen);
       settled = λ x j o w. subst (λ q. IsSettled (word z r'.world) (slice_get r'.world.locals) q j) (sym e) (f j o w);
     }
 
@@ -216,7 +293,7 @@ frozen_now z r r' s choice l l' h i = by _ refl (i.shape.sane.each (name.Count l
 
 -- an entry that a seat looks at, and that reads neither idle nor pending, is settled after the event
 looked_settled : (z : Sizes) (r r' : Run) (s : ℕ) (choice : Choice) (l l' : Local) (m : ℕ) → Happens z r r' s choice l l' (FreezeLook m) → Below z r → m < z.seats → IsSettled (word z r.world) (slice_get r.world.locals) l.row m → IsSettled (word z r'.world) (slice_get r'.world.locals) l.row m
-looked_settled z r r' s choice l l' m h i o x = settled_stays z r r' s choice l (FreezeLook m) l' h i l.row m (row_below z r r' s choice l (FreezeLook m) l' h i) o (was_frozen z r r' s choice l (FreezeLook m) l' h i tt) x
+looked_settled z r r' s choice l l' m h i o x = settled_stays z r r' s choice l (FreezeLook m) l' h i l.row m (its_row z r r' s choice l (FreezeLook m) l' h i tt) o (was_frozen z r r' s choice l (FreezeLook m) l' h i tt) x
 
 met_frozen : (z : Sizes) (r : Run) (s : ℕ) (l : Local) (m : ℕ) → Below z r → slice_get r.world.locals s ≡ Some l → m < z.seats → (pend_of (word z r.world (name.Pend l.row m)) ≡ Some pend.Frozen) ⊎ (pend_of (word z r.world (name.Pend l.row m)) ≡ None) → IsSettled (word z r.world) (slice_get r.world.locals) l.row m
 met_frozen z r s l m i k o (inl e) = settled_frozen (sym (pend_word_of _ _ e))
@@ -224,7 +301,13 @@ met_frozen z r s l m i k o (inr e) = absurd (subst (IsEntry z) e (i.shape.sane.e
 
 -- what the acting seat has frozen
 pub freezes_own : (z : Sizes) (r r' : Run) (s : ℕ) (choice : Choice) (l : Local) (a : Activity) (l' : Local) → Arrow z (word z r.world) s choice l a l' → Happens z r r' s choice l l' a → Below z r → Freezes z (word z r'.world) (slice_get r'.world.locals) l'.activity l'
-freezes_own z r r' s choice l a l' (builds b next y o t) h i = never_built z b y o
+freezes_own z r r' s choice l a l' (builds b next y o t) h i = record { count = λ x. (builds_on x).count x; settled = λ x. (builds_on x).settled x }
+  where
+    builds_on : HasFrozen next.activity → Freezes z (word z r'.world) (slice_get r'.world.locals) next.activity next
+    builds_on x =
+        let p = built_frozen z (word z r.world) choice l b next t x in
+        let keeps = built_keeps z (word z r.world) choice l b next t (frozen_builds next.activity (built_next z (word z r.world) choice l b next t) x) in
+        goes_on z r r' s choice l b next h i p next.activity next keeps.row (λ j u w. passed z r r' s choice l b next h i p j u (omega (arith, u, all_passed z b y)))
 freezes_own z r r' s choice l a l' freezes_count h i = record { count = λ x. frozen_now z r r' s choice l l' h i; settled = λ x j o w. absurd (omega (arith, w)) }
 freezes_own z r r' s choice l a l' (meets_idle m e) h i = goes_on z r r' s choice l (FreezeLook m) l' h i tt _ l' refl (λ j o w. passed z r r' s choice l (FreezeLook m) l' h i tt j o w)
 freezes_own z r r' s choice l a l' (meets_unstamped m c e) h i = goes_on z r r' s choice l (FreezeLook m) l' h i tt _ l' refl (λ j o w. passed z r r' s choice l (FreezeLook m) l' h i tt j o w)
@@ -249,13 +332,13 @@ freezes_own z r r' s choice l a l' (finds_no_scan m e u) h i = goes_on z r r' s 
 freezes_own z r r' s choice l a l' (finds_no_scan_last m e u) h i = goes_on z r r' s choice l (HelpSettle m) l' h i tt _ l' refl (λ j o w. passed z r r' s choice l (HelpSettle m) l' h i tt j o w)
 freezes_own z r r' s choice l a l' (take_leads c e) h i = goes_on z r r' s choice l TakeFrom l' h i tt _ l' refl (λ j o w. passed z r r' s choice l TakeFrom l' h i tt j o w)
 freezes_own z r r' s choice l a l' (takes_left m e u) h i = goes_on z r r' s choice l TakeFrom l' h i tt _ l' refl (λ j o w. passed z r r' s choice l TakeFrom l' h i tt j o w)
-freezes_own z r r' s choice l a l' (takes_no_more e u n) h i = goes_on z r r' s choice l TakeFrom l' h i tt _ l' refl (λ j o w. passed z r r' s choice l TakeFrom l' h i tt j o w)
+freezes_own z r r' s choice l a l' (takes_no_more e u) h i = goes_on z r r' s choice l TakeFrom l' h i tt _ l' refl (λ j o w. passed z r r' s choice l TakeFrom l' h i tt j o w)
 freezes_own z r r' s choice l a l' takes_key h i = goes_on z r r' s choice l TakeKey l' h i tt _ l' refl (λ j o w. passed z r r' s choice l TakeKey l' h i tt j o w)
 freezes_own z r r' s choice l a l' takes_version h i = goes_on z r r' s choice l TakeVersion l' h i tt _ l' refl (λ j o w. passed z r r' s choice l TakeVersion l' h i tt j o w)
 freezes_own z r r' s choice l a l' keeps_taken h i = goes_on z r r' s choice l TakeValue l' h i tt _ l' refl (λ j o w. passed z r r' s choice l TakeValue l' h i tt j o w)
 freezes_own z r r' s choice l a l' takes_left_key h i = goes_on z r r' s choice l TakeRestKey l' h i tt _ l' refl (λ j o w. passed z r r' s choice l TakeRestKey l' h i tt j o w)
 freezes_own z r r' s choice l a l' (keeps_left m e) h i = goes_on z r r' s choice l TakeRestValue l' h i tt _ l' refl (λ j o w. passed z r r' s choice l TakeRestValue l' h i tt j o w)
-freezes_own z r r' s choice l a l' (keeps_no_more e n) h i = goes_on z r r' s choice l TakeRestValue l' h i tt _ l' refl (λ j o w. passed z r r' s choice l TakeRestValue l' h i tt j o w)
+freezes_own z r r' s choice l a l' (keeps_no_more e) h i = goes_on z r r' s choice l TakeRestValue l' h i tt _ l' refl (λ j o w. passed z r r' s choice l TakeRestValue l' h i tt j o w)
 freezes_own z r r' s choice l a l' (meets_stamped j c version next e n) h i = unfrozen z r r' s choice l _ l' h i _ l' (look_freezes z _ next n)
 freezes_own z r r' s choice l a l' (meets_neither j next e n) h i = unfrozen z r r' s choice l _ l' h i _ l' (look_freezes z _ next n)
 freezes_own z r r' s choice l a l' (is_passed next e n) h i = unfrozen z r r' s choice l _ l' h i _ l' (look_freezes z _ next n)

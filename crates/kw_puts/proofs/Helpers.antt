@@ -1,5 +1,5 @@
 -- Seats that help scans: what becomes of the word of a scan over an event, and what a helper knows of it.
-use Rattle.std.proofs.Common.{ℕ, ◌≡◌, ◌≢◌, ◌⊎◌, inl, inr, ◌<◌, ◌≤◌, Bool, true, false, Some, arith, refl, sym, ◌∙◌, ap, subst, length, slice_get, ne_eqb, eq-eqb}
+use Rattle.std.proofs.Common.{ℕ, ◌≡◌, ◌≢◌, ◌⊎◌, inl, inr, ◌<◌, ◌≤◌, Bool, true, false, Some, arith, refl, sym, ◌∙◌, ap, subst, length, slice_get, eq-eqb}
 use Rattle.std.proofs.lemmas.Bool.{cases_eq}
 use Rattle.std.proofs.lemmas.Option.{same_Some}
 use Rattle.kw_words.specs.declared.layout.Name.TheVariants as name
@@ -8,7 +8,7 @@ use Rattle.kw_words.specs.declared.scan.ScanWord.TheVariants.{Quiet, Waiting, Dr
 use Rattle.kw_words.specs.Scan.{scan_of, scan_word}
 use Rattle.kw_words.proofs.ScanWords.{scan_word_of}
 use Rattle.kw_world.specs.declared.activity.Activity.{Activity}
-use Rattle.kw_world.specs.declared.activity.Activity.TheVariants.{ScanClock, ScanWait, ScanDraw, ScanSettle, Walk, Look, LookKey, LookClock, LookHelp, ListFrom, ListKey, ListVer, ListVal, RestKey, RestVal, ClearScan, Insert, ScanLook, HelpDraw, HelpSettle, Replace, TakeRow, GiveBack, Number}
+use Rattle.kw_world.specs.declared.activity.Activity.TheVariants.{ScanClock, ScanWait, ScanDraw, ScanSettle, Walk, Look, LookKey, LookClock, LookHelp, ListFrom, ListKey, ListVer, ListVal, RestKey, RestVal, ClearScan, Insert, ScanLook, HelpDraw, HelpSettle, Replace}
 use Rattle.kw_world.specs.declared.event.Choice.{Choice}
 use Rattle.kw_world.specs.declared.local.Local.{Local}
 use Rattle.kw_world.specs.Sizes.{Sizes}
@@ -21,7 +21,8 @@ use Rattle.kw_core.specs.declared.seat_log.SeatLog.{SeatLog}
 use Rattle.kw_core.specs.Stages.{IsWaiting}
 use Rattle.kw_core.specs.Step.{Step}
 use Rattle.kw_core.specs.Words.{Words}
-use Rattle.kw_core.proofs.Building.{never_built}
+use Rattle.kw_core.proofs.BuiltNext.{built_next}
+use Rattle.kw_puts.proofs.BuiltStages.{after_helps, no_scan_replaced}
 use Rattle.kw_core.proofs.Arrows.{builds, Arrow, helps_scan, draws_for}
 use Rattle.kw_core.proofs.Frame.{unwritten, no_link, same_scan}
 use Rattle.kw_core.proofs.FreezeFrame.{clock_never_falls, scan_stays}
@@ -30,7 +31,7 @@ use Rattle.kw_core.proofs.Steps.{new_stands}
 use Rattle.kw_puts.specs.Below.{Below}
 use Rattle.kw_puts.specs.Positions.{Draws, Helping, HelpsScan, HasDrawnFor, HasLoaded, IsToWait, IsScanning, IsHelped}
 use Rattle.kw_puts.proofs.OwnScans.{IsAfterRead, after_read, loaded_from, stopped_clears, goes_on_walk}
-use Rattle.kw_puts.proofs.RelyProof.{goes_on_by}
+use Rattle.kw_puts.proofs.RelyProof.{goes_on_by, waits_stay}
 
 -- Words of scans.
 
@@ -85,7 +86,7 @@ module _ (z : Sizes) (r r' : Run) (s : ℕ) (choice : Choice) (l l' : Local) (i 
           let other = subst (λ q. word z r.world (name.Scan q) ≢ scan_word (Waiting l.rebalance.waiting)) e (not_waiting z r i s l h.knows (λ x. subst IsWaiting h.activity x) l.rebalance.waiting) in
           is_kept (subst (λ q. word z r'.world (name.Scan q) ≡ word z r.world (name.Scan q)) (sym e) (not_exchanged _ _ _ _ h.changed.same other)) (λ x y. cc)
       which (inr d) = is_kept (unwritten (HelpSettle j) h (name.Scan s) h.seat (λ e. d (sym (same_scan j s e)))) (λ x y. cc)
-  own_step Replace h = absurd h.reached
+  own_step Replace h = is_kept (unwritten Replace h (name.Scan s) h.seat (no_scan_replaced l.rebalance.before s)) (λ x y. cc)
   own_step a h = is_kept (unwritten a h (name.Scan s) h.seat (λ e. cc)) (λ x y. cc)
 
   -- the scan of another seat
@@ -114,15 +115,6 @@ module _ (z : Sizes) (r r' : Run) (s : ℕ) (choice : Choice) (l l' : Local) (i 
       which (inl e) = subst (ScanStep z r r' s l a) (sym e) (own_step a h)
       which (inr d) = other_step a h t o d
 
-  -- since when a scan waits is kept, unless it begins to
-  waits_kept : (a : Activity) → Happens z r r' s choice l l' a → (t : ℕ) → (t ≡ s → a ≢ ScanWait) → r'.ledger.waits t ≡ r.ledger.waits t
-  waits_kept ScanWait h t f = ap (λ (g : Ledger). g.waits t) h.ledger ∙ rw (ne_eqb t s (λ e. f e refl)) refl
-  waits_kept TakeRow h t f = absurd h.reached
-  waits_kept GiveBack h t f = absurd h.reached
-  waits_kept Replace h t f = absurd h.reached
-  waits_kept Number h t f = absurd h.reached
-  waits_kept a h t f = ap (λ (g : Ledger). g.waits t) h.ledger
-
 -- a scan waits since a clock that is past, and began to before now
 pub waiting_keeps : (z : Sizes) (r r' : Run) (s : ℕ) (choice : Choice) (l : Local) (a : Activity) (l' : Local) → Happens z r r' s choice l l' a → Below z r → Step r.history r'.history (log_entry z r a s choice l) → (t clock : ℕ) → t < z.seats → word z r'.world (name.Scan t) ≡ scan_word (Waiting clock) →
     (clock ≤ word z r'.world name.Clock) × (r'.ledger.waits t < length r'.history.log)
@@ -134,7 +126,7 @@ waiting_keeps z r r' s choice l a l' h i st t clock o w = which (scan_step z r r
     which : ScanStep z r r' s l a t → (clock ≤ word z r'.world name.Clock) × (r'.ledger.waits t < length r'.history.log)
     which (is_kept e f) =
         let x = i.positions.waiting t clock o (sym e ∙ w) in
-        (omega (arith, x.0, clock_never_falls a h), omega (arith, x.1, waits_kept z r r' s choice l l' i a h t f, grows))
+        (omega (arith, x.0, clock_never_falls a h), omega (arith, x.1, waits_stay z r r' s choice l a l' h t f, grows))
     which (begins_to_wait e is v) =
         let x : scan_word (Waiting l.waiting) ≡ scan_word (Waiting clock) = sym v ∙ w in
         let loaded = (i.positions.draws s l h.knows).loaded (subst HasLoaded (sym (h.activity ∙ is)) tt) in
@@ -156,7 +148,7 @@ helps_not_read t (HelpSettle j) x y = y
 helps_not_read t _ x y = x
 
 helps_from : (z : Sizes) (v : Words) (s : ℕ) (choice : Choice) (l : Local) (a : Activity) (k : Local) (t : ℕ) → Arrow z v s choice l a k → HelpsScan t k.activity → HelpsFrom v l a k t
-helps_from z v s choice l a k t (builds b next y o u) x = never_built z b y o
+helps_from z v s choice l a k t (builds b next y o u) x = after_helps t next.activity (built_next z v choice l b next u) x
 helps_from z v s choice l a k t (helps_scan j c y) x = has_looked j c x refl y refl
 helps_from z v s choice l a k t (draws_for j) x = has_drawn j x refl refl
 helps_from z v s choice l (Look j) k t b x = absurd (helps_not_read t k.activity x (after_read z v s choice l (Look j) k b tt))
@@ -242,7 +234,7 @@ module _ (z : Sizes) (r r' : Run) (s : ℕ) (choice : Choice) (l : Local) (a : A
               acts (inr b) c = let x : IsToWait ScanDraw = subst (λ (q : Local). IsToWait q.activity) (sym same ∙ b.1) y in absurd x
 
       after : word z r'.world (name.Scan t) ≡ scan_word (Waiting k.rebalance.waiting) → ScanStep z r r' s l a t → (word z r.world (name.Scan t) ≡ scan_word (Waiting k.rebalance.waiting) → r.ledger.waits t < (r.seats u).drawn) → ((m : Local) → slice_get r.world.locals t ≡ Some m → IsToWait m.activity → k.rebalance.waiting < m.waiting) → r'.ledger.waits t < (r'.seats u).drawn
-      after w (is_kept e g) b f = omega (arith, b (sym e ∙ w), waits_kept z r r' s choice l l' i a h t g, ap (λ (q : SeatLog). q.drawn) (h.logs u d))
+      after w (is_kept e g) b f = omega (arith, b (sym e ∙ w), waits_stay z r r' s choice l a l' h t g, ap (λ (q : SeatLog). q.drawn) (h.logs u d))
       after w (begins_to_wait e is v) b f = let x : scan_word (Waiting l.waiting) ≡ scan_word (Waiting k.rebalance.waiting) = sym v ∙ w in absurd (omega (arith, x, later e is f))
       after w (waits_no_more g y) b f = absurd (g k.rebalance.waiting w)
 
@@ -288,7 +280,7 @@ module _ (z : Sizes) (r r' : Run) (s : ℕ) (choice : Choice) (l : Local) (a : A
             n.loads refl m (sym (knows_other h j d) ∙ y) q;
         late = λ x. omega (arith, past (n.waits refl), g.changed.same);
         drew = λ x. subst (λ q. Stands r'.history q kind.HelpDraw (word z r.world name.Clock)) (sym drawn) (new_stands r.history r'.history _ (subst (λ q. Step r.history r'.history (log_entry z r q s choice l)) is st));
-        after = λ x e. omega (arith, (i.positions.waiting j l.rebalance.waiting w (sym same ∙ e)).1, drawn, waits_kept z r r' s choice l l' i (HelpDraw j) g j (λ q y. cc));
+        after = λ x e. omega (arith, (i.positions.waiting j l.rebalance.waiting w (sym same ∙ e)).1, drawn, waits_stay z r r' s choice l (HelpDraw j) l' g j (λ q y. cc));
       })
         where
           g : Happens z r r' s choice l l' (HelpDraw j)

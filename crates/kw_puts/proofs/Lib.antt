@@ -1,4 +1,5 @@
 pub mod Owners
+pub mod CellsOf
 pub mod Rely
 pub mod ListWords
 pub mod ListSteps
@@ -12,8 +13,18 @@ pub mod DoneAttempts
 pub mod Entries
 pub mod Freezes
 pub mod Marking
+pub mod FrozenRows
+pub mod GatheredCells
+pub mod Gathering
+pub mod Taking
+pub mod TakingKeeps
+pub mod BuiltLists
+pub mod Copying
+pub mod Relinked
+pub mod DeadRows
 pub mod PutsKeep
 pub mod Callings
+pub mod BuiltStages
 pub mod OwnScans
 pub mod Helpers
 pub mod PositionsKeep

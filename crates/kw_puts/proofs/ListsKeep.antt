@@ -1,7 +1,6 @@
 -- Every event keeps what holds of the lists of the rows: the group, from one lemma for each part of it.
 use Rattle.std.proofs.Common.{ℕ, ◌≡◌, ◌≢◌, ◌⊎◌, inl, inr, ◌<◌, true, false, Some, None, arith, refl, sym, ◌∙◌, ap, subst, slice_get, length}
 use Rattle.kw_words.specs.declared.layout.Name.TheVariants as name
-use Rattle.kw_lists.specs.Rows.{IsSound}
 use Rattle.kw_lists.proofs.Agreeing.{empty_sound}
 use Rattle.kw_world.specs.declared.activity.Activity.{Activity}
 use Rattle.kw_world.specs.declared.activity.Activity.TheVariants.{Insert, PutClear}
@@ -20,8 +19,14 @@ use Rattle.kw_core.specs.Step.{Step}
 use Rattle.kw_core.proofs.Happens.{Happens, log_entry, each_seat}
 use Rattle.kw_shape.proofs.ShapeOpens.{each_rests, opens, shape_starts}
 use Rattle.kw_puts.specs.Puts.{IsCurrent, IsOver, Puts}
+use Rattle.kw_puts.proofs.CellsOf.{cell_key}
 use Rattle.kw_rows.specs.Rows.{WasLinked}
-use Rattle.kw_shape.proofs.RowsStay.{fresh_linked, linked_was, was_below}
+use Rattle.kw_shape.proofs.LinkedRows.{fresh_linked, was_below}
+use Rattle.kw_core.proofs.Attempts.{in_range}
+use Rattle.kw_puts.proofs.AttemptCells.{copy_was}
+use Rattle.kw_puts.proofs.Relinked.{ListAt, new_list}
+use Rattle.kw_shape.proofs.LinkedRows.{linked_keeps}
+use Rattle.kw_puts.proofs.Owners.{puts_linked, was_or_not}
 use Rattle.kw_puts.specs.Lists.{list_in, IsListedCell, IsOwnListed, Inserts, WalksList, Lists}
 use Rattle.kw_puts.specs.Below.{Below}
 use Rattle.kw_puts.proofs.Rely.{GoesOn, Rely}
@@ -31,55 +36,57 @@ use Rattle.kw_puts.proofs.OwnAttempts.{acting_own}
 use Rattle.kw_puts.proofs.DoneAttempts.{new_current, current_goes, over_goes}
 use Rattle.kw_puts.proofs.ListSteps.{list_step, stays_sound, listed_was, listed_stays, listed_words, not_listed, insert_words}
 use Rattle.kw_puts.proofs.OwnInserts.{inserts_stay, walks_stay, inserts_if, walks_if, inserting_at, inserting_unlisted, inserts_own, walks_own}
-use Rattle.kw_puts.proofs.OwnListed.{own_listed}
+use Rattle.kw_puts.proofs.OwnListed.{clear_puts, own_listed}
 
 module _ (z : Sizes) (r r' : Run) (s : ℕ) (choice : Choice) (l : Local) (a : Activity) (l' : Local) (h : Happens z r r' s choice l l' a) (i : Below z r) (st : Step r.history r'.history (log_entry z r a s choice l)) (p : Puts z r') where
-  goes : GoesOn r.history r'.history r.origin r'.origin
+  goes : GoesOn r.history r'.history r.origin r'.origin r.ledger.rows
   goes = goes_on_by z r r' s choice l a l' h i st
 
-  -- a cell that is that of a stamped attempt, with this version in it after the event
-  stamped_cell : (q c put : ℕ) → r.origin q c ≡ Some put → (attempt r.history put).is_stamped ≡ true → word z r'.world (name.Version q c) ≡ (attempt r.history put).version → IsListedCell (word z r'.world) r'.history r'.origin q c
-  stamped_cell q c put origin stamped version =
-      let cell = i.puts.places.owner q c put origin in
-      let same = goes.attempts put cell.within in
-      let g = (goes.grows.old put cell.within).stamped stamped in
-      let within : put < length r'.history.attempts = omega (arith, cell.within, goes.more_attempts) in
-      let body = p.body put within in
-      let announced = (goes.grows.old put cell.within).announced ((i.history.laws.attempted put cell.within).is_announced stamped) in
+  -- a cell of a row that is or was linked which is that of a stamped attempt, or a copy, with this version in it after the event
+  stamped_cell : (q c put : ℕ) → WasLinked r.ledger.rows q → c < z.cells → r.origin q c ≡ Some put → (attempt r.history put).is_stamped ≡ true → word z r'.world (name.Version q c) ≡ (attempt r.history put).version → IsListedCell (word z r'.world) r'.history r'.origin q c
+  stamped_cell q c put k o origin stamped version =
+      let within = in_range r.history put stamped in
+      let g = (goes.grows.old put within).stamped stamped in
+      let then = goes.origin q c put k origin in
+      let announced = (goes.grows.old put within).announced ((i.history.laws.attempted put within).is_announced stamped) in
       record {
         put = put;
-        origin = goes.origin q c put origin;
+        origin = then;
         stamped = g.0;
-        key = rw (same.row ∙ cell.row, same.cell ∙ cell.cell) at (body.key announced.0);
+        key = cell_key p q c put (p.places.owner q c put (linked_keeps a h i.shape q k).linked o then) announced.0;
         version = version ∙ sym g.1;
       }
 
-  -- a listed cell stays that of its attempt, and so is the one that is listed now
-  cells_keep : (q c : ℕ) → r'.listed q c ≡ true → IsListedCell (word z r'.world) r'.history r'.origin q c
-  cells_keep q c t = which (listed_was z r r' s choice l a l' h q c t)
+  -- a listed cell of a row that was linked before stays that of its attempt, and so is the one that is listed now
+  cells_keep : (q c : ℕ) → WasLinked r.ledger.rows q → r'.listed q c ≡ true → IsListedCell (word z r'.world) r'.history r'.origin q c
+  cells_keep q c k t = which (listed_was z r r' s choice l a l' h i q c k t)
     where
       which : (r.listed q c ≡ true) ⊎ (a ≡ Insert) × (q ≡ l.row) × (c ≡ l.cell) → IsListedCell (word z r'.world) r'.history r'.origin q c
       which (inl x) =
-          let cell = i.lists.cells q c x in
-          let given = i.puts.given cell.put (i.puts.places.owner q c cell.put cell.origin).within in
-          let has = i.puts.places.owner q c cell.put cell.origin in
-          let below : q < r.world.rows = subst (λ y. y < r.world.rows) has.row given.below in
-          let inside : c < z.cells = subst (λ y. y < z.cells) has.cell given.cell in
-          stamped_cell q c cell.put cell.origin cell.stamped ((listed_words z r r' s choice l a l' h i q c below inside (λ u e f. not_listed z r r' s choice l a l' h i u q c x e f)).version ∙ cell.version)
+          let cell = i.lists.cells q c k x in
+          let inside : c < z.cells = (i.lists.leads q k).below c x in
+          stamped_cell q c cell.put k inside cell.origin cell.stamped ((listed_words z r r' s choice l a l' h i q c k inside (λ u e f. not_listed z r r' s choice l a l' h i u q c x e f)).version ∙ cell.version)
       which (inr x) =
           let inserting = subst (λ b. Happens z r r' s choice l l' b) x.0 h in
           let own = acting_own z r r' s choice l Insert l' inserting i tt in
           let known = i.shape.sane.locals s l h.knows in
+          let here : WasLinked r.ledger.rows l.row = subst (WasLinked r.ledger.rows) x.1 k in
           let origin : r.origin l.row l.cell ≡ Some (r.seats s).own = rw (own.row, own.cell) at (i.puts.given (r.seats s).own own.within).origin in
-          let stored = (insert_words z r r' s choice l l' inserting i l.row l.cell known.below.row known.ranges.cell).version ∙ own.stored (subst IsStored (sym inserting.activity) tt) in
-          rw (x.1, x.2) (stamped_cell l.row l.cell (r.seats s).own origin (own.stamped (subst IsStamped (sym inserting.activity) tt)) stored)
+          let stored = (insert_words z r r' s choice l l' inserting i l.row l.cell here known.ranges.cell).version ∙ own.stored (subst IsStored (sym inserting.activity) tt) in
+          rw (x.1, x.2) (stamped_cell l.row l.cell (r.seats s).own here known.ranges.cell origin (own.stamped (subst IsStamped (sym inserting.activity) tt)) stored)
+
+  -- a copy is listed
+  copied_keep : (q c put : ℕ) → WasLinked r.ledger.rows q → c < z.cells → r'.origin q c ≡ Some put → (attempt r'.history put).row ≢ q → r'.listed q c ≡ true
+  copied_keep q c put k o e d =
+      let was = copy_was z r r' s choice l a l' h i st q k c put o e d in
+      listed_stays z r r' s choice l a l' h i q c k (i.lists.copied q c put k o was.0 was.2)
 
   -- an attempt is current, or its cell is listed, or it never gets a version
   old_listed : (p : ℕ) → p < length r'.history.attempts → IsCurrent (slice_get r'.world.locals) r'.seats r'.history p ⊎ (r'.listed (attempt r'.history p).row (attempt r'.history p).cell ≡ true) ⊎ IsOver r'.history p
   old_listed p o = which (attempt_was a h p o)
     where
       stays : (p : ℕ) → p < length r.history.attempts → r.listed (attempt r.history p).row (attempt r.history p).cell ≡ true → r'.listed (attempt r'.history p).row (attempt r'.history p).cell ≡ true
-      stays p w x = let same = goes.attempts p w in rw (same.row, same.cell) (listed_stays z r r' s choice l a l' h (attempt r.history p).row (attempt r.history p).cell x)
+      stays p w x = let same = goes.attempts p w in rw (same.row, same.cell) (listed_stays z r r' s choice l a l' h i (attempt r.history p).row (attempt r.history p).cell (i.puts.given p w).linked x)
 
       cleared : a ≡ PutClear → (r'.listed (attempt r'.history (r.seats s).own).row (attempt r'.history (r.seats s).own).cell ≡ true) ⊎ IsOver r'.history (r.seats s).own
       cleared e =
@@ -96,11 +103,17 @@ module _ (z : Sizes) (r r' : Run) (s : ℕ) (choice : Choice) (l : Local) (a : A
       which (inl w) = was w (i.lists.old p w)
       which (inr n) = inl (new_current z r r' s choice l a l' h i st p n)
 
-  -- the list of each row that is or was linked
-  leads_keep : (q : ℕ) → WasLinked r'.ledger.rows q → IsSound z.cells (list_in (word z r'.world) r'.listed q)
-  leads_keep q k =
-      let was : WasLinked r.ledger.rows q = linked_was a h q k in
-      stays_sound z.cells _ _ (list_step z r r' s choice l a l' h i q was) (i.lists.leads q was)
+  -- the list of each row that is or was linked: of one that was before the event, and of one that the event links
+  list_at : (q : ℕ) → WasLinked r'.ledger.rows q → ListAt z (word z r'.world) r'.history r'.origin r'.listed q
+  list_at q k = which (was_or_not r.ledger.rows q)
+    where
+      which : WasLinked r.ledger.rows q ⊎ (WasLinked r.ledger.rows q → ⊥) → ListAt z (word z r'.world) r'.history r'.origin r'.listed q
+      which (inl w) = record {
+        cells = λ c t. cells_keep q c w t;
+        leads = stays_sound z.cells _ _ (list_step z r r' s choice l a l' h i q w) (i.lists.leads q w);
+        copied = λ c put o e d. copied_keep q c put w o e d;
+      }
+      which (inr n) = new_list z r r' s choice l a l' h i st q k n
 
   -- what another seat knows
   module _ (t : ℕ) (k : Local) (d : t ≢ s) (g : slice_get r.world.locals t ≡ Some k) where
@@ -119,14 +132,15 @@ module _ (z : Sizes) (r r' : Run) (s : ℕ) (choice : Choice) (l : Local) (a : A
     own_other : IsOwnListed r'.listed k.activity k
     own_other = record {
       unlisted = λ u. (relies.lists.own u).cell.unlisted;
-      listed = λ u. listed_stays z r r' s choice l a l' h k.row k.cell ((i.lists.own t k g).listed u);
+      listed = λ u. listed_stays z r r' s choice l a l' h i k.row k.cell (puts_linked z r i.shape t k g (clear_puts k.activity u)) ((i.lists.own t k g).listed u);
     }
 
   -- all of it
   pub lists_keep : Lists z r'
   lists_keep = record {
-    cells = cells_keep;
-    leads = leads_keep;
+    cells = λ q c k t. (list_at q k).cells c t;
+    leads = λ q k. (list_at q k).leads;
+    copied = λ q c put k o e d. (list_at q k).copied c put o e d;
     own = each_seat h (λ t k. IsOwnListed r'.listed k.activity k) (own_listed z r r' s choice l a l' h.arrow h i) own_other;
     old = old_listed;
     inserts = each_seat h (λ t k. Inserts z.cells (list_in (word z r'.world) r'.listed k.row) k.activity k) (inserts_if z.cells _ l'.activity l' (inserts_own z r r' s choice l a l' h.arrow h i)) inserts_other;
@@ -141,7 +155,8 @@ no_link = refl
 
 pub lists_start : (z : Sizes) (o : Opening) → IsOpening z o → Lists z (start z o)
 lists_start z o i = record {
-  cells = λ q c t. let x : false ≡ true = t in absurd (cc);
+  cells = λ q c k t. let x : false ≡ true = t in absurd (cc);
+  copied = λ q c p k o e d. let x : None ≡ Some p = e in absurd (cc);
   leads = λ q k. empty_sound z.cells (list_in (word z (opened z o)) none_listed q) (record { none = λ c. refl; first = ap cell_of_link_word (opens z o i (name.First q) (was_below z (start z o) (shape_starts z o i) q k)) ∙ no_link });
   own = each_rests z o (λ t l. IsOwnListed none_listed l.activity l) (λ t. record { unlisted = λ u. refl; listed = λ u. absurd u });
   old = λ p w. absurd (omega arith);

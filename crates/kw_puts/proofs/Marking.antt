@@ -1,8 +1,9 @@
 -- Every event keeps what holds of the cells that a seat remembers of the row that it freezes: they are those of stamped attempts, and a
 -- stamped attempt whose seat's entry was passed is remembered or listed. No later event stamps an attempt whose entry was passed.
-use Rattle.std.proofs.Common.{ℕ, ◌≡◌, ◌⊎◌, inl, inr, ◌+◌, ◌<◌, ◌≤◌, Bool, true, false, Option, Some, None, List, ◌∷◌, [], ◌++◌, arith, refl, sym, ◌∙◌, ap, subst, length, slice_get}
+use Rattle.std.proofs.Common.{ℕ, ◌≡◌, ◌⊎◌, inl, inr, ◌+◌, ◌<◌, ◌≤◌, Bool, true, false, Some, None, List, ◌∷◌, [], ◌++◌, arith, refl, sym, ◌∙◌, ap, subst, length, slice_get}
 use Rattle.std.specs.Prelude.{All}
 use Rattle.std.proofs.lemmas.Bool.{cases_eq, cases_lt}
+use Rattle.std.proofs.lemmas.Option.{same_Some}
 use Rattle.std.proofs.lemmas.List.Elements.{All-nil, All-push, All-weaker}
 use Rattle.kw_words.specs.declared.layout.Name.TheVariants as name
 use Rattle.kw_words.specs.declared.pend.Pend.TheVariants as pend
@@ -24,9 +25,10 @@ use Rattle.kw_core.specs.Noted.{noted}
 use Rattle.kw_core.specs.Run.{Run, Origins}
 use Rattle.kw_core.specs.Stages.{IsFresh, IsPublished, IsPutting, HasMet}
 use Rattle.kw_core.specs.Step.{Step}
-use Rattle.kw_core.specs.Words.{Words}
 use Rattle.kw_core.proofs.Attempts.{in_range}
-use Rattle.kw_core.proofs.Building.{never_built}
+use Rattle.kw_core.proofs.BuiltNext.{IsAfterBuilding, built_keeps, built_next}
+use Rattle.kw_rows.specs.Ledger.{Ledger}
+use Rattle.kw_rows.specs.Rows.{WasLinked}
 use Rattle.kw_core.proofs.InRange.{unmarked_in_range}
 use Rattle.kw_core.proofs.Marks.{marked_more, marked_last}
 use Rattle.kw_core.proofs.NotedLaws.{attempt_set_same}
@@ -36,27 +38,28 @@ use Rattle.kw_core.proofs.Arrows.{meets_stamped, meets_neither, is_passed, helps
 use Rattle.kw_core.proofs.Arrows.{freezes_count, meets_idle, meets_unstamped, remembers, remembers_last, meets_frozen, meets_frozen_last, freezes_entry, freezes_last, looks_again, meets_quiet, meets_quiet_last, helps_scan, meets_drawn, meets_drawn_last, draws_for, settles_scan, settles_last, finds_drawn, finds_drawn_last, finds_no_scan, finds_no_scan_last}
 use Rattle.kw_core.proofs.Arrows.{take_leads, takes_left, takes_no_more, takes_key, takes_version, keeps_taken, takes_left_key, keeps_left, keeps_no_more}
 use Rattle.kw_core.proofs.Happens.{Happens, log_entry}
-use Rattle.kw_puts.specs.Freezes.{IsToFreeze, IsUnsettled, HasFrozen, IsSettled, settled_frozen, settled_stamped, settled_idle, IsMarkOf, IsBeforeTaking, Remembers}
+use Rattle.kw_puts.specs.Freezes.{IsToFreeze, IsUnsettled, HasFrozen, IsMarkOf, IsBeforeTaking, Remembers}
 use Rattle.kw_puts.specs.Puts.{OwnsAttempt, HasCell, Helps, IsCurrent, IsOver, IsPublishedAt, entry_of}
 use Rattle.kw_puts.specs.Below.{Below}
-use Rattle.kw_puts.proofs.Owners.{true_false, published_puts}
+use Rattle.kw_puts.proofs.Owners.{true_false, pending_cell, published_puts}
 use Rattle.kw_puts.proofs.Rely.{GoesOn}
 use Rattle.kw_puts.proofs.RelyEntry.{attempt_left, fresh_published}
 use Rattle.kw_puts.proofs.RelyProof.{goes_on_by}
 use Rattle.kw_puts.proofs.NewAttempts.{IsNew, attempt_was}
 use Rattle.kw_puts.proofs.OwnAttempts.{acting_own, positive, below_end, entry_lost, entry_stamped, entry_pending}
 use Rattle.kw_puts.proofs.ListSteps.{listed_stays}
-use Rattle.kw_puts.proofs.Freezes.{not_unsettled, look_freezes, rest_freezes}
+use Rattle.kw_puts.proofs.FrozenRows.{not_pending}
+use Rattle.kw_puts.proofs.Freezes.{built_frozen, frozen_builds, frozen_linked, not_unsettled, look_freezes, rest_freezes}
 
 -- The cells of remembered attempts.
 
--- a remembered cell is still that of its attempt
-pub mark_lasts : (h h' : History) (o o' : Origins) → GoesOn h h' o o' → (q : ℕ) (m : Mark) → IsMarkOf h o q m → IsMarkOf h' o' q m
-mark_lasts h h' o o' g q m i = let x = (g.grows.old i.put (in_range h i.put i.stamped)).stamped i.stamped in record { put = i.put; origin = g.origin q m.cell i.put i.origin; stamped = x.0; version = x.1 ∙ i.version }
+-- a remembered cell of a row that is or was linked is still that of its attempt
+pub mark_lasts : (h h' : History) (o o' : Origins) (w : Ledger) → GoesOn h h' o o' w → (q : ℕ) → WasLinked w q → (m : Mark) → IsMarkOf h o q m → IsMarkOf h' o' q m
+mark_lasts h h' o o' w g q k m i = let x = (g.grows.old i.put (in_range h i.put i.stamped)).stamped i.stamped in record { put = i.put; origin = g.origin q m.cell i.put k i.origin; stamped = x.0; version = x.1 ∙ i.version }
 
 -- and so is each one
-pub marks_last : (h h' : History) (o o' : Origins) → GoesOn h h' o o' → (q : ℕ) (marks : List Mark) → All (IsMarkOf h o q) marks → All (IsMarkOf h' o' q) marks
-marks_last h h' o o' g q marks m = All-weaker (IsMarkOf h o q) (IsMarkOf h' o' q) (mark_lasts h h' o o' g q) marks m
+pub marks_last : (h h' : History) (o o' : Origins) (w : Ledger) → GoesOn h h' o o' w → (q : ℕ) → WasLinked w q → (marks : List Mark) → All (IsMarkOf h o q) marks → All (IsMarkOf h' o' q) marks
+marks_last h h' o o' w g q k marks m = All-weaker (IsMarkOf h o q) (IsMarkOf h' o' q) (mark_lasts h h' o o' w g q k) marks m
 
 -- what an entry of an announced attempt reads, where it reads stamped
 module _ (z : Sizes) (r : Run) (i : Below z r) where
@@ -118,12 +121,6 @@ IsStamping Stamp = Unit {0}
 IsStamping LookHelp = Unit {0}
 IsStamping _ = ⊥
 
--- an entry that is settled is not pending
-not_pending : (v : Words) (locals : ℕ → Option Local) (q j c : ℕ) → IsSettled v locals q j → v (name.Pend q j) ≡ pend_word (pend.Pending c) → ⊥
-not_pending v locals q j c (settled_frozen x) e = let y : pend_word pend.Frozen ≡ pend_word (pend.Pending c) = sym x ∙ e in omega (arith, y)
-not_pending v locals q j c (settled_stamped d n x) e = let y : pend_word (pend.Stamped d n) ≡ pend_word (pend.Pending c) = sym x ∙ e in omega (arith, y)
-not_pending v locals q j c (settled_idle x n) e = let y : pend_word pend.Idle ≡ pend_word (pend.Pending c) = sym x ∙ e in omega (arith, y)
-
 module _ (z : Sizes) (r r' : Run) (s : ℕ) (choice : Choice) (l : Local) (a : Activity) (l' : Local) (h : Happens z r r' s choice l l' a) (i : Below z r) where
   -- the attempt was stamped, or its entry is pending and its seat or a reader stamps it
   abbrev WasStamped : ℕ → Type 0
@@ -174,19 +171,17 @@ module _ (z : Sizes) (r r' : Run) (s : ℕ) (choice : Choice) (l : Local) (a : A
           one_stamped p (r.seats s).own l.version (r.seats s).loaded w n (subst IsStamping (sym f) tt) l.cell (rw (own.row, own.seat) m) x
       by b c f n (makes_help q m k) =
           let met : Helps r.history r.origin l.activity l (r.seats s) = i.puts.helps s l h.knows (subst HasMet (sym (h.activity ∙ f)) tt) in
-          let place : HasCell r.history l.row l.met q = i.puts.places.owner l.row l.met q k in
-          let is : met.put ≡ q = same_origin met.put q met.origin k in
+          let known = i.shape.sane.locals s l h.knows in
+          let place : HasCell r.history l.row l.met q = pending_cell i.puts l.row l.looked l.met q known.below.row known.ranges.looked m k in
+          let is : met.put ≡ q = same_Some met.put q (sym met.origin ∙ k) in
           one_stamped p q l.helping (r.seats s).loaded w n (subst IsStamping (sym f) tt) l.met (rw (place.row, sym (ap (λ y. (attempt r.history y).seat) is) ∙ met.seat) m) x
-        where
-          same_origin : (y q : ℕ) → r.origin l.row l.met ≡ Some y → r.origin l.row l.met ≡ Some q → y ≡ q
-          same_origin y q u v = let k : Some y ≡ Some q = sym u ∙ v in cc
       by b c f n (makes_lose j cell q e m k) = one_lost p q w n x
       by b c f n (makes_end answer) = same c (attempt_left r.history r'.history _ p c tt n w)
 
   -- Stamped attempts of a row after the event.
 
   module _ (st : Step r.history r'.history (log_entry z r a s choice l)) where
-    goes : GoesOn r.history r'.history r.origin r'.origin
+    goes : GoesOn r.history r'.history r.origin r'.origin r.ledger.rows
     goes = goes_on_by z r r' s choice l a l' h i st
 
     -- they are remembered or listed, if all that were stamped were and no entry that was passed was pending
@@ -206,7 +201,7 @@ module _ (z : Sizes) (r r' : Run) (s : ℕ) (choice : Choice) (l : Local) (a : A
 
             stays : (is_marked (attempt r.history p).cell marks ≡ true) ⊎ (r.listed q (attempt r.history p).cell ≡ true) → (is_marked (attempt r'.history p).cell marks ≡ true) ⊎ (r'.listed q (attempt r'.history p).cell ≡ true)
             stays (inl y) = inl (rw (goes.attempts p w).cell y)
-            stays (inr y) = inr (rw (goes.attempts p w).cell (listed_stays z r r' s choice l a l' h q (attempt r.history p).cell y))
+            stays (inr y) = inr (rw (goes.attempts p w).cell (listed_stays z r r' s choice l a l' h i q (attempt r.history p).cell (subst (WasLinked r.ledger.rows) row (i.puts.given p w).linked) y))
 
             by : WasStamped p → (is_marked (attempt r'.history p).cell marks ≡ true) ⊎ (r'.listed q (attempt r'.history p).cell ≡ true)
             by (inl y) = stays (was p w row y seat)
@@ -219,7 +214,7 @@ module _ (z : Sizes) (r r' : Run) (s : ℕ) (choice : Choice) (l : Local) (a : A
     -- what another seat remembers
     pub remembers_other : (t : ℕ) (k : Local) → slice_get r.world.locals t ≡ Some k → Remembers z r'.history r'.origin r'.listed k.activity k
     remembers_other t k g = record {
-      marks = λ x. marks_last r.history r'.history r.origin r'.origin goes k.row k.rebalance.marks ((i.puts.remembers t k g).marks x);
+      marks = λ x. marks_last r.history r'.history r.origin r'.origin r.ledger.rows goes k.row (frozen_linked z r i.shape t k g x) k.rebalance.marks ((i.puts.remembers t k g).marks x);
       noted = λ x. noted_still k.row (frozen_by z k.activity) k.rebalance.marks (λ j c o b m e. not_pending (word z r.world) (slice_get r.world.locals) k.row j c ((i.puts.freezes t k g).settled (before_frozen k.activity x) j o b) e) ((i.puts.remembers t k g).noted x);
     }
       where
@@ -235,7 +230,7 @@ module _ (z : Sizes) (r r' : Run) (s : ℕ) (choice : Choice) (l : Local) (a : A
 
     -- what it remembered
     own_marks : HasFrozen a → All (IsMarkOf r'.history r'.origin l.row) l.rebalance.marks
-    own_marks p = marks_last r.history r'.history r.origin r'.origin goes l.row l.rebalance.marks ((i.puts.remembers s l h.knows).marks (subst HasFrozen (sym h.activity) p))
+    own_marks p = let x = subst HasFrozen (sym h.activity) p in marks_last r.history r'.history r.origin r'.origin r.ledger.rows goes l.row (frozen_linked z r i.shape s l h.knows x) l.rebalance.marks ((i.puts.remembers s l h.knows).marks x)
 
     was_noted : IsBeforeTaking a → (p : ℕ) → p < length r.history.attempts → (attempt r.history p).row ≡ l.row → (attempt r.history p).is_stamped ≡ true → (attempt r.history p).seat < frozen_by z a → (is_marked (attempt r.history p).cell l.rebalance.marks ≡ true) ⊎ (r.listed l.row (attempt r.history p).cell ≡ true)
     was_noted x p w e y b = (i.puts.remembers s l h.knows).noted (subst IsBeforeTaking (sym h.activity) x) p w e y (subst (λ c. (attempt r.history p).seat < frozen_by z c) (sym h.activity) b)
@@ -307,14 +302,31 @@ module _ (z : Sizes) (r : Run) (i : Below z r) (l : Local) (m : ℕ) where
   froze_here : {A : Type 0} → IsUnsettled l.rebalance.entry → word z r.world (name.Pend l.row m) ≡ pend_word l.rebalance.entry → (c version : ℕ) → word z r.world (name.Pend l.row m) ≡ pend_word (pend.Stamped c version) → A
   froze_here u e c version x = absurd (not_unsettled l.rebalance.entry c version u (sym x ∙ e))
 
+-- a seat that builds new rows has passed the entries and the scans
+built_takes : (a : Activity) → IsAfterBuilding a → IsBeforeTaking a → ⊥
+built_takes (FreezeLook i) n x = n
+built_takes (Freeze i) n x = n
+built_takes (ScanLook i) n x = n
+built_takes (HelpDraw i) n x = n
+built_takes (HelpSettle i) n x = n
+built_takes _ n x = x
+
 -- what the acting seat remembers
 pub remembers_own : (z : Sizes) (r r' : Run) (s : ℕ) (choice : Choice) (l : Local) (a : Activity) (l' : Local) → Arrow z (word z r.world) s choice l a l' → Happens z r r' s choice l l' a → Below z r → Step r.history r'.history (log_entry z r a s choice l) → Remembers z r'.history r'.origin r'.listed l'.activity l'
-remembers_own z r r' s choice l a l' (builds b next y o t) h i st = never_built z b y o
+remembers_own z r r' s choice l a l' (builds b next y o t) h i st = record { marks = marks; noted = λ x. absurd (built_takes next.activity after x) }
+  where
+    after : IsAfterBuilding next.activity
+    after = built_next z (word z r.world) choice l b next t
+
+    marks : HasFrozen next.activity → All (IsMarkOf r'.history r'.origin next.row) next.rebalance.marks
+    marks x =
+        let keeps = built_keeps z (word z r.world) choice l b next t (frozen_builds next.activity after x) in
+        rw (keeps.row, keeps.marks) (own_marks z r r' s choice l b next h i st (built_frozen z (word z r.world) choice l b next t x))
 remembers_own z r r' s choice l a l' freezes_count h i st = record { marks = λ x. All-nil (IsMarkOf r'.history r'.origin l.row); noted = λ x p w e y b. absurd (omega (arith, b)) }
 remembers_own z r r' s choice l a l' (meets_idle m e) h i st = goes_on z r r' s choice l (FreezeLook m) l' h i st _ l' refl refl tt (λ x. x) (λ x. (tt, refl))
 remembers_own z r r' s choice l a l' (meets_unstamped m c e) h i st = goes_on z r r' s choice l (FreezeLook m) l' h i st _ l' refl refl tt (λ x. x) (λ x. (tt, refl))
-remembers_own z r r' s choice l a l' (remembers m c version e u) h i st = passes_one z r r' s choice l (FreezeLook m) l' h i st _ l' m (m + 1) refl tt (λ x. x) tt refl refl (omega arith) (All-push (IsMarkOf r'.history r'.origin l.row) l.rebalance.marks (mark_of c version) (own_marks z r r' s choice l (FreezeLook m) l' h i st tt) (mark_lasts r.history r'.history r.origin r'.origin (goes z r r' s choice l (FreezeLook m) l' h i st) l.row (mark_of c version) (stamped_mark z r i l.row m c version (i.shape.sane.locals s l h.knows).below.row (subst (IsActivity z) h.activity (i.shape.sane.locals s l h.knows).ranges.activity) e))) (λ d x. marked_more d l.rebalance.marks (mark_of c version) x) (stamped_here z r i l m c version l.rebalance.marks e)
-remembers_own z r r' s choice l a l' (remembers_last m c version e u) h i st = passes_one z r r' s choice l (FreezeLook m) l' h i st _ l' m z.seats refl tt (λ x. x) tt refl refl (u) (All-push (IsMarkOf r'.history r'.origin l.row) l.rebalance.marks (mark_of c version) (own_marks z r r' s choice l (FreezeLook m) l' h i st tt) (mark_lasts r.history r'.history r.origin r'.origin (goes z r r' s choice l (FreezeLook m) l' h i st) l.row (mark_of c version) (stamped_mark z r i l.row m c version (i.shape.sane.locals s l h.knows).below.row (subst (IsActivity z) h.activity (i.shape.sane.locals s l h.knows).ranges.activity) e))) (λ d x. marked_more d l.rebalance.marks (mark_of c version) x) (stamped_here z r i l m c version l.rebalance.marks e)
+remembers_own z r r' s choice l a l' (remembers m c version e u) h i st = passes_one z r r' s choice l (FreezeLook m) l' h i st _ l' m (m + 1) refl tt (λ x. x) tt refl refl (omega arith) (All-push (IsMarkOf r'.history r'.origin l.row) l.rebalance.marks (mark_of c version) (own_marks z r r' s choice l (FreezeLook m) l' h i st tt) (mark_lasts r.history r'.history r.origin r'.origin r.ledger.rows (goes z r r' s choice l (FreezeLook m) l' h i st) l.row (frozen_linked z r i.shape s l h.knows (subst HasFrozen (sym h.activity) tt)) (mark_of c version) (stamped_mark z r i l.row m c version (i.shape.sane.locals s l h.knows).below.row (subst (IsActivity z) h.activity (i.shape.sane.locals s l h.knows).ranges.activity) e))) (λ d x. marked_more d l.rebalance.marks (mark_of c version) x) (stamped_here z r i l m c version l.rebalance.marks e)
+remembers_own z r r' s choice l a l' (remembers_last m c version e u) h i st = passes_one z r r' s choice l (FreezeLook m) l' h i st _ l' m z.seats refl tt (λ x. x) tt refl refl (u) (All-push (IsMarkOf r'.history r'.origin l.row) l.rebalance.marks (mark_of c version) (own_marks z r r' s choice l (FreezeLook m) l' h i st tt) (mark_lasts r.history r'.history r.origin r'.origin r.ledger.rows (goes z r r' s choice l (FreezeLook m) l' h i st) l.row (frozen_linked z r i.shape s l h.knows (subst HasFrozen (sym h.activity) tt)) (mark_of c version) (stamped_mark z r i l.row m c version (i.shape.sane.locals s l h.knows).below.row (subst (IsActivity z) h.activity (i.shape.sane.locals s l h.knows).ranges.activity) e))) (λ d x. marked_more d l.rebalance.marks (mark_of c version) x) (stamped_here z r i l m c version l.rebalance.marks e)
 remembers_own z r r' s choice l a l' (meets_frozen m e u) h i st = passes_one z r r' s choice l (FreezeLook m) l' h i st _ l' m (m + 1) refl tt (λ x. x) tt refl refl (omega arith) (own_marks z r r' s choice l (FreezeLook m) l' h i st tt) (λ d x. x) (λ p w y x. frozen_here z r i l m e p w y x)
 remembers_own z r r' s choice l a l' (meets_frozen_last m e u) h i st = passes_one z r r' s choice l (FreezeLook m) l' h i st _ l' m z.seats refl tt (λ x. x) tt refl refl (u) (own_marks z r r' s choice l (FreezeLook m) l' h i st tt) (λ d x. x) (λ p w y x. frozen_here z r i l m e p w y x)
 remembers_own z r r' s choice l a l' (freezes_entry m e u) h i st = passes_one z r r' s choice l (Freeze m) l' h i st _ l' m (m + 1) refl tt (λ x. x) tt refl refl (omega arith) (own_marks z r r' s choice l (Freeze m) l' h i st tt) (λ d x. x) (λ p w y x. froze_here z r i l m (subst (λ x. IsToFreeze x l) h.activity (i.puts.tries s l h.knows)) e _ _ x)
@@ -332,12 +344,12 @@ remembers_own z r r' s choice l a l' (meets_drawn_last m version e u) h i st = t
 remembers_own z r r' s choice l a l' (settles_last m e u) h i st = takes_on z r r' s choice l (HelpSettle m) l' h i st _ l' refl (λ x. x) (own_marks z r r' s choice l (HelpSettle m) l' h i st tt)
 remembers_own z r r' s choice l a l' (finds_drawn_last m version e u) h i st = takes_on z r r' s choice l (HelpSettle m) l' h i st _ l' refl (λ x. x) (own_marks z r r' s choice l (HelpSettle m) l' h i st tt)
 remembers_own z r r' s choice l a l' (finds_no_scan_last m e u) h i st = takes_on z r r' s choice l (HelpSettle m) l' h i st _ l' refl (λ x. x) (own_marks z r r' s choice l (HelpSettle m) l' h i st tt)
-remembers_own z r r' s choice l a l' (takes_no_more e u n) h i st = takes_on z r r' s choice l TakeFrom l' h i st _ l' refl (λ x. x) (own_marks z r r' s choice l TakeFrom l' h i st tt)
+remembers_own z r r' s choice l a l' (takes_no_more e u) h i st = takes_on z r r' s choice l TakeFrom l' h i st _ l' refl (λ x. x) (own_marks z r r' s choice l TakeFrom l' h i st tt)
 remembers_own z r r' s choice l a l' takes_key h i st = takes_on z r r' s choice l TakeKey l' h i st _ l' refl (λ x. x) (own_marks z r r' s choice l TakeKey l' h i st tt)
 remembers_own z r r' s choice l a l' takes_version h i st = takes_on z r r' s choice l TakeVersion l' h i st _ l' refl (λ x. x) (own_marks z r r' s choice l TakeVersion l' h i st tt)
 remembers_own z r r' s choice l a l' keeps_taken h i st = takes_on z r r' s choice l TakeValue l' h i st _ l' refl (λ x. x) (own_marks z r r' s choice l TakeValue l' h i st tt)
 remembers_own z r r' s choice l a l' takes_left_key h i st = takes_on z r r' s choice l TakeRestKey l' h i st _ l' refl (λ x. x) (own_marks z r r' s choice l TakeRestKey l' h i st tt)
-remembers_own z r r' s choice l a l' (keeps_no_more e n) h i st = takes_on z r r' s choice l TakeRestValue l' h i st _ l' refl (λ x. x) (own_marks z r r' s choice l TakeRestValue l' h i st tt)
+remembers_own z r r' s choice l a l' (keeps_no_more e) h i st = takes_on z r r' s choice l TakeRestValue l' h i st _ l' refl (λ x. x) (own_marks z r r' s choice l TakeRestValue l' h i st tt)
 remembers_own z r r' s choice l a l' (take_leads c e) h i st = takes_on z r r' s choice l TakeFrom l' h i st _ l' refl (λ x. x) (unmarked_in_range (IsMarkOf r'.history r'.origin l.row) c l.rebalance.marks (own_marks z r r' s choice l TakeFrom l' h i st tt))
 remembers_own z r r' s choice l a l' (takes_left m e u) h i st = takes_on z r r' s choice l TakeFrom l' h i st _ l' refl (λ x. x) (unmarked_in_range (IsMarkOf r'.history r'.origin l.row) m.cell l.rebalance.marks (own_marks z r r' s choice l TakeFrom l' h i st tt))
 remembers_own z r r' s choice l a l' (keeps_left m e) h i st = takes_on z r r' s choice l TakeRestValue l' h i st _ l' refl (λ x. x) (unmarked_in_range (IsMarkOf r'.history r'.origin l.row) m.cell l.rebalance.marks (own_marks z r r' s choice l TakeRestValue l' h i st tt))

@@ -32,7 +32,12 @@ use Rattle.kw_puts.specs.Freezes.{IsFrozen}
 use Rattle.kw_puts.specs.Puts.{IsOver}
 use Rattle.kw_puts.proofs.Owners.{true_false}
 use Rattle.kw_core.proofs.Frame.{given-next}
-use Rattle.kw_core.proofs.FreezeFrame.{count_stays, freezes_given, frozen_lasts}
+use Rattle.kw_core.proofs.Copies.{origin_stays}
+use Rattle.kw_core.proofs.FreezeFrame.{freezes_given}
+use Rattle.kw_rows.specs.Rows.{WasLinked}
+use Rattle.kw_shape.specs.Shape.{Shape}
+use Rattle.kw_shape.proofs.LinkedRows.{linked_keeps, not_hand}
+use Rattle.kw_shape.proofs.LinkedWords.{linked_count_word}
 use Rattle.kw_core.proofs.Changes.{Makes, makes_nothing, makes_begin, makes_add, makes_announce, makes_stamp, makes_help, makes_end, made, makes_lose}
 use Rattle.kw_puts.proofs.RelyEntry.{attempt_left}
 
@@ -106,11 +111,6 @@ announced_or_now z r r' s choice l a c e (makes_help q m k) n p w x = inl (stamp
 announced_or_now z r r' s choice l a c e (makes_lose j cell q y m k) n p w x = inl (lost_was r.history r'.history e q n p w x)
 announced_or_now z r r' s choice l a c e (makes_end answer) n p w x = inl (sym (ap (λ k. k.is_announced) (attempt_left r.history r'.history e p (Ends (r.seats s).call (reply_of answer l.pairs) (answering l.call l (r.seats s)) (drawing answer l (r.seats s))) tt n w)) ∙ x)
 
--- a frozen count, as what it says
-frozen_count : (x : Option Counted) → has_frozen x ≡ true → (c : Counted) × (x ≡ Some c) × (c.frozen ≡ true)
-frozen_count (Some c) e = (c, refl, e)
-frozen_count None e = let y : false ≡ true = e in absurd (cc)
-
 -- a row that gives no cell though it has not given all is frozen
 pub no_room_frozen : (z : Sizes) (x : Option Counted) → IsGiven x → has_room z x ≡ false → given_of x < z.cells → has_frozen x ≡ true
 no_room_frozen z (Some c) g e o = met c.frozen e
@@ -145,31 +145,28 @@ module _ {z : Sizes} {r r' : Run} {s : ℕ} {choice : Choice} {l l' : Local} whe
   pub one_more_within : Happens z r r' s choice l l' PutAdd → has_room z (count_of (word z r.world (name.Count l.row))) ≡ true → length r.history.attempts < length r'.history.attempts
   one_more_within h m = omega (arith, ap length (one_more h m), length-append r.history.attempts (added r (word z r.world) s l ∷ []))
 
-  -- as many cells were asked for as before, or one more is
-  pub given_was : (a : Activity) → Happens z r r' s choice l l' a → (q : ℕ) → q < r.world.rows → ((x : ℕ) → x < r.world.rows → IsGiven (count_of (word z r.world (name.Count x)))) →
+  -- as many cells of a row that is or was linked were asked for as before, or one more is
+  pub given_was : (a : Activity) → Happens z r r' s choice l l' a → Shape z r → (q : ℕ) → WasLinked r.ledger.rows q →
       (given_in (word z r'.world) q ≡ given_in (word z r.world) q) ⊎ (a ≡ PutAdd) × (q ≡ l.row)
-  given_was PutAdd h q w g = which (cases_eq q l.row)
+  given_was PutAdd h i q w = which (cases_eq q l.row)
     where
       which : (q ≡ l.row) ⊎ (q ≡ l.row → ⊥) → (given_in (word z r'.world) q ≡ given_in (word z r.world) q) ⊎ (PutAdd ≡ PutAdd) × (q ≡ l.row)
       which (inl e) = inr (refl, e)
-      which (inr d) = inl (ap (λ k. given_of (count_of k)) (count_stays PutAdd h q w (λ x e. d e)))
-  given_was FreezeCount h q w g = inl (which (cases_eq q l.row))
+      which (inr d) = inl (ap (λ k. given_of (count_of k)) (linked_count_word PutAdd h i q w (λ x e. d e)))
+  given_was FreezeCount h i q w = inl (which (cases_eq q l.row))
     where
       frozen : (x : Option Counted) → count_of (word z r.world (name.Count l.row)) ≡ x → IsGiven x → given_in (word z r'.world) l.row ≡ given_in (word z r.world) l.row
       frozen (Some c) e y = ap given_of (freezes_given h c e) ∙ ap given_of (sym e)
       frozen None e y = absurd y
 
       which : (q ≡ l.row) ⊎ (q ≡ l.row → ⊥) → given_in (word z r'.world) q ≡ given_in (word z r.world) q
-      which (inl e) = rw e (frozen _ refl (g l.row (subst (λ x. x < r.world.rows) e w)))
-      which (inr d) = ap (λ k. given_of (count_of k)) (count_stays FreezeCount h q w (λ x e. d e))
-  given_was a h q w g = inl (ap (λ k. given_of (count_of k)) (count_stays a h q w (λ x e. x)))
+      which (inl e) = rw e (frozen _ refl (i.sane.each (name.Count l.row) (i.sane.locals s l h.knows).below.row))
+      which (inr d) = ap (λ k. given_of (count_of k)) (linked_count_word FreezeCount h i q w (λ x e. d e))
+  given_was a h i q w = inl (ap (λ k. given_of (count_of k)) (linked_count_word a h i q w (λ x e. x)))
 
   -- a frozen row stays frozen
-  pub stays_frozen : (a : Activity) → Happens z r r' s choice l l' a → (q : ℕ) → q < r.world.rows → IsGiven (count_of (word z r.world (name.Count q))) → IsFrozen (word z r.world) q → IsFrozen (word z r'.world) q
-  stays_frozen a h q w g f =
-      let c = frozen_count (count_of (word z r.world (name.Count q))) f in
-      let d = frozen_lasts a h q c.0 w g c.1 c.2 in
-      rw d.1 d.2
+  pub stays_frozen : (a : Activity) → Happens z r r' s choice l l' a → Shape z r → (q : ℕ) → WasLinked r.ledger.rows q → IsFrozen (word z r.world) q → IsFrozen (word z r'.world) q
+  stays_frozen a h i q w f = (linked_keeps a h i q w).frozen f
 
   -- an attempt that never gets a version is so still, or is the seat's own and is announced now
   pub over_stays : (a : Activity) → Happens z r r' s choice l l' a → Step r.history r'.history (log_entry z r a s choice l) → (p : ℕ) → p < length r.history.attempts → IsOver r.history p → IsOver r'.history p ⊎ (a ≡ Announce) × (p ≡ (r.seats s).own)
@@ -198,9 +195,9 @@ module _ {z : Sizes} {r r' : Run} {s : ℕ} {choice : Choice} {l l' : Local} whe
   pub origin_new : Happens z r r' s choice l l' PutAdd → has_room z (count_of (word z r.world (name.Count l.row))) ≡ true → r'.origin l.row (given_in (word z r.world) l.row) ≡ Some (length r.history.attempts)
   origin_new h m = subst (λ o. o l.row (given_in (word z r.world) l.row) ≡ Some (length r.history.attempts)) (sym (rw m at h.origin)) (rw (eq-eqb l.row l.row refl, eq-eqb (given_in (word z r.world) l.row) (given_in (word z r.world) l.row) refl) refl)
 
-  -- an origin is as it was, or the cell is given now
-  pub origin_was : (a : Activity) → Happens z r r' s choice l l' a → (q c : ℕ) → (r'.origin q c ≡ r.origin q c) ⊎ IsGiving z r l a × (q ≡ l.row) × (c ≡ given_in (word z r.world) l.row) × (r'.origin q c ≡ Some (length r.history.attempts))
-  origin_was PutAdd h q c = subst (λ o. (o q c ≡ r.origin q c) ⊎ IsGiving z r l PutAdd × (q ≡ l.row) × (c ≡ given_in (word z r.world) l.row) × (o q c ≡ Some (length r.history.attempts))) (sym h.origin) (met (has_room z (count_of (word z r.world (name.Count l.row)))) refl)
+  -- what a cell of a row that is or was linked stands for is as it was, or the cell is given now
+  pub origin_was : (a : Activity) → Happens z r r' s choice l l' a → Shape z r → (q c : ℕ) → WasLinked r.ledger.rows q → (r'.origin q c ≡ r.origin q c) ⊎ IsGiving z r l a × (q ≡ l.row) × (c ≡ given_in (word z r.world) l.row) × (r'.origin q c ≡ Some (length r.history.attempts))
+  origin_was PutAdd h i q c k = subst (λ o. (o q c ≡ r.origin q c) ⊎ IsGiving z r l PutAdd × (q ≡ l.row) × (c ≡ given_in (word z r.world) l.row) × (o q c ≡ Some (length r.history.attempts))) (sym h.origin) (met (has_room z (count_of (word z r.world (name.Count l.row)))) refl)
     where
       at : (b : Bool) → ((q == l.row) && (c == given_in (word z r.world) l.row)) ≡ b → has_room z (count_of (word z r.world (name.Count l.row))) ≡ true → ((if b then Some (length r.history.attempts) else r.origin q c) ≡ r.origin q c) ⊎ IsGiving z r l PutAdd × (q ≡ l.row) × (c ≡ given_in (word z r.world) l.row) × ((if b then Some (length r.history.attempts) else r.origin q c) ≡ Some (length r.history.attempts))
       at true e m = let t = and_parts (q == l.row) (c == given_in (word z r.world) l.row) e in inr (record { takes = refl; room = m }, eq_from q l.row t.0, eq_from _ _ t.1, refl)
@@ -209,5 +206,5 @@ module _ {z : Sizes} {r r' : Run} {s : ℕ} {choice : Choice} {l l' : Local} whe
       met : (b : Bool) → has_room z (count_of (word z r.world (name.Count l.row))) ≡ b → ((let o : Origins = if b then with_origin r.origin l.row (given_in (word z r.world) l.row) (length r.history.attempts) else r.origin in o) q c ≡ r.origin q c) ⊎ IsGiving z r l PutAdd × (q ≡ l.row) × (c ≡ given_in (word z r.world) l.row) × ((let o : Origins = if b then with_origin r.origin l.row (given_in (word z r.world) l.row) (length r.history.attempts) else r.origin in o) q c ≡ Some (length r.history.attempts))
       met true m = at _ refl m
       met false m = inl refl
-  origin_was (WriteVersion j) h q c = absurd h.reached
-  origin_was a h q c = inl (ap (λ o. o q c) h.origin)
+  origin_was (WriteVersion j) h i q c k = inl (origin_stays (WriteVersion j) h q c (λ x. not_hand (WriteVersion j) h i tt q k x.0))
+  origin_was a h i q c k = inl (ap (λ o. o q c) h.origin)

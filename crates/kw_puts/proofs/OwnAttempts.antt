@@ -36,13 +36,16 @@ use Rattle.kw_core.specs.Step.{Step}
 use Rattle.kw_core.proofs.NotedLaws.{attempt_set_same}
 use Rattle.kw_core.proofs.Steps.{new_stands}
 use Rattle.kw_core.proofs.Happens.{Happens, chosen, not_chosen, exchanged, not_exchanged}
-use Rattle.kw_core.proofs.Building.{never_built}
+use Rattle.kw_core.proofs.BuiltNext.{IsAfterBuilding, built_next}
 use Rattle.kw_core.proofs.Arrows.{builds, Arrow, NextLook, looks, lists, NextRest, rests, answers, ends_scan, scans_on, IsNotOwn}
 use Rattle.kw_core.proofs.Arrows.{meets_stamped, meets_neither, is_passed, helps, finds_stamped, finds_other, list_ends, key_above, rest_passed, gathers_rest, takes_cell, stores_key, stores_value, announces, loads_clock, stamps, is_stamped, stores_version, meets_cell, meets_none, key_before, key_same, key_after, version_before, version_after, stores_after, inserts, loses}
-use Rattle.kw_core.proofs.Frame.{WritesOwnEntry, key_kept, version_kept}
-use Rattle.kw_core.proofs.FreezeFrame.{FreezesEntry, entry_stays}
+use Rattle.kw_core.proofs.Frame.{WritesOwnEntry}
+use Rattle.kw_core.proofs.FreezeFrame.{FreezesEntry}
+use Rattle.kw_core.proofs.InfantFrames.{entry_stays as entry_same, key_stays}
+use Rattle.kw_rows.specs.Rows.{WasLinked}
 use Rattle.kw_core.proofs.Happens.{log_entry}
-use Rattle.kw_puts.proofs.Owners.{pending_kept}
+use Rattle.kw_shape.proofs.LinkedWords.{linked_entry, linked_version}
+use Rattle.kw_puts.proofs.Owners.{pending_kept, puts_linked}
 use Rattle.kw_puts.proofs.Rely.{GoesOn}
 use Rattle.kw_puts.proofs.RelyEntry.{attempt_left}
 use Rattle.kw_puts.proofs.RelyProof.{goes_on_by}
@@ -205,7 +208,7 @@ key_stored z r r' s choice l h i st = subst (OwnsAttempt (word z r'.world) r'.hi
     own : OwnsAttempt (word z r.world) r.history s l.activity l (r.seats s)
     own = acting_own z r r' s choice l PutKey (record l { activity = PutValue }) h i tt
 
-    goes : GoesOn r.history r'.history r.origin r'.origin
+    goes : GoesOn r.history r'.history r.origin r'.origin r.ledger.rows
     goes = goes_on_by z r r' s choice l PutKey (record l { activity = PutValue }) h i st
 
     same : attempt r'.history (r.seats s).own ≡ attempt r.history (r.seats s).own
@@ -228,7 +231,7 @@ value_stored z r r' s choice l h i st = subst (OwnsAttempt (word z r'.world) r'.
   kept = λ x. absurd x;
   unannounced = λ x. rw same (own.unannounced (subst IsFresh (sym h.activity) tt));
   unstamped = λ x. rw same (own.unstamped (subst IsFresh (sym h.activity) tt));
-  has_key = λ x. rw same (ap key_of_word (key_kept PutValue h l.row l.cell known.below.row known.ranges.cell (λ y e f. y)) ∙ own.has_key (subst HasKey (sym h.activity) tt));
+  has_key = λ x. rw same (ap key_of_word (key_stays PutValue h l.row l.cell known.below.row known.ranges.cell (λ y. y)) ∙ own.has_key (subst HasKey (sym h.activity) tt));
   has_value = λ x. rw same (ap value_of_word h.changed.same ∙ value_of_word-value_word (put_value l.call) ∙ sym own.value);
   announced = λ x. absurd x;
   entry = λ x. absurd x;
@@ -242,7 +245,7 @@ value_stored z r r' s choice l h i st = subst (OwnsAttempt (word z r'.world) r'.
     own : OwnsAttempt (word z r.world) r.history s l.activity l (r.seats s)
     own = acting_own z r r' s choice l PutValue (record l { activity = Announce }) h i tt
 
-    goes : GoesOn r.history r'.history r.origin r'.origin
+    goes : GoesOn r.history r'.history r.origin r'.origin r.ledger.rows
     goes = goes_on_by z r r' s choice l PutValue (record l { activity = Announce }) h i st
 
     same : attempt r'.history (r.seats s).own ≡ attempt r.history (r.seats s).own
@@ -279,7 +282,7 @@ cell_announced z r r' s choice l e h i st = subst (OwnsAttempt (word z r'.world)
     own : OwnsAttempt (word z r.world) r.history s l.activity l (r.seats s)
     own = acting_own z r r' s choice l Announce (record l { activity = PutClock }) h i tt
 
-    goes : GoesOn r.history r'.history r.origin r'.origin
+    goes : GoesOn r.history r'.history r.origin r'.origin r.ledger.rows
     goes = goes_on_by z r r' s choice l Announce (record l { activity = PutClock }) h i st
 
     same : attempt r'.history (r.seats s).own ≡ record (attempt r.history (r.seats s).own) { is_announced = true; announced = length r.history.log }
@@ -316,7 +319,7 @@ clock_loaded z r r' s choice l h i st = subst (OwnsAttempt (word z r'.world) r'.
     own : OwnsAttempt (word z r.world) r.history s l.activity l (r.seats s)
     own = acting_own z r r' s choice l PutClock (record l { version = word z r.world name.Clock; activity = Stamp }) h i tt
 
-    goes : GoesOn r.history r'.history r.origin r'.origin
+    goes : GoesOn r.history r'.history r.origin r'.origin r.ledger.rows
     goes = goes_on_by z r r' s choice l PutClock (record l { version = word z r.world name.Clock; activity = Stamp }) h i st
 
     same : attempt r'.history (r.seats s).own ≡ attempt r.history (r.seats s).own
@@ -350,7 +353,7 @@ cell_stamped z r r' s choice l e h i st = subst (OwnsAttempt (word z r'.world) r
     own : OwnsAttempt (word z r.world) r.history s l.activity l (r.seats s)
     own = acting_own z r r' s choice l Stamp (record l { activity = PutVersion }) h i tt
 
-    goes : GoesOn r.history r'.history r.origin r'.origin
+    goes : GoesOn r.history r'.history r.origin r'.origin r.ledger.rows
     goes = goes_on_by z r r' s choice l Stamp (record l { activity = PutVersion }) h i st
 
     not_lost : (attempt r.history (r.seats s).own).is_lost ≡ false
@@ -387,7 +390,7 @@ found_stamped z r r' s choice l version e h i st = subst (OwnsAttempt (word z r'
     own : OwnsAttempt (word z r.world) r.history s l.activity l (r.seats s)
     own = acting_own z r r' s choice l Stamp (record l { version = version; activity = PutVersion }) h i tt
 
-    goes : GoesOn r.history r'.history r.origin r'.origin
+    goes : GoesOn r.history r'.history r.origin r'.origin r.ledger.rows
     goes = goes_on_by z r r' s choice l Stamp (record l { version = version; activity = PutVersion }) h i st
 
     lost : word z r.world (name.Pend l.row s) ≢ pend_word (pend.Pending l.cell)
@@ -419,7 +422,7 @@ version_stored z r r' s choice l h i st = subst (OwnsAttempt (word z r'.world) r
   has_key = λ x. absurd x;
   has_value = λ x. absurd x;
   announced = λ x. rw same (own.announced (subst IsPublished (sym h.activity) tt));
-  entry = λ x. entry_stays PutVersion h l.row s known.below.row h.seat (λ y e f. y) (λ y e f. y) (λ y e. y) ∙ own.entry (subst IsPublished (sym h.activity) tt) ∙ ap entry_of (sym same);
+  entry = λ x. entry_same PutVersion h l.row s known.below.row h.seat (λ y. y) ∙ own.entry (subst IsPublished (sym h.activity) tt) ∙ ap entry_of (sym same);
   after = λ x. absurd x;
   loaded = λ x. absurd x;
   stamped = λ x. rw same (own.stamped (subst IsStamped (sym h.activity) tt));
@@ -430,7 +433,7 @@ version_stored z r r' s choice l h i st = subst (OwnsAttempt (word z r'.world) r
     own : OwnsAttempt (word z r.world) r.history s l.activity l (r.seats s)
     own = acting_own z r r' s choice l PutVersion (to_insert l).local h i tt
 
-    goes : GoesOn r.history r'.history r.origin r'.origin
+    goes : GoesOn r.history r'.history r.origin r'.origin r.ledger.rows
     goes = goes_on_by z r r' s choice l PutVersion (to_insert l).local h i st
 
     same : attempt r'.history (r.seats s).own ≡ attempt r.history (r.seats s).own
@@ -459,18 +462,18 @@ module _ (z : Sizes) (r r' : Run) (s : ℕ) (choice : Choice) (l : Local) (a : A
     has_key = λ x. absurd (unkeyed x);
     has_value = λ x. absurd (unvalued x);
     announced = λ x. rw same (own.announced published);
-    entry = λ x. rw row (entry_stays a h l.row s known.below.row h.seat (λ y e f. entry y) (λ y e f. help y) (λ y e. inserting_freezes s a m y) ∙ own.entry published ∙ ap entry_of (sym same));
+    entry = λ x. rw row (linked_entry a h i.shape l.row s linked h.seat (λ y e f. entry y) (λ y e f. help y) (λ y e. inserting_freezes s a m y) ∙ own.entry published ∙ ap entry_of (sym same));
     after = λ x. absurd (unclocked x);
     loaded = λ x. absurd (unclocked x);
     stamped = λ x. rw same (own.stamped (subst IsStamped (sym h.activity) (inserting_stamped a m)));
     version = λ x. rw same (own.version (subst IsStamped (sym h.activity) (inserting_stamped a m)) ∙ sym versions);
-    stored = λ x. rw (row, cell, same) (version_kept a h l.row l.cell known.below.row known.ranges.cell (λ y e f. stores y) ∙ own.stored (subst IsStored (sym h.activity) (inserting_stored a m)));
+    stored = λ x. rw (row, cell, same) (linked_version a h i.shape l.row l.cell linked known.ranges.cell (λ y e f. stores y) ∙ own.stored (subst IsStored (sym h.activity) (inserting_stored a m)));
   })
     where
       own : OwnsAttempt (word z r.world) r.history s l.activity l (r.seats s)
       own = acting_own z r r' s choice l a l' h i (inserting_puts a m)
 
-      goes : GoesOn r.history r'.history r.origin r'.origin
+      goes : GoesOn r.history r'.history r.origin r'.origin r.ledger.rows
       goes = goes_on_by z r r' s choice l a l' h i st
 
       same : attempt r'.history (r.seats s).own ≡ attempt r.history (r.seats s).own
@@ -478,6 +481,9 @@ module _ (z : Sizes) (r r' : Run) (s : ℕ) (choice : Choice) (l : Local) (a : A
 
       known : IsKnown z r.world.rows l
       known = i.shape.sane.locals s l h.knows
+
+      linked : WasLinked r.ledger.rows l.row
+      linked = puts_linked z r i.shape s l h.knows (subst IsPutting (sym h.activity) (inserting_puts a m))
 
       published : IsPublished l.activity
       published = subst IsPublished (sym h.activity) (inserting_published a m)
@@ -522,9 +528,25 @@ cell_puts l n (answers o e) p = absurd p
 cell_puts l n (ends_scan o e f) p = absurd p
 cell_puts l n (scans_on q o e f g) p = absurd p
 
+-- nor is what follows where new rows are built
+pub built_puts : {A : Type 0} (b : Activity) → IsAfterBuilding b → IsPutting b → A
+built_puts PutKey n p = absurd n
+built_puts PutValue n p = absurd n
+built_puts Announce n p = absurd n
+built_puts PutClock n p = absurd n
+built_puts Stamp n p = absurd n
+built_puts PutVersion n p = absurd n
+built_puts InsFrom n p = absurd n
+built_puts InsKey n p = absurd n
+built_puts InsVer n p = absurd n
+built_puts InsSet n p = absurd n
+built_puts Insert n p = absurd n
+built_puts PutClear n p = absurd n
+built_puts _ n p = absurd p
+
 -- the acting seat's own attempt
 pub owns_own : (z : Sizes) (r r' : Run) (s : ℕ) (choice : Choice) (l : Local) (a : Activity) (l' : Local) → Arrow z (word z r.world) s choice l a l' → Happens z r r' s choice l l' a → Below z r → Step r.history r'.history (log_entry z r a s choice l) → Shape z r' → Keeps r'.history → IsPutting l'.activity → OwnsAttempt (word z r'.world) r'.history s l'.activity l' (r'.seats s)
-owns_own z r r' s choice l a l' (builds b next y o t) h i st after k p = never_built z b y o
+owns_own z r r' s choice l a l' (builds b next y o t) h i st after k p = built_puts next.activity (built_next z (word z r.world) choice l b next t) p
 owns_own z r r' s choice l a l' (takes_cell m) h i st after k p = cell_given z r r' s choice l m h
 owns_own z r r' s choice l a l' stores_key h i st after k p = key_stored z r r' s choice l h i st
 owns_own z r r' s choice l a l' stores_value h i st after k p = value_stored z r r' s choice l h i st

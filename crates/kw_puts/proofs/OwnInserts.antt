@@ -24,18 +24,18 @@ use Rattle.kw_world.specs.Sizes.{Sizes}
 use Rattle.kw_world.specs.Step.{word}
 use Rattle.kw_core.specs.Run.{Run}
 use Rattle.kw_core.specs.Stages.{IsPublished, IsStamped, IsStored, IsInserting, IsUnlisted, IsAtRow}
-use Rattle.kw_core.proofs.Building.{never_built}
+use Rattle.kw_core.proofs.BuiltNext.{built_next}
 use Rattle.kw_core.proofs.Arrows.{builds, Arrow, meets_stamped, meets_neither, is_passed, helps, finds_stamped, finds_other, list_ends, key_above, rest_passed, gathers_rest, stores_version, meets_cell, meets_none, key_before, key_same, key_after, version_before, version_after, stores_after, loses}
-use Rattle.kw_core.proofs.Frame.{key_kept, version_kept}
+use Rattle.kw_core.proofs.InfantFrames.{key_stays, version_stays}
 use Rattle.kw_core.proofs.Happens.{Happens}
 use Rattle.kw_rows.specs.Rows.{WasLinked}
-use Rattle.kw_shape.proofs.RowsStay.{fresh_linked}
+use Rattle.kw_shape.proofs.LinkedRows.{fresh_linked}
 use Rattle.kw_puts.specs.Puts.{OwnsAttempt}
 use Rattle.kw_puts.specs.Lists.{list_in, Inserts, WalksList}
 use Rattle.kw_puts.specs.Below.{Below}
 use Rattle.kw_puts.proofs.ListWords.{link_is, leads_there, leads_elsewhere}
 use Rattle.kw_puts.proofs.ListSteps.{leaves, list_step, lost_listed, is_set}
-use Rattle.kw_puts.proofs.OwnAttempts.{acting_own, inserting_puts, inserting_published, inserting_stamped, inserting_stored, look_puts, cell_puts}
+use Rattle.kw_puts.proofs.OwnAttempts.{acting_own, built_puts, inserting_puts, inserting_published, inserting_stamped, inserting_stored, look_puts, cell_puts}
 
 -- What events leave.
 
@@ -208,7 +208,7 @@ sets_insert z r r' s choice l l' h i = record {
     cell : LeavesCell before after l.cell
     cell = record {
       unlisted = ap (λ f. f l.row l.cell) h.listed ∙ its_unlisted z r r' s choice l InsSet l' h i tt;
-      cell = record { key = ap key_of_word (key_kept InsSet h l.row l.cell k.below.row k.ranges.cell (λ y e f. y)); version = version_kept InsSet h l.row l.cell k.below.row k.ranges.cell (λ y e f. y) };
+      cell = record { key = ap key_of_word (key_stays InsSet h l.row l.cell k.below.row k.ranges.cell (λ y. y)); version = version_stays InsSet h l.row l.cell k.below.row k.ranges.cell (λ y. y) };
     }
 
 -- it loses its exchange
@@ -234,12 +234,12 @@ loses_insert z r r' s choice l l' n h i = rw (one_more_is z l.lost (omega (arith
     cell : LeavesCell before after l.cell
     cell = record {
       unlisted = ap (λ f. f l.row l.cell) (lost_listed z r r' s choice l l' h i n) ∙ its_unlisted z r r' s choice l Insert l' h i tt;
-      cell = record { key = ap key_of_word (key_kept Insert h l.row l.cell k.below.row k.ranges.cell (λ y e f. y)); version = version_kept Insert h l.row l.cell k.below.row k.ranges.cell (λ y e f. y) };
+      cell = record { key = ap key_of_word (key_stays Insert h l.row l.cell k.below.row k.ranges.cell (λ y. y)); version = version_stays Insert h l.row l.cell k.below.row k.ranges.cell (λ y. y) };
     }
 
 -- what the acting seat knows of the list of its row
 pub inserts_own : (z : Sizes) (r r' : Run) (s : ℕ) (choice : Choice) (l : Local) (a : Activity) (l' : Local) → Arrow z (word z r.world) s choice l a l' → Happens z r r' s choice l l' a → Below z r → IsInserting l'.activity → Inserts z.cells (list_in (word z r'.world) r'.listed l'.row) l'.activity l'
-inserts_own z r r' s choice l a l' (builds b next y o t) h i m = never_built z b y o
+inserts_own z r r' s choice l a l' (builds b next y o t) h i m = built_puts next.activity (built_next z (word z r.world) choice l b next t) (inserting_puts next.activity m)
 inserts_own z r r' s choice l a l' stores_version h i m = begins_insert z r r' s choice l l' h i
 inserts_own z r r' s choice l a l' (meets_cell c e) h i m =
     let k = knows_list z r r' s choice l InsFrom l' h i in
@@ -296,7 +296,7 @@ inserts_own z r r' s choice l a l' _ h i m = absurd m
 
 -- where the acting seat's walk is
 pub walks_own : (z : Sizes) (r r' : Run) (s : ℕ) (choice : Choice) (l : Local) (a : Activity) (l' : Local) → Arrow z (word z r.world) s choice l a l' → Happens z r r' s choice l l' a → Below z r → IsInserting l'.activity → WalksList z.cells (list_in (word z r'.world) r'.listed l'.row) l'.activity l'
-walks_own z r r' s choice l a l' (builds b next y o t) h i m = never_built z b y o
+walks_own z r r' s choice l a l' (builds b next y o t) h i m = built_puts next.activity (built_next z (word z r.world) choice l b next t) (inserting_puts next.activity m)
 walks_own z r r' s choice l a l' stores_version h i m = walk_begins z.cells _
 walks_own z r r' s choice l a l' (meets_cell c e) h i m =
     let before = row z r r' s choice l InsFrom l' h i in

@@ -11,16 +11,17 @@ use Rattle.kw_world.specs.PutTransitions.{has_room}
 use Rattle.kw_world.specs.Sizes.{Sizes}
 use Rattle.kw_world.specs.Step.{word}
 use Rattle.kw_core.specs.Run.{Run}
-use Rattle.kw_core.specs.Stages.{IsPutting, IsUnlisted, IsPutClear}
+use Rattle.kw_core.specs.Stages.{IsAtRow, IsPutting, IsUnlisted, IsPutClear}
 use Rattle.kw_core.specs.Words.{given_in}
-use Rattle.kw_core.proofs.Building.{never_built}
+use Rattle.kw_core.proofs.BuiltNext.{built_next}
 use Rattle.kw_core.proofs.Arrows.{builds, Arrow, meets_stamped, meets_neither, is_passed, helps, finds_stamped, finds_other, list_ends, key_above, rest_passed, gathers_rest, takes_cell, stores_key, stores_value, announces, loads_clock, stamps, is_stamped, stores_version, meets_cell, meets_none, key_before, key_same, key_after, version_before, version_after, stores_after, inserts, loses}
 use Rattle.kw_core.proofs.Happens.{Happens}
 use Rattle.kw_core.proofs.RoomBelow.{room_below}
 use Rattle.kw_puts.specs.Lists.{IsOwnListed}
 use Rattle.kw_puts.specs.Below.{Below}
 use Rattle.kw_puts.proofs.ListSteps.{made_listed, lost_listed, with_listed_here}
-use Rattle.kw_puts.proofs.OwnAttempts.{look_puts, cell_puts}
+use Rattle.kw_puts.proofs.OwnAttempts.{built_puts, look_puts, cell_puts}
+use Rattle.kw_puts.proofs.Owners.{row_linked}
 use Rattle.kw_puts.proofs.RelyProof.{unlisted_puts}
 
 -- a cell that is given is not listed: it was nobody's
@@ -29,14 +30,15 @@ given_unlisted z r r' s choice l l' m h i = which (r.listed l.row (given_in (wor
   where
     which : (b : Bool) → r.listed l.row (given_in (word z r.world) l.row) ≡ b → r.listed l.row (given_in (word z r.world) l.row) ≡ false
     which true e =
-        let cell = i.lists.cells l.row (given_in (word z r.world) l.row) e in
-        let none = i.puts.places.nobody l.row (given_in (word z r.world) l.row) (i.shape.sane.locals s l h.knows).below.row (room_below z (count_of (word z r.world (name.Count l.row))) m) (omega arith) in
+        let linked = row_linked z r i.shape s l h.knows (subst IsAtRow (sym h.activity) tt) in
+        let cell = i.lists.cells l.row (given_in (word z r.world) l.row) linked e in
+        let none = i.puts.places.nobody l.row (given_in (word z r.world) l.row) linked (room_below z (count_of (word z r.world (name.Count l.row))) m) (omega arith) in
         let x : None ≡ Some cell.put = sym none ∙ cell.origin in absurd (cc)
     which false e = e
 
 -- the own cell of a put is not listed before it is inserted
 unlisted_own : (z : Sizes) (r r' : Run) (s : ℕ) (choice : Choice) (l : Local) (a : Activity) (l' : Local) → Arrow z (word z r.world) s choice l a l' → Happens z r r' s choice l l' a → Below z r → IsUnlisted l'.activity → r'.listed l'.row l'.cell ≡ false
-unlisted_own z r r' s choice l a l' (builds b next y o t) h i u = never_built z b y o
+unlisted_own z r r' s choice l a l' (builds b next y o t) h i u = built_puts next.activity (built_next z (word z r.world) choice l b next t) (unlisted_puts next.activity u)
 unlisted_own z r r' s choice l a l' (takes_cell m) h i u = ap (λ f. f l.row (given_in (word z r.world) l.row)) h.listed ∙ given_unlisted z r r' s choice l l' m h i
 unlisted_own z r r' s choice l a l' (loses n) h i u = ap (λ f. f l.row l.cell) (lost_listed z r r' s choice l l' h i n) ∙ (i.lists.own s l h.knows).unlisted (subst IsUnlisted (sym h.activity) tt)
 unlisted_own z r r' s choice l a l' stores_key h i u = ap (λ f. f l.row l.cell) h.listed ∙ (i.lists.own s l h.knows).unlisted (subst IsUnlisted (sym h.activity) tt)
@@ -67,12 +69,12 @@ unlisted_own z r r' s choice l a l' (gathers_rest next n) h i u = cell_puts _ ne
 unlisted_own z r r' s choice l a l' _ h i u = absurd u
 
 -- and it is once it is inserted
-clear_puts : (b : Activity) → IsPutClear b → IsPutting b
+pub clear_puts : (b : Activity) → IsPutClear b → IsPutting b
 clear_puts PutClear u = tt
 clear_puts _ u = absurd u
 
 listed_own : (z : Sizes) (r r' : Run) (s : ℕ) (choice : Choice) (l : Local) (a : Activity) (l' : Local) → Arrow z (word z r.world) s choice l a l' → Happens z r r' s choice l l' a → Below z r → IsPutClear l'.activity → r'.listed l'.row l'.cell ≡ true
-listed_own z r r' s choice l a l' (builds b next y o t) h i u = never_built z b y o
+listed_own z r r' s choice l a l' (builds b next y o t) h i u = built_puts next.activity (built_next z (word z r.world) choice l b next t) (clear_puts next.activity u)
 listed_own z r r' s choice l a l' (inserts e) h i u = ap (λ f. f l.cell) (ap (λ f. f l.row) (made_listed z r r' s choice l l' h i e) ∙ with_listed_here r.listed l.row l.cell) ∙ cell_here (r.listed l.row) l.cell
 listed_own z r r' s choice l a l' (meets_stamped j c version next e n) h i u = look_puts z _ next n (clear_puts next u)
 listed_own z r r' s choice l a l' (meets_neither j next e n) h i u = look_puts z _ next n (clear_puts next u)

@@ -12,8 +12,12 @@ use Rattle.kw_world.specs.Step.{word}
 use Rattle.kw_core.specs.declared.history.Attempt.{Attempt}
 use Rattle.kw_core.specs.History.{attempt}
 use Rattle.kw_core.specs.Run.{Run}
-use Rattle.kw_core.specs.Stages.{IsBusy, IsPutting, IsPublished}
-use Rattle.kw_puts.specs.Puts.{Puts, OwnsAttempt, IsPublishedAt, entry_of}
+use Rattle.kw_core.specs.Stages.{IsAtRow, IsBalancing, IsBusy, IsPutting, IsPublished}
+use Rattle.kw_rows.specs.Ledger.{Dead, Free, Infant, Ledger, Live, Status}
+use Rattle.kw_rows.specs.Rows.{WasLinked}
+use Rattle.kw_shape.specs.Shape.{Shape}
+use Rattle.kw_shape.proofs.LinkedRows.{fresh_linked}
+use Rattle.kw_puts.specs.Puts.{HasCell, Puts, OwnsAttempt, IsPublishedAt, entry_of}
 
 -- a contradiction of tests
 pub true_false : {A : Type 0} {b : Bool} → b ≡ true → b ≡ false → A
@@ -63,6 +67,45 @@ puts_busy Insert p = tt
 puts_busy PutClear p = tt
 puts_busy _ p = absurd p
 
+-- a seat that is at the row of its key, one that puts, and one that rebalances are at a row that is or was linked
+pub row_linked : (z : Sizes) (r : Run) → Shape z r → (t : ℕ) (k : Local) → slice_get r.world.locals t ≡ Some k → IsAtRow k.activity → WasLinked r.ledger.rows k.row
+row_linked z r i t k g x = fresh_linked r.ledger.rows t k.row ((i.walks t k g).at x).fresh
+
+pub puts_at_row : (a : Activity) → IsPutting a → IsAtRow a
+puts_at_row PutKey p = tt
+puts_at_row PutValue p = tt
+puts_at_row Announce p = tt
+puts_at_row PutClock p = tt
+puts_at_row Stamp p = tt
+puts_at_row PutVersion p = tt
+puts_at_row InsFrom p = tt
+puts_at_row InsKey p = tt
+puts_at_row InsVer p = tt
+puts_at_row InsSet p = tt
+puts_at_row Insert p = tt
+puts_at_row PutClear p = tt
+puts_at_row _ p = absurd p
+
+pub puts_linked : (z : Sizes) (r : Run) → Shape z r → (t : ℕ) (k : Local) → slice_get r.world.locals t ≡ Some k → IsPutting k.activity → WasLinked r.ledger.rows k.row
+puts_linked z r i t k g x = row_linked z r i t k g (puts_at_row k.activity x)
+
+pub full_linked : (z : Sizes) (r : Run) → Shape z r → (t : ℕ) (k : Local) → slice_get r.world.locals t ≡ Some k → IsBalancing k.activity → WasLinked r.ledger.rows k.row
+full_linked z r i t k g x = fresh_linked r.ledger.rows t k.row ((i.balances t k g).fresh x)
+
+-- a row was linked, or was not
+pub was_or_not : (g : Ledger) (q : ℕ) → WasLinked g q ⊎ (WasLinked g q → ⊥)
+was_or_not g q = by (g.fates q).status refl
+  where
+    not : (x : Status) → (g.fates q).status ≡ x → x ≢ Live → x ≢ Dead → WasLinked g q → ⊥
+    not x e m n (inl f) = m (sym e ∙ f)
+    not x e m n (inr f) = n (sym e ∙ f)
+
+    by : (x : Status) → (g.fates q).status ≡ x → WasLinked g q ⊎ (WasLinked g q → ⊥)
+    by Free e = inr (not Free e (λ f. cc) (λ f. cc))
+    by Infant e = inr (not Infant e (λ f. cc) (λ f. cc))
+    by Live e = inl (inl e)
+    by Dead e = inl (inr e)
+
 -- the entry of a seat in a row is pending with this cell
 pub record IsPendingOf (z : Sizes) (r : Run) (q t c : ℕ) : Type 0 where
   pub local : Local
@@ -110,3 +153,18 @@ module _ {z : Sizes} {r : Run} (i : Puts z r) where
           let entry = sym (own.entry p.published) ∙ subst (λ x. word z r.world (name.Pend x t) ≡ pend_word (pend.Pending c)) (sym p.row) e in
           let st = pending_entry (attempt r.history (r.seats t).own) c entry in
           record { local = p.local; knows = p.knows; published = p.published; row = p.row; unstamped = st.0; kept = pending_kept (attempt r.history (r.seats t).own) c entry; cell = st.1 }
+
+  -- an attempt for which the cell of a pending entry stands is the own one of the entry's seat
+  pub pending_own : (q t c p : ℕ) → q < r.world.rows → t < z.seats → word z r.world (name.Pend q t) ≡ pend_word (pend.Pending c) → r.origin q c ≡ Some p → p ≡ (r.seats t).own
+  pending_own q t c p w o e x =
+      let n = entry_owner q t c w o e in
+      let own = i.owns t n.local n.knows (published_puts n.local.activity n.published) in
+      let origin : r.origin q c ≡ Some (r.seats t).own = rw (own.row ∙ n.row, n.cell) at (i.given (r.seats t).own own.within).origin in
+      same_Some p (r.seats t).own (sym x ∙ origin)
+
+  -- so the cell is its own
+  pub pending_cell : (q t c p : ℕ) → q < r.world.rows → t < z.seats → word z r.world (name.Pend q t) ≡ pend_word (pend.Pending c) → r.origin q c ≡ Some p → HasCell r.history q c p
+  pending_cell q t c p w o e x =
+      let n = entry_owner q t c w o e in
+      let own = i.owns t n.local n.knows (published_puts n.local.activity n.published) in
+      subst (HasCell r.history q c) (sym (pending_own q t c p w o e x)) (record { within = own.within; row = own.row ∙ n.row; cell = n.cell })

@@ -20,7 +20,11 @@ use Rattle.kw_puts.proofs.StablePuts.{owns_stable, helps_stable}
 use Rattle.kw_puts.proofs.AttemptCells.{given_keeps, places_keep, rises_keep, body_keeps}
 use Rattle.kw_puts.proofs.OwnAttempts.{owns_own}
 use Rattle.kw_puts.proofs.DoneAttempts.{old_keeps}
-use Rattle.kw_puts.proofs.Entries.{entry_keeps, tries_own, helps_own}
+use Rattle.kw_puts.proofs.Entries.{entry_keeps, met_at_row, tries_own, helps_own}
+use Rattle.kw_puts.proofs.Copying.{whole_keeps, words_keep}
+use Rattle.kw_puts.proofs.DeadRows.{born_keeps, dead_keeps, gone_keeps}
+use Rattle.kw_puts.proofs.Owners.{row_linked}
+use Rattle.kw_puts.proofs.TakingKeeps.{gathers_keep}
 use Rattle.kw_puts.proofs.Freezes.{freezes_own, freezes_other}
 use Rattle.kw_puts.proofs.Marking.{remembers_own, remembers_other}
 
@@ -28,7 +32,7 @@ use Rattle.kw_puts.proofs.Marking.{remembers_own, remembers_other}
 pub puts_keep : (z : Sizes) (r r' : Run) (s : ℕ) (choice : Choice) (l : Local) (a : Activity) (l' : Local) → Happens z r r' s choice l l' a → Below z r → Step r.history r'.history (log_entry z r a s choice l) → Shape z r' → Keeps r'.history → Puts z r'
 puts_keep z r r' s choice l a l' h i st after k = record {
   given = given_keeps z r r' s choice l a l' h.arrow h i st after;
-  places = places_keep z r r' s choice l a l' h.arrow h i st after;
+  places = places_keep z r r' s choice l a l' h i st;
   rises = rises_keep z r r' s choice l a l' h.arrow h i st;
   body = body_keeps z r r' s choice l a l' h.arrow h i st;
   owns = each_seat h (λ t k. IsPutting k.activity → OwnsAttempt (word z r'.world) r'.history t k.activity k (r'.seats t))
@@ -41,5 +45,17 @@ puts_keep z r r' s choice l a l' h i st after k = record {
   remembers = each_seat h (λ t k. Remembers z r'.history r'.origin r'.listed k.activity k) (remembers_own z r r' s choice l a l' h.arrow h i st) (λ t k d g. remembers_other z r r' s choice l a l' h i st t k g);
   helps = each_seat h (λ t k. HasMet k.activity → Helps r'.history r'.origin k.activity k (r'.seats t))
       (helps_own z r r' s choice l a l' h.arrow h i st)
-      (λ t k d g p. helps_stable z r r' t k (rely z r r' s choice l a l' h i st t k d g) (i.puts.helps t k g p));
+      (λ t k d g p. helps_stable z r r' t k (rely z r r' s choice l a l' h i st t k d g) (row_linked z r i.shape t k g (met_at_row k.activity p)) (i.puts.helps t k g p));
+  born = born_keeps z r r' s choice l a l' h i st;
+  dead = dead_keeps z r r' s choice l a l' h i st;
+  gone = gone_keeps z r r' s choice l a l' h i st;
+  builds = λ t k g. let x = gathers_keep z r r' s choice l a l' h i st t k g in record {
+    gathering = x.gathering;
+    gathered = x.gathered;
+    collected = x.collected;
+    kept = x.kept;
+    holds = x.holds;
+    whole = whole_keeps z r r' s choice l a l' h i st t k g;
+    words = words_keep z r r' s choice l a l' h i st t k g;
+  };
 }

@@ -1,5 +1,5 @@
 -- What holds of the attempts and of the positions where nothing happened.
-use Rattle.std.proofs.Common.{ℕ, ◌≡◌, inl, inr, ◌∙◌, ◌<◌, true, false, Some, None, arith, refl, sym, slice_get}
+use Rattle.std.proofs.Common.{ℕ, zero, suc, ◌≡◌, inl, inr, ◌∙◌, ◌<◌, true, false, Some, None, arith, refl, sym, slice_get}
 use Rattle.kw_words.specs.declared.layout.Name.TheVariants as name
 use Rattle.kw_world.specs.declared.local.Local.{Local}
 use Rattle.kw_world.specs.Sizes.{Sizes}
@@ -21,7 +21,12 @@ use Rattle.kw_core.specs.Run.{start}
 use Rattle.kw_puts.specs.Freezes.{IsToFreeze, Freezes, Remembers}
 use Rattle.kw_puts.specs.Puts.{OwnsAttempt, Helps, Puts}
 use Rattle.kw_puts.specs.Positions.{Calling, Draws, Positions, Helping}
-use Rattle.kw_shape.proofs.ShapeOpens.{each_rests, opens, given-none}
+use Rattle.kw_lists.specs.Words.{row_in}
+use Rattle.kw_core.specs.Ledger.{ledger_at_first}
+use Rattle.kw_rows.specs.Ledger.{Dead, Free, IsDead, Live}
+use Rattle.kw_shape.proofs.LinkedRows.{was_below}
+use Rattle.kw_shape.proofs.ShapeOpens.{each_rests, opens, given-none, shape_starts}
+use Rattle.kw_puts.specs.Builds.{Builds}
 use Rattle.kw_words.specs.declared.scan.ScanWord.TheVariants.{Quiet, Waiting}
 use Rattle.kw_words.specs.Scan.{scan_word}
 
@@ -33,15 +38,22 @@ nobody : (p : ℕ) → (attempt nothing_yet p).is_announced ≡ true → ⊥
 unfolding attempt no_attempt
 nobody p h = let x : false ≡ true = h in absurd (cc)
 
+-- no row was unlinked
+none_dead : {A : Type 0} (o : Opening) (q : ℕ) → IsDead (ledger_at_first o).rows q → A
+none_dead o zero a = let x : Live ≡ Dead = a in absurd (cc)
+none_dead o (suc q) a = let x : Free ≡ Dead = a in absurd (cc)
+
 module _ (z : Sizes) (o : Opening) (i : IsOpening z o) where
   pub puts_start : Puts z (start z o)
   puts_start = record {
     given = λ p w. absurd (omega arith);
     places = record {
-      owner = λ q c p e. let x : None ≡ Some p = e in absurd (cc);
-      given = λ q c w u b. absurd (omega (arith, b, given-none z o i q w));
-      nobody = λ q c w u b. refl;
-      unstored = λ q c w u e. opens z o i (name.Version q c) (w, u);
+      owner = λ q c p k u e. let x : None ≡ Some p = e in absurd (cc);
+      given = λ q c k u b. absurd (omega (arith, b, given-none z o i q (was_below z (start z o) (shape_starts z o i) q k)));
+      nobody = λ q c k u b. refl;
+      unstored = λ q c k u e. opens z o i (name.Version q c) (was_below z (start z o) (shape_starts z o i) q k, u);
+      above = λ q c d p p' k u w e n f m. let x : None ≡ Some p = e in absurd (cc);
+      rank = λ q c d p p' k b u e n f m. let x : None ≡ Some p = e in absurd (cc);
     };
     rises = λ p q w u. absurd (omega arith);
     body = λ p w. absurd (omega arith);
@@ -52,6 +64,10 @@ module _ (z : Sizes) (o : Opening) (i : IsOpening z o) where
     freezes = each_rests z o (λ t l. Freezes z (word z (opened z o)) (slice_get (opened z o).locals) l.activity l) (λ t. record { count = λ x. absurd x; settled = λ x. absurd x });
     remembers = each_rests z o (λ t l. Remembers z nothing_yet (λ q c. None) none_listed l.activity l) (λ t. record { marks = λ x. absurd x; noted = λ x. absurd x });
     helps = each_rests z o (λ t l. HasMet l.activity → Helps nothing_yet (λ q c. None) l.activity l no_log) (λ t x. absurd x);
+    born = λ q k. omega arith;
+    dead = λ q j d w. none_dead o q d;
+    gone = λ p w. absurd (omega arith);
+    builds = each_rests z o (λ t l. Builds z (row_in (word z (opened z o)) l.row (none_listed l.row)) nothing_yet (λ q c. None) none_listed l.activity l) (λ t. record { gathering = λ x. absurd x; gathered = λ x. absurd x; collected = λ x. absurd x; kept = λ x. absurd x; holds = λ x. absurd x; whole = λ j q x. absurd x; words = λ x. absurd x });
   }
 
   pub positions_start : Positions z (start z o)

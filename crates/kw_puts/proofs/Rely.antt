@@ -22,6 +22,8 @@ use Rattle.kw_lists.specs.Changes.{Leaves}
 use Rattle.kw_lists.specs.Puts.{LeavesOwn}
 use Rattle.kw_rows.specs.Ledger.{Ledger}
 use Rattle.kw_rows.specs.Rows.{WasLinked}
+use Rattle.kw_shape.specs.Infants.{IsInfantOf}
+use Rattle.kw_puts.specs.Freezes.{IsFrozen}
 use Rattle.kw_puts.specs.Lists.{list_in}
 use Rattle.kw_core.specs.Words.{Words, given_in}
 use Rattle.kw_puts.specs.Puts.{key_in, value_in}
@@ -31,11 +33,11 @@ use Rattle.kw_words.specs.Scan.{scan_word}
 use Rattle.kw_world.specs.Sane.{IsVersion}
 use Rattle.kw_puts.specs.Positions.{IsDrawnAt}
 
--- the words: the clock, the counts and the versions that stand do not go back
-pub record RelyWords (z : Sizes) (rows : ℕ) (v v' : Words) : Type 0 where
+-- the words: the clock, and the counts and the versions of a row that is or was linked, do not go back
+pub record RelyWords (z : Sizes) (v v' : Words) (g : Ledger) : Type 0 where
   pub clock : v name.Clock ≤ v' name.Clock
-  pub given : (q : ℕ) → q < rows → given_in v q ≤ given_in v' q
-  pub version : (q c : ℕ) → q < rows → c < z.cells → v (name.Version q c) ≢ 0 → v' (name.Version q c) ≡ v (name.Version q c)
+  pub given : (q : ℕ) → WasLinked g q → given_in v q ≤ given_in v' q
+  pub version : (q c : ℕ) → WasLinked g q → c < z.cells → v (name.Version q c) ≢ 0 → v' (name.Version q c) ≡ v (name.Version q c)
 
 -- the seat's scan, which began to wait at `since`: its word is as it was, or it waited and another seat has settled it for a version that was drawn
 -- later. Where that draw stands is known as `at`, from the event on as `at'`
@@ -68,8 +70,9 @@ pub record SameCall (h h' : History) (x : ℕ) : Type 0 where
   pub call : (called h' x).call ≡ (called h x).call
   pub first : (called h' x).first ≡ (called h x).first
 
--- the record goes on, whoever acts: it keeps what it has, and what is announced or stamped now is so from now on
-pub record GoesOn (h h' : History) (o o' : Origins) : Type 0 where
+-- the record goes on, whoever acts: it keeps what it has, and what is announced or stamped now is so from now on; and a cell of a row that is or was
+-- linked stands for the same attempt
+pub record GoesOn (h h' : History) (o o' : Origins) (g : Ledger) : Type 0 where
   pub now : length h.log < length h'.log
   pub stands : (x : ℕ) (k : Kind) (c : ℕ) → Stands h x k c → Stands h' x k c
   pub grows : Grows h h' (length h.log)
@@ -77,7 +80,7 @@ pub record GoesOn (h h' : History) (o o' : Origins) : Type 0 where
   pub more_calls : length h.calls ≤ length h'.calls
   pub attempts : (p : ℕ) → p < length h.attempts → SameAttempt h h' p
   pub calls : (x : ℕ) → x < length h.calls → SameCall h h' x
-  pub origin : (q c p : ℕ) → o q c ≡ Some p → o' q c ≡ Some p
+  pub origin : (q c p : ℕ) → WasLinked g q → o q c ≡ Some p → o' q c ≡ Some p
 
 -- the record goes on for a seat that does not act: no attempt and no call of it is new, and none of its calls ends
 pub record RelyHistory (h h' : History) (t : ℕ) : Type 0 where
@@ -112,11 +115,14 @@ pub record Rely (z : Sizes) (r r' : Run) (t : ℕ) (l : Local) : Type 0 where
   pub rows : r'.world.rows ≡ r.world.rows
   pub log : r'.seats t ≡ r.seats t
   pub fresh : IsPassing l.activity → RelyRows (word z r.world) (word z r'.world) r.ledger.rows r'.ledger.rows t
-  pub words : RelyWords z r.world.rows (word z r.world) (word z r'.world)
+  pub words : RelyWords z (word z r.world) (word z r'.world) r.ledger.rows
   pub since : r'.ledger.waits t ≡ r.ledger.waits t
   pub scan : RelyScan (word z r.world) (word z r'.world) r'.history t (r.ledger.waits t) (r.settled t) (r'.settled t)
   pub cells : RelyCells (word z r.world) (word z r'.world) r.history l.activity l
   pub lists : RelyLists z (word z r.world) (word z r'.world) r.ledger.rows r.listed r'.listed l.activity l
-  pub goes_on : GoesOn r.history r'.history r.origin r'.origin
+  -- the cells of its infants stand for what they did, and are listed or not as they were; and no cell of a frozen row is given any more
+  pub infants : (q c : ℕ) → IsInfantOf r.ledger.rows t q → (r'.origin q c ≡ r.origin q c) × (r'.listed q c ≡ r.listed q c)
+  pub frozen : (q c : ℕ) → WasLinked r.ledger.rows q → IsFrozen (word z r.world) q → r'.origin q c ≡ r.origin q c
+  pub goes_on : GoesOn r.history r'.history r.origin r'.origin r.ledger.rows
   pub history : RelyHistory r.history r'.history t
   pub entry : RelyEntry (word z r.world) (word z r'.world) r.history r'.history t l.activity l (r.seats t)

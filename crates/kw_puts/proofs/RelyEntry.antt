@@ -14,7 +14,7 @@ use Rattle.kw_world.specs.declared.activity.Activity.TheVariants.{PutKey, PutVal
 use Rattle.kw_world.specs.declared.local.Local.{Local}
 use Rattle.kw_world.specs.declared.event.Choice.{Choice}
 use Rattle.kw_world.specs.Sizes.{Sizes}
-use Rattle.kw_world.specs.Sane.{IsActivity}
+use Rattle.kw_world.specs.Sane.{IsActivity, IsKnown}
 use Rattle.kw_world.specs.Step.{word}
 use Rattle.kw_core.specs.History.{History, attempt, called}
 use Rattle.kw_core.specs.declared.history.Attempt.{Attempt}
@@ -31,8 +31,10 @@ use Rattle.kw_puts.specs.Freezes.{IsToFreeze, IsUnsettled}
 use Rattle.kw_puts.specs.Below.{Below}
 use Rattle.kw_core.proofs.NotedLaws.{attempt_set_same, attempt_set_other, attempt_push_old, attempt_push_new, attempt_same, called_set_same, called_set_other, called_push_old, called_push_new, called_same}
 use Rattle.kw_core.proofs.Happens.{Happens, chosen, not_chosen, exchanged, not_exchanged}
-use Rattle.kw_core.proofs.FreezeFrame.{FreezesEntry, entry_stays, entry_frozen, entry_left}
-use Rattle.kw_puts.proofs.Owners.{IsPendingOf, true_false, is_own, owns_apart, pending_entry, entry_owner, published_puts, puts_busy}
+use Rattle.kw_core.proofs.FreezeFrame.{FreezesEntry, entry_frozen, entry_left}
+use Rattle.kw_core.proofs.InfantFrames.{entry_stays}
+use Rattle.kw_shape.proofs.LinkedWords.{linked_entry}
+use Rattle.kw_puts.proofs.Owners.{IsPendingOf, true_false, is_own, owns_apart, pending_cell, pending_entry, entry_owner, published_puts, puts_busy, puts_linked}
 use Rattle.kw_core.proofs.Changes.{Makes, makes_nothing, makes_begin, makes_add, makes_announce, makes_stamp, makes_help, makes_end, made, makes_lose}
 use Rattle.kw_core.proofs.Happens.{log_entry}
 use Rattle.kw_words.proofs.Refusals.{none_unless}
@@ -182,7 +184,7 @@ module _ (z : Sizes) (r r' : Run) (s : ℕ) (choice : Choice) (l l' : Local) (i 
   entry_apart a h n u =
       let m = made z (word z r.world) s choice l (r.seats s) r.origin a in
       as_it_was
-      (λ p. entry_stays a h k.row t (i.shape.sane.locals t k g).below.row inside (λ x e f. d f) (λ x e f. n x) (λ x e. u (freezes_one t a x)))
+      (λ p. linked_entry a h i.shape k.row t (puts_linked z r i.shape t k g p) inside (λ x e f. d f) (λ x e f. n x) (λ x e. u (freezes_one t a x)))
       (λ p. attempt_left r.history r'.history _ (r.seats t).own _ (away a _ h.activity h.knows m n u p) h.history (i.puts.owns t k g p).within)
       (λ p. put_left r.history r'.history _ (r.seats t).call _ (put_away a _ h.activity h.knows m n p) h.history (i.positions.calling t k g p).within)
 
@@ -217,25 +219,29 @@ module _ (z : Sizes) (r r' : Run) (s : ℕ) (choice : Choice) (l l' : Local) (i 
     where
       which : (k.row ≡ l.row) ⊎ (k.row ≡ l.row → ⊥) → (t ≡ l.looked) ⊎ (t ≡ l.looked → ⊥) → word z r'.world (name.Pend k.row t) ≡ word z r.world (name.Pend k.row t)
       which (inl e) (inl f) = rw (e, f) (not_exchanged _ _ _ _ h.changed.same n)
-      which (inr e) f = entry_stays LookHelp h k.row t below (inside z r r' s choice l l' i t k d g) (λ x q u. d u) (λ x q u. e q) (λ x u. x)
-      which (inl e) (inr f) = entry_stays LookHelp h k.row t below (inside z r r' s choice l l' i t k d g) (λ x q u. d u) (λ x q u. f u) (λ x u. x)
+      which (inr e) f = entry_stays LookHelp h k.row t below (inside z r r' s choice l l' i t k d g) (λ x. e x.0)
+      which (inl e) (inr f) = entry_stays LookHelp h k.row t below (inside z r r' s choice l l' i t k d g) (λ x. f x.1)
 
   -- the one that is made stamps the attempt that was met
   won_change : word z r.world (name.Pend l.row l.looked) ≡ pend_word (pend.Pending l.met) → r'.history ≡ noted r.history (log_entry z r LookHelp s choice l) (Stamps helper.put l.helping (r.seats s).loaded)
   won_change e = h.history ∙ ap (λ c. noted r.history (log_entry z r LookHelp s choice l) c) (chosen _ _ _ Nothing e ∙ ap (λ x. helping x l.helping (r.seats s).loaded) helper.origin)
 
-  met_cell : HasCell r.history l.row l.met helper.put
-  met_cell = i.puts.places.owner l.row l.met helper.put helper.origin
+  -- its cell is that of the entry's seat
+  met_cell : word z r.world (name.Pend l.row l.looked) ≡ pend_word (pend.Pending l.met) → HasCell r.history l.row l.met helper.put
+  met_cell e = pending_cell i.puts l.row l.looked l.met helper.put known.below.row known.ranges.looked e helper.origin
+    where
+      known : IsKnown z r.world.rows l
+      known = i.shape.sane.locals s l h.knows
 
   -- it was not that of the seat looked at
   won_other : word z r.world (name.Pend l.row l.looked) ≡ pend_word (pend.Pending l.met) → t ≢ l.looked → RelyEntry (word z r.world) (word z r'.world) r.history r'.history t k.activity k (r.seats t)
   won_other e n =
       as_it_was
-      (λ p. entry_stays LookHelp h k.row t below (inside z r r' s choice l l' i t k d g) (λ x q u. d u) (λ x q u. n u) (λ x u. x))
+      (λ p. entry_stays LookHelp h k.row t below (inside z r r' s choice l l' i t k d g) (λ x. n x.1))
       (λ p. let own = i.puts.owns t k g p in attempt_left r.history r'.history _ (r.seats t).own (Stamps helper.put l.helping (r.seats s).loaded) (λ u. n (sym own.seat ∙ ap (λ q. (attempt r.history q).seat) u ∙ helper.seat)) (won_change e) own.within)
       (λ p. let c = i.positions.calling t k g p in
       put_left r.history r'.history _ (r.seats t).call (Stamps helper.put l.helping (r.seats s).loaded)
-      (λ u. n (sym c.seat ∙ ap (λ q. (called r.history q).seat) u ∙ (i.history.laws.attempted helper.put met_cell.within).seat ∙ helper.seat)) (won_change e) c.within)
+      (λ u. n (sym c.seat ∙ ap (λ q. (called r.history q).seat) u ∙ (i.history.laws.attempted helper.put (met_cell e).within).seat ∙ helper.seat)) (won_change e) c.within)
 
   -- the seat looked at has announced a cell of this row
   at_entry : word z r.world (name.Pend l.row l.looked) ≡ pend_word (pend.Pending l.met) → t ≡ l.looked → IsPublished k.activity × (k.row ≡ l.row)
@@ -254,7 +260,7 @@ module _ (z : Sizes) (r r' : Run) (s : ℕ) (choice : Choice) (l l' : Local) (i 
       let c = i.positions.calling t k g (puts_busy k.activity p) in
       let word_is : word z r.world (name.Pend k.row t) ≡ pend_word (pend.Pending l.met) = rw (q, f) e in
       let st = pending_entry (attempt r.history (r.seats t).own) l.met (sym (own.entry y) ∙ word_is) in
-      let same : helper.put ≡ (r.seats t).own = is_own i.puts t k g p helper.put met_cell.within (met_cell.row ∙ sym q) (met_cell.cell ∙ sym st.1 ∙ own.cell) in
+      let same : helper.put ≡ (r.seats t).own = is_own i.puts t k g p helper.put (met_cell e).within ((met_cell e).row ∙ sym q) ((met_cell e).cell ∙ sym st.1 ∙ own.cell) in
       let cell_is : l.met ≡ k.cell = sym st.1 ∙ own.cell in
       let n : r'.history ≡ noted r.history (log_entry z r LookHelp s choice l) (Stamps (r.seats t).own l.helping (r.seats s).loaded) = subst (λ x. r'.history ≡ noted r.history (log_entry z r LookHelp s choice l) (Stamps x l.helping (r.seats s).loaded)) same (won_change e) in
       is_helped l.helping (r.seats s).loaded (unstamped k.activity y (λ x. true_false (own.stamped x) st.0))
@@ -350,7 +356,7 @@ module _ (z : Sizes) (r r' : Run) (s : ℕ) (choice : Choice) (l l' : Local) (i 
 
   -- an entry of another row, or of another seat
   elsewhere : (k.row ≡ l.row → t ≡ j → ⊥) → word z r'.world (name.Pend k.row t) ≡ word z r.world (name.Pend k.row t)
-  elsewhere n = entry_stays (Freeze j) h k.row t its_row (inside z r r' s choice l l' i t k d g) (λ x e f. x) (λ x e f. x) (λ x e. n e x)
+  elsewhere n = entry_stays (Freeze j) h k.row t its_row (inside z r r' s choice l l' i t k d g) (λ x. n x.0 x.1)
 
   -- the exchange that is not made
   left : word z r.world (name.Pend l.row j) ≢ pend_word l.rebalance.entry → RelyEntry (word z r.world) (word z r'.world) r.history r'.history t k.activity k (r.seats t)

@@ -1,22 +1,22 @@
 -- Every event of another seat is one that a seat may rely on.
-use Rattle.std.proofs.Common.{ℕ, ◌≡◌, ◌≢◌, ◌⊎◌, inl, inr, ◌<◌, Bool, true, false, Some, None, arith, refl, sym, ◌∙◌, ap, subst, length, slice_get, ne_eqb, eq-eqb}
+use Rattle.std.proofs.Common.{ℕ, ◌≡◌, ◌≢◌, ◌⊎◌, inl, inr, ◌<◌, Bool, true, false, Option, Some, None, arith, refl, sym, ◌∙◌, ap, subst, length, slice_get, ne_eqb, eq-eqb}
 use Rattle.kw_words.specs.declared.layout.Name.TheVariants as name
 use Rattle.kw_world.specs.declared.activity.Activity.{Activity}
-use Rattle.kw_world.specs.declared.activity.Activity.TheVariants.{LookHelp, PutAdd, PutKey, PutValue, PutVersion, InsSet, Insert, PutClear, Leave, WriteVersion, Freeze, ScanWait, ScanSettle, HelpSettle, TakeRow, GiveBack, Replace, Number}
+use Rattle.kw_world.specs.declared.activity.Activity.TheVariants.{LookHelp, PutAdd, PutKey, PutValue, PutVersion, InsSet, Insert, PutClear, Leave, WriteCount, WriteVersion, WriteAfter, Freeze, ScanWait, ScanSettle, HelpSettle, TakeRow, Replace}
 use Rattle.kw_world.specs.declared.local.Local.{Local}
 use Rattle.kw_world.specs.declared.event.Choice.{Choice}
 use Rattle.kw_world.specs.Sizes.{Sizes}
 use Rattle.std.proofs.lemmas.Option.{slice_get_within, same_Some}
-use Rattle.std.proofs.Common.{◌==◌, ◌&&◌, if◌then◌else◌}
-use Rattle.std.proofs.lemmas.Bool.{cases_eq, and_parts}
+use Rattle.std.proofs.Common.{◌==◌, if◌then◌else◌}
+use Rattle.std.proofs.lemmas.Bool.{cases_eq}
 use Rattle.kw_words.specs.Count.{count_of}
 use Rattle.kw_words.specs.Plain.{key_of_word, value_of_word, cell_of_link_word}
 use Rattle.kw_world.specs.declared.answer.Answer.{Answer}
-use Rattle.kw_world.specs.PutTransitions.{has_room, given_of}
-use Rattle.kw_world.specs.Sane.{IsLocal, IsLocalBelow, IsKnown}
+use Rattle.kw_world.specs.PutTransitions.{has_room}
+use Rattle.kw_world.specs.Sane.{IsLocal, IsKnown}
 use Rattle.kw_core.specs.Step.{AttemptStep, as_it_was, is_added, is_announced, is_lost, is_stamped}
-use Rattle.kw_core.specs.Run.{origins_after, with_origin, with_settled}
-use Rattle.kw_core.specs.Stages.{IsBusy, IsFresh, IsStamped, IsPutVersion, IsUnlisted, IsInsSet, IsInsert}
+use Rattle.kw_core.specs.Run.{with_origin, with_settled}
+use Rattle.kw_core.specs.Stages.{IsAtRow, IsBusy, IsFresh, IsStamped, IsPutVersion, IsUnlisted, IsInsSet, IsInsert}
 use Rattle.kw_lists.specs.Rows.{IsOn}
 use Rattle.kw_lists.specs.Puts.{LeavesOwn}
 use Rattle.kw_puts.specs.Lists.{list_in}
@@ -24,13 +24,19 @@ use Rattle.kw_puts.proofs.ListSteps.{leaves, list_step, listed_was, is_set}
 use Rattle.kw_puts.specs.Puts.{OwnsAttempt}
 use Rattle.kw_puts.specs.Positions.{Calling, Helping}
 use Rattle.kw_core.proofs.Steps.{stands_lasts, now_grows, old_call, step_grows}
-use Rattle.kw_core.proofs.Arrows.{eq_from}
-use Rattle.kw_core.proofs.Happens.{found_at, exchanged, not_exchanged}
-use Rattle.kw_core.proofs.Frame.{WritesKey, WritesValue, key_kept, value_kept, version_kept, link_kept}
-use Rattle.kw_core.proofs.FreezeFrame.{clock_never_falls, given_never_falls, SettlesScan, scan_stays as scan_word_stays}
+use Rattle.kw_core.proofs.Happens.{exchanged, not_exchanged}
+use Rattle.kw_core.proofs.Copies.{ChangesListed, ChangesOrigin, listed_stays, origin_stays}
+use Rattle.kw_core.proofs.Frame.{WritesKey, WritesValue}
+use Rattle.kw_core.proofs.FreezeFrame.{clock_never_falls, SettlesScan, scan_stays as scan_word_stays}
 use Rattle.kw_core.proofs.RoomBelow.{room_below}
+use Rattle.kw_rows.specs.Rows.{WasLinked}
+use Rattle.kw_shape.proofs.InfantsRely.{linked_not_infant}
 use Rattle.kw_shape.proofs.RowsKeep.{others_kept, rely_rows}
-use Rattle.kw_puts.proofs.Owners.{true_false, is_own, cells_apart}
+use Rattle.kw_shape.specs.Infants.{HasAtHand, IsInfantOf, nursing_of}
+use Rattle.kw_shape.specs.RowsIn.{has_frozen}
+use Rattle.kw_shape.proofs.LinkedRows.{hand_infant, not_hand}
+use Rattle.kw_shape.proofs.LinkedWords.{linked_given, linked_key, linked_link, linked_value, linked_version}
+use Rattle.kw_puts.proofs.Owners.{true_false, is_own, cells_apart, puts_linked, row_linked}
 use Rattle.kw_core.proofs.Changes.{made}
 use Rattle.kw_puts.proofs.RelyEntry.{change_apart, entry_apart, entry_helped, entry_freezes}
 use Rattle.kw_core.proofs.Happens.{log_entry}
@@ -43,7 +49,16 @@ use Rattle.kw_puts.specs.Below.{Below}
 use Rattle.kw_core.specs.Step.{Step}
 use Rattle.kw_core.proofs.Happens.{Happens}
 use Rattle.kw_puts.proofs.Rely.{RelyWords, RelyScan, scan_stays, is_settled, RelyCells, RelyLists, GoesOn, RelyHistory, RelyEntry, Rely}
-use Rattle.kw_core.specs.Ledger.{Ledger}
+use Rattle.kw_core.specs.Ledger.{Ledger, fate_taken, with_fate, with_replaced}
+use Rattle.kw_core.specs.Words.{given_in}
+use Rattle.kw_words.specs.declared.count.Count.{Count as Counted}
+use Rattle.kw_words.specs.declared.state.State.TheVariants.{Free}
+use Rattle.kw_words.specs.Link.{link_word}
+use Rattle.kw_words.specs.State.{state_word}
+use Rattle.kw_world.specs.ReplaceTransitions.{replaced_link}
+use Rattle.kw_world.specs.SeekTransitions.{infant}
+use Rattle.kw_world.specs.WriteTransitions.{unmarked_link}
+use Rattle.kw_puts.specs.Freezes.{IsFrozen}
 use Rattle.kw_words.specs.declared.scan.ScanWord.TheVariants.{Waiting}
 use Rattle.kw_words.specs.Scan.{scan_word}
 use Rattle.kw_words.specs.declared.kind.Kind.TheVariants as kind
@@ -71,8 +86,8 @@ pub version_puts : (a : Activity) → IsPutVersion a → IsPutting a
 version_puts PutVersion x = tt
 version_puts _ x = absurd x
 
--- a version that stands is the one that is stored there
-pub rely_version : (z : Sizes) (r r' : Run) (s : ℕ) (choice : Choice) (l : Local) (a : Activity) (l' : Local) → Happens z r r' s choice l l' a → Below z r → (q c : ℕ) → q < r.world.rows → c < z.cells → word z r.world (name.Version q c) ≢ 0 → word z r'.world (name.Version q c) ≡ word z r.world (name.Version q c)
+-- a version that stands in a row that is or was linked is the one that is stored there
+pub rely_version : (z : Sizes) (r r' : Run) (s : ℕ) (choice : Choice) (l : Local) (a : Activity) (l' : Local) → Happens z r r' s choice l l' a → Below z r → (q c : ℕ) → WasLinked r.ledger.rows q → c < z.cells → word z r.world (name.Version q c) ≢ 0 → word z r'.world (name.Version q c) ≡ word z r.world (name.Version q c)
 rely_version z r r' s choice l PutVersion l' h i q c o w n = which (cases_eq q l.row) (cases_eq c l.cell)
   where
     own : OwnsAttempt (word z r.world) r.history s l.activity l (r.seats s)
@@ -87,28 +102,34 @@ rely_version z r r' s choice l PutVersion l' h i q c o w n = which (cases_eq q l
 
     which : (q ≡ l.row) ⊎ (q ≡ l.row → ⊥) → (c ≡ l.cell) ⊎ (c ≡ l.cell → ⊥) → word z r'.world (name.Version q c) ≡ word z r.world (name.Version q c)
     which (inl e) (inl f) = subst (λ x. word z r'.world (name.Version x c) ≡ word z r.world (name.Version q c)) (sym e) (subst (λ x. word z r'.world (name.Version l.row x) ≡ word z r.world (name.Version q c)) (sym f) (h.changed.same ∙ sym (stands e f)))
-    which (inr d) f = version_kept PutVersion h q c o w (λ x e g. d e)
-    which (inl e) (inr d) = version_kept PutVersion h q c o w (λ x g f. d f)
-rely_version z r r' s choice l a l' h i q c o w n = version_kept a h q c o w (λ x e f. x)
+    which (inr d) f = linked_version PutVersion h i.shape q c o w (λ x e g. d e)
+    which (inl e) (inr d) = linked_version PutVersion h i.shape q c o w (λ x g f. d f)
+rely_version z r r' s choice l a l' h i q c o w n = linked_version a h i.shape q c o w (λ x e f. x)
 
 -- the words that concern another seat
-pub rely_words : (z : Sizes) (r r' : Run) (s : ℕ) (choice : Choice) (l : Local) (a : Activity) (l' : Local) → Happens z r r' s choice l l' a → Below z r → RelyWords z r.world.rows (word z r.world) (word z r'.world)
+pub rely_words : (z : Sizes) (r r' : Run) (s : ℕ) (choice : Choice) (l : Local) (a : Activity) (l' : Local) → Happens z r r' s choice l l' a → Below z r → RelyWords z (word z r.world) (word z r'.world) r.ledger.rows
 rely_words z r r' s choice l a l' h i = record {
   clock = clock_never_falls a h;
-  given = λ q w. given_never_falls a h q w (i.shape.sane.each (name.Count q) w);
+  given = λ q w. linked_given a h i.shape q w;
   version = rely_version z r r' s choice l a l' h i;
 }
 
 -- The scan of another seat.
 
 -- only a seat that stores that it waits changes since when it does
-since_stays : (z : Sizes) (r r' : Run) (s : ℕ) (choice : Choice) (l : Local) (a : Activity) (l' : Local) → Happens z r r' s choice l l' a → (t : ℕ) → t ≢ s → r'.ledger.waits t ≡ r.ledger.waits t
-since_stays z r r' s choice l ScanWait l' h t d = ap (λ (g : Ledger). g.waits t) h.ledger ∙ rw (ne_eqb t s d) refl
-since_stays z r r' s choice l TakeRow l' h t d = absurd h.reached
-since_stays z r r' s choice l GiveBack l' h t d = absurd h.reached
-since_stays z r r' s choice l Replace l' h t d = absurd h.reached
-since_stays z r r' s choice l Number l' h t d = absurd h.reached
-since_stays z r r' s choice l a l' h t d = ap (λ (g : Ledger). g.waits t) h.ledger
+pub waits_stay : (z : Sizes) (r r' : Run) (s : ℕ) (choice : Choice) (l : Local) (a : Activity) (l' : Local) → Happens z r r' s choice l l' a → (t : ℕ) → (t ≡ s → a ≢ ScanWait) → r'.ledger.waits t ≡ r.ledger.waits t
+waits_stay z r r' s choice l ScanWait l' h t f = ap (λ (g : Ledger). g.waits t) h.ledger ∙ rw (ne_eqb t s (λ e. f e refl)) refl
+waits_stay z r r' s choice l TakeRow l' h t f = ap (λ (g : Ledger). g.waits t) h.ledger ∙ met (word z r.world (name.State l.rebalance.sought) == state_word Free)
+  where
+    met : (b : Bool) → (let g : Ledger = if b then record r.ledger { rows = with_fate r.ledger.rows l.rebalance.sought (fate_taken s (length r.history.log) (r.ledger.rows.fates l.rebalance.sought)) } else r.ledger in g.waits t) ≡ r.ledger.waits t
+    met true = refl
+    met false = refl
+waits_stay z r r' s choice l Replace l' h t f = ap (λ (g : Ledger). g.waits t) h.ledger ∙ met (word z r.world (replaced_link l.rebalance.before) == link_word (unmarked_link (Some l.row)))
+  where
+    met : (b : Bool) → (let g : Ledger = if b then record r.ledger { rows = with_replaced (word z r.world) s (length r.history.log) l r.ledger.rows } else r.ledger in g.waits t) ≡ r.ledger.waits t
+    met true = refl
+    met false = refl
+waits_stay z r r' s choice l a l' h t f = ap (λ (g : Ledger). g.waits t) h.ledger
 
 -- an event that settles no scan of another seat leaves where the version in it was drawn
 pub draw_stays : (z : Sizes) (r r' : Run) (s : ℕ) (choice : Choice) (l : Local) (a : Activity) (l' : Local) → Happens z r r' s choice l l' a → (t : ℕ) → t ≢ s → (SettlesScan t a → ⊥) → r'.settled t ≡ r.settled t
@@ -154,16 +175,13 @@ rely_scan z r r' s choice l a l' h i st t o d = scan_stays (scan_word_stays a h 
 -- the cells that concern another seat
 pub rely_cells : (z : Sizes) (r r' : Run) (s : ℕ) (choice : Choice) (l : Local) (a : Activity) (l' : Local) → Happens z r r' s choice l l' a → Below z r → (t : ℕ) (k : Local) → t ≢ s → slice_get r.world.locals t ≡ Some k → RelyCells (word z r.world) (word z r'.world) r.history k.activity k
 rely_cells z r r' s choice l a l' h i t k d g = record {
-  key = λ p o y. let c = i.puts.given p o in ap key_of_word (key_kept a h (attempt r.history p).row (attempt r.history p).cell c.below c.cell (λ x e f. fresh (key_puts a x) p o y e f));
-  value = λ p o y. let c = i.puts.given p o in ap value_of_word (value_kept a h (attempt r.history p).row (attempt r.history p).cell c.below c.cell (λ x e f. fresh (value_puts a x) p o y e f));
-  own_key = λ y. key_kept a h k.row k.cell below.row ranges.cell (λ x e f. apart (key_puts a x).0 y e f);
-  own_value = λ y. value_kept a h k.row k.cell below.row ranges.cell (λ x e f. apart (value_puts a x).0 y e f);
-  own_version = λ y. version_kept a h k.row k.cell below.row ranges.cell (λ x e f. apart (version_puts a x) y e f);
+  key = λ p o y. let c = i.puts.given p o in ap key_of_word (linked_key a h i.shape (attempt r.history p).row (attempt r.history p).cell c.linked c.cell (λ x e f. fresh (key_puts a x) p o y e f));
+  value = λ p o y. let c = i.puts.given p o in ap value_of_word (linked_value a h i.shape (attempt r.history p).row (attempt r.history p).cell c.linked c.cell (λ x e f. fresh (value_puts a x) p o y e f));
+  own_key = λ y. linked_key a h i.shape k.row k.cell (puts_linked z r i.shape t k g y) ranges.cell (λ x e f. apart (key_puts a x).0 y e f);
+  own_value = λ y. linked_value a h i.shape k.row k.cell (puts_linked z r i.shape t k g y) ranges.cell (λ x e f. apart (value_puts a x).0 y e f);
+  own_version = λ y. linked_version a h i.shape k.row k.cell (puts_linked z r i.shape t k g y) ranges.cell (λ x e f. apart (version_puts a x) y e f);
 }
   where
-    below : IsLocalBelow r.world.rows k
-    below = (i.shape.sane.locals t k g).below
-
     ranges : IsLocal z k
     ranges = (i.shape.sane.locals t k g).ranges
 
@@ -185,6 +203,10 @@ unlisted_puts PutClear u = absurd u
 unlisted_puts a u = u
 
 module _ (z : Sizes) (r r' : Run) (s : ℕ) (choice : Choice) (l : Local) (a : Activity) (l' : Local) (h : Happens z r r' s choice l l' a) (i : Below z r) (t : ℕ) (k : Local) (d : t ≢ s) (g : slice_get r.world.locals t ≡ Some k) (u : IsUnlisted k.activity) where
+  -- the row of that seat is or was linked
+  its_row : WasLinked r.ledger.rows k.row
+  its_row = puts_linked z r i.shape t k g (unlisted_puts k.activity u)
+
   -- the own cell of another seat is not that of the acting one
   others_cell : IsPutting a → k.row ≡ l.row → k.cell ≡ l.cell → ⊥
   others_cell y e f = cells_apart i.puts t s k l d g h.knows (unlisted_puts k.activity u) (subst IsPutting (sym h.activity) y) e f
@@ -198,7 +220,7 @@ module _ (z : Sizes) (r r' : Run) (s : ℕ) (choice : Choice) (l : Local) (a : A
       not_now (inr x) = others_cell (subst IsPutting (sym x.0) tt) x.1 x.2
 
       which : (b : Bool) → r'.listed k.row k.cell ≡ b → r'.listed k.row k.cell ≡ false
-      which true e = absurd (not_now (listed_was z r r' s choice l a l' h k.row k.cell e))
+      which true e = absurd (not_now (listed_was z r r' s choice l a l' h i k.row k.cell its_row e))
       which false e = e
 
   -- nor is its link exchanged, which is none of the list
@@ -212,7 +234,7 @@ module _ (z : Sizes) (r r' : Run) (s : ℕ) (choice : Choice) (l : Local) (a : A
   rely_own : LeavesOwn (list_in (word z r.world) r.listed k.row) (list_in (word z r'.world) r'.listed k.row) k.cell
   rely_own = record {
     cell = record { unlisted = others_unlisted; cell = record { key = ap key_of_word (cells.own_key (unlisted_puts k.activity u)); version = cells.own_version (unlisted_puts k.activity u) } };
-    after = ap cell_of_link_word (link_kept a h k.row (Some k.cell) known.below.row known.ranges.cell (λ x e f. others_cell (set_puts a x) e (same_Some k.cell l.cell f)) (λ x e f. others_link x f e));
+    after = ap cell_of_link_word (linked_link a h i.shape k.row (Some k.cell) its_row known.ranges.cell (λ x e f. others_cell (set_puts a x) e (same_Some k.cell l.cell f)) (λ x e f. others_link x f e));
   }
     where
       known : IsKnown z r.world.rows k
@@ -238,26 +260,68 @@ same_attempt h h' p w (is_announced v n e) = record { call = rw e refl; seat = r
 same_attempt h h' p w (is_lost v n e) = record { call = rw e refl; seat = rw e refl; key = rw e refl; value = rw e refl; row = rw e refl; cell = rw e refl; add = rw e refl }
 same_attempt h h' p w (is_stamped version load v a n k x y u e put) = record { call = rw e refl; seat = rw e refl; key = rw e refl; value = rw e refl; row = rw e refl; cell = rw e refl; add = rw e refl }
 
--- the origins go on: a cell that is given was nobody's
-origins_go_on : (z : Sizes) (r r' : Run) (s : ℕ) (choice : Choice) (l : Local) (a : Activity) (l' : Local) → Happens z r r' s choice l l' a → Below z r → (q c p : ℕ) → r.origin q c ≡ Some p → origins_after z a l (found_at z (word z r.world) a s choice l) r.origin r.history q c ≡ Some p
-origins_go_on z r r' s choice l PutAdd l' h i q c p e = met (has_room z (count_of (word z r.world (name.Count l.row)))) refl
-  where
-    -- the place is not the one that is given
-    other : (b : Bool) → ((q == l.row) && (c == given_of (count_of (word z r.world (name.Count l.row))))) ≡ b → has_room z (count_of (word z r.world (name.Count l.row))) ≡ true → (if b then Some (length r.history.attempts) else r.origin q c) ≡ Some p
-    other true y m =
-        let t = and_parts (q == l.row) (c == given_of (count_of (word z r.world (name.Count l.row)))) y in
-        let u : r.origin q c ≡ None = rw (eq_from q l.row t.0, eq_from _ _ t.1) (i.puts.places.nobody l.row (given_of (count_of (word z r.world (name.Count l.row)))) (i.shape.sane.locals s l h.knows).below.row (room_below z (count_of (word z r.world (name.Count l.row))) m) (omega arith)) in
-        let x : None ≡ Some p = sym u ∙ e in absurd (cc)
-    other false y m = e
+-- Whose cells are.
 
-    met : (b : Bool) → has_room z (count_of (word z r.world (name.Count l.row))) ≡ b → (let o : Origins = if b then with_origin r.origin l.row (given_of (count_of (word z r.world (name.Count l.row)))) (length r.history.attempts) else r.origin in o) q c ≡ Some p
-    met true m = other _ refl m
-    met false m = e
-origins_go_on z r r' s choice l (WriteVersion j) l' h i q c p e = absurd h.reached
-origins_go_on z r r' s choice l a l' h i q c p e = e
+-- a cell that is given where there is room
+given_else : (b : Bool) (o : Origins) (r d p q c : ℕ) → (b ≡ true → q ≡ r → c ≡ d → ⊥) → (let k : Origins = if b then with_origin o r d p else o in k q c) ≡ o q c
+given_else true o r d p q c n = which (cases_eq q r) (cases_eq c d)
+  where
+    which : (q ≡ r) ⊎ (q ≡ r → ⊥) → (c ≡ d) ⊎ (c ≡ d → ⊥) → with_origin o r d p q c ≡ o q c
+    which (inl e) (inl f) = absurd (n refl e f)
+    which (inl e) (inr f) = rw (eq-eqb q r e, ne_eqb c d f) refl
+    which (inr e) f = rw (ne_eqb q r e) refl
+given_else false o r d p q c n = refl
+
+-- in a row that is or was linked a cell stands for what it did, unless it is the one that is given
+pub origin_same : (z : Sizes) (r r' : Run) (s : ℕ) (choice : Choice) (l : Local) (a : Activity) (l' : Local) → Happens z r r' s choice l l' a → Below z r → (q c : ℕ) → WasLinked r.ledger.rows q → (a ≡ PutAdd → has_room z (count_of (word z r.world (name.Count l.row))) ≡ true → q ≡ l.row → c ≡ given_in (word z r.world) l.row → ⊥) → r'.origin q c ≡ r.origin q c
+origin_same z r r' s choice l PutAdd l' h i q c k n = ap (λ (o : Origins). o q c) h.origin ∙ given_else (has_room z (count_of (word z r.world (name.Count l.row)))) r.origin l.row (given_in (word z r.world) l.row) (length r.history.attempts) q c (n refl)
+origin_same z r r' s choice l (WriteVersion j) l' h i q c k n = origin_stays (WriteVersion j) h q c (λ x. not_hand (WriteVersion j) h i.shape tt q k x.0)
+origin_same z r r' s choice l a l' h i q c k n = ap (λ (o : Origins). o q c) h.origin
+
+-- a cell that is given was nobody's
+pub origins_go_on : (z : Sizes) (r r' : Run) (s : ℕ) (choice : Choice) (l : Local) (a : Activity) (l' : Local) → Happens z r r' s choice l l' a → Below z r → (q c p : ℕ) → WasLinked r.ledger.rows q → r.origin q c ≡ Some p → r'.origin q c ≡ Some p
+origins_go_on z r r' s choice l a l' h i q c p k e = origin_same z r r' s choice l a l' h i q c k given ∙ e
+  where
+    given : a ≡ PutAdd → has_room z (count_of (word z r.world (name.Count l.row))) ≡ true → q ≡ l.row → c ≡ given_in (word z r.world) l.row → ⊥
+    given x m f g =
+        let u : r.origin q c ≡ None = rw (f, g) (i.puts.places.nobody l.row (given_in (word z r.world) l.row) (subst (WasLinked r.ledger.rows) f k) (room_below z (count_of (word z r.world (name.Count l.row))) m) (omega arith)) in
+        let y : None ≡ Some p = sym u ∙ e in cc
+
+-- no cell of a frozen row is given
+pub frozen_same : (z : Sizes) (r r' : Run) (s : ℕ) (choice : Choice) (l : Local) (a : Activity) (l' : Local) → Happens z r r' s choice l l' a → Below z r → (q c : ℕ) → WasLinked r.ledger.rows q → IsFrozen (word z r.world) q → r'.origin q c ≡ r.origin q c
+frozen_same z r r' s choice l a l' h i q c k x = origin_same z r r' s choice l a l' h i q c k (λ e m f g. no_room_there (count_of (word z r.world (name.Count l.row))) m (subst (IsFrozen (word z r.world)) f x))
+  where
+    no_room_there : (w : Option Counted) → has_room z w ≡ true → has_frozen w ≡ true → ⊥
+    no_room_there (Some c) m y = let b : false ≡ true = rw y at m in cc
+    no_room_there None m y = let b : false ≡ true = y in cc
+
+-- nor is a cell of an infant of another seat given, written or listed
+infant_same : (z : Sizes) (r r' : Run) (s : ℕ) (choice : Choice) (l : Local) (a : Activity) (l' : Local) → Happens z r r' s choice l l' a → Below z r → (t : ℕ) → t ≢ s → (q c : ℕ) → IsInfantOf r.ledger.rows t q → (r'.origin q c ≡ r.origin q c) × (r'.listed q c ≡ r.listed q c)
+infant_same z r r' s choice l a l' h i t d q c x = (origin_stays a h q c (not_origin a h), listed_stays a h q c (not_listed a h))
+  where
+    -- the row is not one at which a seat is
+    not_row : (b : Activity) → Happens z r r' s choice l l' b → IsAtRow b → q ≡ l.row → ⊥
+    not_row b h y e = linked_not_infant r.ledger.rows t q (subst (WasLinked r.ledger.rows) (sym e) (row_linked z r i.shape s l h.knows (subst IsAtRow (sym h.activity) y))) x
+
+    -- nor one of the acting seat's
+    not_its : (b : Activity) → Happens z r r' s choice l l' b → HasAtHand (nursing_of b) → q ≡ infant l → ⊥
+    not_its b h y e = d (sym x.owner ∙ subst (λ n. (r.ledger.rows.fates n).owner ≡ s) (sym e) (hand_infant b h i.shape y).owner)
+
+    not_origin : (b : Activity) → Happens z r r' s choice l l' b → ChangesOrigin b l q c → ⊥
+    not_origin PutAdd h y = not_row PutAdd h tt y
+    not_origin (WriteVersion j) h y = not_its (WriteVersion j) h tt y.0
+    not_origin _ h y = y
+
+    not_listed : (b : Activity) → Happens z r r' s choice l l' b → ChangesListed b l q c → ⊥
+    not_listed Insert h y = not_row Insert h tt y.0
+    not_listed WriteCount h y = not_its WriteCount h tt y
+    not_listed (WriteAfter j) h y = not_its (WriteAfter j) h tt y.0
+    not_listed _ h y = y
+
+-- The record, whoever acts.
 
 -- the record, whoever acts
-pub goes_on_by : (z : Sizes) (r r' : Run) (s : ℕ) (choice : Choice) (l : Local) (a : Activity) (l' : Local) → Happens z r r' s choice l l' a → Below z r → Step r.history r'.history (log_entry z r a s choice l) → GoesOn r.history r'.history r.origin r'.origin
+pub goes_on_by : (z : Sizes) (r r' : Run) (s : ℕ) (choice : Choice) (l : Local) (a : Activity) (l' : Local) → Happens z r r' s choice l l' a → Below z r → Step r.history r'.history (log_entry z r a s choice l) → GoesOn r.history r'.history r.origin r'.origin r.ledger.rows
 goes_on_by z r r' s choice l a l' h i st =
     let step = st in
     let e = log_entry z r a s choice l in
@@ -269,7 +333,7 @@ goes_on_by z r r' s choice l a l' h i st =
       more_calls = step.more_calls;
       attempts = λ p w. same_attempt r.history r'.history p w (step.attempts p (omega (arith, w, step.more_attempts)));
       calls = λ x w. let c = old_call r.history r'.history e step x w in record { seat = c.seat; number = c.number; call = c.call; first = c.first };
-      origin = λ q c p x. subst (λ o. o q c ≡ Some p) (sym h.origin) (origins_go_on z r r' s choice l a l' h i q c p x);
+      origin = origins_go_on z r r' s choice l a l' h i;
     }
 
 -- the record, for another seat
@@ -299,10 +363,12 @@ rely z r r' s choice l a l' h i st t k d g =
       log = h.logs t d;
       fresh = λ x. let p = (i.shape.passes t k g).in_pass x in rely_rows a h i.shape t p.since p.passes (others_kept a h t d ∙ p.passes);
       words = rely_words z r r' s choice l a l' h i;
-      since = since_stays z r r' s choice l a l' h t d;
+      since = waits_stay z r r' s choice l a l' h t (λ e. absurd (d e));
       scan = rely_scan z r r' s choice l a l' h i st t o d;
       cells = rely_cells z r r' s choice l a l' h i t k d g;
       lists = rely_lists z r r' s choice l a l' h i t k d g;
+      infants = infant_same z r r' s choice l a l' h i t d;
+      frozen = frozen_same z r r' s choice l a l' h i;
       goes_on = goes_on_by z r r' s choice l a l' h i st;
       history = rely_history z r r' s choice l a l' h i t d;
       entry = rely_entry z r r' s choice l a l' h i t k d g;

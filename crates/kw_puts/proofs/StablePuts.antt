@@ -14,6 +14,7 @@ use Rattle.kw_words.specs.Plain.{key_of_word, value_of_word}
 use Rattle.kw_core.specs.History.{LoadClock}
 use Rattle.kw_core.specs.Stages.{IsPutting, IsFresh, IsPublished, IsUnstamped, IsStamped, IsStored}
 use Rattle.kw_core.proofs.Steps.{announced_within}
+use Rattle.kw_rows.specs.Rows.{WasLinked}
 use Rattle.kw_puts.specs.Puts.{OwnsAttempt, Helps, key_in, value_in, entry_of}
 use Rattle.kw_puts.proofs.Owners.{pending_kept}
 use Rattle.kw_puts.proofs.OwnAttempts.{entry_lost, entry_stamped}
@@ -163,13 +164,13 @@ owns_stable z r r' t k y p o = subst (λ g. OwnsAttempt (word z r'.world) r'.his
     }
 
 -- the attempt that a reader helps
-pub helps_stable : (z : Sizes) (r r' : Run) (t : ℕ) (k : Local) → Rely z r r' t k → Helps r.history r.origin k.activity k (r.seats t) → Helps r'.history r'.origin k.activity k (r'.seats t)
-helps_stable z r r' t k y o = subst (λ g. Helps r'.history r'.origin k.activity k g) (sym y.log)
+pub helps_stable : (z : Sizes) (r r' : Run) (t : ℕ) (k : Local) → Rely z r r' t k → WasLinked r.ledger.rows k.row → Helps r.history r.origin k.activity k (r.seats t) → Helps r'.history r'.origin k.activity k (r'.seats t)
+helps_stable z r r' t k y w o = subst (λ g. Helps r'.history r'.origin k.activity k g) (sym y.log)
     (let same = y.goes_on.attempts o.put (announced_within r.history o.put o.announced) in
     let grows = (y.goes_on.grows.old o.put (announced_within r.history o.put o.announced)).announced o.announced in
     record {
       put = o.put;
-      origin = y.goes_on.origin k.row k.met o.put o.origin;
+      origin = y.goes_on.origin k.row k.met o.put w o.origin;
       seat = same.seat ∙ o.seat;
       announced = grows.0;
       key = λ a. rw same.key (o.key a);

@@ -7,7 +7,7 @@ use Rattle.kw_words.specs.declared.pend.Pend.TheVariants.{Idle, Pending, Stamped
 use Rattle.kw_words.specs.Pend.{pend_word}
 use Rattle.kw_words.specs.Count.{count_of}
 use Rattle.kw_world.specs.declared.activity.Activity.{Activity}
-use Rattle.kw_world.specs.declared.activity.Activity.TheVariants.{FreezeLook, Freeze, ScanLook, HelpDraw, HelpSettle, TakeFrom, TakeKey, TakeVersion, TakeValue, TakeRestKey, TakeRestValue, SeekFirst, Seek, TakeRow, GiveBack, WriteCount, WriteMin, WriteNext, WriteFirst, WritePend, WriteKey, WriteValue, WriteVersion, WriteAfter, Before, BeforeGuess, BeforeHead, BeforeLink, BeforeMin, Replace}
+use Rattle.kw_world.specs.declared.activity.Activity.TheVariants.{FreezeLook, Freeze, ScanLook, HelpDraw, HelpSettle}
 use Rattle.kw_world.specs.declared.local.Local.{Local}
 use Rattle.kw_world.specs.declared.marks.Mark.{Mark}
 use Rattle.kw_world.specs.Marks.{is_marked}
@@ -18,6 +18,8 @@ use Rattle.kw_core.specs.Listed.{Listed}
 use Rattle.kw_core.specs.Run.{Origins}
 use Rattle.kw_core.specs.Stages.{IsFresh}
 use Rattle.kw_core.specs.Words.{Words}
+-- the seat has frozen its row, and has neither replaced it nor given it up
+pub use Rattle.kw_shape.specs.Balances.{HasFrozen}
 use Rattle.kw_shape.specs.RowsIn.{has_frozen}
 
 -- the row is frozen: it gives no cell any more
@@ -39,40 +41,6 @@ IsToFreeze (Freeze i) l = IsUnsettled l.rebalance.entry
 IsToFreeze _ l = Unit {0}
 
 -- The row that a seat has frozen.
-
--- the seat has frozen the count of its row, and has neither replaced the row nor given it up
-abbrev pub HasFrozen : Activity → Type 0
-HasFrozen (FreezeLook i) = Unit {0}
-HasFrozen (Freeze i) = Unit {0}
-HasFrozen (ScanLook i) = Unit {0}
-HasFrozen (HelpDraw i) = Unit {0}
-HasFrozen (HelpSettle i) = Unit {0}
-HasFrozen TakeFrom = Unit {0}
-HasFrozen TakeKey = Unit {0}
-HasFrozen TakeVersion = Unit {0}
-HasFrozen TakeValue = Unit {0}
-HasFrozen TakeRestKey = Unit {0}
-HasFrozen TakeRestValue = Unit {0}
-HasFrozen SeekFirst = Unit {0}
-HasFrozen Seek = Unit {0}
-HasFrozen TakeRow = Unit {0}
-HasFrozen GiveBack = Unit {0}
-HasFrozen WriteCount = Unit {0}
-HasFrozen WriteMin = Unit {0}
-HasFrozen WriteNext = Unit {0}
-HasFrozen WriteFirst = Unit {0}
-HasFrozen (WritePend i) = Unit {0}
-HasFrozen (WriteKey j) = Unit {0}
-HasFrozen (WriteValue j) = Unit {0}
-HasFrozen (WriteVersion j) = Unit {0}
-HasFrozen (WriteAfter j) = Unit {0}
-HasFrozen Before = Unit {0}
-HasFrozen BeforeGuess = Unit {0}
-HasFrozen BeforeHead = Unit {0}
-HasFrozen BeforeLink = Unit {0}
-HasFrozen BeforeMin = Unit {0}
-HasFrozen Replace = Unit {0}
-HasFrozen _ = ⊥
 
 -- no put of seat j gets a version in row q any more: its entry is frozen, or is stamped already, or it is idle and the seat has no cell
 -- of the row that it may announce

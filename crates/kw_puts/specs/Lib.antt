@@ -1,4 +1,5 @@
 pub mod Freezes
+pub mod Builds
 pub mod Puts
 pub mod Lists
 pub mod Positions

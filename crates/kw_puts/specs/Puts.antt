@@ -18,10 +18,12 @@ use Rattle.kw_core.specs.declared.history.Attempt.{Attempt}
 use Rattle.kw_core.specs.declared.seat_log.SeatLog.{SeatLog}
 use Rattle.kw_core.specs.Run.{Origins, Run}
 use Rattle.kw_core.specs.Words.{Words, given_in}
-use Rattle.kw_rows.specs.Ledger.{Ledger}
+use Rattle.kw_lists.specs.Words.{row_in}
+use Rattle.kw_rows.specs.Ledger.{Ledger, IsDead}
 use Rattle.kw_rows.specs.Rows.{WasLinked}
 use Rattle.kw_shape.specs.Shape.{HoldsKey}
-use Rattle.kw_puts.specs.Freezes.{IsFrozen, IsToFreeze, Freezes, Remembers}
+use Rattle.kw_puts.specs.Freezes.{IsFrozen, IsToFreeze, IsSettled, Freezes, Remembers}
+use Rattle.kw_puts.specs.Builds.{Builds}
 use Rattle.kw_core.specs.Stages.{IsPutting, IsFresh, HasKey, IsAnnounce, IsPublished, IsStamp, IsStamped, IsStored, HasMet, IsToHelp, IsHelp}
 
 -- The cells of attempts.
@@ -35,20 +37,13 @@ pub record IsGivenCell (z : Sizes) (rows : ℕ) (v : Words) (g : Ledger) (h : Hi
   pub given : (attempt h p).cell < given_in v (attempt h p).row
   pub origin : o (attempt h p).row (attempt h p).cell ≡ Some p
   pub holds : HoldsKey v g (attempt h p).row (attempt h p).key
+  pub born : (g.fates (attempt h p).row).born ≤ (attempt h p).add
 
 -- the attempt has this cell
 pub record HasCell (h : History) (r c p : ℕ) : Type 0 where
   pub within : p < length h.attempts
   pub row : (attempt h p).row ≡ r
   pub cell : (attempt h p).cell ≡ c
-
--- each cell that a row has given is that of an attempt, as long as the row is not frozen: whoever asks a frozen row for a cell raises its
--- count and gets none. A cell that a row has not given is nobody's, and what is nobody's has no version
-pub record Places (z : Sizes) (rows : ℕ) (v : Words) (h : History) (o : Origins) : Type 0 where
-  pub owner : (r c p : ℕ) → o r c ≡ Some p → HasCell h r c p
-  pub given : (r c : ℕ) → r < rows → c < z.cells → c < given_in v r → ((p : ℕ) × (o r c ≡ Some p)) ⊎ IsFrozen v r
-  pub nobody : (r c : ℕ) → r < rows → c < z.cells → given_in v r ≤ c → o r c ≡ None
-  pub unstored : (r c : ℕ) → r < rows → c < z.cells → o r c ≡ None → v (name.Version r c) ≡ 0
 
 -- of two attempts of one row the later one has the greater cell
 abbrev pub Rises : History → Type 0
@@ -60,6 +55,29 @@ key_in v r c = key_of_word (v (name.Key r c))
 
 abbrev pub value_in : Words → ℕ → ℕ → Option ℕ
 value_in v r c = value_of_word (v (name.Value r c))
+
+-- the cell is a copy of that of an attempt of another row, which was stamped before this row was linked
+pub record IsCopyAt (v : Words) (g : Ledger) (h : History) (r c p : ℕ) : Type 0 where
+  pub within : p < length h.attempts
+  pub elsewhere : (attempt h p).row ≢ r
+  pub stamped : (attempt h p).is_stamped ≡ true
+  pub before : (attempt h p).at < (g.fates r).born
+  pub key : key_in v r c ≡ (attempt h p).key
+  pub value : value_in v r c ≡ (attempt h p).value
+  pub version : v (name.Version r c) ≡ (attempt h p).version
+
+-- the first stands before the second by key, then by version
+abbrev pub RisesTo : History → ℕ → ℕ → Type 0
+RisesTo h p q = ((attempt h p).key < (attempt h q).key) ⊎ ((attempt h p).key ≡ (attempt h q).key) × ((attempt h p).version < (attempt h q).version)
+
+-- each cell of a row that is or was linked is that of an attempt, or a copy; the copies are the first, and rise
+pub record Places (z : Sizes) (v : Words) (g : Ledger) (h : History) (o : Origins) : Type 0 where
+  pub owner : (r c p : ℕ) → WasLinked g r → c < z.cells → o r c ≡ Some p → HasCell h r c p ⊎ IsCopyAt v g h r c p
+  pub given : (r c : ℕ) → WasLinked g r → c < z.cells → c < given_in v r → ((p : ℕ) × (o r c ≡ Some p)) ⊎ IsFrozen v r
+  pub nobody : (r c : ℕ) → WasLinked g r → c < z.cells → given_in v r ≤ c → o r c ≡ None
+  pub unstored : (r c : ℕ) → WasLinked g r → c < z.cells → o r c ≡ None → v (name.Version r c) ≡ 0
+  pub above : (r c d p q : ℕ) → WasLinked g r → c < z.cells → d < z.cells → o r c ≡ Some p → (attempt h p).row ≢ r → o r d ≡ Some q → (attempt h q).row ≡ r → c < d
+  pub rank : (r c d p q : ℕ) → WasLinked g r → c < d → d < z.cells → o r c ≡ Some p → (attempt h p).row ≢ r → o r d ≡ Some q → (attempt h q).row ≢ r → RisesTo h p q
 
 -- the words of an attempt's cell: once it is announced its key and its value stand there, and a version that stands there is its own
 pub record HasBody (v : Words) (h : History) (p : ℕ) : Type 0 where
@@ -142,7 +160,7 @@ pub record Helps (h : History) (o : Origins) (a : Activity) (l : Local) (g : Sea
 -- what holds of the attempts, the cells, the entries, and the seats that put, freeze or help
 pub record Puts (z : Sizes) (r : Run) : Type 0 where
   pub given : (p : ℕ) → p < length r.history.attempts → IsGivenCell z r.world.rows (word z r.world) r.ledger.rows r.history r.origin p
-  pub places : Places z r.world.rows (word z r.world) r.history r.origin
+  pub places : Places z (word z r.world) r.ledger.rows r.history r.origin
   pub rises : Rises r.history
   pub body : (p : ℕ) → p < length r.history.attempts → HasBody (word z r.world) r.history p
   pub owns : (t : ℕ) (l : Local) → slice_get r.world.locals t ≡ Some l → IsPutting l.activity → OwnsAttempt (word z r.world) r.history t l.activity l (r.seats t)
@@ -152,3 +170,7 @@ pub record Puts (z : Sizes) (r : Run) : Type 0 where
   pub freezes : (t : ℕ) (l : Local) → slice_get r.world.locals t ≡ Some l → Freezes z (word z r.world) (slice_get r.world.locals) l.activity l
   pub remembers : (t : ℕ) (l : Local) → slice_get r.world.locals t ≡ Some l → Remembers z r.history r.origin r.listed l.activity l
   pub helps : (t : ℕ) (l : Local) → slice_get r.world.locals t ≡ Some l → HasMet l.activity → Helps r.history r.origin l.activity l (r.seats t)
+  pub born : (q : ℕ) → WasLinked r.ledger.rows q → (r.ledger.rows.fates q).born ≤ length r.history.log
+  pub dead : (q j : ℕ) → IsDead r.ledger.rows q → j < z.seats → IsSettled (word z r.world) (slice_get r.world.locals) q j
+  pub gone : (p : ℕ) → p < length r.history.attempts → IsDead r.ledger.rows (attempt r.history p).row → (attempt r.history p).is_stamped ≡ true → (attempt r.history p).at < (r.ledger.rows.fates (attempt r.history p).row).gone
+  pub builds : (t : ℕ) (l : Local) → slice_get r.world.locals t ≡ Some l → Builds z (row_in (word z r.world) l.row (r.listed l.row)) r.history r.origin r.listed l.activity l

@@ -21,13 +21,15 @@ use Rattle.kw_core.specs.Run.{Run}
 use Rattle.kw_core.specs.Stages.{IsAtRead, IsLooking, IsTaking}
 use Rattle.kw_puts.specs.Lists.{list_in}
 use Rattle.kw_puts.proofs.Owners.{true_false}
-use Rattle.kw_reads.specs.Readers.{HasMetCell, Apart, has_place}
+use Rattle.kw_puts.specs.Builds.{has_place}
+use Rattle.kw_reads.specs.Readers.{HasMetCell, Apart}
 use Rattle.kw_reads.specs.Inv.{Inv}
-use Rattle.kw_core.proofs.Building.{never_built}
+use Rattle.kw_core.proofs.BuiltNext.{built_next}
 use Rattle.kw_core.proofs.Arrows.{builds, NextLook, looks, lists, NextRest, rests, answers, ends_scan, scans_on, Arrow, meets_stamped, meets_neither, is_passed, helps, finds_stamped, finds_other, list_leads, list_ends, key_below, key_within, key_above, loads_version, gathers_listed, rest_wanted, rest_passed, gathers_rest}
 use Rattle.kw_core.proofs.Happens.{Happens}
 use Rattle.kw_core.proofs.Marks.{least_marked, marked_back, marked_none}
-use Rattle.kw_reads.proofs.Gathered.{place_back, few_more, few_room, gathered_is}
+use Rattle.kw_reads.proofs.BuiltReads.{after_rests}
+use Rattle.kw_puts.proofs.GatheredCells.{place_back, few_more, few_room, gathered_at}
 use Rattle.kw_reads.proofs.Ready.{apart_lasts}
 use Rattle.kw_reads.proofs.WalksKeep.{row_left, walks_before, walks_after}
 
@@ -86,7 +88,7 @@ module _ (z : Sizes) (row : Row) (a : Activity) (l : Local) (value : Option ℕ)
 
   -- where it is put
   pub gather_is : (gathering z value l).gathered ≡ insert l.gathered (place_in (cell_in_hand value l) l.gathered) (cell_in_hand value l)
-  gather_is = gathered_is z l value gather_room f
+  gather_is = gathered_at z.cells (cell_in_hand value l) l.gathered gather_room f
 
   -- a place that is gathered then was, or is its
   gather_back : (c : ℕ) → has_place c (gathering z value l).gathered ≡ true → (c ≡ l.place) ⊎ (has_place c l.gathered ≡ true)
@@ -162,7 +164,7 @@ apart_listed {z} {r} {r'} {s} {choice} {l} {l'} h i k g m e = record {
 
 -- no cell is gathered twice by the acting reader
 pub apart_by : (z : Sizes) (r r' : Run) (s : ℕ) (choice : Choice) (l : Local) (a : Activity) (l' : Local) → Arrow z (word z r.world) s choice l a l' → Happens z r r' s choice l l' a → Inv z r → IsTaking l'.activity → Apart z (list_in (word z r'.world) r'.listed l'.row) l'.activity l'
-apart_by z r r' s choice l a l' (builds b next y o t) h i p = never_built z b y o
+apart_by z r r' s choice l a l' (builds b next y o t) h i p = after_rests l'.activity (built_next z (word z r.world) choice l b l' t) (inr p)
 apart_by z r r' s choice l _ _ (meets_stamped j c version next e n) h i p = apart_look z _ (j + 1) next (remembering c version l) n p (none_gathered h i tt)
 apart_by z r r' s choice l _ _ (meets_neither j next e n) h i p = apart_look z _ (j + 1) next l n p (none_gathered h i tt)
 apart_by z r r' s choice l _ _ (is_passed next e n) h i p = apart_look z _ (l.looked + 1) next l n p (none_gathered h i tt)

@@ -1,5 +1,5 @@
--- What the entry of an attempt's seat says of the attempt: the cell of an announced attempt is listed, or the entry is its own, unless
--- the attempt is lost. So of an attempt that is not lost a frozen entry says that its cell is listed.
+-- What the entry of an attempt's seat says of a cell that stands for the attempt: the cell of an announced attempt is listed, or the entry
+-- is its own, unless the attempt is lost; a copy is listed. So of an attempt that is not lost a frozen entry says that the cell is listed.
 use Rattle.std.proofs.Common.{ℕ, ◌≡◌, ◌⊎◌, inl, inr, ◌<◌, ◌≤◌, Bool, true, false, Some, arith, refl, sym, ◌∙◌, ap, subst, length, slice_get, if◌then◌else◌}
 use Rattle.std.proofs.lemmas.Option.{same_Some}
 use Rattle.kw_words.specs.declared.layout.Name.TheVariants as name
@@ -19,18 +19,18 @@ use Rattle.kw_core.specs.Run.{Run}
 use Rattle.kw_core.specs.Stages.{IsPutting, IsFresh, IsPublished}
 use Rattle.kw_core.specs.Listed.{Listed}
 use Rattle.kw_core.specs.Words.{Words}
-use Rattle.kw_puts.specs.Puts.{IsCurrent, IsOver, IsPublishedAt, entry_of}
+use Rattle.kw_rows.specs.Rows.{WasLinked}
+use Rattle.kw_puts.specs.Puts.{HasCell, IsCopyAt, IsCurrent, IsOver, IsPublishedAt, entry_of}
 use Rattle.kw_puts.specs.Below.{Below}
 use Rattle.kw_reads.specs.Readers.{IsReady, IsMarkOf}
-use Rattle.kw_core.proofs.Steps.{announced_within}
 use Rattle.kw_puts.proofs.Owners.{true_false, published_puts}
 
--- what the entry of the seat j in the row q says of an attempt of it: the attempt is stamped and its cell is listed, or the entry is its
--- own
-pub data EntrySays (v : Words) (f : Listed) (h : History) (q j p : ℕ) : Type 0 where
-  is_listed : IsPut h p → f q (attempt h p).cell ≡ true → EntrySays v f h q j p
-  is_pending : pend_of (v (name.Pend q j)) ≡ Some (pend.Pending (attempt h p).cell) → EntrySays v f h q j p
-  is_stamped : IsPut h p → pend_of (v (name.Pend q j)) ≡ Some (pend.Stamped (attempt h p).cell (attempt h p).version) → EntrySays v f h q j p
+-- what the entry of the seat j in the row q says of a cell that stands for an attempt of this seat: the attempt is stamped and the cell is
+-- listed, or the entry is the attempt's own
+pub data EntrySays (v : Words) (f : Listed) (h : History) (q j c p : ℕ) : Type 0 where
+  is_listed : IsPut h p → f q c ≡ true → EntrySays v f h q j c p
+  is_pending : pend_of (v (name.Pend q j)) ≡ Some (pend.Pending c) → EntrySays v f h q j c p
+  is_stamped : IsPut h p → pend_of (v (name.Pend q j)) ≡ Some (pend.Stamped c (attempt h p).version) → EntrySays v f h q j c p
 
 -- a seat that puts has not announced its cell, or has
 fresh_or_published : (a : Activity) → IsPutting a → IsFresh a ⊎ IsPublished a
@@ -56,16 +56,13 @@ module _ {z : Sizes} {r : Run} (k : Below z r) where
       let w = (k.shape.sane.each name.Clock tt).1 in
       (k.positions.clocked.positive _ LoadClock _ t, omega (arith, k.positions.clocked.past _ LoadClock _ t, w))
 
-  -- an attempt of which the cell is listed is stamped
-  listed_stamped : (q p : ℕ) → (attempt r.history p).row ≡ q → p < length r.history.attempts → r.listed q (attempt r.history p).cell ≡ true → IsPut r.history p
-  listed_stamped q p e w x =
-      let cell = k.lists.cells q (attempt r.history p).cell x in
-      let same : p ≡ cell.put = same_Some p cell.put (sym (rw e at (k.puts.given p w).origin) ∙ cell.origin) in
-      rw same cell.stamped
+  -- an attempt for which a listed cell stands is stamped
+  listed_stamped : (q c p : ℕ) → WasLinked r.ledger.rows q → r.origin q c ≡ Some p → r.listed q c ≡ true → IsPut r.history p
+  listed_stamped q c p n o x = let cell = k.lists.cells q c n x in rw (same_Some p cell.put (sym o ∙ cell.origin)) cell.stamped
 
-  -- and it is ready for every reader of its row
-  pub listed_ready : (l : Local) (p : ℕ) → IsPut r.history p → r.listed l.row (attempt r.history p).cell ≡ true → IsReady r.listed r.history l p
-  listed_ready l p s x = record { stamped = s; noted = inr x }
+  -- and it is ready for every reader of the row
+  pub listed_ready : (l : Local) (c p : ℕ) → IsPut r.history p → r.listed l.row c ≡ true → IsReady r.listed r.history l c p
+  listed_ready l c p s x = record { stamped = s; noted = inr x }
 
   -- an entry that is that of an attempt which is not lost, as it is read
   own_entry : (q j p : ℕ) → p < length r.history.attempts → (attempt r.history p).is_lost ≡ false → word z r.world (name.Pend q j) ≡ entry_of (attempt r.history p) → (pend_of (word z r.world (name.Pend q j)) ≡ Some (pend.Pending (attempt r.history p).cell)) ⊎ IsPut r.history p × (pend_of (word z r.world (name.Pend q j)) ≡ Some (pend.Stamped (attempt r.history p).cell (attempt r.history p).version))
@@ -80,35 +77,40 @@ module _ {z : Sizes} {r : Run} (k : Below z r) where
           inr (s, ap pend_of x ∙ pend_of-Stamped (attempt r.history p).cell (attempt r.history p).version (omega (arith, cell, k.shape.sane.sized.few_cells)) y.0 y.1)
       met false s x = inl (ap pend_of x ∙ pend_of-Pending (attempt r.history p).cell (omega (arith, cell, k.shape.sane.sized.few_cells)))
 
-  -- what the entry of its seat says of an announced attempt that is not lost
-  pub entry_says : (q j p : ℕ) → (attempt r.history p).row ≡ q → (attempt r.history p).seat ≡ j → (attempt r.history p).is_announced ≡ true → (attempt r.history p).is_lost ≡ false → EntrySays (word z r.world) r.listed r.history q j p
-  entry_says q j p e f a n = which (k.lists.old p within)
+  -- what the entry of its seat says of an announced attempt that is not lost, and whose own cell this is
+  own_says : (q j c p : ℕ) → WasLinked r.ledger.rows q → HasCell r.history q c p → r.origin q c ≡ Some p → (attempt r.history p).seat ≡ j → (attempt r.history p).is_announced ≡ true → (attempt r.history p).is_lost ≡ false → EntrySays (word z r.world) r.listed r.history q j c p
+  own_says q j c p m w x f a n = which (k.lists.old p w.within)
     where
-      within : p < length r.history.attempts
-      within = announced_within r.history p a
-
-      over : ((attempt r.history p).is_lost ≡ true) ⊎ ((attempt r.history p).is_announced ≡ false) → EntrySays (word z r.world) r.listed r.history q j p
+      over : ((attempt r.history p).is_lost ≡ true) ⊎ ((attempt r.history p).is_announced ≡ false) → EntrySays (word z r.world) r.listed r.history q j c p
       over (inl x) = true_false x n
       over (inr x) = true_false a x
 
-      which : IsCurrent (slice_get r.world.locals) r.seats r.history p ⊎ (r.listed (attempt r.history p).row (attempt r.history p).cell ≡ true) ⊎ IsOver r.history p → EntrySays (word z r.world) r.listed r.history q j p
+      which : IsCurrent (slice_get r.world.locals) r.seats r.history p ⊎ (r.listed (attempt r.history p).row (attempt r.history p).cell ≡ true) ⊎ IsOver r.history p → EntrySays (word z r.world) r.listed r.history q j c p
       which (inr (inr o)) = over o.over
-      which (inr (inl o)) = let x : r.listed q (attempt r.history p).cell ≡ true = rw e at o in is_listed (listed_stamped q p e within x) x
-      which (inl c) = stage (fresh_or_published c.local.activity c.putting)
+      which (inr (inl o)) = let y : r.listed q c ≡ true = rw (w.row, w.cell) at o in is_listed (listed_stamped q c p m x y) y
+      which (inl u) = stage (fresh_or_published u.local.activity u.putting)
         where
           own : (attempt r.history (r.seats (attempt r.history p).seat).own) ≡ attempt r.history p
-          own = ap (attempt r.history) c.own
+          own = ap (attempt r.history) u.own
 
-          read : (pend_of (word z r.world (name.Pend q j)) ≡ Some (pend.Pending (attempt r.history p).cell)) ⊎ IsPut r.history p × (pend_of (word z r.world (name.Pend q j)) ≡ Some (pend.Stamped (attempt r.history p).cell (attempt r.history p).version)) → EntrySays (word z r.world) r.listed r.history q j p
-          read (inl x) = is_pending x
-          read (inr x) = is_stamped x.0 x.1
+          read : (pend_of (word z r.world (name.Pend q j)) ≡ Some (pend.Pending (attempt r.history p).cell)) ⊎ IsPut r.history p × (pend_of (word z r.world (name.Pend q j)) ≡ Some (pend.Stamped (attempt r.history p).cell (attempt r.history p).version)) → EntrySays (word z r.world) r.listed r.history q j c p
+          read (inl y) = is_pending (y ∙ ap (λ d. Some (pend.Pending d)) w.cell)
+          read (inr y) = is_stamped y.0 (y.1 ∙ ap (λ d. Some (pend.Stamped d (attempt r.history p).version)) w.cell)
 
-          stage : IsFresh c.local.activity ⊎ IsPublished c.local.activity → EntrySays (word z r.world) r.listed r.history q j p
-          stage (inl x) = true_false a (rw own at ((k.puts.owns (attempt r.history p).seat c.local c.knows c.putting).unannounced x))
-          stage (inr x) =
-              let o = k.puts.owns (attempt r.history p).seat c.local c.knows c.putting in
-              let row : c.local.row ≡ q = sym o.row ∙ ap (λ y. y.row) own ∙ e in
-              read (own_entry q j p within n (subst (λ y. word z r.world (name.Pend y j) ≡ entry_of (attempt r.history p)) row (subst (λ y. word z r.world (name.Pend c.local.row y) ≡ entry_of (attempt r.history p)) f (o.entry x ∙ ap entry_of own))))
+          stage : IsFresh u.local.activity ⊎ IsPublished u.local.activity → EntrySays (word z r.world) r.listed r.history q j c p
+          stage (inl y) = true_false a (rw own at ((k.puts.owns (attempt r.history p).seat u.local u.knows u.putting).unannounced y))
+          stage (inr y) =
+              let o = k.puts.owns (attempt r.history p).seat u.local u.knows u.putting in
+              let row : u.local.row ≡ q = sym o.row ∙ ap (λ y. y.row) own ∙ w.row in
+              read (own_entry q j p w.within n (subst (λ y. word z r.world (name.Pend y j) ≡ entry_of (attempt r.history p)) row (subst (λ y. word z r.world (name.Pend u.local.row y) ≡ entry_of (attempt r.history p)) f (o.entry y ∙ ap entry_of own))))
+
+  -- or which is copied there
+  pub entry_says : (q j c p : ℕ) → WasLinked r.ledger.rows q → c < z.cells → r.origin q c ≡ Some p → (attempt r.history p).seat ≡ j → (attempt r.history p).is_announced ≡ true → (attempt r.history p).is_lost ≡ false → EntrySays (word z r.world) r.listed r.history q j c p
+  entry_says q j c p m o x f a n = which (k.puts.places.owner q c p m o x)
+    where
+      which : HasCell r.history q c p ⊎ IsCopyAt (word z r.world) r.ledger.rows r.history q c p → EntrySays (word z r.world) r.listed r.history q j c p
+      which (inl w) = own_says q j c p m w x f a n
+      which (inr w) = is_listed w.stamped (k.lists.copied q c p m o x w.elsewhere)
 
   -- an attempt whose entry is stamped is not lost
   stamped_kept : (q j p c version : ℕ) → word z r.world (name.Pend q j) ≡ entry_of (attempt r.history p) → pend_of (word z r.world (name.Pend q j)) ≡ Some (pend.Stamped c version) → (attempt r.history p).is_lost ≡ false

@@ -16,6 +16,7 @@ use Rattle.kw_core.proofs.Runs.{goes_on-moved, holds_of_history}
 use Rattle.kw_core.proofs.Happens.{Happens, happens}
 use Rattle.kw_reads.proofs.HistoryKeeps.{may_note}
 use Rattle.kw_puts.proofs.PutsHold.{below_keeps}
+use Rattle.kw_reads.proofs.ContentsKeep.{contents_keep}
 use Rattle.kw_reads.proofs.ReadersKeep.{Before, readers_keep}
 use Rattle.kw_reads.proofs.RepliesKeep.{replies_keep}
 use Rattle.kw_reads.proofs.Opens.{inv_start}
@@ -26,7 +27,8 @@ inv_keeps z r r' s choice l a l' h i =
     let after = below_keeps z r r' s choice l a l' h (lower i) (may_note z r r' s choice l a l' h i) in
     let before : Before z r r' = record { inv = i; after = after } in
     let readers = readers_keep z r r' s choice l a l' h before in
-    record { shape = after.shape; history = after.history; puts = after.puts; lists = after.lists; positions = after.positions; readers = readers; replies = replies_keep z r r' s choice l a l' h before readers }
+    let contents = contents_keep z r r' s choice l a l' h i after in
+    record { shape = after.shape; history = after.history; puts = after.puts; lists = after.lists; positions = after.positions; readers = readers; contents = contents; replies = replies_keep z r r' s choice l a l' h before readers contents }
 
 -- one event that may come
 pub inv_goes_on : (z : Sizes) (o : Opening) (r : Run) (e : Event) → may_step o r.world e ≡ true → Inv z r → Inv z (goes_on z r e)

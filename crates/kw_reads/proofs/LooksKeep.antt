@@ -23,23 +23,27 @@ use Rattle.kw_words.specs.declared.sizes.TheConstants.{MOST_CELLS}
 use Rattle.kw_world.specs.Sane.{IsActivity, IsLocal}
 use Rattle.kw_world.specs.Step.{word}
 use Rattle.kw_core.specs.History.{History, attempt}
-use Rattle.kw_core.specs.Run.{Run}
+use Rattle.kw_core.specs.Run.{Origins, Run}
 use Rattle.kw_core.specs.declared.seat_log.SeatLog.{SeatLog}
 use Rattle.kw_core.specs.Stages.{IsLooking, IsTaking}
+use Rattle.kw_rows.specs.Rows.{WasLinked}
 use Rattle.kw_reads.specs.Readers.{IsDue, IsNoted, IsReady, IsMarkOf, Looks}
-use Rattle.kw_reads.specs.Inv.{Inv}
-use Rattle.kw_core.proofs.Steps.{announced_within}
+use Rattle.kw_reads.specs.Inv.{Inv, lower}
 use Rattle.kw_puts.proofs.Owners.{true_false}
-use Rattle.kw_core.proofs.Building.{never_built}
+use Rattle.kw_core.proofs.BuiltNext.{built_next}
 use Rattle.kw_core.proofs.Arrows.{builds, NextLook, looks, lists, NextRest, rests, answers, ends_scan, scans_on, Arrow, reads_last, reads_before, meets_pending, meets_stamped, meets_neither, is_wanted, is_passed, loads_to_help, helps, finds_stamped, finds_other, list_leads, list_ends, key_below, key_within, key_above, loads_version, gathers_listed, rest_wanted, rest_passed, gathers_rest}
 use Rattle.kw_core.proofs.Happens.{Happens, exchanged, not_exchanged}
 use Rattle.kw_core.proofs.InRange.{unmarked_in_range}
 use Rattle.kw_core.specs.Listed.{Listed}
-use Rattle.kw_reads.proofs.Relying.{goes_on_by}
-use Rattle.kw_puts.proofs.Rely.{GoesOn}
-use Rattle.kw_core.proofs.Marks.{marked_more, marked_last}
+use Rattle.kw_puts.proofs.BuiltStages.{building_after}
+use Rattle.kw_reads.proofs.BuiltReads.{after_rests, looking_reads, reader_reads}
+use Rattle.kw_reads.proofs.CellsWithin.{within_keeps}
+use Rattle.kw_puts.proofs.CellsOf.{cell_key}
 use Rattle.kw_puts.proofs.ListSteps.{listed_stays}
-use Rattle.kw_reads.proofs.Ready.{KeepsListed, looks_last, marks_last}
+use Rattle.kw_reads.proofs.Relying.{record_stays}
+use Rattle.kw_core.proofs.Marks.{marked_more, marked_last}
+use Rattle.kw_reads.proofs.Ready.{KeepsListed, RecordStays, looks_last, marks_last}
+use Rattle.kw_reads.proofs.WalksKeep.{row_linked, row_linked_on}
 use Rattle.kw_puts.specs.Below.{Below}
 use Rattle.kw_reads.proofs.EntrySays.{EntrySays, is_listed, is_pending, is_stamped, listed_ready, entry_says, stamped_owner}
 
@@ -49,26 +53,26 @@ noted_more f l c version d (inl m) = inl (marked_more d l.remembered (mark_of c 
 noted_more f l c version d (inr n) = inr n
 
 -- what is ready stays so
-ready_more : (f : Listed) (h : History) (l : Local) (c version p : ℕ) → IsReady f h l p → IsReady f h (remembering c version l) p
-ready_more f h l c version p n = record { stamped = n.stamped; noted = noted_more f l c version (attempt h p).cell n.noted }
+ready_more : (f : Listed) (h : History) (l : Local) (d version c p : ℕ) → IsReady f h l c p → IsReady f h (remembering d version l) c p
+ready_more f h l d version c p n = record { stamped = n.stamped; noted = noted_more f l d version c n.noted }
 
--- a stamped attempt of the cell is ready
-ready_marked : (f : Listed) (h : History) (l : Local) (c version p : ℕ) → (attempt h p).is_stamped ≡ true → (attempt h p).cell ≡ c → IsReady f h (remembering c version l) p
-ready_marked f h l c version p s e = record { stamped = s; noted = inl (rw e (marked_last c version l.remembered)) }
+-- a stamped attempt is ready of which the cell is that one
+ready_marked : (f : Listed) (h : History) (l : Local) (d version c p : ℕ) → (attempt h p).is_stamped ≡ true → c ≡ d → IsReady f h (remembering d version l) c p
+ready_marked f h l d version c p s e = record { stamped = s; noted = inl (rw e (marked_last d version l.remembered)) }
 
 -- an activity says nothing of what is ready
-ready_at : (f : Listed) (h : History) (l : Local) (next : Activity) (p : ℕ) → IsReady f h l p → IsReady f h (record l { activity = next }) p
-ready_at f h l next p n = record { stamped = n.stamped; noted = n.noted }
+ready_at : (f : Listed) (h : History) (l : Local) (next : Activity) (c p : ℕ) → IsReady f h l c p → IsReady f h (record l { activity = next }) c p
+ready_at f h l next c p n = record { stamped = n.stamped; noted = n.noted }
 
 -- the cell that was met, or what is ready, for another local that notes the same cells
-met_as : (f : Listed) (h : History) (l l' : Local) (c p : ℕ) → ((u : ℕ) → IsNoted f l u → IsNoted f l' u) → ((attempt h p).cell ≡ c) ⊎ IsReady f h l p → ((attempt h p).cell ≡ c) ⊎ IsReady f h l' p
-met_as f h l l' c p g (inl e) = inl e
-met_as f h l l' c p g (inr n) = inr (record { stamped = n.stamped; noted = g (attempt h p).cell n.noted })
+met_as : (f : Listed) (h : History) (l l' : Local) (d c p : ℕ) → ((u : ℕ) → IsNoted f l u → IsNoted f l' u) → (c ≡ d) ⊎ IsReady f h l c p → (c ≡ d) ⊎ IsReady f h l' c p
+met_as f h l l' d c p g (inl e) = inl e
+met_as f h l l' d c p g (inr n) = inr (record { stamped = n.stamped; noted = g c n.noted })
 
 -- what the reader knows at the next look, or at the row's first link
-looks_next : (z : Sizes) (f : Listed) (h : History) (j : ℕ) (next : Activity) (l : Local) (g : SeatLog) → NextLook z j next → ((p : ℕ) → IsDue h l.row l.call g.looked p → (attempt h p).seat < j → IsReady f h l p) → Looks z f h next (record l { activity = next }) g
-looks_next z f h j _ l g (looks w) y = record { past = λ p d i. ready_at f h l (Look j) p (y p d i); here = λ m. absurd m }
-looks_next z f h j _ l g (lists w) y = record { past = λ p d i. ready_at f h l ListFrom p (y p d (omega (arith, i, w))); here = λ m. absurd m }
+looks_next : (z : Sizes) (f : Listed) (h : History) (o : Origins) (j : ℕ) (next : Activity) (l : Local) (g : SeatLog) → NextLook z j next → ((c p : ℕ) → IsDue h o l.row l.call g.looked c p → (attempt h p).seat < j → IsReady f h l c p) → Looks z f h o next (record l { activity = next }) g
+looks_next z f h o j _ l g (looks w) y = record { past = λ c p d i. ready_at f h l (Look j) c p (y c p d i); here = λ m. absurd m }
+looks_next z f h o j _ l g (lists w) y = record { past = λ c p d i. ready_at f h l ListFrom c p (y c p d (omega (arith, i, w))); here = λ m. absurd m }
 
 -- a seat below the next one is below this one, or is this one
 pub below_next : (a i : ℕ) → a < i + 1 → (a < i) ⊎ (a ≡ i)
@@ -85,32 +89,35 @@ not_looking l _ (answers c e) x = x
 not_looking l _ (ends_scan c e n) x = x
 not_looking l _ (scans_on q c e n u) x = x
 
--- what the entry that was met says of the attempts of its seat that are not lost
-module _ {z : Sizes} {r : Run} (k : Below z r) (l : Local) (j p : ℕ) (e : (attempt r.history p).row ≡ l.row) (f : (attempt r.history p).seat ≡ j) (a : (attempt r.history p).is_announced ≡ true) (u : (attempt r.history p).is_lost ≡ false) where
+-- what the entry that was met says of a cell of its row that stands for an attempt of its seat which is due
+module _ {z : Sizes} {r : Run} (k : Below z r) (within : (q c p : ℕ) → r.origin q c ≡ Some p → c < z.cells) (l : Local) (linked : WasLinked r.ledger.rows l.row) (j looked c p : ℕ) (due : IsDue r.history r.origin l.row l.call looked c p) (f : (attempt r.history p).seat ≡ j) where
+  says : EntrySays (word z r.world) r.listed r.history l.row j c p
+  says = entry_says k l.row j c p linked (within l.row c p due.origin) due.origin f due.announced due.kept
+
   -- it is stamped, and its cell is remembered
-  stamped_here : (c version : ℕ) → pend_of (word z r.world (name.Pend l.row j)) ≡ Some (pend.Stamped c version) → IsReady r.listed r.history (remembering c version l) p
-  stamped_here c version w = which (entry_says k l.row j p e f a u)
+  stamped_here : (d version : ℕ) → pend_of (word z r.world (name.Pend l.row j)) ≡ Some (pend.Stamped d version) → IsReady r.listed r.history (remembering d version l) c p
+  stamped_here d version w = which says
     where
-      which : EntrySays (word z r.world) r.listed r.history l.row j p → IsReady r.listed r.history (remembering c version l) p
-      which (is_listed s x) = ready_more r.listed r.history l c version p (listed_ready k l p s x)
-      which (is_pending x) = let y : Some (pend.Pending (attempt r.history p).cell) ≡ Some (pend.Stamped c version) = sym x ∙ w in absurd (cc)
-      which (is_stamped s x) = let y : Some (pend.Stamped (attempt r.history p).cell (attempt r.history p).version) ≡ Some (pend.Stamped c version) = sym x ∙ w in ready_marked r.listed r.history l c version p s (cc)
+      which : EntrySays (word z r.world) r.listed r.history l.row j c p → IsReady r.listed r.history (remembering d version l) c p
+      which (is_listed s x) = ready_more r.listed r.history l d version c p (listed_ready k l c p s x)
+      which (is_pending x) = let y : Some (pend.Pending c) ≡ Some (pend.Stamped d version) = sym x ∙ w in absurd (cc)
+      which (is_stamped s x) = let y : Some (pend.Stamped c (attempt r.history p).version) ≡ Some (pend.Stamped d version) = sym x ∙ w in ready_marked r.listed r.history l d version c p s (cc)
 
   -- it is pending with a cell
-  pending_here : (c : ℕ) → pend_of (word z r.world (name.Pend l.row j)) ≡ Some (pend.Pending c) → ((attempt r.history p).cell ≡ c) ⊎ IsReady r.listed r.history l p
-  pending_here c w = which (entry_says k l.row j p e f a u)
+  pending_here : (d : ℕ) → pend_of (word z r.world (name.Pend l.row j)) ≡ Some (pend.Pending d) → (c ≡ d) ⊎ IsReady r.listed r.history l c p
+  pending_here d w = which says
     where
-      which : EntrySays (word z r.world) r.listed r.history l.row j p → ((attempt r.history p).cell ≡ c) ⊎ IsReady r.listed r.history l p
-      which (is_listed s x) = inr (listed_ready k l p s x)
-      which (is_pending x) = let y : Some (pend.Pending (attempt r.history p).cell) ≡ Some (pend.Pending c) = sym x ∙ w in inl (cc)
-      which (is_stamped s x) = let y : Some (pend.Stamped (attempt r.history p).cell (attempt r.history p).version) ≡ Some (pend.Pending c) = sym x ∙ w in absurd (cc)
+      which : EntrySays (word z r.world) r.listed r.history l.row j c p → (c ≡ d) ⊎ IsReady r.listed r.history l c p
+      which (is_listed s x) = inr (listed_ready k l c p s x)
+      which (is_pending x) = let y : Some (pend.Pending c) ≡ Some (pend.Pending d) = sym x ∙ w in inl (cc)
+      which (is_stamped s x) = let y : Some (pend.Stamped c (attempt r.history p).version) ≡ Some (pend.Pending d) = sym x ∙ w in absurd (cc)
 
-  -- it is not stamped, and not pending with the attempt's cell
-  neither_here : (pend_of (word z r.world (name.Pend l.row j)) ≢ Some (pend.Pending (attempt r.history p).cell)) → ((c version : ℕ) → pend_of (word z r.world (name.Pend l.row j)) ≢ Some (pend.Stamped c version)) → IsReady r.listed r.history l p
-  neither_here m n = which (entry_says k l.row j p e f a u)
+  -- it is not stamped, and not pending with this cell
+  neither_here : (pend_of (word z r.world (name.Pend l.row j)) ≢ Some (pend.Pending c)) → ((d version : ℕ) → pend_of (word z r.world (name.Pend l.row j)) ≢ Some (pend.Stamped d version)) → IsReady r.listed r.history l c p
+  neither_here m n = which says
     where
-      which : EntrySays (word z r.world) r.listed r.history l.row j p → IsReady r.listed r.history l p
-      which (is_listed s x) = listed_ready k l p s x
+      which : EntrySays (word z r.world) r.listed r.history l.row j c p → IsReady r.listed r.history l c p
+      which (is_listed s x) = listed_ready k l c p s x
       which (is_pending x) = absurd (m x)
       which (is_stamped s x) = absurd (n _ _ x)
 
@@ -127,28 +134,32 @@ marks_on P l _ (scans_on q c e n u) (inr x) m = absurd x
 -- a reader's event, with what it leaves of the record and of the listed cells
 module _ {z : Sizes} {r r' : Run} {s : ℕ} {choice : Choice} {l l' : Local} {a : Activity} (h : Happens z r r' s choice l l' a) (i : Inv z r) where
   -- the record goes on
-  pub goes : GoesOn r.history r'.history r.origin r'.origin
-  goes = goes_on_by z r r' s choice l a l' h i
+  pub goes : RecordStays r.history r'.history r.origin r'.origin r.ledger.rows
+  goes = record_stays z r r' s choice l a l' h i
 
   -- listed cells stay listed
-  pub keeps : KeepsListed r.listed r'.listed
-  keeps = listed_stays z r r' s choice l a l' h
+  pub keeps : KeepsListed r.ledger.rows r.listed r'.listed
+  keeps = listed_stays z r r' s choice l a l' h (lower i)
+
+  -- what stands for an attempt is a cell of its row
+  pub within : (q c p : ℕ) → r'.origin q c ≡ Some p → c < z.cells
+  within = within_keeps a h i
 
   -- what the reader knew
-  pub looks_before : IsLooking a → Looks z r.listed r.history a l (r.seats s)
-  looks_before x = subst (λ c. Looks z r.listed r.history c l (r.seats s)) h.activity (i.readers.looks s l h.knows (subst IsLooking (sym h.activity) x))
+  pub looks_before : IsLooking a → Looks z r.listed r.history r.origin a l (r.seats s)
+  looks_before x = subst (λ c. Looks z r.listed r.history r.origin c l (r.seats s)) h.activity (i.readers.looks s l h.knows (subst IsLooking (sym h.activity) x))
 
   -- the row is one of the table's
   pub row_below : l.row < r.world.rows
   row_below = (i.shape.sane.locals s l h.knows).below.row
 
   -- and knows after its event
-  pub looks_after : IsLooking a → (r'.seats s).looked ≡ (r.seats s).looked → Looks z r'.listed r'.history a l (r'.seats s)
-  looks_after x e = looks_last goes z r.listed r'.listed a l (r.seats s) (r'.seats s) keeps e (i.positions.looks s) (looks_before x)
+  pub looks_after : IsLooking a → (r'.seats s).looked ≡ (r.seats s).looked → Looks z r'.listed r'.history r'.origin a l (r'.seats s)
+  looks_after x e = looks_last goes z r.listed r'.listed a l (r.seats s) (r'.seats s) (row_linked h i (looking_reads a x)) keeps e (i.positions.looks s) (looks_before x)
 
   -- the cells that the reader remembered
   pub marks_after : IsLooking a ⊎ IsTaking a → All (IsMarkOf r'.history r'.origin l.row) l.remembered
-  marks_after x = marks_last goes l.row l.remembered (i.readers.remembers s l h.knows (subst (λ c. IsLooking c ⊎ IsTaking c) (sym h.activity) x))
+  marks_after x = marks_last goes l.row (row_linked h i (reader_reads a x)) l.remembered (i.readers.remembers s l h.knows (subst (λ c. IsLooking c ⊎ IsTaking c) (sym h.activity) x))
 
   -- what the reader knows is in range
   pub ranges : IsLocal z l
@@ -161,8 +172,8 @@ module _ {z : Sizes} {r r' : Run} {s : ℕ} {choice : Choice} {l l' : Local} (j 
   look_found = h.changed.loaded refl (name.Pend l.row j)
 
   -- the attempts of the seats below are ready as before
-  look_past : (p : ℕ) → IsDue r'.history l.row l.call (r'.seats s).looked p → (attempt r'.history p).seat < j → IsReady r'.listed r'.history l p
-  look_past p d w = (looks_after h i tt (ap (λ g. g.looked) h.log ∙ rw (ne_eqb j 0 (λ e. absurd (omega (arith, e, w)))) refl)).past p d w
+  look_past : (c p : ℕ) → IsDue r'.history r'.origin l.row l.call (r'.seats s).looked c p → (attempt r'.history p).seat < j → IsReady r'.listed r'.history l c p
+  look_past c p d w = (looks_after h i tt (ap (λ g. g.looked) h.log ∙ rw (ne_eqb j 0 (λ e. absurd (omega (arith, e, w)))) refl)).past c p d w
 
   -- the entry is one of the row's
   look_seat : j < z.seats
@@ -187,12 +198,12 @@ module _ {z : Sizes} {r r' : Run} {s : ℕ} {choice : Choice} {l l' : Local} (h 
   help_found c version e = ap pend_of (help_kept (λ x. let y : Some (pend.Stamped c version) ≡ Some (pend.Pending l.met) = sym e ∙ x in cc)) ∙ e
 
   -- what the reader knew
-  help_after : Looks z r'.listed r'.history LookHelp l (r'.seats s)
+  help_after : Looks z r'.listed r'.history r'.origin LookHelp l (r'.seats s)
   help_after = looks_after h i tt (ap (λ g. g.looked) h.log)
 
 -- the cells that the acting reader remembers
 pub marks_by : (z : Sizes) (r r' : Run) (s : ℕ) (choice : Choice) (l : Local) (a : Activity) (l' : Local) → Arrow z (word z r.world) s choice l a l' → Happens z r r' s choice l l' a → Inv z r → Below z r' → IsLooking l'.activity ⊎ IsTaking l'.activity → All (IsMarkOf r'.history r'.origin l'.row) l'.remembered
-marks_by z r r' s choice l a l' (builds b next y o t) h i k p = never_built z b y o
+marks_by z r r' s choice l a l' (builds b next y o t) h i k p = after_rests l'.activity (built_next z (word z r.world) choice l b l' t) p
 marks_by z r r' s choice l _ _ (reads_last f n) h i k p = All-nil (IsMarkOf r'.history r'.origin l.row)
 marks_by z r r' s choice l _ _ (reads_before f w) h i k p = All-nil (IsMarkOf r'.history r'.origin l.row)
 marks_by z r r' s choice l _ _ (meets_pending j c e) h i k p = marks_after h i (inl tt)
@@ -218,45 +229,46 @@ marks_by z r r' s choice l a l' b h i k (inl p) = absurd p
 marks_by z r r' s choice l a l' b h i k (inr p) = absurd p
 
 -- the attempts of the seats below the next one: those below this one, and this one's
-each_below : (f : Listed) (h : History) (l : Local) (looked i : ℕ) → ((p : ℕ) → IsDue h l.row l.call looked p → (attempt h p).seat < i → IsReady f h l p) → ((p : ℕ) → IsDue h l.row l.call looked p → (attempt h p).seat ≡ i → IsReady f h l p) → (p : ℕ) → IsDue h l.row l.call looked p → (attempt h p).seat < i + 1 → IsReady f h l p
-each_below f h l looked i past here p d w = which (below_next (attempt h p).seat i w)
+each_below : (f : Listed) (h : History) (o : Origins) (l : Local) (looked i : ℕ) → ((c p : ℕ) → IsDue h o l.row l.call looked c p → (attempt h p).seat < i → IsReady f h l c p) → ((c p : ℕ) → IsDue h o l.row l.call looked c p → (attempt h p).seat ≡ i → IsReady f h l c p) → (c p : ℕ) → IsDue h o l.row l.call looked c p → (attempt h p).seat < i + 1 → IsReady f h l c p
+each_below f h o l looked i past here c p d w = which (below_next (attempt h p).seat i w)
   where
-    which : ((attempt h p).seat < i) ⊎ ((attempt h p).seat ≡ i) → IsReady f h l p
-    which (inl x) = past p d x
-    which (inr x) = here p d x
+    which : ((attempt h p).seat < i) ⊎ ((attempt h p).seat ≡ i) → IsReady f h l c p
+    which (inl x) = past c p d x
+    which (inr x) = here c p d x
 
--- a key that is passed over is that of no attempt that is due
-passed : {z : Sizes} {r : Run} (k : Below z r) (l : Local) (w : ℕ) (p looked : ℕ) → word z r.world (name.Key l.row l.met) ≡ w → is_in_range l.call (key_of_word w) ≡ false → IsDue r.history l.row l.call looked p → ((attempt r.history p).cell ≡ l.met) ⊎ IsReady r.listed r.history l p → IsReady r.listed r.history l p
-passed k l w p looked e f d (inr n) = n
-passed {z} {r} k l w p looked e f d (inl c) =
-    let y : key_of_word (word z r.world (name.Key l.row l.met)) ≡ (attempt r.history p).key = rw (d.row, c) at ((k.puts.body p (announced_within r.history p d.announced)).key d.announced) in
+-- the key of the cell that was met is passed over: it is that of no attempt that is due
+passed : {z : Sizes} {r : Run} (k : Below z r) (within : (q c p : ℕ) → r.origin q c ≡ Some p → c < z.cells) (l : Local) (linked : WasLinked r.ledger.rows l.row) (w : ℕ) (c p looked : ℕ) → word z r.world (name.Key l.row l.met) ≡ w → is_in_range l.call (key_of_word w) ≡ false → IsDue r.history r.origin l.row l.call looked c p → (c ≡ l.met) ⊎ IsReady r.listed r.history l c p → IsReady r.listed r.history l c p
+passed k within l linked w c p looked e f d (inr n) = n
+passed {z} {r} k within l linked w c p looked e f d (inl m) =
+    let y : key_of_word (word z r.world (name.Key l.row l.met)) ≡ (attempt r.history p).key = rw m at (cell_key k.puts l.row c p (k.puts.places.owner l.row c p linked (within l.row c p d.origin) d.origin) d.announced) in
     true_false d.key (rw (← e, y) at f)
 
 -- the entries that it has looked at, after its last look too
-pub looks_by : (z : Sizes) (r r' : Run) (s : ℕ) (choice : Choice) (l : Local) (a : Activity) (l' : Local) → Arrow z (word z r.world) s choice l a l' → Happens z r r' s choice l l' a → Inv z r → Below z r' → IsLooking l'.activity ⊎ IsLooking a → Looks z r'.listed r'.history l'.activity l' (r'.seats s)
-looks_by z r r' s choice l a l' (builds b next y o t) h i k p = never_built z b y o
-looks_by z r r' s choice l _ _ (reads_last f n) h i k p = record { past = λ p d w. absurd (omega (arith, w)); here = λ m. absurd m }
-looks_by z r r' s choice l _ _ (reads_before f w) h i k p = record { past = λ p d w. absurd (omega (arith, w)); here = λ m. absurd m }
-looks_by z r r' s choice l _ _ (meets_pending j c e) h i k p = record {
-  past = λ p d w. let n = look_past j h i p d w in record { stamped = n.stamped; noted = n.noted };
-  here = λ m p d f. met_as r'.listed r'.history l _ c p (λ u x. x) (pending_here k l j p d.row f d.announced d.kept c (ap pend_of (look_found j h i) ∙ e));
+pub looks_by : (z : Sizes) (r r' : Run) (s : ℕ) (choice : Choice) (l : Local) (a : Activity) (l' : Local) → Arrow z (word z r.world) s choice l a l' → Happens z r r' s choice l l' a → Inv z r → Below z r' → IsLooking l'.activity ⊎ IsLooking a → Looks z r'.listed r'.history r'.origin l'.activity l' (r'.seats s)
+looks_by z r r' s choice l a l' (builds b next y o t) h i k (inl p) = after_rests l'.activity (built_next z (word z r.world) choice l b l' t) (inl p)
+looks_by z r r' s choice l a l' (builds b next y o t) h i k (inr p) = after_rests b (building_after b y) (inl p)
+looks_by z r r' s choice l _ _ (reads_last f n) h i k p = record { past = λ c p d w. absurd (omega (arith, w)); here = λ m. absurd m }
+looks_by z r r' s choice l _ _ (reads_before f w) h i k p = record { past = λ c p d w. absurd (omega (arith, w)); here = λ m. absurd m }
+looks_by z r r' s choice l _ _ (meets_pending j d e) h i k p = record {
+  past = λ c p x w. let n = look_past j h i c p x w in record { stamped = n.stamped; noted = n.noted };
+  here = λ m c p x f. met_as r'.listed r'.history l _ d c p (λ u v. v) (pending_here k (within h i) l (row_linked_on h i tt) j (r'.seats s).looked c p x f d (ap pend_of (look_found j h i) ∙ e));
 }
-looks_by z r r' s choice l _ _ (meets_stamped j c version next e n) h i k p = looks_next z r'.listed r'.history (j + 1) next (remembering c version l) (r'.seats s) n (each_below r'.listed r'.history (remembering c version l) (r'.seats s).looked j (λ p d w. ready_more r'.listed r'.history l c version p (look_past j h i p d w)) (λ p d f. stamped_here k l j p d.row f d.announced d.kept c version (ap pend_of (look_found j h i) ∙ e)))
-looks_by z r r' s choice l _ _ (meets_neither j next e n) h i k p = looks_next z r'.listed r'.history (j + 1) next l (r'.seats s) n (each_below r'.listed r'.history l (r'.seats s).looked j (look_past j h i) (λ p d f. neither_here k l j p d.row f d.announced d.kept (λ x. e.pending _ (sym (ap pend_of (look_found j h i)) ∙ x)) (λ c u x. e.stamped c u (sym (ap pend_of (look_found j h i)) ∙ x))))
-looks_by z r r' s choice l _ _ (is_wanted e) h i k p = let n = looks_after h i tt (ap (λ g. g.looked) h.log) in record { past = λ p d w. ready_at r'.listed r'.history l LookClock p (n.past p d w); here = λ m p d f. met_as r'.listed r'.history l _ l.met p (λ u x. x) (n.here tt p d f) }
+looks_by z r r' s choice l _ _ (meets_stamped j d version next e n) h i k p = looks_next z r'.listed r'.history r'.origin (j + 1) next (remembering d version l) (r'.seats s) n (each_below r'.listed r'.history r'.origin (remembering d version l) (r'.seats s).looked j (λ c p x w. ready_more r'.listed r'.history l d version c p (look_past j h i c p x w)) (λ c p x f. stamped_here k (within h i) l (row_linked_on h i tt) j (r'.seats s).looked c p x f d version (ap pend_of (look_found j h i) ∙ e)))
+looks_by z r r' s choice l _ _ (meets_neither j next e n) h i k p = looks_next z r'.listed r'.history r'.origin (j + 1) next l (r'.seats s) n (each_below r'.listed r'.history r'.origin l (r'.seats s).looked j (look_past j h i) (λ c p x f. neither_here k (within h i) l (row_linked_on h i tt) j (r'.seats s).looked c p x f (λ y. e.pending _ (sym (ap pend_of (look_found j h i)) ∙ y)) (λ d u y. e.stamped d u (sym (ap pend_of (look_found j h i)) ∙ y))))
+looks_by z r r' s choice l _ _ (is_wanted e) h i k p = let n = looks_after h i tt (ap (λ g. g.looked) h.log) in record { past = λ c p x w. ready_at r'.listed r'.history l LookClock c p (n.past c p x w); here = λ m c p x f. met_as r'.listed r'.history l _ l.met c p (λ u v. v) (n.here tt c p x f) }
 looks_by z r r' s choice l _ _ (is_passed next e n) h i k p = let m = looks_after h i tt (ap (λ g. g.looked) h.log) in
-    looks_next z r'.listed r'.history (l.looked + 1) next l (r'.seats s) n (each_below r'.listed r'.history l (r'.seats s).looked l.looked m.past (λ p d f. passed k l (word z r.world (name.Key l.row l.met)) p (r'.seats s).looked (h.changed.loaded refl (name.Key l.row l.met)) e d (m.here tt p d f)))
-looks_by z r r' s choice l _ _ loads_to_help h i k p = let n = looks_after h i tt (ap (λ g. g.looked) h.log) in record { past = λ p d w. let x = n.past p d w in record { stamped = x.stamped; noted = x.noted }; here = λ m p d f. met_as r'.listed r'.history l _ l.met p (λ u x. x) (n.here tt p d f) }
-looks_by z r r' s choice l _ _ (helps next e n) h i k p = looks_next z r'.listed r'.history (l.looked + 1) next (remembering l.met l.helping l) (r'.seats s) n (each_below r'.listed r'.history (remembering l.met l.helping l) (r'.seats s).looked l.looked (λ p d w. ready_more r'.listed r'.history l l.met l.helping p ((help_after h i).past p d w)) (λ p d f. stamped_here k l l.looked p d.row f d.announced d.kept l.met l.helping (help_stamped h i e)))
-looks_by z r r' s choice l _ _ (finds_stamped c version next e n) h i k p = looks_next z r'.listed r'.history (l.looked + 1) next (remembering c version l) (r'.seats s) n (each_below r'.listed r'.history (remembering c version l) (r'.seats s).looked l.looked (λ p d w. ready_more r'.listed r'.history l c version p ((help_after h i).past p d w)) (λ p d f. stamped_here k l l.looked p d.row f d.announced d.kept c version (help_found h i c version e)))
-looks_by z r r' s choice l _ _ (finds_other next e n) h i k p = looks_next z r'.listed r'.history (l.looked + 1) next l (r'.seats s) n (each_below r'.listed r'.history l (r'.seats s).looked l.looked (help_after h i).past (λ p d f. left p d f ((help_after h i).here tt p d f)))
+    looks_next z r'.listed r'.history r'.origin (l.looked + 1) next l (r'.seats s) n (each_below r'.listed r'.history r'.origin l (r'.seats s).looked l.looked m.past (λ c p x f. passed k (within h i) l (row_linked_on h i tt) (word z r.world (name.Key l.row l.met)) c p (r'.seats s).looked (h.changed.loaded refl (name.Key l.row l.met)) e x (m.here tt c p x f)))
+looks_by z r r' s choice l _ _ loads_to_help h i k p = let n = looks_after h i tt (ap (λ g. g.looked) h.log) in record { past = λ c p x w. let y = n.past c p x w in record { stamped = y.stamped; noted = y.noted }; here = λ m c p x f. met_as r'.listed r'.history l _ l.met c p (λ u v. v) (n.here tt c p x f) }
+looks_by z r r' s choice l _ _ (helps next e n) h i k p = looks_next z r'.listed r'.history r'.origin (l.looked + 1) next (remembering l.met l.helping l) (r'.seats s) n (each_below r'.listed r'.history r'.origin (remembering l.met l.helping l) (r'.seats s).looked l.looked (λ c p x w. ready_more r'.listed r'.history l l.met l.helping c p ((help_after h i).past c p x w)) (λ c p x f. stamped_here k (within h i) l (row_linked_on h i tt) l.looked (r'.seats s).looked c p x f l.met l.helping (help_stamped h i e)))
+looks_by z r r' s choice l _ _ (finds_stamped d version next e n) h i k p = looks_next z r'.listed r'.history r'.origin (l.looked + 1) next (remembering d version l) (r'.seats s) n (each_below r'.listed r'.history r'.origin (remembering d version l) (r'.seats s).looked l.looked (λ c p x w. ready_more r'.listed r'.history l d version c p ((help_after h i).past c p x w)) (λ c p x f. stamped_here k (within h i) l (row_linked_on h i tt) l.looked (r'.seats s).looked c p x f d version (help_found h i d version e)))
+looks_by z r r' s choice l _ _ (finds_other next e n) h i k p = looks_next z r'.listed r'.history r'.origin (l.looked + 1) next l (r'.seats s) n (each_below r'.listed r'.history r'.origin l (r'.seats s).looked l.looked (help_after h i).past (λ c p x f. left c p x f ((help_after h i).here tt c p x f)))
   where
     kept : pend_of (word z r'.world (name.Pend l.row l.looked)) ≡ pend_of (word z r.world (name.Pend l.row l.looked))
     kept = ap pend_of (help_kept h i e.pending)
 
-    left : (p : ℕ) → IsDue r'.history l.row l.call (r'.seats s).looked p → (attempt r'.history p).seat ≡ l.looked → ((attempt r'.history p).cell ≡ l.met) ⊎ IsReady r'.listed r'.history l p → IsReady r'.listed r'.history l p
-    left p d f (inr n) = n
-    left p d f (inl c) = neither_here k l l.looked p d.row f d.announced d.kept (λ x. e.pending (sym kept ∙ x ∙ ap (λ y. Some (pend.Pending y)) c)) (λ d u x. e.stamped d u (sym kept ∙ x))
+    left : (c p : ℕ) → IsDue r'.history r'.origin l.row l.call (r'.seats s).looked c p → (attempt r'.history p).seat ≡ l.looked → (c ≡ l.met) ⊎ IsReady r'.listed r'.history l c p → IsReady r'.listed r'.history l c p
+    left c p x f (inr n) = n
+    left c p x f (inl m) = neither_here k (within h i) l (row_linked_on h i tt) l.looked (r'.seats s).looked c p x f (λ y. e.pending (sym kept ∙ y ∙ ap (λ u. Some (pend.Pending u)) m)) (λ d u y. e.stamped d u (sym kept ∙ y))
 looks_by z r r' s choice l _ _ (list_ends next e n) h i k (inl p) = absurd (not_looking _ next n p)
 looks_by z r r' s choice l _ _ (key_above next e n) h i k (inl p) = absurd (not_looking _ next n p)
 looks_by z r r' s choice l _ _ (rest_passed next e n) h i k (inl p) = absurd (not_looking _ next n p)

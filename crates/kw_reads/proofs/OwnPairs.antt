@@ -17,17 +17,16 @@ use Rattle.kw_world.specs.Sizes.{Sizes}
 use Rattle.kw_world.specs.Calls.{first_key, last_key, is_scan, is_range_empty}
 use Rattle.kw_world.specs.ScanTransitions.{answer_or_stopped}
 use Rattle.kw_world.specs.Step.{word}
+use Rattle.kw_core.specs.Grows.{Grows}
 use Rattle.kw_core.specs.History.{History, called}
-use Rattle.kw_core.specs.Run.{Run, Origins, is_at_cell, best_id}
+use Rattle.kw_core.specs.Run.{Run, is_at_cell, best_id}
 use Rattle.kw_core.specs.declared.seat_log.SeatLog.{SeatLog}
 use Rattle.kw_core.specs.Stages.{IsAtRow, IsPassing, IsPastStart, IsCovering, IsEarly, IsReading, IsKeeping, IsSettling, IsUnderway}
 use Rattle.kw_core.specs.Words.{Words, least_in}
 use Rattle.kw_shape.specs.Shape.{IsAtItsRow, IsPutCall, IsScanCall}
-use Rattle.kw_core.specs.HistoryLaws.{GetKey}
-use Rattle.kw_reads.specs.Readers.{IsDue, AreCopies, Readers}
-use Rattle.kw_reads.specs.Replies.{Covers, HasPairs, IsCovered, IsAnswered}
+use Rattle.kw_reads.specs.Readers.{AreCopies, IsDue, Readers}
+use Rattle.kw_reads.specs.Replies.{AnswersGet, Covers, HasPairs, IsCovered, IsAnswered}
 use Rattle.kw_core.proofs.Lasts.{scan_lasts}
-use Rattle.kw_puts.proofs.Rely.{GoesOn}
 use Rattle.kw_reads.proofs.Relying.{goes_on_by}
 use Rattle.kw_core.proofs.Frame.{WritesPass}
 use Rattle.kw_rows.specs.Ledger.{Ledger}
@@ -39,7 +38,10 @@ use Rattle.kw_core.proofs.SeatLogs.{IsEnding, read_to_end}
 use Rattle.kw_shape.proofs.NextCalls.{arrow_call}
 use Rattle.kw_puts.proofs.OwnScans.{call_first, drawn_kept, looked_kept, was_scan, drawn_underway, not_idle_drawn, covering_draws, settled_from, covering_settled, draws_no_more, reading_draws}
 use Rattle.kw_puts.proofs.Owners.{true_false}
-use Rattle.kw_reads.proofs.EndOfRow.{HasReadRow, in_range_of, get_known, row_covers}
+use Rattle.kw_reads.specs.Contents.{Contents, floor_of, version_of}
+use Rattle.kw_reads.proofs.EndOfRow.{in_range_of, get_known, row_covers}
+use Rattle.kw_reads.proofs.FrontsKeep.{front_after}
+use Rattle.kw_reads.proofs.ReadsRow.{HasReadRow}
 use Rattle.kw_core.specs.Step.{Step}
 use Rattle.kw_core.proofs.Happens.{log_entry}
 use Rattle.kw_reads.specs.Inv.{lower}
@@ -47,10 +49,10 @@ use Rattle.kw_reads.proofs.HistoryKeeps.{history_step}
 use Rattle.kw_reads.proofs.ReadersKeep.{Before}
 
 -- what a scan gave lasts
-pub covers_last : (h h' : History) (o o' : Origins) (from version drawn bound : ℕ) (pairs : List (ℕ × ℕ)) → GoesOn h h' o o' → drawn ≤ length h.log → Covers h from version drawn bound pairs → Covers h' from version drawn bound pairs
-covers_last h h' o o' from version drawn bound pairs g b c = record {
+pub covers_last : (h h' : History) (from version drawn bound : ℕ) (pairs : List (ℕ × ℕ)) → Grows h h' (length h.log) → drawn ≤ length h.log → Covers h from version drawn bound pairs → Covers h' from version drawn bound pairs
+covers_last h h' from version drawn bound pairs g b c = record {
   rises = c.rises;
-  keys = λ key w u. let x = c.keys key w u in (x.0, scan_lasts h h' (length h.log) key version drawn pairs x.0 g.grows b x.1);
+  keys = λ key w u. let x = c.keys key w u in (x.0, scan_lasts h h' (length h.log) key version drawn pairs x.0 g b x.1);
 }
 
 -- Where a row ends.
@@ -115,22 +117,21 @@ module _ (z : Sizes) (r r' : Run) (s : ℕ) (choice : Choice) (l : Local) (a : A
       row_stable _ _ _ _ s (own_rely z r r' s choice l a l' h i.inv.shape p.0 p.1) l ((i.inv.shape.walks s l h.knows).at (subst IsAtRow (sym h.activity) (ending_reads a x).2))
 
   -- the row that a reader has read
-  read_row : Readers z r' → IsEnding a → (m : Local) → SameRead l m → EndedAs m l' → HasReadRow z r' s m (r'.seats s)
+  read_row : Readers z r' → IsEnding a → (m : Local) → SameRead l m → EndedAs m l' → HasReadRow z r' s m (r'.seats s) (version_of m) (floor_of r' s m)
   read_row n x m q e =
       let read : (r'.seats s).read ≡ Some m.row = ap (λ (g : SeatLog). g.read) h.log ∙ read_to_end z choice l _ l'.activity (r.seats s) r.origin r.history (r.settled s) a x e.no_cell ∙ ap Some (sym q.row) in
-      let copies = (n.gathers s l' (knows_next h)).kept e.keeping m.row read in
-      let seen = n.seen s l' (knows_next h) in
       record {
         at = same_at (word z r'.world) r'.ledger.rows s l m q (at_row x);
-        copies = subst (λ c. AreCopies r'.history m.row c m.gathered (r'.seats s).ids) e.call (subst (λ c. AreCopies r'.history m.row l'.call c (r'.seats s).ids) e.gathered copies);
-        stamped = λ p d. seen.stamped e.keeping m.row read p (subst (λ c. IsDue r'.history m.row c (r'.seats s).looked p) (sym e.call) d);
-        taken = λ p d. seen.taken e.keeping m.row read p (subst (λ c. IsDue r'.history m.row c (r'.seats s).looked p) (sym e.call) d);
+        within = n.within;
+        copies = subst (λ c. AreCopies r'.history r'.origin m.row c m.gathered (r'.seats s).ids) e.call (subst (λ c. AreCopies r'.history r'.origin m.row l'.call c (r'.seats s).ids) e.gathered ((n.gathers s l' (knows_next h)).kept e.keeping m.row read));
+        taken = λ c p d. (n.seen s l' (knows_next h)).taken e.keeping m.row read c p (subst (λ u. IsDue r'.history r'.origin m.row u (r'.seats s).looked c p) (sym e.call) d);
+        front = front_after z r r' s choice l a l' h i.inv i.inv.contents (ending_reads a x).0 m q.row q.call q.version;
       }
 
   -- the pairs of the rows before it
   old_covers : IsCovering a → is_scan l.call ≡ true → Covers r'.history (first_key l.call) l.version (r'.seats s).drawn l.want l.pairs
   old_covers c e = subst (λ d. Covers r'.history (first_key l.call) l.version d l.want l.pairs) (sym (drawn_kept z r r' s choice l a l' b h (lower i.inv) step (draws_no_more a (covering_draws a c))))
-      (covers_last r.history r'.history r.origin r'.origin _ _ _ _ _ (goes_on_by z r r' s choice l a l' h i.inv) (i.inv.positions.drew s) (before.covers e (subst IsCovering (sym h.activity) c)))
+      (covers_last r.history r'.history _ _ _ _ _ (goes_on_by z r r' s choice l a l' h i.inv).grows (i.inv.positions.drew s) (before.covers e (subst IsCovering (sym h.activity) c)))
 
   -- the draw stands before the look
   draw_before_look : IsReading a → is_scan l.call ≡ true → (r'.seats s).drawn < (r'.seats s).looked
@@ -193,11 +194,11 @@ pub no_pairs : (h : History) (call : Option Call) (version drawn : ℕ) → is_r
 no_pairs h call version drawn e = record { rises = tt; keys = λ key o u. absurd (omega (arith, o, u, below (last_key call) (first_key call) e)) }
 
 -- a scan that is over leaves with what it has, unless it is stopped
-pub leave_covered : (h h' : History) (o o' : Origins) (l : Local) (k : Local) (g : SeatLog) (answer : Answer) (choice : Choice) → GoesOn h h' o o' → g.drawn ≤ length h.log → k.call ≡ l.call → k.version ≡ l.version → k.pairs ≡ l.pairs → IsCovered (ClearScan answer) h l g → IsCovered (Leave (answer_or_stopped answer choice)) h' k g
-leave_covered h h' o o' l k g answer choice y w c v p x = chosen choice
+pub leave_covered : (h h' : History) (l : Local) (k : Local) (g : SeatLog) (answer : Answer) (choice : Choice) → Grows h h' (length h.log) → g.drawn ≤ length h.log → k.call ≡ l.call → k.version ≡ l.version → k.pairs ≡ l.pairs → IsCovered (ClearScan answer) h l g → IsCovered (Leave (answer_or_stopped answer choice)) h' k g
+leave_covered h h' l k g answer choice y w c v p x = chosen choice
   where
     kept : (q : Answer) → IsCovered (ClearScan q) h l g → IsCovered (Leave q) h' k g
-    kept Pairs x = rw (c, v, p) (covers_last h h' o o' _ _ _ _ _ y w x)
+    kept Pairs x = rw (c, v, p) (covers_last h h' _ _ _ _ _ y w x)
     kept Done x = tt
     kept (Value n) x = tt
     kept Absent x = tt
@@ -216,11 +217,19 @@ ending_no_settling : (a : Activity) → IsEnding a → IsSettling a → ⊥
 ending_no_settling ScanSettle x y = x
 ending_no_settling _ x y = y
 
+-- a scan reads at its version, and knows what was announced before it drew
+scan_row : (z : Sizes) (r : Run) (t : ℕ) (m : Local) → is_scan m.call ≡ true → HasReadRow z r t m (r.seats t) (version_of m) (floor_of r t m) → HasReadRow z r t m (r.seats t) m.version (r.seats t).drawn
+scan_row z r t m e k = subst (λ v. HasReadRow z r t m (r.seats t) v (r.seats t).drawn) (rw e refl) (subst (HasReadRow z r t m (r.seats t) (version_of m)) (rw e refl) k)
+
+-- any other call reads what is newest, and knows what was announced before it began
+get_row : (z : Sizes) (r : Run) (t : ℕ) (m : Local) → is_scan m.call ≡ false → HasReadRow z r t m (r.seats t) (version_of m) (floor_of r t m) → HasReadRow z r t m (r.seats t) NEWEST (called r.history (r.seats t).call).first
+get_row z r t m e k = subst (λ v. HasReadRow z r t m (r.seats t) v (called r.history (r.seats t).call).first) (rw e refl) (subst (HasReadRow z r t m (r.seats t) (version_of m)) (rw e refl) k)
+
 -- a reader that goes on to a remembered cell, or has read its row
-pub cell_pairs : (z : Sizes) (r r' : Run) (s : ℕ) (choice : Choice) (l : Local) (a : Activity) (m : Local) (l' : Local) → Arrow z (word z r.world) s choice l a l' → Happens z r r' s choice l l' a → Before z r r' → Readers z r' → IsEnding a → SameRead l m → NextRest m l' → HasPairs r'.history l'.activity l' (r'.seats s)
-cell_pairs z r r' s choice l a m l' b h i n x q (rests c w) = stays z r r' s choice l a l' b h i q.want q.pairs (ending_no_settling a x) (λ y. absurd y) tt
-cell_pairs z r r' s choice l a m l' b h i n x q (answers w e) = record { early = λ y. absurd y; from = λ f y. absurd y; upto = λ f y. absurd y; covers = λ f y. absurd y; covered = found_covered _ r'.history l' (r'.seats s) }
-cell_pairs z r r' s choice l a m l' b h i n x q (ends_scan w e f) = record { early = λ y. absurd y; from = λ f y. absurd y; upto = λ f y. absurd y; covers = λ f y. absurd y; covered = covered }
+pub cell_pairs : (z : Sizes) (r r' : Run) (s : ℕ) (choice : Choice) (l : Local) (a : Activity) (m : Local) (l' : Local) → Arrow z (word z r.world) s choice l a l' → Happens z r r' s choice l l' a → Before z r r' → Readers z r' → Contents z r' → IsEnding a → SameRead l m → NextRest m l' → HasPairs r'.history l'.activity l' (r'.seats s)
+cell_pairs z r r' s choice l a m l' b h i n v x q (rests c w) = stays z r r' s choice l a l' b h i q.want q.pairs (ending_no_settling a x) (λ y. absurd y) tt
+cell_pairs z r r' s choice l a m l' b h i n v x q (answers w e) = record { early = λ y. absurd y; from = λ f y. absurd y; upto = λ f y. absurd y; covers = λ f y. absurd y; covered = found_covered _ r'.history l' (r'.seats s) }
+cell_pairs z r r' s choice l a m l' b h i n v x q (ends_scan w e f) = record { early = λ y. absurd y; from = λ f y. absurd y; upto = λ f y. absurd y; covers = λ f y. absurd y; covered = covered }
   where
     t : IsReading a × IsCovering a × IsAtRow a × IsPastStart a × IsUnderway a
     t = ending_reads a x
@@ -239,19 +248,18 @@ cell_pairs z r r' s choice l a m l' b h i n x q (ends_scan w e f) = record { ear
         which (inr y) = omega (arith, o, y)
 
     covered : Covers r'.history (first_key m.call) m.version (r'.seats s).drawn (last_key m.call + 1) (m.pairs ++ pairs_of m.gathered m.want (last_key m.call) m.version)
-    covered = row_covers z r' i.after.shape i.after.history i.after.puts i.after.positions s m (r'.seats s)
-        (read_row z r r' s choice l a l' b h i n x m q (record { call = refl; gathered = refl; keeping = tt; no_cell = refl }))
-        m.version (r'.seats s).drawn (last_key m.call + 1) (omega (arith, draw_before_look z r r' s choice l a l' b h i t.0 scan))
+    covered = row_covers z r' i.after v s m (r'.seats s) m.version (r'.seats s).drawn
+        (scan_row z r' s m e (read_row z r r' s choice l a l' b h i n x m q (record { call = refl; gathered = refl; keeping = tt; no_cell = refl })))
+        (omega (arith, draw_before_look z r r' s choice l a l' b h i t.0 scan)) (last_key m.call + 1)
         (omega (arith, was.from scan (subst IsCovering (sym h.activity) t.1), q.want, ap first_key q.call))
         (omega (arith, was.upto scan (subst IsCovering (sym h.activity) t.1), q.want, ap last_key q.call))
         (omega arith) under (λ o. absurd (omega (arith, o)))
         (rw (q.call, q.version, q.want, q.pairs) (old_covers z r r' s choice l a l' b h i t.1 scan))
-cell_pairs z r r' s choice l a m l' b h i n x q (scans_on k w e f o) = record {
+cell_pairs z r r' s choice l a m l' b h i n v x q (scans_on k w e f o) = record {
   early = λ y. absurd y;
   from = λ g y. omega (arith, was.from scan (subst IsCovering (sym h.activity) t.1), q.want, ap first_key q.call, (read.at.next k f).below);
   upto = λ g y. o;
-  covers = λ g y. row_covers z r' i.after.shape i.after.history i.after.puts i.after.positions s m (r'.seats s) read
-      m.version (r'.seats s).drawn m.upper (omega (arith, draw_before_look z r r' s choice l a l' b h i t.0 scan))
+  covers = λ g y. row_covers z r' i.after v s m (r'.seats s) m.version (r'.seats s).drawn read (omega (arith, draw_before_look z r r' s choice l a l' b h i t.0 scan)) m.upper
       (omega (arith, was.from scan (subst IsCovering (sym h.activity) t.1), q.want, ap first_key q.call))
       ((read.at.next k f).below) (omega (arith, o)) (λ key d u v. u) (λ u. (k, f, omega arith))
       (rw (q.call, q.version, q.want, q.pairs) (old_covers z r r' s choice l a l' b h i t.1 scan));
@@ -267,8 +275,8 @@ cell_pairs z r r' s choice l a m l' b h i n x q (scans_on k w e f o) = record {
     was : HasPairs r.history l.activity l (r.seats s)
     was = i.inv.replies.pairs s l h.knows
 
-    read : HasReadRow z r' s m (r'.seats s)
-    read = read_row z r r' s choice l a l' b h i n x m q (record { call = refl; gathered = refl; keeping = tt; no_cell = refl })
+    read : HasReadRow z r' s m (r'.seats s) m.version (r'.seats s).drawn
+    read = scan_row z r' s m e (read_row z r r' s choice l a l' b h i n x m q (record { call = refl; gathered = refl; keeping = tt; no_cell = refl }))
 
 -- The answer of a get.
 
@@ -297,11 +305,11 @@ scan_call_answered (Some (Scan from upto)) answer h l g x = tt
 scan_call_answered None answer h l g x = tt
 
 -- a reader that goes on to a remembered cell, or has read its row
-pub cell_answered : (z : Sizes) (r r' : Run) (s : ℕ) (choice : Choice) (l : Local) (a : Activity) (m : Local) (l' : Local) → Arrow z (word z r.world) s choice l a l' → Happens z r r' s choice l l' a → Before z r r' → Readers z r' → IsEnding a → SameRead l m → NextRest m l' → IsAnswered l'.activity l'.call r'.history l' (r'.seats s)
-cell_answered z r r' s choice l a m l' b h i n x q (rests c w) = tt
-cell_answered z r r' s choice l a m l' b h i n x q (ends_scan w e f) = tt
-cell_answered z r r' s choice l a m l' b h i n x q (scans_on k w e f o) = tt
-cell_answered z r r' s choice l a m l' b h i n x q (answers w e) = which m.call refl
+pub cell_answered : (z : Sizes) (r r' : Run) (s : ℕ) (choice : Choice) (l : Local) (a : Activity) (m : Local) (l' : Local) → Arrow z (word z r.world) s choice l a l' → Happens z r r' s choice l l' a → Before z r r' → Readers z r' → Contents z r' → IsEnding a → SameRead l m → NextRest m l' → IsAnswered l'.activity l'.call r'.history l' (r'.seats s)
+cell_answered z r r' s choice l a m l' b h i n v x q (rests c w) = tt
+cell_answered z r r' s choice l a m l' b h i n v x q (ends_scan w e f) = tt
+cell_answered z r r' s choice l a m l' b h i n v x q (scans_on k w e f o) = tt
+cell_answered z r r' s choice l a m l' b h i n v x q (answers w e) = which m.call refl
   where
     t : IsReading a × IsCovering a × IsAtRow a × IsPastStart a × IsUnderway a
     t = ending_reads a x
@@ -313,12 +321,13 @@ cell_answered z r r' s choice l a m l' b h i n x q (answers w e) = which m.call 
         get_wants (inl y) = y
         get_wants (inr y) = true_false (subst (λ c. is_scan c ≡ true) (sym q.call) y.0) e
 
-    read : HasReadRow z r' s m (r'.seats s)
-    read = read_row z r r' s choice l a l' b h i n x m q (record { call = refl; gathered = refl; keeping = tt; no_cell = refl })
+    read : HasReadRow z r' s m (r'.seats s) NEWEST (called r'.history (r'.seats s).call).first
+    read = get_row z r' s m e (read_row z r r' s choice l a l' b h i n x m q (record { call = refl; gathered = refl; keeping = tt; no_cell = refl }))
 
     get : (key : ℕ) → m.call ≡ Some (Get key) → IsAnswered (Leave (answer_found (shown_at m.gathered NEWEST key))) (Some (Get key)) r'.history l' (r'.seats s)
-    get key c = subst (λ x. GetKey r'.history key (called r'.history (r'.seats s).call).first x (best_id m.gathered (r'.seats s).ids key NEWEST)) (sym (reply_of-found (shown_at m.gathered NEWEST key) m.pairs)) (get_known z r' i.after.shape i.after.history i.after.puts i.after.positions s m (r'.seats s) read key (called r'.history (r'.seats s).call).first (want ∙ ap first_key c)
-        (in_range_of m.call key (omega (arith, ap first_key c)) (omega (arith, ap last_key c))) (omega (arith, first_before_look z r r' s choice l a l' b h i t.0 t.4)))
+    get key c = subst (λ x. AnswersGet r'.history key (called r'.history (r'.seats s).call).first x (best_id m.gathered (r'.seats s).ids key NEWEST)) (sym (reply_of-found (shown_at m.gathered NEWEST key) m.pairs))
+        (get_known z r' i.after v s m (r'.seats s) NEWEST (called r'.history (r'.seats s).call).first read (omega (arith, first_before_look z r r' s choice l a l' b h i t.0 t.4)) key refl (want ∙ ap first_key c)
+        (in_range_of m.call key (omega (arith, ap first_key c)) (omega (arith, ap last_key c))))
 
     which : (c : Option Call) → m.call ≡ c → IsAnswered (Leave (answer_found (shown_at m.gathered NEWEST (first_key c)))) c r'.history l' (r'.seats s)
     which (Some (Put key value)) c = tt

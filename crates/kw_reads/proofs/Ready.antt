@@ -1,8 +1,8 @@
 -- What is due to a reader, and what is known of it, lasts over every event.
 --
--- The facts here ask only that the record goes on, that listed cells stay listed, and what an event leaves of a row's list; so they
--- serve for the reader's own events and for those of every other seat.
-use Rattle.std.proofs.Common.{ℕ, ◌≡◌, ◌⊎◌, inl, inr, ◌≤◌, Bool, true, false, Option, Some, List, arith, refl, sym, ◌∙◌, subst, length}
+-- The facts here ask only that the record goes on, that the cells of a row that is or was linked stand for what they did and stay listed,
+-- and what an event leaves of a row's list; so they serve for the reader's own events and for those of every other seat.
+use Rattle.std.proofs.Common.{ℕ, ◌≡◌, ◌⊎◌, inl, inr, ◌<◌, ◌≤◌, Bool, true, false, Option, Some, List, arith, refl, sym, ◌∙◌, subst, length}
 use Rattle.std.specs.Prelude.{All, Contains}
 use Rattle.std.proofs.lemmas.List.Elements.{All-weaker}
 use Rattle.kw_cells.specs.declared.cell.Cell as kw_cell
@@ -19,22 +19,34 @@ use Rattle.kw_world.specs.declared.marks.Mark.{Mark}
 use Rattle.kw_world.specs.Calls.{is_in_range}
 use Rattle.kw_world.specs.Marks.{is_marked}
 use Rattle.kw_world.specs.Sizes.{Sizes}
+use Rattle.kw_core.specs.Grows.{Grows}
 use Rattle.kw_core.specs.History.{History, attempt}
 use Rattle.kw_core.specs.HistoryLaws.{IsPut}
 use Rattle.kw_core.specs.Run.{Origins}
 use Rattle.kw_core.specs.declared.seat_log.SeatLog.{SeatLog}
 use Rattle.kw_core.specs.Listed.{Listed}
 use Rattle.kw_core.specs.Stages.{IsListing}
+use Rattle.kw_rows.specs.Ledger.{Ledger}
+use Rattle.kw_rows.specs.Rows.{WasLinked}
 use Rattle.kw_reads.specs.Readers.{IsDue, Looks, HasMetCell, ReadsList, IsFromHand, IsToCome, Reads, IsNoted, IsReady, IsMarkOf, IsInHand, IsCopyOf, AreCopies, Apart}
 use Rattle.kw_core.proofs.Attempts.{in_range}
 use Rattle.kw_core.proofs.Steps.{announced_within}
 use Rattle.kw_core.proofs.Marks.{zip_weaker}
 use Rattle.kw_puts.proofs.Owners.{true_false}
-use Rattle.kw_puts.proofs.Rely.{SameAttempt, GoesOn}
+use Rattle.kw_puts.proofs.Rely.{SameAttempt}
 
--- cells that are listed stay listed
-abbrev pub KeepsListed : Listed → Listed → Type 0
-KeepsListed f f' = (q c : ℕ) → f q c ≡ true → f' q c ≡ true
+-- what a reader counts on of the record over an event: it goes on, attempts are of what they were of, and a cell of a row that is or was
+-- linked stands for the attempt for which it stood, and for no other one that was there
+pub record RecordStays (h h' : History) (o o' : Origins) (g : Ledger) : Type 0 where
+  pub grows : Grows h h' (length h.log)
+  pub more_attempts : length h.attempts ≤ length h'.attempts
+  pub attempts : (p : ℕ) → p < length h.attempts → SameAttempt h h' p
+  pub origin : (q c p : ℕ) → WasLinked g q → o q c ≡ Some p → o' q c ≡ Some p
+  pub origin_was : (q c p : ℕ) → WasLinked g q → p < length h.attempts → o' q c ≡ Some p → o q c ≡ Some p
+
+-- cells of a row that is or was linked that are listed stay listed
+abbrev pub KeepsListed : Ledger → Listed → Listed → Type 0
+KeepsListed g f f' = (q c : ℕ) → WasLinked g q → f q c ≡ true → f' q c ≡ true
 
 -- an attempt that is not lost after an event was not lost before, for a lost one stays so
 kept_before : (b c : Bool) → (b ≡ true → c ≡ true) → c ≡ false → b ≡ false
@@ -46,9 +58,9 @@ due_key : (call : Option Call) (k q : ℕ) → k ≡ q → is_in_range call k �
 due_key call k q e i = subst (λ x. is_in_range call x ≡ true) e i
 
 -- a cell that the reader will read
-pub noted_lasts : (f f' : Listed) (l : Local) (c : ℕ) → KeepsListed f f' → IsNoted f l c → IsNoted f' l c
-noted_lasts f f' l c keeps (inl m) = inl m
-noted_lasts f f' l c keeps (inr n) = inr (keeps l.row c n)
+pub noted_lasts : (g : Ledger) (f f' : Listed) (l : Local) (c : ℕ) → WasLinked g l.row → KeepsListed g f f' → IsNoted f l c → IsNoted f' l c
+noted_lasts g f f' l c w keeps (inl m) = inl m
+noted_lasts g f f' l c w keeps (inr n) = inr (keeps l.row c w n)
 
 -- The list.
 
@@ -107,86 +119,85 @@ apart_lasts z row row' w a l k x = record {
   hand = x.hand;
 }
 
-module _ {h h' : History} {o o' : Origins} (g : GoesOn h h' o o') where
+module _ {h h' : History} {o o' : Origins} {g : Ledger} (y : RecordStays h h' o o' g) where
   -- an attempt that is due after the event was due before, where the look was before the event
-  pub due_before : (q : ℕ) (call : Option Call) (looked p : ℕ) → looked ≤ length h.log → IsDue h' q call looked p → IsDue h q call looked p
-  due_before q call looked p b d =
-      let n = g.grows.newly p d.announced (omega (arith, d.before, b)) in
-      let s = g.attempts p n.0 in
-      let a = (g.grows.old p n.0).announced n.1 in
-      record { row = sym s.row ∙ d.row; announced = n.1; before = omega (arith, a.1, d.before); kept = kept_before _ _ (g.grows.old p n.0).lost d.kept; key = due_key call _ _ s.key d.key }
+  pub due_before : (q : ℕ) (call : Option Call) (looked c p : ℕ) → WasLinked g q → looked ≤ length h.log → IsDue h' o' q call looked c p → IsDue h o q call looked c p
+  due_before q call looked c p w b d =
+      let n = y.grows.newly p d.announced (omega (arith, d.before, b)) in
+      let s = y.attempts p n.0 in
+      let a = (y.grows.old p n.0).announced n.1 in
+      record { origin = y.origin_was q c p w n.0 d.origin; announced = n.1; before = omega (arith, a.1, d.before); kept = kept_before _ _ (y.grows.old p n.0).lost d.kept; key = due_key call _ _ s.key d.key }
 
   -- a stamped attempt stays stamped, with its version
   pub stamped_lasts : (p : ℕ) → IsPut h p → IsPut h' p × ((attempt h' p).version ≡ (attempt h p).version)
-  stamped_lasts p s = let x = (g.grows.old p (in_range h p s)).stamped s in (x.0, x.1)
+  stamped_lasts p s = let x = (y.grows.old p (in_range h p s)).stamped s in (x.0, x.1)
 
   -- what a stamped attempt is of
   pub stamped_same : (p : ℕ) → IsPut h p → SameAttempt h h' p
-  stamped_same p s = g.attempts p (in_range h p s)
+  stamped_same p s = y.attempts p (in_range h p s)
 
   -- what an attempt that is due is of
-  pub due_same : (q : ℕ) (call : Option Call) (looked p : ℕ) → IsDue h q call looked p → SameAttempt h h' p
-  due_same q call looked p d = g.attempts p (announced_within h p d.announced)
+  pub due_same : (q : ℕ) (call : Option Call) (looked c p : ℕ) → IsDue h o q call looked c p → SameAttempt h h' p
+  due_same q call looked c p d = y.attempts p (announced_within h p d.announced)
 
   -- a remembered cell is still that of its attempt
-  pub mark_lasts : (q : ℕ) (m : Mark) → IsMarkOf h o q m → IsMarkOf h' o' q m
-  mark_lasts q m i = let s = stamped_lasts i.put i.stamped in record { put = i.put; origin = g.origin q m.cell i.put i.origin; stamped = s.0; version = s.1 ∙ i.version }
+  pub mark_lasts : (q : ℕ) → WasLinked g q → (m : Mark) → IsMarkOf h o q m → IsMarkOf h' o' q m
+  mark_lasts q w m i = let s = stamped_lasts i.put i.stamped in record { put = i.put; origin = y.origin q m.cell i.put w i.origin; stamped = s.0; version = s.1 ∙ i.version }
 
   -- and so is each one
-  pub marks_last : (q : ℕ) (marks : List Mark) → All (IsMarkOf h o q) marks → All (IsMarkOf h' o' q) marks
-  marks_last q marks m = All-weaker (IsMarkOf h o q) (IsMarkOf h' o' q) (mark_lasts q) marks m
+  pub marks_last : (q : ℕ) → WasLinked g q → (marks : List Mark) → All (IsMarkOf h o q) marks → All (IsMarkOf h' o' q) marks
+  marks_last q w marks m = All-weaker (IsMarkOf h o q) (IsMarkOf h' o' q) (mark_lasts q w) marks m
 
-  -- a gathered cell is still that of its attempt
-  pub copy_lasts : (q : ℕ) (call : Option Call) (c : kw_cell.Cell) (p : ℕ) → IsCopyOf h q call c p → IsCopyOf h' q call c p
-  copy_lasts q call c p i =
+  -- a gathered cell still stands for its attempt
+  pub copy_lasts : (q : ℕ) → WasLinked g q → (call : Option Call) (c : kw_cell.Cell) (p : ℕ) → IsCopyOf h o q call c p → IsCopyOf h' o' q call c p
+  copy_lasts q w call c p i =
       let s = stamped_lasts p i.stamped in
       let a = stamped_same p i.stamped in
-      record { within = omega (arith, i.within, g.more_attempts); stamped = s.0; row = a.row ∙ i.row; key = a.key ∙ i.key; version = s.1 ∙ i.version; cell = a.cell ∙ i.cell; value = a.value ∙ i.value; in_range = i.in_range }
+      record { within = omega (arith, i.within, y.more_attempts); stamped = s.0; origin = y.origin q c.place p w i.origin; key = a.key ∙ i.key; version = s.1 ∙ i.version; value = a.value ∙ i.value; in_range = i.in_range }
 
-  -- and so is each one
-  pub copies_last : (q : ℕ) (call : Option Call) (cells : List kw_cell.Cell) (ids : List ℕ) → AreCopies h q call cells ids → AreCopies h' q call cells ids
-  copies_last q call cells ids a = zip_weaker (IsCopyOf h q call) (IsCopyOf h' q call) (copy_lasts q call) cells ids a
+  -- and so does each one
+  pub copies_last : (q : ℕ) → WasLinked g q → (call : Option Call) (cells : List kw_cell.Cell) (ids : List ℕ) → AreCopies h o q call cells ids → AreCopies h' o' q call cells ids
+  copies_last q w call cells ids a = zip_weaker (IsCopyOf h o q call) (IsCopyOf h' o' q call) (copy_lasts q w call) cells ids a
 
   -- the cell in hand is still that of its attempt
-  pub hand_lasts : (a : Activity) (l : Local) → IsInHand h o a l → IsInHand h' o' a l
-  hand_lasts a l i =
+  pub hand_lasts : (a : Activity) (l : Local) → WasLinked g l.row → IsInHand h o a l → IsInHand h' o' a l
+  hand_lasts a l w i =
       let s = stamped_lasts i.put i.stamped in
-      record { put = i.put; origin = g.origin l.row l.place i.put i.origin; stamped = s.0; version = λ y. s.1 ∙ i.version y; key = λ y. (stamped_same i.put i.stamped).key ∙ i.key y; in_range = i.in_range }
+      record { put = i.put; origin = y.origin l.row l.place i.put w i.origin; stamped = s.0; version = λ u. s.1 ∙ i.version u; key = λ u. (stamped_same i.put i.stamped).key ∙ i.key u; in_range = i.in_range }
 
-  -- an attempt that is stamped, and whose cell the reader will read
-  pub ready_lasts : (f f' : Listed) (l : Local) (p : ℕ) → KeepsListed f f' → IsReady f h l p → IsReady f' h' l p
-  ready_lasts f f' l p keeps n = record { stamped = (stamped_lasts p n.stamped).0; noted = subst (IsNoted f' l) (sym (stamped_same p n.stamped).cell) (noted_lasts f f' l (attempt h p).cell keeps n.noted) }
+  -- an attempt that is stamped, and of which the reader will read this cell
+  pub ready_lasts : (f f' : Listed) (l : Local) (c p : ℕ) → WasLinked g l.row → KeepsListed g f f' → IsReady f h l c p → IsReady f' h' l c p
+  ready_lasts f f' l c p w keeps n = record { stamped = (stamped_lasts p n.stamped).0; noted = noted_lasts g f f' l c w keeps n.noted }
 
   -- what is known of the entries that the reader looked at
-  pub looks_last : (z : Sizes) (f f' : Listed) (a : Activity) (l : Local) (s s' : SeatLog) → KeepsListed f f' → s'.looked ≡ s.looked → s.looked ≤ length h.log → Looks z f h a l s → Looks z f' h' a l s'
-  looks_last z f f' a l s s' keeps e b n = record {
-    past = λ p d u. let c = was p d in ready_lasts f f' l p keeps (n.past p c (rw (same p c) at u));
-    here = λ m p d x. let c = was p d in met p c (n.here m p c (sym (same p c) ∙ x));
+  pub looks_last : (z : Sizes) (f f' : Listed) (a : Activity) (l : Local) (s s' : SeatLog) → WasLinked g l.row → KeepsListed g f f' → s'.looked ≡ s.looked → s.looked ≤ length h.log → Looks z f h o a l s → Looks z f' h' o' a l s'
+  looks_last z f f' a l s s' w keeps e b n = record {
+    past = λ c p d u. let x = was c p d in ready_lasts f f' l c p w keeps (n.past c p x (rw (same c p x) at u));
+    here = λ m c p d u. let x = was c p d in met c p (n.here m c p x (sym (same c p x) ∙ u));
   }
     where
-      was : (p : ℕ) → IsDue h' l.row l.call s'.looked p → IsDue h l.row l.call s.looked p
-      was p d = due_before l.row l.call s.looked p b (subst (λ x. IsDue h' l.row l.call x p) e d)
+      was : (c p : ℕ) → IsDue h' o' l.row l.call s'.looked c p → IsDue h o l.row l.call s.looked c p
+      was c p d = due_before l.row l.call s.looked c p w b (subst (λ x. IsDue h' o' l.row l.call x c p) e d)
 
-      same : (p : ℕ) → IsDue h l.row l.call s.looked p → (attempt h' p).seat ≡ (attempt h p).seat
-      same p d = (due_same l.row l.call s.looked p d).seat
+      same : (c p : ℕ) → IsDue h o l.row l.call s.looked c p → (attempt h' p).seat ≡ (attempt h p).seat
+      same c p d = (due_same l.row l.call s.looked c p d).seat
 
-      met : (p : ℕ) → IsDue h l.row l.call s.looked p → ((attempt h p).cell ≡ l.met) ⊎ IsReady f h l p → ((attempt h' p).cell ≡ l.met) ⊎ IsReady f' h' l p
-      met p d (inl x) = inl ((due_same l.row l.call s.looked p d).cell ∙ x)
-      met p d (inr q) = inr (ready_lasts f f' l p keeps q)
+      met : (c p : ℕ) → (c ≡ l.met) ⊎ IsReady f h l c p → (c ≡ l.met) ⊎ IsReady f' h' l c p
+      met c p (inl x) = inl x
+      met c p (inr q) = inr (ready_lasts f f' l c p w keeps q)
 
   -- what is known of the cells that the reader reads
-  pub reads_last : (n : ℕ) (row row' : Row) → Leaves n row row' → (a : Activity) (l : Local) (s s' : SeatLog) → ReadsList n row a l → s'.looked ≡ s.looked → s'.ids ≡ s.ids → s.looked ≤ length h.log → Reads row h o a l s → Reads row' h' o' a l s'
-  reads_last n row row' w a l s s' k e f b x = record {
-    stamped = λ p d. (stamped_lasts p (x.stamped p (was p d))).0;
-    found = λ p d. subst (λ ids. Contains ids p ⊎ (is_marked (attempt h' p).cell l.remembered ≡ true) ⊎ IsToCome row' a l (attempt h' p).cell) (sym f)
-        (subst (λ c. Contains s.ids p ⊎ (is_marked c l.remembered ≡ true) ⊎ IsToCome row' a l c) (sym (due_same l.row l.call s.looked p (was p d)).cell) (found p (x.found p (was p d))));
-    hand = λ y. hand_lasts a l (x.hand y);
+  pub reads_last : (n : ℕ) (row row' : Row) → Leaves n row row' → (a : Activity) (l : Local) (s s' : SeatLog) → WasLinked g l.row → ReadsList n row a l → s'.looked ≡ s.looked → s'.ids ≡ s.ids → s.looked ≤ length h.log → Reads row h o a l s → Reads row' h' o' a l s'
+  reads_last n row row' w a l s s' k m e f b x = record {
+    stamped = λ c p d. (stamped_lasts p (x.stamped c p (was c p d))).0;
+    found = λ c p d. subst (λ ids. Contains ids p ⊎ (is_marked c l.remembered ≡ true) ⊎ IsToCome row' a l c) (sym f) (found c p (x.found c p (was c p d)));
+    hand = λ u. hand_lasts a l k (x.hand u);
   }
     where
-      was : (p : ℕ) → IsDue h' l.row l.call s'.looked p → IsDue h l.row l.call s.looked p
-      was p d = due_before l.row l.call s.looked p b (subst (λ x. IsDue h' l.row l.call x p) e d)
+      was : (c p : ℕ) → IsDue h' o' l.row l.call s'.looked c p → IsDue h o l.row l.call s.looked c p
+      was c p d = due_before l.row l.call s.looked c p k b (subst (λ x. IsDue h' o' l.row l.call x c p) e d)
 
-      found : (p : ℕ) → Contains s.ids p ⊎ (is_marked (attempt h p).cell l.remembered ≡ true) ⊎ IsToCome row a l (attempt h p).cell → Contains s.ids p ⊎ (is_marked (attempt h p).cell l.remembered ≡ true) ⊎ IsToCome row' a l (attempt h p).cell
-      found p (inl y) = inl y
-      found p (inr (inl y)) = inr (inl y)
-      found p (inr (inr y)) = inr (inr (to_come_lasts n row row' w a l (attempt h p).cell k y))
+      found : (c p : ℕ) → Contains s.ids p ⊎ (is_marked c l.remembered ≡ true) ⊎ IsToCome row a l c → Contains s.ids p ⊎ (is_marked c l.remembered ≡ true) ⊎ IsToCome row' a l c
+      found c p (inl u) = inl u
+      found c p (inr (inl u)) = inr (inl u)
+      found c p (inr (inr u)) = inr (inr (to_come_lasts n row row' w a l c m u))

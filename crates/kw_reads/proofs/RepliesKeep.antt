@@ -1,7 +1,5 @@
 -- Every event keeps what holds of the pairs of scans and the answers of gets.
 use Rattle.std.proofs.Common.{ℕ, ◌≡◌, ◌+◌, ◌≤◌, Option, Some, None, [], arith, refl, sym, ◌∙◌, subst, length}
-use Rattle.kw_words.specs.declared.layout.Name.TheVariants as name
-use Rattle.kw_words.specs.Plain.{value_of_word}
 use Rattle.kw_world.specs.declared.answer.Answer.{Answer}
 use Rattle.kw_world.specs.Calls.{first_key, last_key}
 use Rattle.kw_world.specs.Answers.{reply_of}
@@ -20,29 +18,31 @@ use Rattle.kw_core.specs.Run.{Run}
 use Rattle.kw_core.specs.declared.seat_log.SeatLog.{SeatLog}
 use Rattle.kw_core.specs.Stages.{IsBusy}
 use Rattle.kw_reads.specs.Replies.{IsCovered, Covers}
-use Rattle.kw_core.specs.Words.{Words, next_in}
+use Rattle.kw_core.specs.Words.{Words}
 use Rattle.kw_puts.specs.Positions.{Calling}
 use Rattle.kw_reads.specs.Readers.{Readers}
 use Rattle.kw_reads.specs.Replies.{HasPairs, IsAnswered, Replies}
+use Rattle.kw_reads.specs.Contents.{Contents}
 use Rattle.kw_reads.specs.Inv.{Inv}
 use Rattle.kw_core.proofs.Lasts.{get_lasts}
 use Rattle.kw_core.proofs.Happens.{Happens, each_seat}
-use Rattle.kw_core.proofs.Building.{never_built}
+use Rattle.kw_core.proofs.BuiltNext.{IsAfterBuilding, built_goes, built_next}
 use Rattle.kw_core.proofs.Arrows.{builds, Arrow}
 use Rattle.kw_puts.proofs.Rely.{Rely}
+use Rattle.kw_reads.proofs.BuiltReads.{after_enters, after_pairs}
+use Rattle.kw_shape.proofs.AfterBuilding.{built_kinds}
 use Rattle.kw_reads.proofs.Relying.{rely}
 use Rattle.kw_reads.proofs.ReadersKeep.{Before}
 use Rattle.std.proofs.lemmas.Bool.{and_parts}
 use Rattle.kw_world.specs.Transition.{leave}
-use Rattle.kw_world.specs.EngageTransitions.{followed_by, refuse}
-use Rattle.kw_world.specs.TakeTransitions.{planned, keeping}
+use Rattle.kw_world.specs.EngageTransitions.{refuse}
 use Rattle.kw_world.specs.ScanTransitions.{answer_or_stopped}
 use Rattle.kw_core.specs.Stages.{IsEarly}
-use Rattle.kw_shape.specs.Shape.{IsKind, IsPutCall, IsReadCall}
+use Rattle.kw_shape.specs.Shape.{IsKind, IsPutCall, IsReadCall, Kinds}
 use Rattle.kw_shape.proofs.NextCalls.{cell_call}
 use Rattle.kw_puts.proofs.Owners.{true_false}
 use Rattle.kw_reads.proofs.Relying.{goes_on_by}
-use Rattle.kw_core.proofs.Arrows.{NextLook, looks, lists, begins, enters, is_spent, settles_empty, settles, stops, meets_stamped, meets_neither, is_passed, helps, finds_stamped, finds_other, list_ends, key_above, rest_passed, gathers_rest, clears_scan, finds_none, takes_none, is_refused, is_not_own, clears, leaves, NextRest, retries, clock_is_spent, epoch_is_spent, marks_last, decides_last, takes_last, keeps_last}
+use Rattle.kw_core.proofs.Arrows.{NextLook, looks, lists, begins, enters, is_spent, settles_empty, settles, stops, meets_stamped, meets_neither, is_passed, helps, finds_stamped, finds_other, list_ends, key_above, rest_passed, gathers_rest, clears_scan, finds_none, takes_none, is_refused, is_not_own, clears, leaves, NextRest, retries, clock_is_spent, epoch_is_spent}
 use Rattle.kw_puts.proofs.OwnScans.{IsAfterRead, after_read}
 use Rattle.kw_reads.proofs.OwnPairs.{covers_last, stays, settled_pairs, no_pairs, leave_covered, cell_pairs, put_answered, scan_answered, scan_call_answered, cell_answered}
 
@@ -54,12 +54,12 @@ pairs_stable z r r' t k y d n = subst (λ g. HasPairs r'.history k.activity k g)
   early = n.early;
   from = n.from;
   upto = n.upto;
-  covers = λ e a. covers_last r.history r'.history r.origin r'.origin _ _ _ _ _ y.goes_on d (n.covers e a);
+  covers = λ e a. covers_last r.history r'.history _ _ _ _ _ y.goes_on.grows d (n.covers e a);
   covered = covered k.activity n.covered;
 })
   where
     ended : (answer : Answer) → IsCovered (Leave answer) r.history k (r.seats t) → IsCovered (Leave answer) r'.history k (r.seats t)
-    ended Pairs x = covers_last r.history r'.history r.origin r'.origin _ _ _ _ _ y.goes_on d x
+    ended Pairs x = covers_last r.history r'.history _ _ _ _ _ y.goes_on.grows d x
     ended Done x = tt
     ended (Value v) x = tt
     ended Absent x = tt
@@ -68,7 +68,7 @@ pairs_stable z r r' t k y d n = subst (λ g. HasPairs r'.history k.activity k g)
     ended Stopped x = tt
 
     cleared : (answer : Answer) → IsCovered (ClearScan answer) r.history k (r.seats t) → IsCovered (ClearScan answer) r'.history k (r.seats t)
-    cleared Pairs x = covers_last r.history r'.history r.origin r'.origin _ _ _ _ _ y.goes_on d x
+    cleared Pairs x = covers_last r.history r'.history _ _ _ _ _ y.goes_on.grows d x
     cleared Done x = tt
     cleared (Value v) x = tt
     cleared Absent x = tt
@@ -89,7 +89,11 @@ answers_stable z r r' t k y i c n = subst (λ g. IsAnswered k.activity k.call r'
     which (Leave answer) (Some (Get key)) f x =
         let w = (f tt).within in
         let same = (y.goes_on.calls (r.seats t).call w).first in
-        rw same (get_lasts r.history r'.history (length r.history.log) key (called r.history (r.seats t).call).first (reply_of answer k.pairs) _ y.goes_on.grows (omega (arith, i.past.first (r.seats t).call w)) x)
+        rw same (record {
+          gap = x.gap;
+          knows = get_lasts r.history r'.history (length r.history.log) key (called r.history (r.seats t).call).first (reply_of answer k.pairs) x.gap y.goes_on.grows (omega (arith, i.past.first (r.seats t).call w)) x.knows;
+          answer = x.answer;
+        })
     which _ _ f x = tt
 
 -- The acting seat.
@@ -132,7 +136,7 @@ EndsPass _ = ⊥
 
 -- a call that has read no row had read none
 arrow_early : (z : Sizes) (v : Words) (s : ℕ) (choice : Choice) (l : Local) (a : Activity) (k : Local) → Arrow z v s choice l a k → (EndsPass a → ⊥) → IsEarly k.activity → IsEarly a
-arrow_early z v s choice l a k (builds b next y o t) n x = never_built z b y o
+arrow_early z v s choice l a k (builds b next y o t) n x = after_enters k.activity (built_next z v choice l b k t) x
 arrow_early z v s choice l a k (begins call e m) n x = tt
 arrow_early z v s choice l Enter k b n x = tt
 arrow_early z v s choice l ScanClock k b n x = tt
@@ -155,32 +159,32 @@ arrow_early z v s choice l AgainEpoch k b n x = tt
 arrow_early z v s choice l a k b n x = absurd x
 
 -- the pairs of the acting scan
-pub pairs_own : (z : Sizes) (r r' : Run) (s : ℕ) (choice : Choice) (l : Local) (a : Activity) (l' : Local) → Arrow z (word z r.world) s choice l a l' → Happens z r r' s choice l l' a → Before z r r' → Readers z r' → HasPairs r'.history l'.activity l' (r'.seats s)
-pairs_own z r r' s choice l a l' (builds b next y o t) h i n = never_built z b y o
-pairs_own z r r' s choice l a l' (settles_empty e) h i n = record { early = λ x. absurd x; from = λ f x. absurd x; upto = λ f x. absurd x; covers = λ f x. absurd x; covered = subst (Covers r'.history (first_key l.call) _ (r'.seats s).drawn (last_key l.call + 1)) (sym ((i.inv.replies.pairs s l h.knows).early (subst IsEarly (sym h.activity) tt))) (no_pairs r'.history l.call _ (r'.seats s).drawn e) }
-pairs_own z r r' s choice l a l' (settles e) h i n = settled_pairs r'.history l _ (r'.seats s) refl refl ((i.inv.replies.pairs s l h.knows).early (subst IsEarly (sym h.activity) tt)) e
-pairs_own z r r' s choice l a l' (clears_scan answer) h i n = record {
+pub pairs_own : (z : Sizes) (r r' : Run) (s : ℕ) (choice : Choice) (l : Local) (a : Activity) (l' : Local) → Arrow z (word z r.world) s choice l a l' → Happens z r r' s choice l l' a → Before z r r' → Readers z r' → Contents z r' → HasPairs r'.history l'.activity l' (r'.seats s)
+pairs_own z r r' s choice l a l' (builds b next y o t) h i n w = after_pairs r'.history l'.activity l' (r'.seats s) (built_next z (word z r.world) choice l b l' t)
+pairs_own z r r' s choice l a l' (settles_empty e) h i n w = record { early = λ x. absurd x; from = λ f x. absurd x; upto = λ f x. absurd x; covers = λ f x. absurd x; covered = subst (Covers r'.history (first_key l.call) _ (r'.seats s).drawn (last_key l.call + 1)) (sym ((i.inv.replies.pairs s l h.knows).early (subst IsEarly (sym h.activity) tt))) (no_pairs r'.history l.call _ (r'.seats s).drawn e) }
+pairs_own z r r' s choice l a l' (settles e) h i n w = settled_pairs r'.history l _ (r'.seats s) refl refl ((i.inv.replies.pairs s l h.knows).early (subst IsEarly (sym h.activity) tt)) e
+pairs_own z r r' s choice l a l' (clears_scan answer) h i n w = record {
   early = λ x. absurd x;
   from = λ f x. absurd x;
   upto = λ f x. absurd x;
   covers = λ f x. absurd x;
   covered = subst (λ g. IsCovered (Leave (answer_or_stopped answer choice)) r'.history (leave (answer_or_stopped answer choice) l).local g) (sym h.log)
-      (leave_covered r.history r'.history r.origin r'.origin l _ (r.seats s) answer choice (goes_on_by z r r' s choice l _ _ h i.inv) (i.inv.positions.drew s) refl refl refl (subst (λ q. IsCovered q r.history l (r.seats s)) h.activity (i.inv.replies.pairs s l h.knows).covered));
+      (leave_covered r.history r'.history l _ (r.seats s) answer choice (goes_on_by z r r' s choice l _ _ h i.inv).grows (i.inv.positions.drew s) refl refl refl (subst (λ q. IsCovered q r.history l (r.seats s)) h.activity (i.inv.replies.pairs s l h.knows).covered));
 }
-pairs_own z r r' s choice l a l' (leaves answer) h i n = record { early = λ x. refl; from = λ f x. absurd x; upto = λ f x. absurd x; covers = λ f x. absurd x; covered = tt }
-pairs_own z r r' s choice l a l' (enters e) h i n = record { early = λ x. absurd x; from = λ f x. true_false f e; upto = λ f x. true_false f e; covers = λ f x. true_false f e; covered = tt }
-pairs_own z r r' s choice l a l' (list_ends next e x) h i n = cell_pairs z r r' s choice l _ _ l' (list_ends next e x) h i n tt (record { call = refl; row = refl; want = refl; next = refl; upper = refl; version = refl; pairs = refl }) x
-pairs_own z r r' s choice l a l' (key_above next e x) h i n = cell_pairs z r r' s choice l _ _ l' (key_above next e x) h i n tt (record { call = refl; row = refl; want = refl; next = refl; upper = refl; version = refl; pairs = refl }) x
-pairs_own z r r' s choice l a l' (rest_passed next e x) h i n = cell_pairs z r r' s choice l _ _ l' (rest_passed next e x) h i n tt (record { call = refl; row = refl; want = refl; next = refl; upper = refl; version = refl; pairs = refl }) x
-pairs_own z r r' s choice l a l' (gathers_rest next x) h i n = cell_pairs z r r' s choice l _ _ l' (gathers_rest next x) h i n tt (record { call = refl; row = refl; want = refl; next = refl; upper = refl; version = refl; pairs = refl }) x
-pairs_own z r r' s choice l a l' (meets_stamped j c version next e x) h i n = stays z r r' s choice l _ _ (meets_stamped j c version next e x) h i refl refl (λ y. y) (look_not_early z _ next x) (look_covered z _ next x r'.history _ (r'.seats s))
-pairs_own z r r' s choice l a l' (meets_neither j next e x) h i n = stays z r r' s choice l _ _ (meets_neither j next e x) h i refl refl (λ y. y) (look_not_early z _ next x) (look_covered z _ next x r'.history _ (r'.seats s))
-pairs_own z r r' s choice l a l' (is_passed next e x) h i n = stays z r r' s choice l _ _ (is_passed next e x) h i refl refl (λ y. y) (look_not_early z _ next x) (look_covered z _ next x r'.history _ (r'.seats s))
-pairs_own z r r' s choice l a l' (helps next e x) h i n = stays z r r' s choice l _ _ (helps next e x) h i refl refl (λ y. y) (look_not_early z _ next x) (look_covered z _ next x r'.history _ (r'.seats s))
-pairs_own z r r' s choice l a l' (finds_stamped c version next e x) h i n = stays z r r' s choice l _ _ (finds_stamped c version next e x) h i refl refl (λ y. y) (look_not_early z _ next x) (look_covered z _ next x r'.history _ (r'.seats s))
-pairs_own z r r' s choice l a l' (finds_other next e x) h i n = stays z r r' s choice l _ _ (finds_other next e x) h i refl refl (λ y. y) (look_not_early z _ next x) (look_covered z _ next x r'.history _ (r'.seats s))
-pairs_own z r r' s choice l a l' retries h i n = record { early = λ x. i.inv.replies.unpaired s l h.knows (kind_of z r r' s choice l l' h i.inv); from = λ f x. absurd x; upto = λ f x. absurd x; covers = λ f x. absurd x; covered = tt }
-pairs_own z r r' s choice l a l' b h i n = stays z r r' s choice l _ _ b h i refl refl (λ y. y) (arrow_early z (word z r.world) s choice l _ _ b (λ y. y)) tt
+pairs_own z r r' s choice l a l' (leaves answer) h i n w = record { early = λ x. refl; from = λ f x. absurd x; upto = λ f x. absurd x; covers = λ f x. absurd x; covered = tt }
+pairs_own z r r' s choice l a l' (enters e) h i n w = record { early = λ x. absurd x; from = λ f x. true_false f e; upto = λ f x. true_false f e; covers = λ f x. true_false f e; covered = tt }
+pairs_own z r r' s choice l a l' (list_ends next e x) h i n w = cell_pairs z r r' s choice l _ _ l' (list_ends next e x) h i n w tt (record { call = refl; row = refl; want = refl; next = refl; upper = refl; version = refl; pairs = refl }) x
+pairs_own z r r' s choice l a l' (key_above next e x) h i n w = cell_pairs z r r' s choice l _ _ l' (key_above next e x) h i n w tt (record { call = refl; row = refl; want = refl; next = refl; upper = refl; version = refl; pairs = refl }) x
+pairs_own z r r' s choice l a l' (rest_passed next e x) h i n w = cell_pairs z r r' s choice l _ _ l' (rest_passed next e x) h i n w tt (record { call = refl; row = refl; want = refl; next = refl; upper = refl; version = refl; pairs = refl }) x
+pairs_own z r r' s choice l a l' (gathers_rest next x) h i n w = cell_pairs z r r' s choice l _ _ l' (gathers_rest next x) h i n w tt (record { call = refl; row = refl; want = refl; next = refl; upper = refl; version = refl; pairs = refl }) x
+pairs_own z r r' s choice l a l' (meets_stamped j c version next e x) h i n w = stays z r r' s choice l _ _ (meets_stamped j c version next e x) h i refl refl (λ y. y) (look_not_early z _ next x) (look_covered z _ next x r'.history _ (r'.seats s))
+pairs_own z r r' s choice l a l' (meets_neither j next e x) h i n w = stays z r r' s choice l _ _ (meets_neither j next e x) h i refl refl (λ y. y) (look_not_early z _ next x) (look_covered z _ next x r'.history _ (r'.seats s))
+pairs_own z r r' s choice l a l' (is_passed next e x) h i n w = stays z r r' s choice l _ _ (is_passed next e x) h i refl refl (λ y. y) (look_not_early z _ next x) (look_covered z _ next x r'.history _ (r'.seats s))
+pairs_own z r r' s choice l a l' (helps next e x) h i n w = stays z r r' s choice l _ _ (helps next e x) h i refl refl (λ y. y) (look_not_early z _ next x) (look_covered z _ next x r'.history _ (r'.seats s))
+pairs_own z r r' s choice l a l' (finds_stamped c version next e x) h i n w = stays z r r' s choice l _ _ (finds_stamped c version next e x) h i refl refl (λ y. y) (look_not_early z _ next x) (look_covered z _ next x r'.history _ (r'.seats s))
+pairs_own z r r' s choice l a l' (finds_other next e x) h i n w = stays z r r' s choice l _ _ (finds_other next e x) h i refl refl (λ y. y) (look_not_early z _ next x) (look_covered z _ next x r'.history _ (r'.seats s))
+pairs_own z r r' s choice l a l' retries h i n w = record { early = λ x. i.inv.replies.unpaired s l h.knows (kind_of z r r' s choice l l' h i.inv); from = λ f x. absurd x; upto = λ f x. absurd x; covers = λ f x. absurd x; covered = tt }
+pairs_own z r r' s choice l a l' b h i n w = stays z r r' s choice l _ _ b h i refl refl (λ y. y) (arrow_early z (word z r.world) s choice l _ _ b (λ y. y)) tt
 
 -- a put or a delete has no pairs
 
@@ -196,7 +200,7 @@ rest_unpaired : {A : Type 0} (l k next : Local) → k.call ≡ l.call → NextRe
 rest_unpaired l k next e n x y = reads_or_puts l.call x (subst IsPutCall ((cell_call k next n).0 ∙ e) y)
 
 unpaired_own : (z : Sizes) (r r' : Run) (s : ℕ) (choice : Choice) (l : Local) (a : Activity) (l' : Local) → Arrow z (word z r.world) s choice l a l' → Happens z r r' s choice l l' a → Inv z r → IsPutCall l'.call → l'.pairs ≡ []
-unpaired_own z r r' s choice l a l' (builds b next y o t) h i p = never_built z b y o
+unpaired_own z r r' s choice l a l' (builds b next y o t) h i p = let n = built_goes z (word z r.world) choice l b l' t in n.pairs ∙ i.replies.unpaired s l h.knows (subst IsPutCall n.call p)
 unpaired_own z r r' s choice l a l' (begins call e x) h i p = (i.replies.pairs s l h.knows).early (subst IsEarly (sym h.activity) tt)
 unpaired_own z r r' s choice l a l' (list_ends next e x) h i p = rest_unpaired l _ next refl x (kind_of z r r' s choice l l' h i) p
 unpaired_own z r r' s choice l a l' (key_above next e x) h i p = rest_unpaired l _ next refl x (kind_of z r r' s choice l l' h i) p
@@ -205,40 +209,43 @@ unpaired_own z r r' s choice l a l' (gathers_rest next x) h i p = rest_unpaired 
 unpaired_own z r r' s choice l a l' (leaves answer) h i p = refl
 unpaired_own z r r' s choice l a l' b h i p = i.replies.unpaired s l h.knows p
 
+-- what follows the building of rows is no answer of a get
+after_answered : (a : Activity) (call : Option Call) (h : History) (l : Local) (g : SeatLog) → IsAfterBuilding a → IsPutCall call → IsAnswered a call h l g
+after_answered (Leave answer) call h l g b p = put_answered call answer h l g p
+after_answered _ call h l g b p = tt
+
 -- the answer of the acting get
-pub answers_own : (z : Sizes) (r r' : Run) (s : ℕ) (choice : Choice) (l : Local) (a : Activity) (l' : Local) → Arrow z (word z r.world) s choice l a l' → Happens z r r' s choice l l' a → Before z r r' → Readers z r' → IsAnswered l'.activity l'.call r'.history l' (r'.seats s)
-answers_own z r r' s choice l a l' (builds b next y o t) h i n = never_built z b y o
-answers_own z r r' s choice l a l' (is_spent e) h i n = scan_call_answered l.call Spent r'.history (leave Spent l).local (r'.seats s) (kind_of z r r' s choice l l' h i.inv)
-answers_own z r r' s choice l a l' (clears_scan answer) h i n = scan_call_answered l.call (answer_or_stopped answer choice) r'.history (leave (answer_or_stopped answer choice) l).local (r'.seats s) (kind_of z r r' s choice l l' h i.inv).0
-answers_own z r r' s choice l a l' (stops e) h i n = scan_answered l.call Stopped r'.history (leave Stopped l).local (r'.seats s) (and_parts _ _ (and_parts _ _ e).1).0
-answers_own z r r' s choice l a l' (finds_none e f) h i n = put_answered l.call NoRows r'.history (leave NoRows l).local (r'.seats s) (kind_of z r r' s choice l l' h i.inv)
-answers_own z r r' s choice l a l' (takes_none e f) h i n = put_answered l.call NoRows r'.history (leave NoRows l).local (r'.seats s) (kind_of z r r' s choice l l' h i.inv)
-answers_own z r r' s choice l a l' (is_refused e f) h i n = put_answered l.call NoRows r'.history (leave NoRows l).local (r'.seats s) (kind_of z r r' s choice l l' h i.inv)
-answers_own z r r' s choice l a l' (is_not_own e f) h i n = put_answered l.call NoRows r'.history (leave NoRows l).local (r'.seats s) (kind_of z r r' s choice l l' h i.inv)
-answers_own z r r' s choice l a l' clears h i n = put_answered l.call Done r'.history (leave Done l).local (r'.seats s) (kind_of z r r' s choice l l' h i.inv)
-answers_own z r r' s choice l a l' (list_ends next e x) h i n = cell_answered z r r' s choice l _ _ l' (list_ends next e x) h i n tt (record { call = refl; row = refl; want = refl; next = refl; upper = refl; version = refl; pairs = refl }) x
-answers_own z r r' s choice l a l' (key_above next e x) h i n = cell_answered z r r' s choice l _ _ l' (key_above next e x) h i n tt (record { call = refl; row = refl; want = refl; next = refl; upper = refl; version = refl; pairs = refl }) x
-answers_own z r r' s choice l a l' (rest_passed next e x) h i n = cell_answered z r r' s choice l _ _ l' (rest_passed next e x) h i n tt (record { call = refl; row = refl; want = refl; next = refl; upper = refl; version = refl; pairs = refl }) x
-answers_own z r r' s choice l a l' (gathers_rest next x) h i n = cell_answered z r r' s choice l _ _ l' (gathers_rest next x) h i n tt (record { call = refl; row = refl; want = refl; next = refl; upper = refl; version = refl; pairs = refl }) x
-answers_own z r r' s choice l a l' (meets_stamped j c version next e x) h i n = look_answered z _ next x l.call r'.history _ (r'.seats s)
-answers_own z r r' s choice l a l' (meets_neither j next e x) h i n = look_answered z _ next x l.call r'.history _ (r'.seats s)
-answers_own z r r' s choice l a l' (is_passed next e x) h i n = look_answered z _ next x l.call r'.history _ (r'.seats s)
-answers_own z r r' s choice l a l' (helps next e x) h i n = look_answered z _ next x l.call r'.history _ (r'.seats s)
-answers_own z r r' s choice l a l' (finds_stamped c version next e x) h i n = look_answered z _ next x l.call r'.history _ (r'.seats s)
-answers_own z r r' s choice l a l' (finds_other next e x) h i n = look_answered z _ next x l.call r'.history _ (r'.seats s)
-answers_own z r r' s choice l a l' (clock_is_spent e) h i n = put_answered l.call Spent r'.history (refuse Spent l).local (r'.seats s) (kind_of z r r' s choice l l' h i.inv)
-answers_own z r r' s choice l a l' (epoch_is_spent e) h i n = put_answered l.call Spent r'.history (refuse Spent l).local (r'.seats s) (kind_of z r r' s choice l l' h i.inv)
-answers_own z r r' s choice l a l' (marks_last count e f) h i n = put_answered l.call NoRows r'.history (refuse NoRows (followed_by (next_in (word z r.world) l.row) l)).local (r'.seats s) (kind_of z r r' s choice l l' h i.inv).0
-answers_own z r r' s choice l a l' (decides_last count m e o f) h i n = put_answered l.call NoRows r'.history (refuse NoRows l).local (r'.seats s) (kind_of z r r' s choice l l' h i.inv).0
-answers_own z r r' s choice l a l' (takes_last e f o) h i n = put_answered l.call NoRows r'.history (refuse NoRows (planned z l)).local (r'.seats s) (kind_of z r r' s choice l l' h i.inv)
-answers_own z r r' s choice l a l' (keeps_last e o) h i n = put_answered l.call NoRows r'.history (refuse NoRows (planned z (keeping z (value_of_word (word z r.world (name.Value l.row l.place))) l))).local (r'.seats s) (kind_of z r r' s choice l l' h i.inv)
-answers_own z r r' s choice l a l' b h i n = tt
+pub answers_own : (z : Sizes) (r r' : Run) (s : ℕ) (choice : Choice) (l : Local) (a : Activity) (l' : Local) → Arrow z (word z r.world) s choice l a l' → Happens z r r' s choice l l' a → Before z r r' → Readers z r' → Contents z r' → IsAnswered l'.activity l'.call r'.history l' (r'.seats s)
+answers_own z r r' s choice l a l' (builds b next y o t) h i n w =
+    let g = built_goes z (word z r.world) choice l b l' t in
+    after_answered l'.activity l'.call r'.history l' (r'.seats s) g.next (subst IsPutCall (sym g.call) (built_kinds z b l y (subst (λ q. Kinds z q l) h.activity (i.inv.shape.kinds s l h.knows))).1)
+answers_own z r r' s choice l a l' (is_spent e) h i n w = scan_call_answered l.call Spent r'.history (leave Spent l).local (r'.seats s) (kind_of z r r' s choice l l' h i.inv)
+answers_own z r r' s choice l a l' (clears_scan answer) h i n w = scan_call_answered l.call (answer_or_stopped answer choice) r'.history (leave (answer_or_stopped answer choice) l).local (r'.seats s) (kind_of z r r' s choice l l' h i.inv).0
+answers_own z r r' s choice l a l' (stops e) h i n w = scan_answered l.call Stopped r'.history (leave Stopped l).local (r'.seats s) (and_parts _ _ (and_parts _ _ e).1).0
+answers_own z r r' s choice l a l' (finds_none e f) h i n w = put_answered l.call NoRows r'.history (leave NoRows l).local (r'.seats s) (kind_of z r r' s choice l l' h i.inv)
+answers_own z r r' s choice l a l' (takes_none e f) h i n w = put_answered l.call NoRows r'.history (leave NoRows l).local (r'.seats s) (kind_of z r r' s choice l l' h i.inv)
+answers_own z r r' s choice l a l' (is_refused e f) h i n w = put_answered l.call NoRows r'.history (leave NoRows l).local (r'.seats s) (kind_of z r r' s choice l l' h i.inv)
+answers_own z r r' s choice l a l' (is_not_own e f) h i n w = put_answered l.call NoRows r'.history (leave NoRows l).local (r'.seats s) (kind_of z r r' s choice l l' h i.inv)
+answers_own z r r' s choice l a l' clears h i n w = put_answered l.call Done r'.history (leave Done l).local (r'.seats s) (kind_of z r r' s choice l l' h i.inv)
+answers_own z r r' s choice l a l' (list_ends next e x) h i n w = cell_answered z r r' s choice l _ _ l' (list_ends next e x) h i n w tt (record { call = refl; row = refl; want = refl; next = refl; upper = refl; version = refl; pairs = refl }) x
+answers_own z r r' s choice l a l' (key_above next e x) h i n w = cell_answered z r r' s choice l _ _ l' (key_above next e x) h i n w tt (record { call = refl; row = refl; want = refl; next = refl; upper = refl; version = refl; pairs = refl }) x
+answers_own z r r' s choice l a l' (rest_passed next e x) h i n w = cell_answered z r r' s choice l _ _ l' (rest_passed next e x) h i n w tt (record { call = refl; row = refl; want = refl; next = refl; upper = refl; version = refl; pairs = refl }) x
+answers_own z r r' s choice l a l' (gathers_rest next x) h i n w = cell_answered z r r' s choice l _ _ l' (gathers_rest next x) h i n w tt (record { call = refl; row = refl; want = refl; next = refl; upper = refl; version = refl; pairs = refl }) x
+answers_own z r r' s choice l a l' (meets_stamped j c version next e x) h i n w = look_answered z _ next x l.call r'.history _ (r'.seats s)
+answers_own z r r' s choice l a l' (meets_neither j next e x) h i n w = look_answered z _ next x l.call r'.history _ (r'.seats s)
+answers_own z r r' s choice l a l' (is_passed next e x) h i n w = look_answered z _ next x l.call r'.history _ (r'.seats s)
+answers_own z r r' s choice l a l' (helps next e x) h i n w = look_answered z _ next x l.call r'.history _ (r'.seats s)
+answers_own z r r' s choice l a l' (finds_stamped c version next e x) h i n w = look_answered z _ next x l.call r'.history _ (r'.seats s)
+answers_own z r r' s choice l a l' (finds_other next e x) h i n w = look_answered z _ next x l.call r'.history _ (r'.seats s)
+answers_own z r r' s choice l a l' (clock_is_spent e) h i n w = put_answered l.call Spent r'.history (refuse Spent l).local (r'.seats s) (kind_of z r r' s choice l l' h i.inv)
+answers_own z r r' s choice l a l' (epoch_is_spent e) h i n w = put_answered l.call Spent r'.history (refuse Spent l).local (r'.seats s) (kind_of z r r' s choice l l' h i.inv)
+answers_own z r r' s choice l a l' b h i n w = tt
 
 -- The group.
 
-pub replies_keep : (z : Sizes) (r r' : Run) (s : ℕ) (choice : Choice) (l : Local) (a : Activity) (l' : Local) → Happens z r r' s choice l l' a → Before z r r' → Readers z r' → Replies r'
-replies_keep z r r' s choice l a l' h i n = record {
-  pairs = each_seat h (λ t k. HasPairs r'.history k.activity k (r'.seats t)) (pairs_own z r r' s choice l a l' h.arrow h i n) (λ t k d g. pairs_stable z r r' t k (rely z r r' s choice l a l' h i.inv t k d g) (i.inv.positions.drew t) (i.inv.replies.pairs t k g));
+pub replies_keep : (z : Sizes) (r r' : Run) (s : ℕ) (choice : Choice) (l : Local) (a : Activity) (l' : Local) → Happens z r r' s choice l l' a → Before z r r' → Readers z r' → Contents z r' → Replies r'
+replies_keep z r r' s choice l a l' h i n c = record {
+  pairs = each_seat h (λ t k. HasPairs r'.history k.activity k (r'.seats t)) (pairs_own z r r' s choice l a l' h.arrow h i n c) (λ t k d g. pairs_stable z r r' t k (rely z r r' s choice l a l' h i.inv t k d g) (i.inv.positions.drew t) (i.inv.replies.pairs t k g));
   unpaired = each_seat h (λ t k. IsPutCall k.call → k.pairs ≡ []) (unpaired_own z r r' s choice l a l' h.arrow h i.inv) (λ t k d g. i.inv.replies.unpaired t k g);
-  answers = each_seat h (λ t k. IsAnswered k.activity k.call r'.history k (r'.seats t)) (answers_own z r r' s choice l a l' h.arrow h i n) (λ t k d g. answers_stable z r r' t k (rely z r r' s choice l a l' h i.inv t k d g) i.inv.history (i.inv.positions.calling t k g) (i.inv.replies.answers t k g));
+  answers = each_seat h (λ t k. IsAnswered k.activity k.call r'.history k (r'.seats t)) (answers_own z r r' s choice l a l' h.arrow h i n c) (λ t k d g. answers_stable z r r' t k (rely z r r' s choice l a l' h i.inv t k d g) i.inv.history (i.inv.positions.calling t k g) (i.inv.replies.answers t k g));
 }

@@ -1,29 +1,33 @@
--- What a reader has gathered, and what it has seen of the row that it read, is kept by its own events.
+-- What a reader has gathered, and what it has seen of the row that it read, is kept by its own events; and that row is or was linked.
 use Rattle.std.proofs.Common.{ℕ, ◌≡◌, ◌⊎◌, inl, inr, ◌+◌, ◌≤◌, Bool, true, false, if◌then◌else◌, Some, None, [], arith, refl, sym, ◌∙◌, ap, subst, length, unwrap_or, ne_eqb}
 use Rattle.std.specs.Prelude.{insert}
 use Rattle.std.proofs.lemmas.Bool.{cases_eq}
+use Rattle.std.proofs.lemmas.Option.{same_Some}
 use Rattle.kw_words.specs.declared.layout.Name.TheVariants as name
 use Rattle.kw_words.specs.Plain.{value_of_word}
 use Rattle.kw_world.specs.declared.activity.Activity.{Activity}
-use Rattle.kw_world.specs.declared.activity.Activity.TheVariants.{Enter, LookKey, LookClock, LookHelp, ListFrom, ListKey, ListVer, ListVal, RestVal, PutKey}
+use Rattle.kw_world.specs.declared.activity.Activity.TheVariants.{Idle, Enter, ScanSettle, Look, LookKey, LookClock, LookHelp, ListFrom, ListKey, ListVer, ListVal, RestKey, RestVal, PutAdd, PutKey}
 use Rattle.kw_world.specs.declared.local.Local.{Local}
 use Rattle.kw_world.specs.declared.event.Choice.{Choice}
+use Rattle.kw_world.specs.declared.event.Choice.TheVariants.{Begin, Go, Guess, Stop}
 use Rattle.kw_world.specs.Sizes.{Sizes}
-use Rattle.kw_world.specs.Step.{word}
+use Rattle.kw_world.specs.Step.{is_skipped, word}
 use Rattle.kw_core.specs.History.{History, attempt}
 use Rattle.kw_core.specs.HistoryLaws.{IsPut}
-use Rattle.kw_core.specs.Run.{Run, log_begun, log_look}
+use Rattle.kw_core.specs.Run.{Origins, Run, is_at_cell, log_begun, log_gathered, log_look, log_read, place_gathered}
 use Rattle.kw_core.specs.declared.seat_log.SeatLog.{SeatLog}
-use Rattle.kw_core.specs.Stages.{IsLooking, IsTaking, IsReading, IsKeeping, HasLooked, HasPlace, HasVersion, HasCellKey}
+use Rattle.kw_core.specs.Stages.{IsAtRead, IsLooking, IsTaking, IsReading, IsKeeping, HasLooked, HasPlace, HasVersion, HasCellKey}
 use Rattle.kw_cells.specs.declared.cell.Cell as kw_cell
 use Rattle.kw_cells.specs.InOrder.{place_in}
 use Rattle.kw_world.specs.Marks.{is_marked}
 use Rattle.kw_world.specs.ReadTransitions.{cell_in_hand, gathering}
+use Rattle.kw_puts.specs.Builds.{has_place}
 use Rattle.kw_puts.specs.Lists.{list_in}
-use Rattle.kw_puts.specs.Puts.{HasCell}
-use Rattle.kw_reads.specs.Readers.{IsDue, IsCopyOf, IsInHand, AreCopies, Gathers, Apart, HasSeen, has_place}
+use Rattle.kw_rows.specs.Rows.{WasLinked}
+use Rattle.kw_reads.specs.Readers.{IsDue, IsCopyOf, IsInHand, AreCopies, Gathers, Apart, HasSeen}
 use Rattle.kw_reads.specs.Inv.{Inv}
-use Rattle.kw_core.proofs.Building.{never_built}
+use Rattle.kw_core.proofs.BuiltNext.{built_goes}
+use Rattle.kw_core.proofs.Attempts.{in_range}
 use Rattle.kw_core.proofs.Arrows.{builds, NextLook, looks, lists, Arrow, begins, reads_last, reads_before, meets_pending, meets_stamped, meets_neither, is_wanted, is_passed, loads_to_help, helps, finds_stamped, finds_other, list_leads, list_ends, key_below, key_within, key_above, loads_version, gathers_listed, rest_wanted, rest_passed, gathers_rest, takes_cell, takes_none, leaves, takes_full, settles_empty, settles}
 use Rattle.kw_core.proofs.SeatLogs.{settled_same}
 use Rattle.kw_core.proofs.Happens.{Happens}
@@ -32,12 +36,15 @@ use Rattle.kw_reads.proofs.Ready.{due_before, stamped_lasts, stamped_same, copie
 use Rattle.kw_puts.specs.Below.{Below}
 use Rattle.kw_reads.proofs.LooksKeep.{goes}
 use Rattle.kw_reads.proofs.CellsKeep.{seen_next, copies_next, cells_before, unread_before, left_at_end, left_above, left_passed, left_gathered, value_stands}
-use Rattle.kw_reads.proofs.WalksKeep.{walks_before}
+use Rattle.kw_puts.proofs.BuiltStages.{after_reading}
+use Rattle.kw_reads.proofs.BuiltReads.{after_rests, building_keeping, building_log, taking_reads}
+use Rattle.kw_shape.proofs.LinkedRows.{linked_keeps}
+use Rattle.kw_reads.proofs.WalksKeep.{row_linked, row_linked_on, walks_before}
 use Rattle.kw_reads.proofs.ApartKeeps.{apart_before, hand_fresh, gather_is, place_below}
 
 -- nothing is said of a row where none counts as read
-seen_unread : (h : History) (a : Activity) (l : Local) (g : SeatLog) → g.read ≡ None → HasSeen h a l g
-seen_unread h a l g f = record {
+seen_unread : (h : History) (o : Origins) (a : Activity) (l : Local) (g : SeatLog) → g.read ≡ None → HasSeen h o a l g
+seen_unread h o a l g f = record {
   unread = λ x. f;
   stamped = λ x q e. let y : None ≡ Some q = sym f ∙ e in absurd (cc);
   taken = λ x q e. let y : None ≡ Some q = sym f ∙ e in absurd (cc);
@@ -51,31 +58,35 @@ added_same f false g n e = refl
 -- an event of a seat that keeps what it gathered and read
 module _ {z : Sizes} {r r' : Run} {s : ℕ} {choice : Choice} {l l' : Local} {a : Activity} (h : Happens z r r' s choice l l' a) (i : Inv z r) where
   -- what the seat had seen
-  seen_before : HasSeen r.history a l (r.seats s)
-  seen_before = subst (λ c. HasSeen r.history c l (r.seats s)) h.activity (i.readers.seen s l h.knows)
+  seen_before : HasSeen r.history r.origin a l (r.seats s)
+  seen_before = subst (λ c. HasSeen r.history r.origin c l (r.seats s)) h.activity (i.readers.seen s l h.knows)
 
   -- what it had gathered
-  gathered_before : Gathers r.history a l (r.seats s)
-  gathered_before = subst (λ c. Gathers r.history c l (r.seats s)) h.activity (i.readers.gathers s l h.knows)
+  gathered_before : Gathers r.history r.origin a l (r.seats s)
+  gathered_before = subst (λ c. Gathers r.history r.origin c l (r.seats s)) h.activity (i.readers.gathers s l h.knows)
+
+  -- the row that it had read is or was linked
+  read_linked : IsKeeping a → (q : ℕ) → (r.seats s).read ≡ Some q → WasLinked r.ledger.rows q
+  read_linked k = i.readers.linked s l h.knows (subst IsKeeping (sym h.activity) k)
 
   -- it has seen it still
-  seen_kept : (c : Activity) → IsKeeping a → l'.call ≡ l.call → (r'.seats s).looked ≡ (r.seats s).looked → (r'.seats s).ids ≡ (r.seats s).ids → (r'.seats s).read ≡ (r.seats s).read → (IsReading c → ⊥) → HasSeen r'.history c l' (r'.seats s)
-  seen_kept c k call looked ids read n = record {
+  seen_kept : (c : Activity) → IsKeeping a → l'.call ≡ l.call → (r'.seats s).looked ≡ (r.seats s).looked → (r'.seats s).ids ≡ (r.seats s).ids → (r'.seats s).read ≡ (r.seats s).read → (IsReading c → ⊥) → HasSeen r'.history r'.origin c l' (r'.seats s)
+  seen_kept b k call looked ids read n = record {
     unread = λ x. absurd (n x);
-    stamped = λ x q e p d. (stamped_lasts (goes h i) p (seen_before.stamped k q (sym read ∙ e) p (due q p d))).0;
-    taken = λ x q e p d. rw ids (seen_before.taken k q (sym read ∙ e) p (due q p d));
+    stamped = λ x q e c p d. (stamped_lasts (goes h i) p (seen_before.stamped k q (sym read ∙ e) c p (due q c p (sym read ∙ e) d))).0;
+    taken = λ x q e c p d. rw ids (seen_before.taken k q (sym read ∙ e) c p (due q c p (sym read ∙ e) d));
   }
     where
-      due : (q p : ℕ) → IsDue r'.history q l'.call (r'.seats s).looked p → IsDue r.history q l.call (r.seats s).looked p
-      due q p d = due_before (goes h i) q l.call (r.seats s).looked p (i.positions.looks s) (subst (λ x. IsDue r'.history q l.call x p) looked (subst (λ x. IsDue r'.history q x (r'.seats s).looked p) call d))
+      due : (q c p : ℕ) → (r.seats s).read ≡ Some q → IsDue r'.history r'.origin q l'.call (r'.seats s).looked c p → IsDue r.history r.origin q l.call (r.seats s).looked c p
+      due q c p e d = due_before (goes h i) q l.call (r.seats s).looked c p (read_linked k q e) (i.positions.looks s) (subst (λ x. IsDue r'.history r'.origin q l.call x c p) looked (subst (λ x. IsDue r'.history r'.origin q x (r'.seats s).looked c p) call d))
 
   -- it has gathered it still
-  gathers_kept : (c : Activity) → IsKeeping a → l'.call ≡ l.call → l'.gathered ≡ l.gathered → (r'.seats s).ids ≡ (r.seats s).ids → (r'.seats s).read ≡ (r.seats s).read → (IsLooking c → ⊥) → (HasLooked c → ⊥) → (IsTaking c → ⊥) → Gathers r'.history c l' (r'.seats s)
+  gathers_kept : (c : Activity) → IsKeeping a → l'.call ≡ l.call → l'.gathered ≡ l.gathered → (r'.seats s).ids ≡ (r.seats s).ids → (r'.seats s).read ≡ (r.seats s).read → (IsLooking c → ⊥) → (HasLooked c → ⊥) → (IsTaking c → ⊥) → Gathers r'.history r'.origin c l' (r'.seats s)
   gathers_kept c k call gathered ids read n m o = record {
     empty = λ x. absurd (n x);
     no_ids = λ x. absurd (m x);
     taking = λ x. absurd (o x);
-    kept = λ x q e. rw (call, gathered, ids) (copies_last (goes h i) q l.call l.gathered (r.seats s).ids (gathered_before.kept k q (sym read ∙ e)));
+    kept = λ x q e. rw (call, gathered, ids) (copies_last (goes h i) q (read_linked k q (sym read ∙ e)) l.call l.gathered (r.seats s).ids (gathered_before.kept k q (sym read ∙ e)));
   }
 
 -- a look: no row counts as read, and nothing is gathered
@@ -95,30 +106,33 @@ look_empty j now g f = which (cases_eq j 0)
     which (inr d) = rw (ne_eqb j 0 d) (f (omega arith))
 
 -- what the acting seat has seen of a row that it has read
-pub seen_by : (z : Sizes) (r r' : Run) (s : ℕ) (choice : Choice) (l : Local) (a : Activity) (l' : Local) → Arrow z (word z r.world) s choice l a l' → Happens z r r' s choice l l' a → Inv z r → Below z r' → HasSeen r'.history l'.activity l' (r'.seats s)
-seen_by z r r' s choice l a l' (builds b next y o t) h i k = never_built z b y o
-seen_by z r r' s choice l _ _ (begins call e b) h i k = seen_unread r'.history Enter _ (r'.seats s) (ap (λ g. g.read) h.log ∙ ap (λ c. (log_begun c (length r.history.calls) (r.seats s)).read) e)
+pub seen_by : (z : Sizes) (r r' : Run) (s : ℕ) (choice : Choice) (l : Local) (a : Activity) (l' : Local) → Arrow z (word z r.world) s choice l a l' → Happens z r r' s choice l l' a → Inv z r → Below z r' → HasSeen r'.history r'.origin l'.activity l' (r'.seats s)
+seen_by z r r' s choice l a l' (builds b next y o t) h i k =
+    let g = building_log b y h in
+    let n = built_goes z (word z r.world) choice l b l' t in
+    seen_kept h i l'.activity (building_keeping b y) n.call (ap (λ g. g.looked) g) (ap (λ g. g.ids) g) (ap (λ g. g.read) g) (λ x. after_reading l'.activity n.next x)
+seen_by z r r' s choice l _ _ (begins call e b) h i k = seen_unread r'.history r'.origin Enter _ (r'.seats s) (ap (λ g. g.read) h.log ∙ ap (λ c. (log_begun c (length r.history.calls) (r.seats s)).read) e)
 seen_by z r r' s choice l _ _ (reads_last f n) h i k = record { unread = λ x. absurd (omega (arith, x)); stamped = λ x. absurd x; taken = λ x. absurd x }
 seen_by z r r' s choice l _ _ (reads_before f w) h i k = record { unread = λ x. absurd (omega (arith, x)); stamped = λ x. absurd x; taken = λ x. absurd x }
-seen_by z r r' s choice l _ _ (meets_pending j c e) h i k = seen_unread r'.history _ _ (r'.seats s) (ap (λ g. g.read) h.log ∙ look_unread j (length r.history.log) (r.seats s) (unread_before h i))
-seen_by z r r' s choice l _ _ (meets_stamped j c version next e n) h i k = seen_unread r'.history _ _ (r'.seats s) (ap (λ g. g.read) h.log ∙ look_unread j (length r.history.log) (r.seats s) (unread_before h i))
-seen_by z r r' s choice l _ _ (meets_neither j next e n) h i k = seen_unread r'.history _ _ (r'.seats s) (ap (λ g. g.read) h.log ∙ look_unread j (length r.history.log) (r.seats s) (unread_before h i))
-seen_by z r r' s choice l _ _ (is_wanted e) h i k = seen_unread r'.history _ _ (r'.seats s) (ap (λ g. g.read) h.log ∙ unread_before h i tt)
-seen_by z r r' s choice l _ _ (is_passed next e n) h i k = seen_unread r'.history _ _ (r'.seats s) (ap (λ g. g.read) h.log ∙ unread_before h i tt)
-seen_by z r r' s choice l _ _ loads_to_help h i k = seen_unread r'.history _ _ (r'.seats s) (ap (λ g. g.read) h.log ∙ unread_before h i tt)
-seen_by z r r' s choice l _ _ (helps next e n) h i k = seen_unread r'.history _ _ (r'.seats s) (ap (λ g. g.read) h.log ∙ unread_before h i tt)
-seen_by z r r' s choice l _ _ (finds_stamped c version next e n) h i k = seen_unread r'.history _ _ (r'.seats s) (ap (λ g. g.read) h.log ∙ unread_before h i tt)
-seen_by z r r' s choice l _ _ (finds_other next e n) h i k = seen_unread r'.history _ _ (r'.seats s) (ap (λ g. g.read) h.log ∙ unread_before h i tt)
-seen_by z r r' s choice l _ _ (list_leads c e) h i k = seen_unread r'.history _ _ (r'.seats s) (ap (λ g. g.read) h.log ∙ unread_before h i tt)
-seen_by z r r' s choice l _ _ (list_ends next e n) h i k = subst (HasSeen r'.history next.activity next) (sym h.log) (seen_next r'.history l next _ n (left_at_end h i k e) (unread_before h i tt))
-seen_by z r r' s choice l _ _ (key_below e) h i k = seen_unread r'.history _ _ (r'.seats s) (ap (λ g. g.read) h.log ∙ unread_before h i tt)
-seen_by z r r' s choice l _ _ (key_within e w) h i k = seen_unread r'.history _ _ (r'.seats s) (ap (λ g. g.read) h.log ∙ unread_before h i tt)
-seen_by z r r' s choice l _ _ (key_above next e n) h i k = subst (HasSeen r'.history next.activity next) (sym h.log) (seen_next r'.history l next _ n (left_above h i k e) (unread_before h i tt))
-seen_by z r r' s choice l _ _ loads_version h i k = seen_unread r'.history _ _ (r'.seats s) (ap (λ g. g.read) h.log ∙ unread_before h i tt)
-seen_by z r r' s choice l _ _ gathers_listed h i k = seen_unread r'.history _ _ (r'.seats s) (ap (λ g. g.read) h.log ∙ unread_before h i tt)
-seen_by z r r' s choice l _ _ (rest_wanted e) h i k = seen_unread r'.history _ _ (r'.seats s) (ap (λ g. g.read) h.log ∙ unread_before h i tt)
-seen_by z r r' s choice l _ _ (rest_passed next e n) h i k = subst (HasSeen r'.history next.activity next) (sym h.log) (seen_next r'.history l next _ n (left_passed h i k e) (unread_before h i tt))
-seen_by z r r' s choice l _ _ (gathers_rest next n) h i k = subst (HasSeen r'.history next.activity next) (sym h.log) (seen_next r'.history _ next _ n (left_gathered h i k _ _) (unread_before h i tt))
+seen_by z r r' s choice l _ _ (meets_pending j c e) h i k = seen_unread r'.history r'.origin _ _ (r'.seats s) (ap (λ g. g.read) h.log ∙ look_unread j (length r.history.log) (r.seats s) (unread_before h i))
+seen_by z r r' s choice l _ _ (meets_stamped j c version next e n) h i k = seen_unread r'.history r'.origin _ _ (r'.seats s) (ap (λ g. g.read) h.log ∙ look_unread j (length r.history.log) (r.seats s) (unread_before h i))
+seen_by z r r' s choice l _ _ (meets_neither j next e n) h i k = seen_unread r'.history r'.origin _ _ (r'.seats s) (ap (λ g. g.read) h.log ∙ look_unread j (length r.history.log) (r.seats s) (unread_before h i))
+seen_by z r r' s choice l _ _ (is_wanted e) h i k = seen_unread r'.history r'.origin _ _ (r'.seats s) (ap (λ g. g.read) h.log ∙ unread_before h i tt)
+seen_by z r r' s choice l _ _ (is_passed next e n) h i k = seen_unread r'.history r'.origin _ _ (r'.seats s) (ap (λ g. g.read) h.log ∙ unread_before h i tt)
+seen_by z r r' s choice l _ _ loads_to_help h i k = seen_unread r'.history r'.origin _ _ (r'.seats s) (ap (λ g. g.read) h.log ∙ unread_before h i tt)
+seen_by z r r' s choice l _ _ (helps next e n) h i k = seen_unread r'.history r'.origin _ _ (r'.seats s) (ap (λ g. g.read) h.log ∙ unread_before h i tt)
+seen_by z r r' s choice l _ _ (finds_stamped c version next e n) h i k = seen_unread r'.history r'.origin _ _ (r'.seats s) (ap (λ g. g.read) h.log ∙ unread_before h i tt)
+seen_by z r r' s choice l _ _ (finds_other next e n) h i k = seen_unread r'.history r'.origin _ _ (r'.seats s) (ap (λ g. g.read) h.log ∙ unread_before h i tt)
+seen_by z r r' s choice l _ _ (list_leads c e) h i k = seen_unread r'.history r'.origin _ _ (r'.seats s) (ap (λ g. g.read) h.log ∙ unread_before h i tt)
+seen_by z r r' s choice l _ _ (list_ends next e n) h i k = subst (HasSeen r'.history r'.origin next.activity next) (sym h.log) (seen_next r'.history r'.origin l next _ n (left_at_end h i k e) (unread_before h i tt))
+seen_by z r r' s choice l _ _ (key_below e) h i k = seen_unread r'.history r'.origin _ _ (r'.seats s) (ap (λ g. g.read) h.log ∙ unread_before h i tt)
+seen_by z r r' s choice l _ _ (key_within e w) h i k = seen_unread r'.history r'.origin _ _ (r'.seats s) (ap (λ g. g.read) h.log ∙ unread_before h i tt)
+seen_by z r r' s choice l _ _ (key_above next e n) h i k = subst (HasSeen r'.history r'.origin next.activity next) (sym h.log) (seen_next r'.history r'.origin l next _ n (left_above h i k e) (unread_before h i tt))
+seen_by z r r' s choice l _ _ loads_version h i k = seen_unread r'.history r'.origin _ _ (r'.seats s) (ap (λ g. g.read) h.log ∙ unread_before h i tt)
+seen_by z r r' s choice l _ _ gathers_listed h i k = seen_unread r'.history r'.origin _ _ (r'.seats s) (ap (λ g. g.read) h.log ∙ unread_before h i tt)
+seen_by z r r' s choice l _ _ (rest_wanted e) h i k = seen_unread r'.history r'.origin _ _ (r'.seats s) (ap (λ g. g.read) h.log ∙ unread_before h i tt)
+seen_by z r r' s choice l _ _ (rest_passed next e n) h i k = subst (HasSeen r'.history r'.origin next.activity next) (sym h.log) (seen_next r'.history r'.origin l next _ n (left_passed h i k e) (unread_before h i tt))
+seen_by z r r' s choice l _ _ (gathers_rest next n) h i k = subst (HasSeen r'.history r'.origin next.activity next) (sym h.log) (seen_next r'.history r'.origin _ next _ n (left_gathered h i k _ _) (unread_before h i tt))
 seen_by z r r' s choice l _ _ (takes_cell e) h i k = seen_kept h i PutKey tt refl (ap (λ g. g.looked) h.log ∙ added_same (λ g. g.looked) _ (r.seats s) _ refl) (ap (λ g. g.ids) h.log ∙ added_same (λ g. g.ids) _ (r.seats s) _ refl) (ap (λ g. g.read) h.log ∙ added_same (λ g. g.read) _ (r.seats s) _ refl) (λ x. x)
 seen_by z r r' s choice l _ _ (takes_none e f) h i k = seen_kept h i _ tt refl (ap (λ g. g.looked) h.log ∙ added_same (λ g. g.looked) _ (r.seats s) _ refl) (ap (λ g. g.ids) h.log ∙ added_same (λ g. g.ids) _ (r.seats s) _ refl) (ap (λ g. g.read) h.log ∙ added_same (λ g. g.read) _ (r.seats s) _ refl) (λ x. x)
 seen_by z r r' s choice l _ _ (takes_full e f) h i k = seen_kept h i _ tt refl (ap (λ g. g.looked) h.log ∙ added_same (λ g. g.looked) _ (r.seats s) _ refl) (ap (λ g. g.ids) h.log ∙ added_same (λ g. g.ids) _ (r.seats s) _ refl) (ap (λ g. g.read) h.log ∙ added_same (λ g. g.read) _ (r.seats s) _ refl) (λ x. x)
@@ -129,85 +143,92 @@ seen_by z r r' s choice l a l' b h i k = seen_kept h i l'.activity tt refl (ap (
 
 -- Gathering.
 
+-- a reader that has looked at the first entry reads
+looked_reading : (a : Activity) → HasLooked a → IsReading a
+looked_reading (Look i) x = x
+looked_reading LookKey x = tt
+looked_reading LookClock x = tt
+looked_reading LookHelp x = tt
+looked_reading _ x = absurd x
+
 -- a reader that looks on has gathered nothing
-gathers_none : (z : Sizes) (h : History) (j : ℕ) (next : Activity) (l : Local) (g : SeatLog) → NextLook z j next → l.gathered ≡ [] → g.ids ≡ [] → Gathers h next l g
-gathers_none z h j _ l g (looks w) e f = record { empty = λ x. e; no_ids = λ x. f; taking = λ x. absurd x; kept = λ x. absurd x }
-gathers_none z h j _ l g (lists w) e f = record { empty = λ x. absurd x; no_ids = λ x. absurd x; taking = λ x. rw (e, f) tt; kept = λ x q y. rw (e, f) tt }
+gathers_none : (z : Sizes) (h : History) (o : Origins) (j : ℕ) (next : Activity) (l : Local) (g : SeatLog) → NextLook z j next → l.gathered ≡ [] → g.ids ≡ [] → Gathers h o next l g
+gathers_none z h o j _ l g (looks w) e f = record { empty = λ x. e; no_ids = λ x. f; taking = λ x. absurd x; kept = λ x. absurd x }
+gathers_none z h o j _ l g (lists w) e f = record { empty = λ x. absurd x; no_ids = λ x. absurd x; taking = λ x. rw (e, f) tt; kept = λ x q y. rw (e, f) tt }
 
 -- a reader that has met an entry has gathered nothing
-gathers_met : (h : History) (c : Activity) (l : Local) (g : SeatLog) → l.gathered ≡ [] → g.ids ≡ [] → (IsTaking c → ⊥) → (IsKeeping c → ⊥) → Gathers h c l g
-gathers_met h c l g e f n m = record { empty = λ x. e; no_ids = λ x. f; taking = λ x. absurd (n x); kept = λ x. absurd (m x) }
+gathers_met : (h : History) (o : Origins) (c : Activity) (l : Local) (g : SeatLog) → l.gathered ≡ [] → g.ids ≡ [] → (IsTaking c → ⊥) → (IsKeeping c → ⊥) → Gathers h o c l g
+gathers_met h o c l g e f n m = record { empty = λ x. e; no_ids = λ x. f; taking = λ x. absurd (n x); kept = λ x. absurd (m x) }
 
 -- a reader has a cell in hand
-gathers_hand : (h : History) (c : Activity) (l : Local) (g : SeatLog) → AreCopies h l.row l.call l.gathered g.ids → g.read ≡ None → (IsLooking c → ⊥) → (HasLooked c → ⊥) → Gathers h c l g
-gathers_hand h c l g m f n o = record { empty = λ x. absurd (n x); no_ids = λ x. absurd (o x); taking = λ x. m; kept = λ x q e. let y : None ≡ Some q = sym f ∙ e in absurd (cc) }
+gathers_hand : (h : History) (o : Origins) (c : Activity) (l : Local) (g : SeatLog) → AreCopies h o l.row l.call l.gathered g.ids → g.read ≡ None → (IsLooking c → ⊥) → (HasLooked c → ⊥) → Gathers h o c l g
+gathers_hand h u c l g m f n o = record { empty = λ x. absurd (n x); no_ids = λ x. absurd (o x); taking = λ x. m; kept = λ x q e. let y : None ≡ Some q = sym f ∙ e in absurd (cc) }
 
 -- the copies before a cell is read
 module _ {z : Sizes} {r r' : Run} {s : ℕ} {choice : Choice} {l l' : Local} {a : Activity} (h : Happens z r r' s choice l l' a) (i : Inv z r) where
   -- those that were gathered are copies still
-  copies_kept : IsTaking a → AreCopies r'.history l.row l.call l.gathered (r.seats s).ids
-  copies_kept x = copies_last (goes h i) l.row l.call l.gathered (r.seats s).ids ((gathered_before h i).taking x)
+  copies_kept : IsTaking a → AreCopies r'.history r'.origin l.row l.call l.gathered (r.seats s).ids
+  copies_kept x = copies_last (goes h i) l.row (row_linked h i (taking_reads a x)) l.call l.gathered (r.seats s).ids ((gathered_before h i).taking x)
 
 -- the cell in hand
 abbrev in_hand : Sizes → Run → Local → kw_cell.Cell
 in_hand z r l = cell_in_hand (value_of_word (word z r.world (name.Value l.row l.place))) l
 
--- the cell that is gathered is that of its attempt, and stands beside it
+-- the cell that is gathered stands for its attempt, which is put beside it
 module _ {z : Sizes} {r r' : Run} {s : ℕ} {choice : Choice} {l l' : Local} {a : Activity} (h : Happens z r r' s choice l l' a) (i : Inv z r) (k : Below z r') (x : IsTaking a) (v : HasVersion a) (u : HasCellKey a) (p : HasPlace a) (w : word z r'.world (name.Value l.row l.place) ≡ word z r.world (name.Value l.row l.place)) where
   hand : IsInHand r.history r.origin a l
   hand = (cells_before h i x).hand p
 
   origin : r'.origin l.row l.place ≡ Some hand.put
-  origin = (goes h i).origin l.row l.place hand.put hand.origin
+  origin = (goes h i).origin l.row l.place hand.put (row_linked h i (taking_reads a x)) hand.origin
 
   stamped : IsPut r'.history hand.put × ((attempt r'.history hand.put).version ≡ (attempt r.history hand.put).version)
   stamped = stamped_lasts (goes h i) hand.put hand.stamped
 
-  owner : HasCell r'.history l.row l.place hand.put
-  owner = k.puts.places.owner l.row l.place hand.put origin
-
-  copy : IsCopyOf r'.history l.row l.call (in_hand z r l) hand.put
+  copy : IsCopyOf r'.history r'.origin l.row l.call (in_hand z r l) hand.put
   copy = record {
-    within = owner.within;
+    within = in_range r'.history hand.put stamped.0;
     stamped = stamped.0;
-    row = owner.row;
+    origin = origin;
     key = (stamped_same (goes h i) hand.put hand.stamped).key ∙ hand.key u;
     version = stamped.1 ∙ hand.version v;
-    cell = owner.cell;
-    value = sym (value_stands k l.row l.place hand.put origin stamped.0) ∙ ap value_of_word w;
+    value = sym (value_stands k l.row l.place hand.put (row_linked_on h i (taking_reads a x)) (place_below h i) origin stamped.0) ∙ ap value_of_word w;
     in_range = hand.in_range u;
   }
 
   -- at the place where the cell is put
   copies_more : Apart z (list_in (word z r.world) r.listed l.row) a l → has_place l.place l.gathered ≡ false → is_marked l.place l.remembered ≡ false →
-      AreCopies r'.history l.row l.call (gathering z (value_of_word (word z r.world (name.Value l.row l.place))) l).gathered (insert (r.seats s).ids (place_in (in_hand z r l) l.gathered) (unwrap_or (r.origin l.row l.place) 0))
-  copies_more apart fresh free = rw (gather_is z _ a l (value_of_word (word z r.world (name.Value l.row l.place))) apart (place_below h i) fresh free, hand.origin) (zip_insert (IsCopyOf r'.history l.row l.call) l.gathered (r.seats s).ids (place_in (in_hand z r l) l.gathered) (in_hand z r l) hand.put (copies_kept h i x) copy)
+      AreCopies r'.history r'.origin l.row l.call (gathering z (value_of_word (word z r.world (name.Value l.row l.place))) l).gathered (insert (r.seats s).ids (place_in (in_hand z r l) l.gathered) (unwrap_or (r.origin l.row l.place) 0))
+  copies_more apart fresh free = rw (gather_is z _ a l (value_of_word (word z r.world (name.Value l.row l.place))) apart (place_below h i) fresh free, hand.origin) (zip_insert (IsCopyOf r'.history r'.origin l.row l.call) l.gathered (r.seats s).ids (place_in (in_hand z r l) l.gathered) (in_hand z r l) hand.put (copies_kept h i x) copy)
 
 -- what the acting seat has gathered
-pub gathers_by : (z : Sizes) (r r' : Run) (s : ℕ) (choice : Choice) (l : Local) (a : Activity) (l' : Local) → Arrow z (word z r.world) s choice l a l' → Happens z r r' s choice l l' a → Inv z r → Below z r' → Gathers r'.history l'.activity l' (r'.seats s)
-gathers_by z r r' s choice l a l' (builds b next y o t) h i k = never_built z b y o
+pub gathers_by : (z : Sizes) (r r' : Run) (s : ℕ) (choice : Choice) (l : Local) (a : Activity) (l' : Local) → Arrow z (word z r.world) s choice l a l' → Happens z r r' s choice l l' a → Inv z r → Below z r' → Gathers r'.history r'.origin l'.activity l' (r'.seats s)
+gathers_by z r r' s choice l a l' (builds b next y o t) h i k =
+    let g = building_log b y h in
+    let n = built_goes z (word z r.world) choice l b l' t in
+    gathers_kept h i l'.activity (building_keeping b y) n.call n.gathered (ap (λ g. g.ids) g) (ap (λ g. g.read) g) (λ x. after_rests l'.activity n.next (inl x)) (λ x. after_reading l'.activity n.next (looked_reading l'.activity x)) (λ x. after_rests l'.activity n.next (inr x))
 gathers_by z r r' s choice l _ _ (begins call e b) h i k = record { empty = λ x. absurd x; no_ids = λ x. absurd x; taking = λ x. absurd x; kept = λ x q f. let y : None ≡ Some q = sym (ap (λ g. g.read) h.log ∙ ap (λ c. (log_begun c (length r.history.calls) (r.seats s)).read) e) ∙ f in absurd (cc) }
 gathers_by z r r' s choice l _ _ (reads_last f n) h i k = record { empty = λ x. refl; no_ids = λ x. absurd (omega (arith, x)); taking = λ x. absurd x; kept = λ x. absurd x }
 gathers_by z r r' s choice l _ _ (reads_before f w) h i k = record { empty = λ x. refl; no_ids = λ x. absurd (omega (arith, x)); taking = λ x. absurd x; kept = λ x. absurd x }
-gathers_by z r r' s choice l _ _ (meets_pending j c e) h i k = gathers_met r'.history LookKey _ (r'.seats s) ((gathered_before h i).empty tt) (ap (λ g. g.ids) h.log ∙ look_empty j (length r.history.log) (r.seats s) (gathered_before h i).no_ids) (λ x. x) (λ x. x)
-gathers_by z r r' s choice l _ _ (meets_stamped j c version next e n) h i k = gathers_none z r'.history (j + 1) next _ (r'.seats s) n ((gathered_before h i).empty tt) (ap (λ g. g.ids) h.log ∙ look_empty j (length r.history.log) (r.seats s) (gathered_before h i).no_ids)
-gathers_by z r r' s choice l _ _ (meets_neither j next e n) h i k = gathers_none z r'.history (j + 1) next _ (r'.seats s) n ((gathered_before h i).empty tt) (ap (λ g. g.ids) h.log ∙ look_empty j (length r.history.log) (r.seats s) (gathered_before h i).no_ids)
-gathers_by z r r' s choice l _ _ (is_wanted e) h i k = gathers_met r'.history LookClock _ (r'.seats s) ((gathered_before h i).empty tt) (ap (λ g. g.ids) h.log ∙ (gathered_before h i).no_ids tt) (λ x. x) (λ x. x)
-gathers_by z r r' s choice l _ _ (is_passed next e n) h i k = gathers_none z r'.history (l.looked + 1) next _ (r'.seats s) n ((gathered_before h i).empty tt) (ap (λ g. g.ids) h.log ∙ (gathered_before h i).no_ids tt)
-gathers_by z r r' s choice l _ _ loads_to_help h i k = gathers_met r'.history LookHelp _ (r'.seats s) ((gathered_before h i).empty tt) (ap (λ g. g.ids) h.log ∙ (gathered_before h i).no_ids tt) (λ x. x) (λ x. x)
-gathers_by z r r' s choice l _ _ (helps next e n) h i k = gathers_none z r'.history (l.looked + 1) next _ (r'.seats s) n ((gathered_before h i).empty tt) (ap (λ g. g.ids) h.log ∙ (gathered_before h i).no_ids tt)
-gathers_by z r r' s choice l _ _ (finds_stamped c version next e n) h i k = gathers_none z r'.history (l.looked + 1) next _ (r'.seats s) n ((gathered_before h i).empty tt) (ap (λ g. g.ids) h.log ∙ (gathered_before h i).no_ids tt)
-gathers_by z r r' s choice l _ _ (finds_other next e n) h i k = gathers_none z r'.history (l.looked + 1) next _ (r'.seats s) n ((gathered_before h i).empty tt) (ap (λ g. g.ids) h.log ∙ (gathered_before h i).no_ids tt)
-gathers_by z r r' s choice l _ _ (list_leads c e) h i k = gathers_hand r'.history ListKey _ (r'.seats s) (subst (λ x. AreCopies r'.history l.row l.call l.gathered x) (sym (ap (λ g. g.ids) h.log)) (copies_kept h i tt)) (ap (λ g. g.read) h.log ∙ unread_before h i tt) (λ x. x) (λ x. x)
-gathers_by z r r' s choice l _ _ (list_ends next e n) h i k = subst (Gathers r'.history next.activity next) (sym h.log) (copies_next r'.history l next (r.seats s) n (copies_kept h i tt) (unread_before h i tt))
-gathers_by z r r' s choice l _ _ (key_below e) h i k = gathers_hand r'.history ListFrom _ (r'.seats s) (subst (λ x. AreCopies r'.history l.row l.call l.gathered x) (sym (ap (λ g. g.ids) h.log)) (copies_kept h i tt)) (ap (λ g. g.read) h.log ∙ unread_before h i tt) (λ x. x) (λ x. x)
-gathers_by z r r' s choice l _ _ (key_within e w) h i k = gathers_hand r'.history ListVer _ (r'.seats s) (subst (λ x. AreCopies r'.history l.row l.call l.gathered x) (sym (ap (λ g. g.ids) h.log)) (copies_kept h i tt)) (ap (λ g. g.read) h.log ∙ unread_before h i tt) (λ x. x) (λ x. x)
-gathers_by z r r' s choice l _ _ (key_above next e n) h i k = subst (Gathers r'.history next.activity next) (sym h.log) (copies_next r'.history l next (r.seats s) n (copies_kept h i tt) (unread_before h i tt))
-gathers_by z r r' s choice l _ _ loads_version h i k = gathers_hand r'.history ListVal _ (r'.seats s) (subst (λ x. AreCopies r'.history l.row l.call l.gathered x) (sym (ap (λ g. g.ids) h.log)) (copies_kept h i tt)) (ap (λ g. g.read) h.log ∙ unread_before h i tt) (λ x. x) (λ x. x)
-gathers_by z r r' s choice l _ _ gathers_listed h i k = gathers_hand r'.history ListFrom _ (r'.seats s) (subst (λ x. AreCopies r'.history l.row l.call (gathering z (value_of_word (word z r.world (name.Value l.row l.place))) l).gathered x) (sym (ap (λ g. g.ids) h.log)) (let x = apart_before h i tt in copies_more h i k tt tt tt tt (h.changed.loaded refl (name.Value l.row l.place)) x (hand_fresh z _ l (walks_before h i) x) (x.hand tt))) (ap (λ g. g.read) h.log ∙ unread_before h i tt) (λ x. x) (λ x. x)
-gathers_by z r r' s choice l _ _ (rest_wanted e) h i k = gathers_hand r'.history RestVal _ (r'.seats s) (subst (λ x. AreCopies r'.history l.row l.call l.gathered x) (sym (ap (λ g. g.ids) h.log)) (copies_kept h i tt)) (ap (λ g. g.read) h.log ∙ unread_before h i tt) (λ x. x) (λ x. x)
-gathers_by z r r' s choice l _ _ (rest_passed next e n) h i k = subst (Gathers r'.history next.activity next) (sym h.log) (copies_next r'.history l next (r.seats s) n (copies_kept h i tt) (unread_before h i tt))
-gathers_by z r r' s choice l _ _ (gathers_rest next n) h i k = subst (Gathers r'.history next.activity next) (sym h.log) (copies_next r'.history _ next _ n (let x = apart_before h i tt in copies_more h i k tt tt tt tt (h.changed.loaded refl (name.Value l.row l.place)) x (x.fresh tt) (x.hand tt)) (unread_before h i tt))
+gathers_by z r r' s choice l _ _ (meets_pending j c e) h i k = gathers_met r'.history r'.origin LookKey _ (r'.seats s) ((gathered_before h i).empty tt) (ap (λ g. g.ids) h.log ∙ look_empty j (length r.history.log) (r.seats s) (gathered_before h i).no_ids) (λ x. x) (λ x. x)
+gathers_by z r r' s choice l _ _ (meets_stamped j c version next e n) h i k = gathers_none z r'.history r'.origin (j + 1) next _ (r'.seats s) n ((gathered_before h i).empty tt) (ap (λ g. g.ids) h.log ∙ look_empty j (length r.history.log) (r.seats s) (gathered_before h i).no_ids)
+gathers_by z r r' s choice l _ _ (meets_neither j next e n) h i k = gathers_none z r'.history r'.origin (j + 1) next _ (r'.seats s) n ((gathered_before h i).empty tt) (ap (λ g. g.ids) h.log ∙ look_empty j (length r.history.log) (r.seats s) (gathered_before h i).no_ids)
+gathers_by z r r' s choice l _ _ (is_wanted e) h i k = gathers_met r'.history r'.origin LookClock _ (r'.seats s) ((gathered_before h i).empty tt) (ap (λ g. g.ids) h.log ∙ (gathered_before h i).no_ids tt) (λ x. x) (λ x. x)
+gathers_by z r r' s choice l _ _ (is_passed next e n) h i k = gathers_none z r'.history r'.origin (l.looked + 1) next _ (r'.seats s) n ((gathered_before h i).empty tt) (ap (λ g. g.ids) h.log ∙ (gathered_before h i).no_ids tt)
+gathers_by z r r' s choice l _ _ loads_to_help h i k = gathers_met r'.history r'.origin LookHelp _ (r'.seats s) ((gathered_before h i).empty tt) (ap (λ g. g.ids) h.log ∙ (gathered_before h i).no_ids tt) (λ x. x) (λ x. x)
+gathers_by z r r' s choice l _ _ (helps next e n) h i k = gathers_none z r'.history r'.origin (l.looked + 1) next _ (r'.seats s) n ((gathered_before h i).empty tt) (ap (λ g. g.ids) h.log ∙ (gathered_before h i).no_ids tt)
+gathers_by z r r' s choice l _ _ (finds_stamped c version next e n) h i k = gathers_none z r'.history r'.origin (l.looked + 1) next _ (r'.seats s) n ((gathered_before h i).empty tt) (ap (λ g. g.ids) h.log ∙ (gathered_before h i).no_ids tt)
+gathers_by z r r' s choice l _ _ (finds_other next e n) h i k = gathers_none z r'.history r'.origin (l.looked + 1) next _ (r'.seats s) n ((gathered_before h i).empty tt) (ap (λ g. g.ids) h.log ∙ (gathered_before h i).no_ids tt)
+gathers_by z r r' s choice l _ _ (list_leads c e) h i k = gathers_hand r'.history r'.origin ListKey _ (r'.seats s) (subst (λ x. AreCopies r'.history r'.origin l.row l.call l.gathered x) (sym (ap (λ g. g.ids) h.log)) (copies_kept h i tt)) (ap (λ g. g.read) h.log ∙ unread_before h i tt) (λ x. x) (λ x. x)
+gathers_by z r r' s choice l _ _ (list_ends next e n) h i k = subst (Gathers r'.history r'.origin next.activity next) (sym h.log) (copies_next r'.history r'.origin l next (r.seats s) n (copies_kept h i tt) (unread_before h i tt))
+gathers_by z r r' s choice l _ _ (key_below e) h i k = gathers_hand r'.history r'.origin ListFrom _ (r'.seats s) (subst (λ x. AreCopies r'.history r'.origin l.row l.call l.gathered x) (sym (ap (λ g. g.ids) h.log)) (copies_kept h i tt)) (ap (λ g. g.read) h.log ∙ unread_before h i tt) (λ x. x) (λ x. x)
+gathers_by z r r' s choice l _ _ (key_within e w) h i k = gathers_hand r'.history r'.origin ListVer _ (r'.seats s) (subst (λ x. AreCopies r'.history r'.origin l.row l.call l.gathered x) (sym (ap (λ g. g.ids) h.log)) (copies_kept h i tt)) (ap (λ g. g.read) h.log ∙ unread_before h i tt) (λ x. x) (λ x. x)
+gathers_by z r r' s choice l _ _ (key_above next e n) h i k = subst (Gathers r'.history r'.origin next.activity next) (sym h.log) (copies_next r'.history r'.origin l next (r.seats s) n (copies_kept h i tt) (unread_before h i tt))
+gathers_by z r r' s choice l _ _ loads_version h i k = gathers_hand r'.history r'.origin ListVal _ (r'.seats s) (subst (λ x. AreCopies r'.history r'.origin l.row l.call l.gathered x) (sym (ap (λ g. g.ids) h.log)) (copies_kept h i tt)) (ap (λ g. g.read) h.log ∙ unread_before h i tt) (λ x. x) (λ x. x)
+gathers_by z r r' s choice l _ _ gathers_listed h i k = gathers_hand r'.history r'.origin ListFrom _ (r'.seats s) (subst (λ x. AreCopies r'.history r'.origin l.row l.call (gathering z (value_of_word (word z r.world (name.Value l.row l.place))) l).gathered x) (sym (ap (λ g. g.ids) h.log)) (let x = apart_before h i tt in copies_more h i k tt tt tt tt (h.changed.loaded refl (name.Value l.row l.place)) x (hand_fresh z _ l (walks_before h i) x) (x.hand tt))) (ap (λ g. g.read) h.log ∙ unread_before h i tt) (λ x. x) (λ x. x)
+gathers_by z r r' s choice l _ _ (rest_wanted e) h i k = gathers_hand r'.history r'.origin RestVal _ (r'.seats s) (subst (λ x. AreCopies r'.history r'.origin l.row l.call l.gathered x) (sym (ap (λ g. g.ids) h.log)) (copies_kept h i tt)) (ap (λ g. g.read) h.log ∙ unread_before h i tt) (λ x. x) (λ x. x)
+gathers_by z r r' s choice l _ _ (rest_passed next e n) h i k = subst (Gathers r'.history r'.origin next.activity next) (sym h.log) (copies_next r'.history r'.origin l next (r.seats s) n (copies_kept h i tt) (unread_before h i tt))
+gathers_by z r r' s choice l _ _ (gathers_rest next n) h i k = subst (Gathers r'.history r'.origin next.activity next) (sym h.log) (copies_next r'.history r'.origin _ next _ n (let x = apart_before h i tt in copies_more h i k tt tt tt tt (h.changed.loaded refl (name.Value l.row l.place)) x (x.fresh tt) (x.hand tt)) (unread_before h i tt))
 gathers_by z r r' s choice l _ _ (takes_cell e) h i k = gathers_kept h i PutKey tt refl refl (ap (λ g. g.ids) h.log ∙ added_same (λ g. g.ids) _ (r.seats s) _ refl) (ap (λ g. g.read) h.log ∙ added_same (λ g. g.read) _ (r.seats s) _ refl) (λ x. x) (λ x. x) (λ x. x)
 gathers_by z r r' s choice l _ _ (takes_none e f) h i k = gathers_kept h i _ tt refl refl (ap (λ g. g.ids) h.log ∙ added_same (λ g. g.ids) _ (r.seats s) _ refl) (ap (λ g. g.read) h.log ∙ added_same (λ g. g.read) _ (r.seats s) _ refl) (λ x. x) (λ x. x) (λ x. x)
 gathers_by z r r' s choice l _ _ (takes_full e f) h i k = gathers_kept h i _ tt refl refl (ap (λ g. g.ids) h.log ∙ added_same (λ g. g.ids) _ (r.seats s) _ refl) (ap (λ g. g.read) h.log ∙ added_same (λ g. g.read) _ (r.seats s) _ refl) (λ x. x) (λ x. x) (λ x. x)
@@ -215,3 +236,60 @@ gathers_by z r r' s choice l _ _ (leaves answer) h i k = record { empty = λ x. 
 gathers_by z r r' s choice l _ _ (settles_empty e) h i k = gathers_kept h i _ tt refl refl (ap (λ g. g.ids) h.log ∙ settled_same (λ g. g.ids) l.waiting _ (r.settled s) (r.seats s) refl) (ap (λ g. g.read) h.log ∙ settled_same (λ g. g.read) l.waiting _ (r.settled s) (r.seats s) refl) (λ x. x) (λ x. x) (λ x. x)
 gathers_by z r r' s choice l _ _ (settles e) h i k = gathers_kept h i _ tt refl refl (ap (λ g. g.ids) h.log ∙ settled_same (λ g. g.ids) l.waiting _ (r.settled s) (r.seats s) refl) (ap (λ g. g.read) h.log ∙ settled_same (λ g. g.read) l.waiting _ (r.settled s) (r.seats s) refl) (λ x. x) (λ x. x) (λ x. x)
 gathers_by z r r' s choice l a l' b h i k = gathers_kept h i l'.activity tt refl refl (ap (λ g. g.ids) h.log) (ap (λ g. g.read) h.log) (λ x. x) (λ x. x) (λ x. x)
+
+-- Rows that were read.
+
+-- a seat that has read one cell more goes on to a cell, or has read its row
+read_is : (next : Activity) (row q : ℕ) (g : SeatLog) → (log_read next row g).read ≡ Some q → (g.read ≡ Some q) ⊎ (row ≡ q)
+read_is next row q g e = which (is_at_cell next) e
+  where
+    which : (b : Bool) → (let x : SeatLog = if b then g else record g { read = Some row } in x).read ≡ Some q → (g.read ≡ Some q) ⊎ (row ≡ q)
+    which true x = inl x
+    which false x = inr (same_Some row q x)
+
+-- a call that begins has read no row
+begun_unread : {A : Type 0} (choice : Choice) (call q : ℕ) (g : SeatLog) → is_skipped Idle choice ≡ false → (log_begun choice call g).read ≡ Some q → A
+begun_unread (Begin c) call q g b e = let y : None ≡ Some q = e in absurd (cc)
+begun_unread Go call q g b e = let y : true ≡ false = b in absurd (cc)
+begun_unread (Guess n) call q g b e = let y : true ≡ false = b in absurd (cc)
+begun_unread Stop call q g b e = let y : true ≡ false = b in absurd (cc)
+
+module _ {z : Sizes} {r r' : Run} {s : ℕ} {choice : Choice} {l l' : Local} where
+  -- the row that the seat has read was read before, or is the one that it has just read
+  read_was : (a : Activity) → Happens z r r' s choice l l' a → Inv z r → (q : ℕ) → (r'.seats s).read ≡ Some q → IsKeeping a × ((r.seats s).read ≡ Some q) ⊎ IsAtRead a × (l.row ≡ q)
+  read_was Idle h i q e = begun_unread choice (length r.history.calls) q (r.seats s) h.moves (sym (ap (λ g. g.read) h.log) ∙ e)
+  read_was (Look j) h i q e = let y : None ≡ Some q = sym (ap (λ g. g.read) h.log ∙ look_unread j (length r.history.log) (r.seats s) (unread_before h i)) ∙ e in absurd (cc)
+  read_was LookKey h i q e = let y : None ≡ Some q = sym (ap (λ g. g.read) h.log ∙ unread_before h i tt) ∙ e in absurd (cc)
+  read_was LookClock h i q e = let y : None ≡ Some q = sym (ap (λ g. g.read) h.log ∙ unread_before h i tt) ∙ e in absurd (cc)
+  read_was LookHelp h i q e = let y : None ≡ Some q = sym (ap (λ g. g.read) h.log ∙ unread_before h i tt) ∙ e in absurd (cc)
+  read_was ListFrom h i q e = at_end (read_is l'.activity l.row q (r.seats s) (sym (ap (λ g. g.read) h.log) ∙ e))
+    where
+      at_end : ((r.seats s).read ≡ Some q) ⊎ (l.row ≡ q) → IsKeeping ListFrom × ((r.seats s).read ≡ Some q) ⊎ IsAtRead ListFrom × (l.row ≡ q)
+      at_end (inl x) = inl (tt, x)
+      at_end (inr x) = inr (tt, x)
+  read_was ListKey h i q e = at_end (read_is l'.activity l.row q (r.seats s) (sym (ap (λ g. g.read) h.log) ∙ e))
+    where
+      at_end : ((r.seats s).read ≡ Some q) ⊎ (l.row ≡ q) → IsKeeping ListKey × ((r.seats s).read ≡ Some q) ⊎ IsAtRead ListKey × (l.row ≡ q)
+      at_end (inl x) = inl (tt, x)
+      at_end (inr x) = inr (tt, x)
+  read_was RestKey h i q e = at_end (read_is l'.activity l.row q (r.seats s) (sym (ap (λ g. g.read) h.log) ∙ e))
+    where
+      at_end : ((r.seats s).read ≡ Some q) ⊎ (l.row ≡ q) → IsKeeping RestKey × ((r.seats s).read ≡ Some q) ⊎ IsAtRead RestKey × (l.row ≡ q)
+      at_end (inl x) = inl (tt, x)
+      at_end (inr x) = inr (tt, x)
+  read_was RestVal h i q e = at_end (read_is l'.activity l.row q (log_gathered (r.origin l.row l.place) (place_gathered l (word z r.world (name.Value l.row l.place))) (r.seats s)) (sym (ap (λ g. g.read) h.log) ∙ e))
+    where
+      at_end : ((r.seats s).read ≡ Some q) ⊎ (l.row ≡ q) → IsKeeping RestVal × ((r.seats s).read ≡ Some q) ⊎ IsAtRead RestVal × (l.row ≡ q)
+      at_end (inl x) = inl (tt, x)
+      at_end (inr x) = inr (tt, x)
+  read_was ScanSettle h i q e = inl (tt, sym (ap (λ g. g.read) h.log ∙ settled_same (λ g. g.read) l.waiting _ (r.settled s) (r.seats s) refl) ∙ e)
+  read_was PutAdd h i q e = inl (tt, sym (ap (λ g. g.read) h.log ∙ added_same (λ g. g.read) _ (r.seats s) _ refl) ∙ e)
+  read_was a h i q e = inl (tt, sym (ap (λ g. g.read) h.log) ∙ e)
+
+  -- so it is or was linked
+  pub linked_by : (a : Activity) → Happens z r r' s choice l l' a → Inv z r → (q : ℕ) → (r'.seats s).read ≡ Some q → WasLinked r'.ledger.rows q
+  linked_by a h i q e = which (read_was a h i q e)
+    where
+      which : IsKeeping a × ((r.seats s).read ≡ Some q) ⊎ IsAtRead a × (l.row ≡ q) → WasLinked r'.ledger.rows q
+      which (inl x) = (linked_keeps a h i.shape q (read_linked h i x.0 q x.1)).linked
+      which (inr x) = subst (WasLinked r'.ledger.rows) x.1 (row_linked_on h i x.0)

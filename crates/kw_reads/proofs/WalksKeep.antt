@@ -19,15 +19,16 @@ use Rattle.kw_world.specs.Step.{word}
 use Rattle.kw_core.specs.Run.{Run}
 use Rattle.kw_core.specs.Stages.{IsAtRead, IsAtRow, IsAtListed}
 use Rattle.kw_rows.specs.Rows.{WasLinked}
-use Rattle.kw_shape.proofs.RowsStay.{fresh_linked}
+use Rattle.kw_shape.proofs.LinkedRows.{fresh_linked, linked_keeps}
 use Rattle.kw_puts.specs.Lists.{list_in}
 use Rattle.kw_puts.proofs.ListSteps.{list_step, leaves, stays_sound}
 use Rattle.kw_puts.proofs.ListWords.{link_is}
 use Rattle.kw_reads.specs.Readers.{HasMetCell, ReadsList}
 use Rattle.kw_reads.specs.Inv.{Inv, lower}
-use Rattle.kw_core.proofs.Building.{never_built}
+use Rattle.kw_core.proofs.BuiltNext.{built_next}
 use Rattle.kw_core.proofs.Arrows.{builds, NextLook, looks, lists, NextRest, rests, answers, ends_scan, scans_on, Arrow, reads_last, reads_before, meets_pending, meets_stamped, meets_neither, is_wanted, is_passed, loads_to_help, helps, finds_stamped, finds_other, list_leads, list_ends, key_below, key_within, key_above, loads_version, gathers_listed, rest_passed, gathers_rest}
 use Rattle.kw_core.proofs.Happens.{Happens}
+use Rattle.kw_reads.proofs.BuiltReads.{after_walks}
 use Rattle.kw_reads.proofs.Ready.{walks_last}
 
 -- a reader at its row is at a row
@@ -77,6 +78,10 @@ module _ {z : Sizes} {r r' : Run} {s : ℕ} {choice : Choice} {l l' : Local} {a 
   pub row_linked : IsAtRead a → WasLinked r.ledger.rows l.row
   row_linked x = fresh_linked r.ledger.rows s l.row ((i.shape.walks s l h.knows).at (subst IsAtRow (sym h.activity) (read_at_row a x))).fresh
 
+  -- after the event too
+  pub row_linked_on : IsAtRead a → WasLinked r'.ledger.rows l.row
+  row_linked_on x = (linked_keeps a h i.shape l.row (row_linked x)).linked
+
   -- what the event leaves of it
   pub row_left : IsAtRead a → Leaves z.cells (list_in (word z r.world) r.listed l.row) (list_in (word z r'.world) r'.listed l.row)
   row_left x = leaves z.cells _ _ (list_step z r r' s choice l a l' h (lower i) l.row (row_linked x))
@@ -112,7 +117,7 @@ module _ {z : Sizes} {r r' : Run} {s : ℕ} {choice : Choice} {l l' : Local} (h 
 
 -- where the acting reader is in the list
 pub walks_by : (z : Sizes) (r r' : Run) (s : ℕ) (choice : Choice) (l : Local) (a : Activity) (l' : Local) → Arrow z (word z r.world) s choice l a l' → Happens z r r' s choice l l' a → Inv z r → ReadsList z.cells (list_in (word z r'.world) r'.listed l'.row) l'.activity l'
-walks_by z r r' s choice l a l' (builds b next y o t) h i = never_built z b y o
+walks_by z r r' s choice l a l' (builds b next y o t) h i = after_walks z.cells _ l'.activity l' (built_next z (word z r.world) choice l b l' t)
 walks_by z r r' s choice l _ _ (reads_last f n) h i = (refl, refl)
 walks_by z r r' s choice l _ _ (reads_before f w) h i = (refl, refl)
 walks_by z r r' s choice l _ _ (meets_pending j c e) h i = walks_after h i tt

@@ -1,3 +1,4 @@
 pub mod Readers
 pub mod Replies
 pub mod Inv
+pub mod Contents

@@ -1,10 +1,13 @@
 -- What holds of a get or a scan that reads a row: which attempts are due to it, that each of them is stamped and will be gathered,
 -- where it is on its walk along the row's list, and what it has gathered.
 --
+-- A cell of a row stands for the attempt that is its origin: as the attempt's own cell, or as a copy, where the row has taken the place
+-- of a full one. Of what is due to a reader each is named by the cell and the attempt.
+--
 -- A row may be frozen while it is read, and then an attempt that was announced there may be lost: it is never stamped, and nothing is
 -- due of it any more. So what is said here of each attempt that is due says of each one that was announced before the reader looked
 -- that it is lost, or so.
-use Rattle.std.specs.Prelude.{ℕ, ◌≡◌, ◌⊎◌, ◌<◌, ◌≤◌, ◌==◌, Bool, true, false, if◌then◌else◌, Option, Some, None, List, [], ◌∷◌, All, Contains, length, slice_get}
+use Rattle.std.specs.Prelude.{ℕ, ◌≡◌, ◌⊎◌, ◌<◌, ◌≤◌, true, false, Option, Some, None, List, [], All, Contains, length, slice_get}
 use Rattle.std.specs.List.{AllZip}
 use Rattle.kw_cells.specs.declared.cell.Cell as kw_cell
 use Rattle.kw_lists.specs.Counts.{count_below}
@@ -23,15 +26,18 @@ use Rattle.kw_core.specs.History.{History, attempt}
 use Rattle.kw_core.specs.Listed.{Listed}
 use Rattle.kw_core.specs.declared.seat_log.SeatLog.{SeatLog}
 use Rattle.kw_core.specs.Run.{Origins, Run}
+use Rattle.kw_rows.specs.Rows.{WasLinked}
 use Rattle.kw_core.specs.Stages.{IsLooking, HasLooked, HasMet, IsTaking, IsListing, IsResting, HasPlace, HasVersion, HasCellKey, IsReading, IsKeeping}
+use Rattle.kw_puts.specs.Builds.{has_place}
 use Rattle.kw_puts.specs.Lists.{list_in}
 
 -- What is due.
 
--- the attempt is due to a reader of this row with this call that looked at this position: it was announced before, its key is one
--- that the call reads, and it is not lost. No later event makes an attempt due, and none takes it away but the one that loses it
-pub record IsDue (h : History) (r : ℕ) (call : Option Call) (looked p : ℕ) : Type 0 where
-  pub row : (attempt h p).row ≡ r
+-- the attempt for which this cell stands is due to a reader of the row with this call that looked at this position: it was announced
+-- before, its key is one that the call reads, and it is not lost. Of a row that is or was linked no later event makes an attempt due,
+-- and none takes it away but the one that loses it
+pub record IsDue (h : History) (o : Origins) (r : ℕ) (call : Option Call) (looked c p : ℕ) : Type 0 where
+  pub origin : o r c ≡ Some p
   pub announced : (attempt h p).is_announced ≡ true
   pub before : (attempt h p).announced < looked
   pub kept : (attempt h p).is_lost ≡ false
@@ -41,10 +47,10 @@ pub record IsDue (h : History) (r : ℕ) (call : Option Call) (looked p : ℕ) :
 abbrev pub IsNoted : Listed → Local → ℕ → Type 0
 IsNoted f l c = (is_marked c l.remembered ≡ true) ⊎ (f l.row c ≡ true)
 
--- the attempt is stamped, and the reader will read its cell
-pub record IsReady (f : Listed) (h : History) (l : Local) (p : ℕ) : Type 0 where
+-- the attempt for which this cell stands is stamped, and the reader will read the cell
+pub record IsReady (f : Listed) (h : History) (l : Local) (c p : ℕ) : Type 0 where
   pub stamped : (attempt h p).is_stamped ≡ true
-  pub noted : IsNoted f l (attempt h p).cell
+  pub noted : IsNoted f l c
 
 -- Looking at the entries.
 
@@ -65,9 +71,9 @@ looked_by z _ l = z.seats
 
 -- each attempt that is due and whose seat's entry the reader is done with is ready; and where it met a pending entry, so is each
 -- one of that seat, but for the one with the cell that it met
-pub record Looks (z : Sizes) (f : Listed) (h : History) (a : Activity) (l : Local) (g : SeatLog) : Type 0 where
-  pub past : (p : ℕ) → IsDue h l.row l.call g.looked p → (attempt h p).seat < looked_by z a l → IsReady f h l p
-  pub here : HasMet a → (p : ℕ) → IsDue h l.row l.call g.looked p → (attempt h p).seat ≡ l.looked → ((attempt h p).cell ≡ l.met) ⊎ IsReady f h l p
+pub record Looks (z : Sizes) (f : Listed) (h : History) (o : Origins) (a : Activity) (l : Local) (g : SeatLog) : Type 0 where
+  pub past : (c p : ℕ) → IsDue h o l.row l.call g.looked c p → (attempt h p).seat < looked_by z a l → IsReady f h l c p
+  pub here : HasMet a → (c p : ℕ) → IsDue h o l.row l.call g.looked c p → (attempt h p).seat ≡ l.looked → (c ≡ l.met) ⊎ IsReady f h l c p
 
 -- Walking along the list.
 
@@ -115,42 +121,36 @@ pub record IsInHand (h : History) (o : Origins) (a : Activity) (l : Local) : Typ
   pub key : HasCellKey a → (attempt h put).key ≡ l.place_key
   pub in_range : HasCellKey a → is_in_range l.call l.place_key ≡ true
 
--- each attempt that is due is stamped: it is gathered, or its cell is remembered or still to come
+-- each attempt that is due is stamped: it is gathered, or the cell that stands for it is remembered or still to come
 pub record Reads (r : Row) (h : History) (o : Origins) (a : Activity) (l : Local) (g : SeatLog) : Type 0 where
-  pub stamped : (p : ℕ) → IsDue h l.row l.call g.looked p → (attempt h p).is_stamped ≡ true
-  pub found : (p : ℕ) → IsDue h l.row l.call g.looked p → Contains g.ids p ⊎ (is_marked (attempt h p).cell l.remembered ≡ true) ⊎ IsToCome r a l (attempt h p).cell
+  pub stamped : (c p : ℕ) → IsDue h o l.row l.call g.looked c p → (attempt h p).is_stamped ≡ true
+  pub found : (c p : ℕ) → IsDue h o l.row l.call g.looked c p → Contains g.ids p ⊎ (is_marked c l.remembered ≡ true) ⊎ IsToCome r a l c
   pub hand : HasPlace a → IsInHand h o a l
 
 -- What was gathered.
 
--- a gathered cell is that of this attempt: stamped, of the row, with its key, version, place and value, and its key is one that
--- the call reads
-pub record IsCopyOf (h : History) (r : ℕ) (call : Option Call) (c : kw_cell.Cell) (p : ℕ) : Type 0 where
+-- a gathered cell stands for this attempt: this is stamped, the row's cell at that place stands for it, with its key, version and
+-- value, and its key is one that the call reads
+pub record IsCopyOf (h : History) (o : Origins) (r : ℕ) (call : Option Call) (c : kw_cell.Cell) (p : ℕ) : Type 0 where
   pub within : p < length h.attempts
   pub stamped : (attempt h p).is_stamped ≡ true
-  pub row : (attempt h p).row ≡ r
+  pub origin : o r c.place ≡ Some p
   pub key : (attempt h p).key ≡ c.key
   pub version : (attempt h p).version ≡ c.version
-  pub cell : (attempt h p).cell ≡ c.place
   pub value : (attempt h p).value ≡ c.value
   pub in_range : is_in_range call c.key ≡ true
 
 -- beside each gathered cell stands its attempt
-abbrev pub AreCopies : History → ℕ → Option Call → List kw_cell.Cell → List ℕ → Type 0
-AreCopies h row call cells ids = AllZip (IsCopyOf h row call) cells ids
+abbrev pub AreCopies : History → Origins → ℕ → Option Call → List kw_cell.Cell → List ℕ → Type 0
+AreCopies h o row call cells ids = AllZip (IsCopyOf h o row call) cells ids
 
 -- nothing is gathered while the reader looks at entries; while it reads the cells, and after that until the next row, what it
--- gathered are cells of attempts of the row
-pub record Gathers (h : History) (a : Activity) (l : Local) (g : SeatLog) : Type 0 where
+-- gathered are cells of the row that stand for attempts
+pub record Gathers (h : History) (o : Origins) (a : Activity) (l : Local) (g : SeatLog) : Type 0 where
   pub empty : IsLooking a → l.gathered ≡ []
   pub no_ids : HasLooked a → g.ids ≡ []
-  pub taking : IsTaking a → AreCopies h l.row l.call l.gathered g.ids
-  pub kept : IsKeeping a → (r : ℕ) → g.read ≡ Some r → AreCopies h r l.call l.gathered g.ids
-
--- a cell of this place is gathered
-abbrev pub has_place : ℕ → List kw_cell.Cell → Bool
-has_place c [] = false
-has_place c (d ∷ cells) = if d.place == c then true else has_place c cells
+  pub taking : IsTaking a → AreCopies h o l.row l.call l.gathered g.ids
+  pub kept : IsKeeping a → (r : ℕ) → g.read ≡ Some r → AreCopies h o r l.call l.gathered g.ids
 
 -- no cell is gathered twice: no more are gathered than places of the row are, none that is still remembered is, and the one in hand is
 -- neither; what is gathered on the walk is listed, and the walk has passed it
@@ -164,19 +164,22 @@ pub record Apart (z : Sizes) (r : Row) (a : Activity) (l : Local) : Type 0 where
 
 -- no row counts as read while the reader looks at entries or reads cells; of the row that it has read each attempt that was due is
 -- stamped and gathered
-pub record HasSeen (h : History) (a : Activity) (l : Local) (g : SeatLog) : Type 0 where
+pub record HasSeen (h : History) (o : Origins) (a : Activity) (l : Local) (g : SeatLog) : Type 0 where
   pub unread : IsReading a → g.read ≡ None
-  pub stamped : IsKeeping a → (r : ℕ) → g.read ≡ Some r → (p : ℕ) → IsDue h r l.call g.looked p → (attempt h p).is_stamped ≡ true
-  pub taken : IsKeeping a → (r : ℕ) → g.read ≡ Some r → (p : ℕ) → IsDue h r l.call g.looked p → Contains g.ids p
+  pub stamped : IsKeeping a → (r : ℕ) → g.read ≡ Some r → (c p : ℕ) → IsDue h o r l.call g.looked c p → (attempt h p).is_stamped ≡ true
+  pub taken : IsKeeping a → (r : ℕ) → g.read ≡ Some r → (c p : ℕ) → IsDue h o r l.call g.looked c p → Contains g.ids p
 
 -- The group.
 
 -- what holds of the readers
 pub record Readers (z : Sizes) (r : Run) : Type 0 where
+  -- what stands for an attempt is a cell of its row, and a row that was read is or was linked
+  pub within : (q c p : ℕ) → r.origin q c ≡ Some p → c < z.cells
+  pub linked : (t : ℕ) (l : Local) → slice_get r.world.locals t ≡ Some l → IsKeeping l.activity → (q : ℕ) → (r.seats t).read ≡ Some q → WasLinked r.ledger.rows q
   pub remembers : (t : ℕ) (l : Local) → slice_get r.world.locals t ≡ Some l → IsLooking l.activity ⊎ IsTaking l.activity → All (IsMarkOf r.history r.origin l.row) l.remembered
-  pub looks : (t : ℕ) (l : Local) → slice_get r.world.locals t ≡ Some l → IsLooking l.activity → Looks z r.listed r.history l.activity l (r.seats t)
+  pub looks : (t : ℕ) (l : Local) → slice_get r.world.locals t ≡ Some l → IsLooking l.activity → Looks z r.listed r.history r.origin l.activity l (r.seats t)
   pub walks : (t : ℕ) (l : Local) → slice_get r.world.locals t ≡ Some l → ReadsList z.cells (list_in (word z r.world) r.listed l.row) l.activity l
   pub reads : (t : ℕ) (l : Local) → slice_get r.world.locals t ≡ Some l → IsTaking l.activity → Reads (list_in (word z r.world) r.listed l.row) r.history r.origin l.activity l (r.seats t)
-  pub gathers : (t : ℕ) (l : Local) → slice_get r.world.locals t ≡ Some l → Gathers r.history l.activity l (r.seats t)
+  pub gathers : (t : ℕ) (l : Local) → slice_get r.world.locals t ≡ Some l → Gathers r.history r.origin l.activity l (r.seats t)
   pub apart : (t : ℕ) (l : Local) → slice_get r.world.locals t ≡ Some l → IsTaking l.activity → Apart z (list_in (word z r.world) r.listed l.row) l.activity l
-  pub seen : (t : ℕ) (l : Local) → slice_get r.world.locals t ≡ Some l → HasSeen r.history l.activity l (r.seats t)
+  pub seen : (t : ℕ) (l : Local) → slice_get r.world.locals t ≡ Some l → HasSeen r.history r.origin l.activity l (r.seats t)

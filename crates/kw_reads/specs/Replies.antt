@@ -2,6 +2,8 @@
 use Rattle.std.specs.Prelude.{ℕ, suc, ◌≡◌, ◌+◌, ◌<◌, ◌≤◌, true, Option, Some, List, [], ◌∷◌, slice_get}
 use Rattle.kw_model.specs.declared.call.Call.{Call}
 use Rattle.kw_model.specs.declared.call.Call.TheVariants.{Get}
+use Rattle.kw_model.specs.declared.call.Reply.{Reply}
+use Rattle.kw_model.specs.declared.call.Reply.TheVariants.{Value}
 use Rattle.kw_world.specs.declared.answer.Answer.TheVariants.{Pairs}
 use Rattle.kw_world.specs.Answers.{reply_of}
 use Rattle.kw_world.specs.declared.activity.Activity.{Activity}
@@ -41,9 +43,16 @@ pub record HasPairs (h : History) (a : Activity) (l : Local) (g : SeatLog) : Typ
   pub covers : is_scan l.call ≡ true → IsCovering a → Covers h (first_key l.call) l.version g.drawn l.want l.pairs
   pub covered : IsCovered a h l g
 
--- a get that is about to answer knows what it answers: the attempt beside the best gathered cell
+-- a get that is about to answer knows what it answers: what a gap of its key shows; and where this is a value, the gap is behind the
+-- attempt beside its best gathered cell
+pub record AnswersGet (h : History) (key first : ℕ) (reply : Reply) (best : Option ℕ) : Type 0 where
+  pub gap : Option ℕ
+  pub knows : GetKey h key first reply gap
+  pub answer : (v : ℕ) → reply ≡ Value v → best ≡ gap
+
+-- such a get has looked at the attempt beside its best gathered cell
 abbrev pub IsAnswered : Activity → Option Call → History → Local → SeatLog → Type 0
-IsAnswered (Leave answer) (Some (Get key)) h l g = GetKey h key (called h g.call).first (reply_of answer l.pairs) (best_id l.gathered g.ids key NEWEST)
+IsAnswered (Leave answer) (Some (Get key)) h l g = AnswersGet h key (called h g.call).first (reply_of answer l.pairs) (best_id l.gathered g.ids key NEWEST)
 IsAnswered _ call h l g = Unit {0}
 
 -- The group.

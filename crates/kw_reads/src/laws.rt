@@ -12,7 +12,8 @@ ghost use Rattle.kw_puts.specs.Below.{MayTake};
 ghost use Rattle.kw_reads.specs.Inv.{Inv};
 
 /// The record may note every event that may come, and every valid list of events from an opening keeps the invariant: the groups
-/// below, what is due to each reader and what it has gathered, the pairs of scans, and what a get is going to answer.
+/// below, what is due to each reader and what it has gathered, what the rows have kept of the stamped puts, the pairs of scans, and what
+/// a get is going to answer.
 pub fn reads_laws()
     ensures notes { (z : Sizes) (o : Opening) (r : Run) (e : Event) → Inv z r → may_step o r.world e
         ≡ true → MayTake z r e }

@@ -1,18 +1,14 @@
 -- Every event keeps what a seat knows of the full row that it rebalances.
-use Rattle.std.proofs.Common.{ℕ, ◌≡◌, ◌≢◌, ◌⊎◌, inl, inr, ◌+◌, ◌≤◌, true, Some, arith, refl, sym, ◌∙◌, ap, subst, slice_get, length}
-use Rattle.std.proofs.lemmas.Bool.{cases_eq}
-use Rattle.kw_words.specs.declared.layout.Name.TheVariants as name
-use Rattle.kw_words.specs.declared.state.State.TheVariants as state
-use Rattle.kw_words.specs.State.{IsState, state_of, state_word}
-use Rattle.kw_rows.specs.Group.{View, Alone, Elsewhere, Group, IsAlone, Marking, Named, Opened}
+use Rattle.std.proofs.Common.{ℕ, ◌≡◌, ◌≢◌, ◌⊎◌, inl, inr, ◌+◌, true, Some, arith, refl, sym, ◌∙◌, ap, subst, slice_get}
+use Rattle.kw_rows.specs.Group.{Alone, Group, Marking, Named, Opened}
 use Rattle.kw_rows.specs.Ledger as kw_rows
 use Rattle.kw_rows.specs.Ledger.{IsFresh}
 use Rattle.kw_rows.specs.RowState as row
-use Rattle.kw_rows.specs.Structure.{Structure}
 use Rattle.kw_rows.proofs.Named.{held_by}
 use Rattle.kw_rows.proofs.Views.{alone, leads, opens}
 use Rattle.kw_world.specs.declared.activity.Activity.{Activity}
-use Rattle.kw_world.specs.declared.activity.Activity.TheVariants.{BalClock, BalEpoch, BalState, BalNormal, Engage, MarkLink, Decide, FreezeCount, FreezeLook, Freeze, ScanLook, HelpDraw, HelpSettle, TakeFrom, TakeKey, TakeVersion, TakeValue, TakeRestKey, TakeRestValue, SeekFirst, Seek, TakeRow, GiveBack, WriteCount, WriteMin, WriteNext, WriteFirst, WritePend, WriteKey, WriteValue, WriteVersion, WriteAfter, Before, BeforeGuess, BeforeHead, BeforeLink, BeforeMin, Replace}
+use Rattle.kw_world.specs.declared.activity.Activity.TheVariants.{Leave, Again, BalClock, BalEpoch, BalState, BalNormal, Engage, MarkLink, Decide, FreezeCount, FreezeLook, Freeze, ScanLook, HelpDraw, HelpSettle, TakeFrom, TakeKey, TakeVersion, TakeValue, TakeRestKey, TakeRestValue, SeekFirst, Seek, TakeRow, GiveBack, WriteCount, WriteMin, WriteNext, WriteFirst, WritePend, WriteKey, WriteValue, WriteVersion, WriteAfter, Before, BeforeGuess, BeforeHead, BeforeLink, BeforeMin, Replace, Normalise, Number, Retire}
+use Rattle.kw_world.specs.declared.answer.Answer.TheVariants.{NoRows}
 use Rattle.kw_world.specs.declared.event.Choice.{Choice}
 use Rattle.kw_world.specs.declared.local.Local.{Local}
 use Rattle.kw_world.specs.EngageTransitions.{to_rebalance}
@@ -21,17 +17,21 @@ use Rattle.kw_world.specs.Step.{word}
 use Rattle.kw_core.specs.Run.{Run}
 use Rattle.kw_core.specs.declared.stage.Stage.{Stage}
 use Rattle.kw_core.specs.declared.stage.Stage.TheVariants.{Rebalancing}
-use Rattle.kw_core.specs.Stages.{stage_of, IsAtRow, IsBalancingStage, IsPassingStage, IsBalancing, IsPassing, IsPastStart}
-use Rattle.kw_core.specs.Words.{Words, least_in, next_in}
-use Rattle.kw_core.proofs.Arrows.{Arrow, NextLook, NextRest, answers, clock_serves, decides, ends_scan, engages, epoch_serves, finds_infant, finds_leader, finds_normal, finds_other, finds_stamped, gathers_rest, helps, is_engaged, is_passed, key_above, list_ends, lists, looks, marks_link, marks_led, meets_neither, meets_stamped, normalises, rest_passed, rests, scans_on, finds_full, takes_full, announces_full, stamps_full, freezes_count, meets_idle, meets_unstamped, remembers, remembers_last, meets_frozen, meets_frozen_last, freezes_entry, freezes_last, looks_again, meets_quiet, meets_quiet_last, helps_scan, meets_drawn, meets_drawn_last, draws_for, settles_scan, settles_last, finds_drawn, finds_drawn_last, finds_no_scan, finds_no_scan_last, take_leads, takes_left, takes_key, takes_version, keeps_taken, takes_left_key, keeps_left, takes_no_more, keeps_no_more, goes_no_further, builds, finds_none, is_not_own, is_refused, takes_none}
-use Rattle.kw_core.proofs.Building.{never_built}
+use Rattle.kw_core.specs.Stages.{stage_of, IsAtRow, IsBalancingStage, IsPassingStage, IsBalancing, IsPassing}
+use Rattle.kw_core.specs.Words.{Words, least_in}
+use Rattle.kw_core.proofs.Arrows.{Arrow, NextLook, NextRest, answers, clock_serves, decides, ends_scan, engages, epoch_serves, finds_infant, finds_leader, finds_normal, finds_other, finds_stamped, gathers_rest, helps, is_engaged, is_passed, key_above, list_ends, lists, looks, marks_link, marks_led, meets_neither, meets_stamped, normalises, rest_passed, rests, scans_on, finds_full, takes_full, announces_full, stamps_full, freezes_count, meets_idle, meets_unstamped, remembers, remembers_last, meets_frozen, meets_frozen_last, freezes_entry, freezes_last, looks_again, meets_quiet, meets_quiet_last, helps_scan, meets_drawn, meets_drawn_last, draws_for, settles_scan, settles_last, finds_drawn, finds_drawn_last, finds_no_scan, finds_no_scan_last, take_leads, takes_left, takes_key, takes_version, keeps_taken, takes_left_key, keeps_left, takes_no_more, keeps_no_more, builds}
+use Rattle.kw_core.proofs.Building.{Building, IsBuilding, draws_number, makes_last_normal, makes_normal, retires_row}
+use Rattle.kw_core.proofs.BuiltNext.{IsAfterBuilding, built_keeps, built_next}
 use Rattle.kw_core.proofs.Frame.{WritesPass}
 use Rattle.kw_core.proofs.Happens.{Happens}
+use Rattle.kw_shape.proofs.AfterBuilding.{built_balancing, built_pass, built_passes}
+use Rattle.kw_shape.proofs.LinkedRows.{fresh_linked, linked_keeps, search_at}
 use Rattle.kw_shape.proofs.OwnRows.{own_rely}
 use Rattle.kw_shape.proofs.RelyRows.{RelyRows, is_passing}
-use Rattle.kw_shape.proofs.RowsKeep.{balance_at, decided_state, engaged_state, group_keeps, kinds_at, others_kept, read_state, rely_rows, row_marked, row_next, structure_keeps}
+use Rattle.kw_shape.proofs.RowsKeep.{balance_at, decided_state, engaged_state, freezing, group_keeps, kinds_at, others_kept, read_state, rely_rows, row_marked, row_next, structure_keeps}
 use Rattle.kw_shape.proofs.Walking.{past}
-use Rattle.kw_shape.specs.Balances.{Balances, view_of}
+use Rattle.kw_shape.proofs.WonKeep.{head_open, moves_by}
+use Rattle.kw_shape.specs.Balances.{Balances, HasFrozen, view_of}
 use Rattle.kw_shape.specs.RowsIn.{rows_in}
 use Rattle.kw_shape.specs.Shape.{Shape, Walks}
 
@@ -80,9 +80,102 @@ passes_then _ b = absurd b
 in_pass : (a : Activity) → IsBalancing a → (IsPassing a → ⊥) → ⊥
 in_pass a b n = n (passes_then (stage_of a) b)
 
+-- one that has frozen the count of its row rebalances it
+frozen_balances : (a : Activity) → HasFrozen a → IsBalancing a
+frozen_balances (FreezeLook i) x = tt
+frozen_balances (Freeze i) x = tt
+frozen_balances (ScanLook i) x = tt
+frozen_balances (HelpDraw i) x = tt
+frozen_balances (HelpSettle i) x = tt
+frozen_balances TakeFrom x = tt
+frozen_balances TakeKey x = tt
+frozen_balances TakeVersion x = tt
+frozen_balances TakeValue x = tt
+frozen_balances TakeRestKey x = tt
+frozen_balances TakeRestValue x = tt
+frozen_balances SeekFirst x = tt
+frozen_balances Seek x = tt
+frozen_balances TakeRow x = tt
+frozen_balances GiveBack x = tt
+frozen_balances WriteCount x = tt
+frozen_balances WriteMin x = tt
+frozen_balances WriteNext x = tt
+frozen_balances WriteFirst x = tt
+frozen_balances (WritePend i) x = tt
+frozen_balances (WriteKey j) x = tt
+frozen_balances (WriteValue j) x = tt
+frozen_balances (WriteVersion j) x = tt
+frozen_balances (WriteAfter j) x = tt
+frozen_balances Before x = tt
+frozen_balances BeforeGuess x = tt
+frozen_balances BeforeHead x = tt
+frozen_balances BeforeLink x = tt
+frozen_balances BeforeMin x = tt
+frozen_balances Replace x = tt
+frozen_balances _ x = absurd x
+
+-- as long as it builds new rows it goes on with its row alone, and once it has linked them it knows nothing more of the group
+built_group : (v : Words) (g : kw_rows.Ledger) (c : Activity) (k : Local) → IsBuilding c → (HasFrozen c → Group (rows_in v) g (Alone k.row k.rebalance.after)) → Group (rows_in v) g (view_of c k)
+built_group v g SeekFirst k x f = f tt
+built_group v g Seek k x f = f tt
+built_group v g TakeRow k x f = f tt
+built_group v g GiveBack k x f = f tt
+built_group v g WriteCount k x f = f tt
+built_group v g WriteMin k x f = f tt
+built_group v g WriteNext k x f = f tt
+built_group v g WriteFirst k x f = f tt
+built_group v g (WritePend i) k x f = f tt
+built_group v g (WriteKey j) k x f = f tt
+built_group v g (WriteValue j) k x f = f tt
+built_group v g (WriteVersion j) k x f = f tt
+built_group v g (WriteAfter j) k x f = f tt
+built_group v g Before k x f = f tt
+built_group v g BeforeGuess k x f = f tt
+built_group v g BeforeHead k x f = f tt
+built_group v g BeforeLink k x f = f tt
+built_group v g BeforeMin k x f = f tt
+built_group v g Replace k x f = f tt
+built_group v g Normalise k x f = tt
+built_group v g Number k x f = tt
+built_group v g Retire k x f = tt
+built_group v g _ k x f = absurd x
+
+-- it builds new rows with the count frozen up to their linking
+built_alone : (a : Activity) (l : Local) → IsBuilding a → HasFrozen a → view_of a l ≡ Alone l.row l.rebalance.after
+built_alone SeekFirst l x f = refl
+built_alone Seek l x f = refl
+built_alone TakeRow l x f = refl
+built_alone GiveBack l x f = refl
+built_alone WriteCount l x f = refl
+built_alone WriteMin l x f = refl
+built_alone WriteNext l x f = refl
+built_alone WriteFirst l x f = refl
+built_alone (WritePend i) l x f = refl
+built_alone (WriteKey j) l x f = refl
+built_alone (WriteValue j) l x f = refl
+built_alone (WriteVersion j) l x f = refl
+built_alone (WriteAfter j) l x f = refl
+built_alone Before l x f = refl
+built_alone BeforeGuess l x f = refl
+built_alone BeforeHead l x f = refl
+built_alone BeforeLink l x f = refl
+built_alone BeforeMin l x f = refl
+built_alone Replace l x f = refl
+built_alone Normalise l x f = absurd f
+built_alone Number l x f = absurd f
+built_alone Retire l x f = absurd f
+built_alone _ l x f = absurd x
+
+built_frozen : (z : Sizes) (v : Words) (choice : Choice) (l : Local) (a : Activity) (k : Local) → Building z v choice l a k → HasFrozen k.activity → HasFrozen a
+built_frozen z v choice l a k (makes_normal o) x = x
+built_frozen z v choice l a k (makes_last_normal o) x = x
+built_frozen z v choice l a k draws_number x = x
+built_frozen z v choice l a k retires_row x = x
+built_frozen z v choice l a k _ x = tt
+
 -- a seat that does not rebalance knows nothing
 pub outside : (v : Words) (g : kw_rows.Ledger) (t : ℕ) (a : Activity) (l : Local) → (IsBalancing a → ⊥) → Group (rows_in v) g (view_of a l) → Balances v g t a l
-outside v g t a l n b = record { fresh = λ x. absurd (n x); lower = λ x. absurd (n x); group = b }
+outside v g t a l n b = record { fresh = λ x. absurd (n x); lower = λ x. absurd (n x); group = b; frozen = λ x. absurd (n (frozen_balances a x)) }
 
 look_outside : (v : Words) (g : kw_rows.Ledger) (t : ℕ) (z : Sizes) (j : ℕ) (next : Activity) (l : Local) → NextLook z j next → Balances v g t next l
 look_outside v g t z j next l (looks o) = outside v g t _ l (λ x. x) tt
@@ -96,24 +189,25 @@ rest_outside v g t l next (scans_on q o y n w) = outside v g t _ _ (λ x. x) tt
 
 module _ (z : Sizes) (r r' : Run) (s : ℕ) (choice : Choice) (l : Local) (a : Activity) (l' : Local) (h : Happens z r r' s choice l l' a) (i : Shape z r) where
   -- the row at which the seat was is the one that it rebalances
-  stays : (b : Activity) (k : Local) → IsPassing a → (WritesPass a → ⊥) → IsFresh r.ledger.rows s l.row → l.lower ≡ least_in (word z r.world) l.row → k.row ≡ l.row → k.lower ≡ l.lower → Group (rows_in (word z r'.world)) r'.ledger.rows (view_of b k) → Balances (word z r'.world) r'.ledger.rows s b k
-  stays b k p n fresh lower row low g =
+  stays : (b : Activity) (k : Local) → IsPassing a → (WritesPass a → ⊥) → IsFresh r.ledger.rows s l.row → l.lower ≡ least_in (word z r.world) l.row → k.row ≡ l.row → k.lower ≡ l.lower → Group (rows_in (word z r'.world)) r'.ledger.rows (view_of b k) → (HasFrozen b → (rows_in (word z r'.world)).frozen l.row ≡ true) → Balances (word z r'.world) r'.ledger.rows s b k
+  stays b k p n fresh lower row low g f =
       let rely = own_rely z r r' s choice l a l' h i p n in
       record {
         fresh = λ x. subst (IsFresh r'.ledger.rows s) (sym row) (rely.fresh l.row fresh);
         lower = λ x. low ∙ lower ∙ sym (rely.least l.row fresh) ∙ ap (least_in (word z r'.world)) (sym row);
         group = g;
+        frozen = λ x. subst (λ q. (rows_in (word z r'.world)).frozen q ≡ true) (sym row) (f x);
       }
 
   -- a seat that rebalances goes on with its row
-  goes_on : (b : Activity) (k : Local) → IsBalancing a → IsPassing a → (WritesPass a → ⊥) → k.row ≡ l.row → k.lower ≡ l.lower → Group (rows_in (word z r'.world)) r'.ledger.rows (view_of b k) → Balances (word z r'.world) r'.ledger.rows s b k
-  goes_on b k x p n row low g = let y = balance_at a h i in stays b k p n (y.fresh x) (y.lower x) row low g
+  goes_on : (b : Activity) (k : Local) → IsBalancing a → IsPassing a → (WritesPass a → ⊥) → k.row ≡ l.row → k.lower ≡ l.lower → Group (rows_in (word z r'.world)) r'.ledger.rows (view_of b k) → (HasFrozen b → (rows_in (word z r'.world)).frozen l.row ≡ true) → Balances (word z r'.world) r'.ledger.rows s b k
+  goes_on b k x p n row low g f = let y = balance_at a h i in stays b k p n (y.fresh x) (y.lower x) row low g f
 
   -- a put at its row rebalances it
   meets_full : IsAtRow a → IsPassing a → (WritesPass a → ⊥) → Balances (word z r'.world) r'.ledger.rows s BalClock (to_rebalance l).local
   meets_full x p n =
       let w = subst (λ b. Walks (word z r.world) r.ledger.rows s b l) h.activity (i.walks s l h.knows) in
-      stays BalClock _ p n (w.at x).fresh (w.lower (past a x)) refl refl tt
+      stays BalClock _ p n (w.at x).fresh (w.lower (past a x)) refl refl tt (λ x. absurd x)
 
   -- the row leads from now on, as the seat finds or makes it
   found_leader : (n : ℕ) (k : Local) → IsBalancing a → IsPassing a → (WritesPass a → ⊥) → k.row ≡ l.row → k.lower ≡ l.lower → (rows_in (word z r'.world)).state l.row ≡ row.Leader n → Balances (word z r'.world) r'.ledger.rows s (MarkLink n) k
@@ -121,31 +215,62 @@ module _ (z : Sizes) (r r' : Run) (s : ℕ) (choice : Choice) (l : Local) (a : A
       let b = balance_at a h i in
       let f = (own_rely z r r' s choice l a l' h i p w).fresh l.row (b.fresh x) in
       goes_on (MarkLink n) k x p w row low
-      (subst (λ q. Group (rows_in (word z r'.world)) r'.ledger.rows (Marking q n)) (sym row) (leads (rows_in (word z r'.world)) r'.ledger.rows _ (structure_keeps a h i) l.row n (held_by r'.ledger.rows s l.row f) e))
+      (subst (λ q. Group (rows_in (word z r'.world)) r'.ledger.rows (Marking q n)) (sym row) (leads (rows_in (word z r'.world)) r'.ledger.rows _ (structure_keeps a h i) l.row n (held_by r'.ledger.rows s l.row f) e)) (λ u. absurd u)
+
+  -- a count that the seat has frozen stays so
+  frozen_still : HasFrozen a → (rows_in (word z r'.world)).frozen l.row ≡ true
+  frozen_still c = let y = balance_at a h i in (linked_keeps a h i l.row (fresh_linked r.ledger.rows s l.row (y.fresh (frozen_balances a c)))).frozen (y.frozen c)
 
   -- a seat whose row is led alone goes on with it
-  keeps_alone : (b : Activity) (k : Local) → IsBalancing a → IsPassing a → (WritesPass a → ⊥) → k.row ≡ l.row → k.lower ≡ l.lower → view_of a l ≡ Alone l.row l.rebalance.after → view_of b k ≡ Alone l.row l.rebalance.after → Balances (word z r'.world) r'.ledger.rows s b k
-  keeps_alone b k x p n row low was now =
+  alone_on : (b : Activity) (k : Local) → IsBalancing a → IsPassing a → (WritesPass a → ⊥) → k.row ≡ l.row → k.lower ≡ l.lower → view_of a l ≡ Alone l.row l.rebalance.after → view_of b k ≡ Alone l.row l.rebalance.after → (rows_in (word z r'.world)).frozen l.row ≡ true → Balances (word z r'.world) r'.ledger.rows s b k
+  alone_on b k x p n row low was now f =
       let y = balance_at a h i in
       let g = group_keeps a h i s (view_of a l) (named _ _ s a l y) y.group in
-      goes_on b k x p n row low (subst (Group (rows_in (word z r'.world)) r'.ledger.rows) (was ∙ sym now) g)
+      goes_on b k x p n row low (subst (Group (rows_in (word z r'.world)) r'.ledger.rows) (was ∙ sym now) g) (λ u. f)
+
+  keeps_alone : (b : Activity) (k : Local) → IsBalancing a → IsPassing a → (WritesPass a → ⊥) → k.row ≡ l.row → k.lower ≡ l.lower → view_of a l ≡ Alone l.row l.rebalance.after → view_of b k ≡ Alone l.row l.rebalance.after → HasFrozen a → Balances (word z r'.world) r'.ledger.rows s b k
+  keeps_alone b k x p n row low was now c = alone_on b k x p n row low was now (frozen_still c)
+
+  -- one that builds new rows goes on with the full one
+  builds_on : IsBuilding a → Building z (word z r.world) choice l a l' → (c : Activity) → l'.activity ≡ c → IsBuilding c → Balances (word z r'.world) r'.ledger.rows s c l'
+  builds_on x t c e o =
+      let k = built_keeps z (word z r.world) choice l a l' t (subst IsBuilding (sym e) o) in
+      goes_on c l' (built_balancing a x) (built_passes a x).0 (built_pass a x) k.row k.lower
+      (built_group (word z r'.world) r'.ledger.rows c l' o (λ f. group k.row k.after (built_frozen z (word z r.world) choice l a l' t (subst HasFrozen (sym e) f))))
+      (λ f. frozen_still (built_frozen z (word z r.world) choice l a l' t (subst HasFrozen (sym e) f)))
+    where
+      group : l'.row ≡ l.row → l'.rebalance.after ≡ l.rebalance.after → HasFrozen a → Group (rows_in (word z r'.world)) r'.ledger.rows (Alone l'.row l'.rebalance.after)
+      group row after f =
+          let y = balance_at a h i in
+          let g = group_keeps a h i s (view_of a l) (named _ _ s a l y) y.group in
+          rw (row, after) (subst (Group (rows_in (word z r'.world)) r'.ledger.rows) (built_alone a l x f) g)
+
+  -- or its put tries again, is refused, or rebalances the row before that one
+  builds_next : IsBuilding a → Building z (word z r.world) choice l a l' → (c : Activity) → l'.activity ≡ c → IsAfterBuilding c → Balances (word z r'.world) r'.ledger.rows s c l'
+  builds_next x t Again e o = outside _ _ s Again l' (λ u. u) tt
+  builds_next x t (Leave NoRows) e o = outside _ _ s (Leave NoRows) l' (λ u. u) tt
+  builds_next x t BalClock e o =
+      let m = moves_by (word z r.world) r.ledger.rows s l z choice a l' t (head_open z r i l.row) (search_at a h i) e in
+      let rely = own_rely z r r' s choice l a l' h i (built_passes a x).0 (built_pass a x) in
+      record { fresh = λ u. rely.fresh l'.row m.fresh; lower = λ u. m.lower ∙ sym (rely.least l'.row m.fresh); group = tt; frozen = λ u. absurd u }
+  builds_next x t c e o = builds_on x t c e o
 
 -- by the arrow that the seat takes
 pub balances_own : (z : Sizes) (r r' : Run) (s : ℕ) (choice : Choice) (l : Local) (a : Activity) (l' : Local) → Arrow z (word z r.world) s choice l a l' → Happens z r r' s choice l l' a → Shape z r → Balances (word z r'.world) r'.ledger.rows s l'.activity l'
-balances_own z r r' s choice l a l' (builds b next y o t) h i = never_built z b y o
+balances_own z r r' s choice l a l' (builds b next y o t) h i = builds_next z r r' s choice l b l' h i y t l'.activity refl (built_next z (word z r.world) choice l b l' t)
 balances_own z r r' s choice l a l' (finds_full e f) h i = meets_full z r r' s choice l _ l' h i tt tt (λ x. x)
 balances_own z r r' s choice l a l' (takes_full e f) h i = meets_full z r r' s choice l _ l' h i tt tt (λ x. x)
 balances_own z r r' s choice l a l' (announces_full e f) h i = meets_full z r r' s choice l _ l' h i tt tt (λ x. x)
 balances_own z r r' s choice l a l' (stamps_full e f) h i = meets_full z r r' s choice l _ l' h i tt tt (λ x. x)
-balances_own z r r' s choice l a l' (clock_serves e) h i = goes_on z r r' s choice l _ l' h i BalEpoch _ tt tt (λ x. x) refl refl tt
-balances_own z r r' s choice l a l' (epoch_serves e) h i = goes_on z r r' s choice l _ l' h i BalState _ tt tt (λ x. x) refl refl tt
-balances_own z r r' s choice l a l' (finds_infant seat e) h i = goes_on z r r' s choice l _ l' h i (BalNormal seat) _ tt tt (λ x. x) refl refl tt
-balances_own z r r' s choice l a l' (finds_normal e) h i = goes_on z r r' s choice l _ l' h i Engage _ tt tt (λ x. x) refl refl tt
+balances_own z r r' s choice l a l' (clock_serves e) h i = goes_on z r r' s choice l _ l' h i BalEpoch _ tt tt (λ x. x) refl refl tt (λ u. absurd u)
+balances_own z r r' s choice l a l' (epoch_serves e) h i = goes_on z r r' s choice l _ l' h i BalState _ tt tt (λ x. x) refl refl tt (λ u. absurd u)
+balances_own z r r' s choice l a l' (finds_infant seat e) h i = goes_on z r r' s choice l _ l' h i (BalNormal seat) _ tt tt (λ x. x) refl refl tt (λ u. absurd u)
+balances_own z r r' s choice l a l' (finds_normal e) h i = goes_on z r r' s choice l _ l' h i Engage _ tt tt (λ x. x) refl refl tt (λ u. absurd u)
 balances_own z r r' s choice l a l' (finds_leader count e o) h i = found_leader z r r' s choice l _ l' h i count _ tt tt (λ x. x) refl refl (read_state BalState h i _ e (λ x. x))
-balances_own z r r' s choice l a l' (normalises seat) h i = goes_on z r r' s choice l _ l' h i BalState _ tt tt (λ x. x) refl refl tt
+balances_own z r r' s choice l a l' (normalises seat) h i = goes_on z r r' s choice l _ l' h i BalState _ tt tt (λ x. x) refl refl tt (λ u. absurd u)
 balances_own z r r' s choice l a l' (engages e) h i = found_leader z r r' s choice l _ l' h i 0 _ tt tt (λ x. x) refl refl (engaged_state h e)
-balances_own z r r' s choice l a l' (is_engaged e) h i = goes_on z r r' s choice l _ l' h i BalState _ tt tt (λ x. x) refl refl tt
-balances_own z r r' s choice l a l' (marks_link count e) h i = goes_on z r r' s choice l _ l' h i (Decide 1) _ tt tt (λ x. x) refl refl (subst (λ q. Group (rows_in (word z r'.world)) r'.ledger.rows (Opened l.row q)) (row_next count h i) opened)
+balances_own z r r' s choice l a l' (is_engaged e) h i = goes_on z r r' s choice l _ l' h i BalState _ tt tt (λ x. x) refl refl tt (λ u. absurd u)
+balances_own z r r' s choice l a l' (marks_link count e) h i = goes_on z r r' s choice l _ l' h i (Decide 1) _ tt tt (λ x. x) refl refl (subst (λ q. Group (rows_in (word z r'.world)) r'.ledger.rows (Opened l.row q)) (row_next count h i) opened) (λ u. absurd u)
   where
     known : Group (rows_in (word z r'.world)) r'.ledger.rows (Marking l.row 0)
     known =
@@ -154,7 +279,7 @@ balances_own z r r' s choice l a l' (marks_link count e) h i = goes_on z r r' s 
 
     opened : Group (rows_in (word z r'.world)) r'.ledger.rows (Opened l.row ((rows_in (word z r'.world)).next l.row))
     opened = opens (rows_in (word z r'.world)) r'.ledger.rows l.row known (row_marked count h i)
-balances_own z r r' s choice l a l' (marks_led count e f) h i = goes_on z r r' s choice l _ l' h i FreezeCount _ tt tt (λ x. x) refl refl (subst (λ q. Group (rows_in (word z r'.world)) r'.ledger.rows (Alone l.row q)) (row_next count h i) led)
+balances_own z r r' s choice l a l' (marks_led count e) h i = goes_on z r r' s choice l _ l' h i FreezeCount _ tt tt (λ x. x) refl refl (subst (λ q. Group (rows_in (word z r'.world)) r'.ledger.rows (Alone l.row q)) (row_next count h i) led) (λ u. absurd u)
   where
     one : count ≡ 1
     one = omega (arith, (kinds_at (MarkLink count) h i).kind.1, e)
@@ -166,7 +291,7 @@ balances_own z r r' s choice l a l' (marks_led count e f) h i = goes_on z r r' s
 
     led : Group (rows_in (word z r'.world)) r'.ledger.rows (Alone l.row ((rows_in (word z r'.world)).next l.row))
     led = alone (rows_in (word z r'.world)) r'.ledger.rows _ (structure_keeps (MarkLink count) h i) l.row known (row_marked count h i)
-balances_own z r r' s choice l a l' (decides count n e o f) h i = goes_on z r r' s choice l _ l' h i FreezeCount _ tt tt (λ x. x) refl refl (opened.0, λ x. record { either = inl (decided_state count h i n e o) })
+balances_own z r r' s choice l a l' (decides count n e o) h i = goes_on z r r' s choice l _ l' h i FreezeCount _ tt tt (λ x. x) refl refl (opened.0, λ x. record { either = inl (decided_state count h i n e o) }) (λ u. absurd u)
   where
     opened : Group (rows_in (word z r'.world)) r'.ledger.rows (Opened l.row l.rebalance.after)
     opened = let b = balance_at (Decide count) h i in group_keeps (Decide count) h i s (Opened l.row l.rebalance.after) (b.fresh tt) b.group
@@ -180,37 +305,37 @@ balances_own z r r' s choice l a l' (list_ends next e n) h i = rest_outside _ _ 
 balances_own z r r' s choice l a l' (key_above next y n) h i = rest_outside _ _ s _ next n
 balances_own z r r' s choice l a l' (rest_passed next y n) h i = rest_outside _ _ s _ next n
 balances_own z r r' s choice l a l' (gathers_rest next n) h i = rest_outside _ _ s _ next n
-balances_own z r r' s choice l a l' freezes_count h i = keeps_alone z r r' s choice l _ l' h i (FreezeLook 0) _ tt tt (λ x. x) refl refl refl refl
-balances_own z r r' s choice l a l' (meets_idle j e) h i = keeps_alone z r r' s choice l _ l' h i (Freeze j) _ tt tt (λ x. x) refl refl refl refl
-balances_own z r r' s choice l a l' (meets_unstamped j c e) h i = keeps_alone z r r' s choice l _ l' h i (Freeze j) _ tt tt (λ x. x) refl refl refl refl
-balances_own z r r' s choice l a l' (remembers j c version e o) h i = keeps_alone z r r' s choice l _ l' h i (FreezeLook (j + 1)) _ tt tt (λ x. x) refl refl refl refl
-balances_own z r r' s choice l a l' (remembers_last j c version e o) h i = keeps_alone z r r' s choice l _ l' h i (ScanLook 0) _ tt tt (λ x. x) refl refl refl refl
-balances_own z r r' s choice l a l' (meets_frozen j e o) h i = keeps_alone z r r' s choice l _ l' h i (FreezeLook (j + 1)) _ tt tt (λ x. x) refl refl refl refl
-balances_own z r r' s choice l a l' (meets_frozen_last j e o) h i = keeps_alone z r r' s choice l _ l' h i (ScanLook 0) _ tt tt (λ x. x) refl refl refl refl
-balances_own z r r' s choice l a l' (freezes_entry j e o) h i = keeps_alone z r r' s choice l _ l' h i (FreezeLook (j + 1)) _ tt tt (λ x. x) refl refl refl refl
-balances_own z r r' s choice l a l' (freezes_last j e o) h i = keeps_alone z r r' s choice l _ l' h i (ScanLook 0) _ tt tt (λ x. x) refl refl refl refl
-balances_own z r r' s choice l a l' (looks_again j e) h i = keeps_alone z r r' s choice l _ l' h i (FreezeLook j) _ tt tt (λ x. x) refl refl refl refl
-balances_own z r r' s choice l a l' (meets_quiet j e o) h i = keeps_alone z r r' s choice l _ l' h i (ScanLook (j + 1)) _ tt tt (λ x. x) refl refl refl refl
-balances_own z r r' s choice l a l' (meets_quiet_last j e o) h i = keeps_alone z r r' s choice l _ l' h i TakeFrom _ tt tt (λ x. x) refl refl refl refl
-balances_own z r r' s choice l a l' (helps_scan j clock e) h i = keeps_alone z r r' s choice l _ l' h i (HelpDraw j) _ tt tt (λ x. x) refl refl refl refl
-balances_own z r r' s choice l a l' (meets_drawn j version e o) h i = keeps_alone z r r' s choice l _ l' h i (ScanLook (j + 1)) _ tt tt (λ x. x) refl refl refl refl
-balances_own z r r' s choice l a l' (meets_drawn_last j version e o) h i = keeps_alone z r r' s choice l _ l' h i TakeFrom _ tt tt (λ x. x) refl refl refl refl
-balances_own z r r' s choice l a l' (draws_for j) h i = keeps_alone z r r' s choice l _ l' h i (HelpSettle j) _ tt tt (λ x. x) refl refl refl refl
-balances_own z r r' s choice l a l' (settles_scan j e o) h i = keeps_alone z r r' s choice l _ l' h i (ScanLook (j + 1)) _ tt tt (λ x. x) refl refl refl refl
-balances_own z r r' s choice l a l' (settles_last j e o) h i = keeps_alone z r r' s choice l _ l' h i TakeFrom _ tt tt (λ x. x) refl refl refl refl
-balances_own z r r' s choice l a l' (finds_drawn j version e o) h i = keeps_alone z r r' s choice l _ l' h i (ScanLook (j + 1)) _ tt tt (λ x. x) refl refl refl refl
-balances_own z r r' s choice l a l' (finds_drawn_last j version e o) h i = keeps_alone z r r' s choice l _ l' h i TakeFrom _ tt tt (λ x. x) refl refl refl refl
-balances_own z r r' s choice l a l' (finds_no_scan j e o) h i = keeps_alone z r r' s choice l _ l' h i (ScanLook (j + 1)) _ tt tt (λ x. x) refl refl refl refl
-balances_own z r r' s choice l a l' (finds_no_scan_last j e o) h i = keeps_alone z r r' s choice l _ l' h i TakeFrom _ tt tt (λ x. x) refl refl refl refl
-balances_own z r r' s choice l a l' (take_leads c e) h i = keeps_alone z r r' s choice l _ l' h i TakeKey _ tt tt (λ x. x) refl refl refl refl
-balances_own z r r' s choice l a l' (takes_left m e n) h i = keeps_alone z r r' s choice l _ l' h i TakeRestKey _ tt tt (λ x. x) refl refl refl refl
-balances_own z r r' s choice l a l' takes_key h i = keeps_alone z r r' s choice l _ l' h i TakeVersion _ tt tt (λ x. x) refl refl refl refl
-balances_own z r r' s choice l a l' takes_version h i = keeps_alone z r r' s choice l _ l' h i TakeValue _ tt tt (λ x. x) refl refl refl refl
-balances_own z r r' s choice l a l' keeps_taken h i = keeps_alone z r r' s choice l _ l' h i TakeFrom _ tt tt (λ x. x) refl refl refl refl
-balances_own z r r' s choice l a l' takes_left_key h i = keeps_alone z r r' s choice l _ l' h i TakeRestValue _ tt tt (λ x. x) refl refl refl refl
-balances_own z r r' s choice l a l' (keeps_left m n) h i = keeps_alone z r r' s choice l _ l' h i TakeRestKey _ tt tt (λ x. x) refl refl refl refl
-balances_own z r r' s choice l a l' (takes_no_more e n f) h i = goes_no_further z.form h.reached f
-balances_own z r r' s choice l a l' (keeps_no_more n f) h i = goes_no_further z.form h.reached f
+balances_own z r r' s choice l a l' freezes_count h i = alone_on z r r' s choice l _ l' h i (FreezeLook 0) _ tt tt (λ x. x) refl refl refl refl (freezing h i).frozen
+balances_own z r r' s choice l a l' (meets_idle j e) h i = keeps_alone z r r' s choice l _ l' h i (Freeze j) _ tt tt (λ x. x) refl refl refl refl tt
+balances_own z r r' s choice l a l' (meets_unstamped j c e) h i = keeps_alone z r r' s choice l _ l' h i (Freeze j) _ tt tt (λ x. x) refl refl refl refl tt
+balances_own z r r' s choice l a l' (remembers j c version e o) h i = keeps_alone z r r' s choice l _ l' h i (FreezeLook (j + 1)) _ tt tt (λ x. x) refl refl refl refl tt
+balances_own z r r' s choice l a l' (remembers_last j c version e o) h i = keeps_alone z r r' s choice l _ l' h i (ScanLook 0) _ tt tt (λ x. x) refl refl refl refl tt
+balances_own z r r' s choice l a l' (meets_frozen j e o) h i = keeps_alone z r r' s choice l _ l' h i (FreezeLook (j + 1)) _ tt tt (λ x. x) refl refl refl refl tt
+balances_own z r r' s choice l a l' (meets_frozen_last j e o) h i = keeps_alone z r r' s choice l _ l' h i (ScanLook 0) _ tt tt (λ x. x) refl refl refl refl tt
+balances_own z r r' s choice l a l' (freezes_entry j e o) h i = keeps_alone z r r' s choice l _ l' h i (FreezeLook (j + 1)) _ tt tt (λ x. x) refl refl refl refl tt
+balances_own z r r' s choice l a l' (freezes_last j e o) h i = keeps_alone z r r' s choice l _ l' h i (ScanLook 0) _ tt tt (λ x. x) refl refl refl refl tt
+balances_own z r r' s choice l a l' (looks_again j e) h i = keeps_alone z r r' s choice l _ l' h i (FreezeLook j) _ tt tt (λ x. x) refl refl refl refl tt
+balances_own z r r' s choice l a l' (meets_quiet j e o) h i = keeps_alone z r r' s choice l _ l' h i (ScanLook (j + 1)) _ tt tt (λ x. x) refl refl refl refl tt
+balances_own z r r' s choice l a l' (meets_quiet_last j e o) h i = keeps_alone z r r' s choice l _ l' h i TakeFrom _ tt tt (λ x. x) refl refl refl refl tt
+balances_own z r r' s choice l a l' (helps_scan j clock e) h i = keeps_alone z r r' s choice l _ l' h i (HelpDraw j) _ tt tt (λ x. x) refl refl refl refl tt
+balances_own z r r' s choice l a l' (meets_drawn j version e o) h i = keeps_alone z r r' s choice l _ l' h i (ScanLook (j + 1)) _ tt tt (λ x. x) refl refl refl refl tt
+balances_own z r r' s choice l a l' (meets_drawn_last j version e o) h i = keeps_alone z r r' s choice l _ l' h i TakeFrom _ tt tt (λ x. x) refl refl refl refl tt
+balances_own z r r' s choice l a l' (draws_for j) h i = keeps_alone z r r' s choice l _ l' h i (HelpSettle j) _ tt tt (λ x. x) refl refl refl refl tt
+balances_own z r r' s choice l a l' (settles_scan j e o) h i = keeps_alone z r r' s choice l _ l' h i (ScanLook (j + 1)) _ tt tt (λ x. x) refl refl refl refl tt
+balances_own z r r' s choice l a l' (settles_last j e o) h i = keeps_alone z r r' s choice l _ l' h i TakeFrom _ tt tt (λ x. x) refl refl refl refl tt
+balances_own z r r' s choice l a l' (finds_drawn j version e o) h i = keeps_alone z r r' s choice l _ l' h i (ScanLook (j + 1)) _ tt tt (λ x. x) refl refl refl refl tt
+balances_own z r r' s choice l a l' (finds_drawn_last j version e o) h i = keeps_alone z r r' s choice l _ l' h i TakeFrom _ tt tt (λ x. x) refl refl refl refl tt
+balances_own z r r' s choice l a l' (finds_no_scan j e o) h i = keeps_alone z r r' s choice l _ l' h i (ScanLook (j + 1)) _ tt tt (λ x. x) refl refl refl refl tt
+balances_own z r r' s choice l a l' (finds_no_scan_last j e o) h i = keeps_alone z r r' s choice l _ l' h i TakeFrom _ tt tt (λ x. x) refl refl refl refl tt
+balances_own z r r' s choice l a l' (take_leads c e) h i = keeps_alone z r r' s choice l _ l' h i TakeKey _ tt tt (λ x. x) refl refl refl refl tt
+balances_own z r r' s choice l a l' (takes_left m e n) h i = keeps_alone z r r' s choice l _ l' h i TakeRestKey _ tt tt (λ x. x) refl refl refl refl tt
+balances_own z r r' s choice l a l' takes_key h i = keeps_alone z r r' s choice l _ l' h i TakeVersion _ tt tt (λ x. x) refl refl refl refl tt
+balances_own z r r' s choice l a l' takes_version h i = keeps_alone z r r' s choice l _ l' h i TakeValue _ tt tt (λ x. x) refl refl refl refl tt
+balances_own z r r' s choice l a l' keeps_taken h i = keeps_alone z r r' s choice l _ l' h i TakeFrom _ tt tt (λ x. x) refl refl refl refl tt
+balances_own z r r' s choice l a l' takes_left_key h i = keeps_alone z r r' s choice l _ l' h i TakeRestValue _ tt tt (λ x. x) refl refl refl refl tt
+balances_own z r r' s choice l a l' (keeps_left m n) h i = keeps_alone z r r' s choice l _ l' h i TakeRestKey _ tt tt (λ x. x) refl refl refl refl tt
+balances_own z r r' s choice l a l' (takes_no_more e n) h i = keeps_alone z r r' s choice l _ l' h i SeekFirst _ tt tt (λ x. x) refl refl refl refl tt
+balances_own z r r' s choice l a l' (keeps_no_more n) h i = keeps_alone z r r' s choice l _ l' h i SeekFirst _ tt tt (λ x. x) refl refl refl refl tt
 balances_own z r r' s choice l a l' _ h i = outside _ _ s _ _ (λ x. x) tt
 
 -- another seat
@@ -219,6 +344,7 @@ balances_other z r r' s choice l a l' h i t k d g = record {
   fresh = λ x. let p = rely x in p.fresh k.row (b.fresh x);
   lower = λ x. let p = rely x in b.lower x ∙ sym (p.least k.row (b.fresh x));
   group = group_keeps a h i t (view_of k.activity k) (named _ _ t k.activity k b) b.group;
+  frozen = λ x. (linked_keeps a h i k.row (fresh_linked r.ledger.rows t k.row (b.fresh (frozen_balances k.activity x)))).frozen (b.frozen x);
 }
   where
     b : Balances (word z r.world) r.ledger.rows t k.activity k

@@ -42,7 +42,7 @@ use Rattle.kw_shape.specs.Passes.{Numbers}
 use Rattle.kw_shape.specs.RowsIn.{has_frozen, has_mark, rows_in, state_met}
 
 -- the state that a word of a state in range says
-word_says : (w : ℕ) (t : State) → IsState t → w ≡ state_word t → state_met (state_of w) ≡ state_met (Some t)
+pub word_says : (w : ℕ) (t : State) → IsState t → w ≡ state_word t → state_met (state_of w) ≡ state_met (Some t)
 word_says w t k e = ap (λ x. state_met (state_of x)) e ∙ ap state_met (state_of-state_word t k)
 
 -- a row whose state is that of a free one is free
@@ -84,7 +84,7 @@ module _ {z : Sizes} {r r' : Run} {s : ℕ} {choice : Choice} {l l' : Local} whe
   state_kept a h sane q f = ap (λ w. state_met (state_of w)) (word_of_row h sane (name.State q) q (omega arith) (λ o. state_stays a h q o f))
 
   -- an event that writes none of these words leaves all but the states
-  links_kept : (a : Activity) → Happens z r r' s choice l l' a → IsSane z r.world → (ChangesHead a s l → ⊥) → ((q : ℕ) → ChangesNext a s l q → ⊥) → ((q : ℕ) → ChangesCount a s l q → ⊥) → ((q : ℕ) → ChangesLeast a s l q → ⊥) →
+  pub links_kept : (a : Activity) → Happens z r r' s choice l l' a → IsSane z r.world → (ChangesHead a s l → ⊥) → ((q : ℕ) → ChangesNext a s l q → ⊥) → ((q : ℕ) → ChangesCount a s l q → ⊥) → ((q : ℕ) → ChangesLeast a s l q → ⊥) →
       SameLinks (rows_in (word z r.world)) (rows_in (word z r'.world))
   links_kept a h sane head next count least = record {
     head = ap (λ w. row_linked (link_of w)) (head_stays a h head);
@@ -95,12 +95,12 @@ module _ {z : Sizes} {r r' : Run} {s : ℕ} {choice : Choice} {l l' : Local} whe
   }
 
   -- one that writes the state of this row alone
-  sets_state : (a : Activity) → Happens z r r' s choice l l' a → IsSane z r.world → (ChangesHead a s l → ⊥) → ((q : ℕ) → ChangesNext a s l q → ⊥) → ((q : ℕ) → ChangesCount a s l q → ⊥) → ((q : ℕ) → ChangesLeast a s l q → ⊥) →
+  pub sets_state : (a : Activity) → Happens z r r' s choice l l' a → IsSane z r.world → (ChangesHead a s l → ⊥) → ((q : ℕ) → ChangesNext a s l q → ⊥) → ((q : ℕ) → ChangesCount a s l q → ⊥) → ((q : ℕ) → ChangesLeast a s l q → ⊥) →
       (x : ℕ) → ((q : ℕ) → q ≢ x → ChangesState a s l q → ⊥) → (t : row.State) → (rows_in (word z r'.world)).state x ≡ t → SetsState (rows_in (word z r.world)) (rows_in (word z r'.world)) x t
   sets_state a h sane head next count least x others t e = record { links = links_kept a h sane head next count least; state = e; others = λ q d. state_kept a h sane q (others q d) }
 
   -- where that state is as it was, all are
-  states_still : (a : Activity) → Happens z r r' s choice l l' a → IsSane z r.world → (x : ℕ) → ((q : ℕ) → q ≢ x → ChangesState a s l q → ⊥) → word z r'.world (name.State x) ≡ word z r.world (name.State x) → SameStates (rows_in (word z r.world)) (rows_in (word z r'.world))
+  pub states_still : (a : Activity) → Happens z r r' s choice l l' a → IsSane z r.world → (x : ℕ) → ((q : ℕ) → q ≢ x → ChangesState a s l q → ⊥) → word z r'.world (name.State x) ≡ word z r.world (name.State x) → SameStates (rows_in (word z r.world)) (rows_in (word z r'.world))
   states_still a h sane x others e q = which (cases_eq q x)
     where
       which : (q ≡ x) ⊎ (q ≡ x → ⊥) → (rows_in (word z r'.world)).state q ≡ (rows_in (word z r.world)).state q
@@ -108,7 +108,7 @@ module _ {z : Sizes} {r r' : Run} {s : ℕ} {choice : Choice} {l l' : Local} whe
       which (inr d) = state_kept a h sane q (others q d)
 
   -- an event that changes no fate, pass or number
-  ledger_kept : (a : Activity) → Happens z r r' s choice l l' a → ((q : ℕ) → ChangesFate a l q → ⊥) → (WritesPass a → ⊥) → (DrawsNumber a → ⊥) → SameLedger r.ledger.rows r'.ledger.rows
+  pub ledger_kept : (a : Activity) → Happens z r r' s choice l l' a → ((q : ℕ) → ChangesFate a l q → ⊥) → (WritesPass a → ⊥) → (DrawsNumber a → ⊥) → SameLedger r.ledger.rows r'.ledger.rows
   ledger_kept a h fates passes drawn = record { fates = λ q. fate_stays a h q (fates q); others = passes_stay a h passes drawn }
 
   -- the number of a seat fits a state

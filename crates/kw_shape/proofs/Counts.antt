@@ -1,16 +1,16 @@
 -- The counts over all seats after an event: one seat's part is taken out, and its new part put in.
-use Rattle.std.proofs.Common.{ℕ, zero, suc, ◌≡◌, ◌+◌, ◌*◌, ◌≤◌, ◌==◌, Bool, true, false, Some, None, List, [], ◌∷◌, arith, refl, ap, length, slice_get, slice_set, if◌then◌else◌}
+use Rattle.std.proofs.Common.{ℕ, zero, suc, ◌≡◌, ◌+◌, ◌*◌, ◌<◌, ◌≤◌, ◌==◌, Bool, true, false, Some, None, List, [], ◌∷◌, arith, refl, ap, length, slice_get, slice_set, if◌then◌else◌}
 use Rattle.std.proofs.Math.Nat.{mul-le-mul_right, suc-mul}
 use Rattle.std.proofs.lemmas.Option.{same_Some}
 use Rattle.kw_world.specs.declared.activity.Activity.{Activity}
-use Rattle.kw_world.specs.declared.activity.Activity.TheVariants.{ScanClock, ScanWait, ScanDraw, PutCount, PutAdd, BalClock, ScanLook, HelpDraw, HelpSettle}
+use Rattle.kw_world.specs.declared.activity.Activity.TheVariants.{ScanClock, ScanWait, ScanDraw, PutCount, PutAdd, BalClock, BalEpoch, BalState, BalNormal, Engage, MarkLink, Decide, FreezeCount, FreezeLook, Freeze, ScanLook, HelpDraw, HelpSettle}
 use Rattle.kw_world.specs.declared.local.Local.{Local}
 use Rattle.kw_world.specs.declared.event.Choice.{Choice}
 use Rattle.kw_world.specs.Sizes.{Sizes}
 use Rattle.kw_shape.specs.Rooms.{adding, adders, drawing, drawers}
 use Rattle.kw_core.specs.Words.{Words}
-use Rattle.kw_core.proofs.Arrows.{Arrow, waits, finds_room, meets_stamped, meets_neither, is_passed, helps, finds_stamped, finds_other, list_ends, key_above, rest_passed, gathers_rest, NextLook, looks, lists, NextRest, rests, answers, ends_scan, scans_on, clock_serves, builds, finds_none, takes_none, is_refused, is_not_own, marks_led, decides}
-use Rattle.kw_core.proofs.Building.{never_built}
+use Rattle.kw_core.proofs.Arrows.{Arrow, waits, finds_room, meets_stamped, meets_neither, is_passed, helps, finds_stamped, finds_other, list_ends, key_above, rest_passed, gathers_rest, NextLook, looks, lists, NextRest, rests, answers, ends_scan, scans_on, clock_serves, builds}
+use Rattle.kw_core.proofs.BuiltNext.{IsAfterBuilding, built_next}
 
 -- the seats that are about to ask a row for a cell, with one seat's local set
 pub adders-set : (q : ℕ) (ls : List Local) (s : ℕ) (l l' : Local) → slice_get ls s ≡ Some l → adders q (slice_set ls s l') + adding l.activity l.row q ≡ adders q ls + adding l'.activity l'.row q
@@ -30,6 +30,12 @@ adding_at_most _ row q = omega arith
 pub adders_at_most : (q : ℕ) (ls : List Local) → adders q ls ≤ length ls
 adders_at_most q [] = omega arith
 adders_at_most q (l ∷ ls) = omega (arith, adding_at_most l.activity l.row q, adders_at_most q ls)
+
+-- and fewer where a seat is not about to ask
+pub adders_but_one : (q : ℕ) (ls : List Local) (s : ℕ) (l : Local) → slice_get ls s ≡ Some l → adding l.activity l.row q ≡ 0 → adders q ls < length ls
+adders_but_one q [] s l e n = let x : None ≡ Some l = e in absurd (cc)
+adders_but_one q (k ∷ ls) zero l e n = let x = ap (λ (y : Local). adding y.activity y.row q) (same_Some k l e) in omega (arith, x, n, adders_at_most q ls)
+adders_but_one q (k ∷ ls) (suc s) l e n = omega (arith, adding_at_most k.activity k.row q, adders_but_one q ls s l e n)
 
 -- the seats that are about to draw, with one seat's local set
 pub drawers-set : (n : ℕ) (ls : List Local) (s : ℕ) (l l' : Local) → slice_get ls s ≡ Some l → drawers n (slice_set ls s l') + drawing n l.activity ≡ drawers n ls + drawing n l'.activity
@@ -89,9 +95,31 @@ cell_draws l k next (answers o n) = refl
 cell_draws l k next (ends_scan o y n) = refl
 cell_draws l k next (scans_on r o y n w) = refl
 
+-- what follows where new rows are built neither asks for a cell nor draws a version
+pub built_adds : (a : Activity) (row q : ℕ) → IsAfterBuilding a → adding a row q ≡ 0
+built_adds PutAdd row q o = absurd o
+built_adds _ row q o = refl
+
+pub built_draws : (n : ℕ) (a : Activity) → IsAfterBuilding a → drawing n a ≡ 0
+built_draws n ScanWait o = absurd o
+built_draws n ScanDraw o = absurd o
+built_draws n BalEpoch o = absurd o
+built_draws n BalState o = absurd o
+built_draws n (BalNormal seat) o = absurd o
+built_draws n Engage o = absurd o
+built_draws n (MarkLink count) o = absurd o
+built_draws n (Decide count) o = absurd o
+built_draws n FreezeCount o = absurd o
+built_draws n (FreezeLook i) o = absurd o
+built_draws n (Freeze i) o = absurd o
+built_draws n (ScanLook i) o = absurd o
+built_draws n (HelpDraw i) o = absurd o
+built_draws n (HelpSettle i) o = absurd o
+built_draws n _ o = refl
+
 -- only a seat that found room goes on to ask for a cell
 pub adding_next : (z : Sizes) (v : Words) (s : ℕ) (choice : Choice) (l : Local) (a : Activity) (l' : Local) (q : ℕ) → Arrow z v s choice l a l' → (IsCounting a → ⊥) → adding l'.activity l'.row q ≡ 0
-adding_next z v s choice l a l' q (builds b next y o t) n = never_built z b y o
+adding_next z v s choice l a l' q (builds b next y o t) n = built_adds next.activity next.row q (built_next z v choice l b next t)
 adding_next z v s choice l a l' q (finds_room e) n = absurd (n tt)
 adding_next z v s choice l a l' q (meets_stamped j c version next y m) n = look_adds z _ l.row q next m
 adding_next z v s choice l a l' q (meets_neither j next y m) n = look_adds z _ l.row q next m
@@ -107,7 +135,7 @@ adding_next z v s choice l a l' q _ n = refl
 
 -- only a scan, or a rebalance, that found the clock below its end may draw more than before
 pub drawing_next : (z : Sizes) (v : Words) (s : ℕ) (choice : Choice) (l : Local) (a : Activity) (l' : Local) → Arrow z v s choice l a l' → (IsToWait a → ⊥) → (n : ℕ) → drawing n l'.activity ≤ drawing n a
-drawing_next z v s choice l a l' (builds b next y o t) w n = never_built z b y o
+drawing_next z v s choice l a l' (builds b next y o t) w n = omega (arith, built_draws n next.activity (built_next z v choice l b next t))
 drawing_next z v s choice l a l' (waits e) w n = absurd (w tt)
 drawing_next z v s choice l a l' (clock_serves e) w n = absurd (w tt)
 drawing_next z v s choice l a l' (meets_stamped j c version next y m) w n = omega (arith, look_draws z _ n next m)

@@ -8,12 +8,12 @@ use Rattle.kw_words.specs.declared.pend.Pend.{Pend}
 use Rattle.kw_words.specs.declared.pend.Pend.TheVariants as pend
 use Rattle.kw_words.specs.declared.scan.ScanWord.{ScanWord}
 use Rattle.kw_words.specs.declared.scan.ScanWord.TheVariants.{Quiet, Waiting, Drawn}
-use Rattle.kw_words.specs.declared.sizes.TheConstants.{FROZEN_BIT, MARK_BIT, VERSION_END}
+use Rattle.kw_words.specs.declared.sizes.TheConstants.{FROZEN_BIT, MARK_BIT, NUMBER_END, VERSION_END}
 use Rattle.kw_words.specs.declared.link.Link.{Link}
 use Rattle.kw_words.specs.declared.state.State.{State}
 use Rattle.kw_words.specs.declared.state.State.TheVariants as state
 use Rattle.kw_words.specs.declared.state.State.TheVariants.{Normal, Leader}
-use Rattle.kw_words.specs.Link.{link_of}
+use Rattle.kw_words.specs.Link.{link_of, link_word}
 use Rattle.kw_words.specs.State.{IsState, state_of, state_word}
 use Rattle.kw_words.proofs.LinkWords.{link_of_marked}
 use Rattle.kw_words.proofs.StateWords.{state_of-state_word}
@@ -36,17 +36,20 @@ use Rattle.kw_world.specs.Sizes.{Sizes}
 use Rattle.kw_world.specs.Calls.{put_value}
 use Rattle.kw_world.specs.Operation.{word_after}
 use Rattle.kw_world.specs.Transition.{Transition}
+use Rattle.kw_world.specs.ReplaceTransitions.{before_transition, first_infant, replaced_link}
+use Rattle.kw_world.specs.SeekTransitions.{infant, seek_first_transition}
+use Rattle.kw_world.specs.WriteTransitions.{unmarked_link}
 use Rattle.kw_world.specs.PutTransitions.{given_of}
 use Rattle.kw_world.specs.WalkTransitions.{start_transition, walk_transition, is_stopped}
 use Rattle.kw_world.specs.Table.{transition}
 use Rattle.kw_world.specs.declared.operation.Action.TheVariants.{Exchange}
 use Rattle.kw_world.specs.ListTransitions.{link_name}
-use Rattle.kw_world.specs.Sane.{IsCellBelow, IsGiven, IsEntry, IsKnownWord, IsLinkBelow, IsRowState, IsStateBelow, IsValueWord, IsWord, IsLed}
+use Rattle.kw_world.specs.Sane.{IsCellBelow, IsGiven, IsEntry, IsHead, IsKnownWord, IsLinkBelow, IsRowState, IsStateBelow, IsValueWord, IsWord, IsLed}
 use Rattle.kw_core.specs.Words.{Words, given_in}
 use Rattle.kw_core.proofs.Happens.{Changed}
 use Rattle.kw_core.proofs.InRange.{first_in_range, put_in_range}
-use Rattle.kw_core.specs.Stages.{IsReached}
 use Rattle.kw_shape.proofs.Known.{AreSane, IsKnownAt}
+use Rattle.kw_shape.proofs.NewWords as new
 
 -- the word after an exchange
 exchanges : (P : ℕ → Type 0) (found x y : ℕ) → P found → P y → P (if found == x then y else found)
@@ -96,7 +99,14 @@ value_known : (x : Option ℕ) → IsValue x → IsValueWord (value_word x)
 value_known (Some v) i = inr (omega arith, omega (arith, i))
 value_known None i = inl refl
 
-module _ (z : Sizes) (rows : ℕ) (v : Words) (s : ℕ) (choice : Choice) (l : Local) (w : AreSane z rows v) where
+-- one more is in range: a version or a number drawn, and a cell asked for; and the seat is one of the table's
+pub record HasMore (z : Sizes) (rows s : ℕ) (v : Words) : Type 0 where
+  pub seat : s < z.seats
+  pub clock : v name.Clock + 1 < VERSION_END
+  pub epoch : v name.Epoch + 1 < NUMBER_END
+  pub given : (q : ℕ) → q < rows → given_in v q + 1 < GIVEN_END
+
+module _ (z : Sizes) (rows : ℕ) (v : Words) (s : ℕ) (choice : Choice) (l : Local) (w : AreSane z rows v) (more : HasMore z rows s v) where
   -- the word after the event of this line is in range
   abbrev Writes : Transition → Type 0
   Writes it = IsWord z it.operation.name (word_after it.operation.action (v it.operation.name)) × IsLed rows it.operation.name (word_after it.operation.action (v it.operation.name))
@@ -119,23 +129,47 @@ module _ (z : Sizes) (rows : ℕ) (v : Words) (s : ℕ) (choice : Choice) (l : L
   set_state : (q : ℕ) (x y : State) → IsState y → IsRowState z (Some y) → IsStateBelow rows (Some y) → q < rows → IsRowState z (state_of (word_after (Exchange (state_word x) (state_word y)) (v (name.State q)))) × IsStateBelow rows (state_of (word_after (Exchange (state_word x) (state_word y)) (v (name.State q))))
   set_state q x y i e b o = (exchanges (λ u. IsRowState z (state_of u)) (v (name.State q)) _ _ (w.each (name.State q) o) (state_known z y i e), exchanges (λ u. IsStateBelow rows (state_of u)) (v (name.State q)) _ _ (w.led (name.State q) o) (state_below rows y i b))
 
-  written : (a : Activity) → IsReached z a → IsKnownAt z rows a l → IsWithin z.seats z.cells rows (transition z a s choice l).operation.name → v name.Clock + 1 < VERSION_END → ((q : ℕ) → q < rows → given_in v q + 1 < GIVEN_END) → Writes (transition z a s choice l)
-  written Enter o k n c g = (k.ranges.epoch.1, tt)
-  written ScanWait o k n c g = (scan_known (Waiting l.waiting) k.ranges.waiting, tt)
-  written ScanDraw o k n c g = ((omega arith, c), tt)
-  written ScanSettle o k n c g = (exchanges (λ x. IsKnownWord (scan_of x)) (v (name.Scan s)) _ _ (w.each (name.Scan s) n) (scan_known (Drawn l.drawn) k.ranges.drawn), tt)
-  written Start o k n c g = starts choice n
-  written Walk o k n c g = walks (is_stopped choice l) n
-  written LookHelp o k n c g = (exchanges (λ x. IsEntry z (pend_of x)) (v (name.Pend l.row l.looked)) _ _ (w.each (name.Pend l.row l.looked) n) (entry_known z (pend.Stamped l.met l.helping) (omega (arith, k.ranges.met, w.sized.few_cells), k.ranges.helping.0, k.ranges.helping.1) (k.ranges.met, k.ranges.helping)), tt)
-  written (ClearScan answer) o k n c g = (scan_known Quiet tt, tt)
-  written PutAdd o k n c g = (given_known (v (name.Count l.row)) _ refl (w.each (name.Count l.row) n) (g l.row n), tt)
-  written PutKey o k n c g = (first_in_range l.call k.ranges.call, tt)
-  written PutValue o k n c g = (value_known (put_value l.call) (put_in_range l.call k.ranges.call), tt)
-  written Announce o k n c g = (exchanges (λ x. IsEntry z (pend_of x)) (v (name.Pend l.row s)) _ _ (w.each (name.Pend l.row s) n) (entry_known z (pend.Pending l.cell) (omega (arith, k.ranges.cell, w.sized.few_cells)) k.ranges.cell), tt)
-  written Stamp o k n c g = (exchanges (λ x. IsEntry z (pend_of x)) (v (name.Pend l.row s)) _ _ (w.each (name.Pend l.row s) n) (entry_known z (pend.Stamped l.cell l.version) (omega (arith, k.ranges.cell, w.sized.few_cells), k.ranges.version.0, k.ranges.version.1) (k.ranges.cell, k.ranges.version)), tt)
-  written PutVersion o k n c g = (k.ranges.version.1, tt)
-  written InsSet o k n c g = (held_below l.held k.ranges.held, tt)
-  written Insert o k n c g = (linked l.link (v (link_name l.row l.link)) (w.each (link_name l.row l.link) n) k.ranges.cell, led l.link _)
+  -- a search for free rows, and one for the row before the full one, each from the row that the seat chooses
+  seeks : (c : Choice) → IsWithin z.seats z.cells rows (seek_first_transition c l).operation.name → Writes (seek_first_transition c l)
+  seeks (Begin call) n = loaded (name.State l.rebalance.sought) n
+  seeks Go n = loaded (name.State l.rebalance.sought) n
+  seeks (Guess r) n = loaded (name.State r) n
+  seeks Stop n = loaded (name.State l.rebalance.sought) n
+
+  guesses : (c : Choice) → IsWithin z.seats z.cells rows (before_transition c l).operation.name → Writes (before_transition c l)
+  guesses (Begin call) n = loaded name.Head n
+  guesses Go n = loaded name.Head n
+  guesses (Guess r) n = loaded (name.State r) n
+  guesses Stop n = loaded name.Head n
+
+  -- the link to the full row is exchanged for one to the first new row
+  links : (before : Option ℕ) → IsWithin z.seats z.cells rows (replaced_link before) → IsKnownAt z rows Replace l →
+      IsWord z (replaced_link before) (word_after (Exchange (link_word (unmarked_link (Some l.row))) (link_word (unmarked_link (Some (first_infant l))))) (v (replaced_link before))) ×
+      IsLed rows (replaced_link before) (word_after (Exchange (link_word (unmarked_link (Some l.row))) (link_word (unmarked_link (Some (first_infant l))))) (v (replaced_link before)))
+  links (Some p) n k =
+      let y = new.row_known z rows l w.sized k.ranges k.below in
+      (exchanges (λ u. IsKnownWord (link_of u)) (v (name.Next p)) _ _ (w.each (name.Next p) n) y.0, exchanges (λ u. IsLinkBelow rows (link_of u)) (v (name.Next p)) _ _ (w.led (name.Next p) n) y.1)
+  links None n k =
+      let y = new.row_known z rows l w.sized k.ranges k.below in
+      (exchanges (λ u. IsKnownWord (link_of u)) (v name.Head) _ _ (w.each name.Head n) y.0, exchanges (λ u. IsHead rows (link_of u)) (v name.Head) _ _ (w.led name.Head n) (new.head_known z rows l w.sized k.ranges k.below))
+
+  written : (a : Activity) → IsKnownAt z rows a l → IsWithin z.seats z.cells rows (transition z a s choice l).operation.name → Writes (transition z a s choice l)
+  written Enter k n = (k.ranges.epoch.1, tt)
+  written ScanWait k n = (scan_known (Waiting l.waiting) k.ranges.waiting, tt)
+  written ScanDraw k n = ((omega arith, more.clock), tt)
+  written ScanSettle k n = (exchanges (λ u. IsKnownWord (scan_of u)) (v (name.Scan s)) _ _ (w.each (name.Scan s) n) (scan_known (Drawn l.drawn) k.ranges.drawn), tt)
+  written Start k n = starts choice n
+  written Walk k n = walks (is_stopped choice l) n
+  written LookHelp k n = (exchanges (λ u. IsEntry z (pend_of u)) (v (name.Pend l.row l.looked)) _ _ (w.each (name.Pend l.row l.looked) n) (entry_known z (pend.Stamped l.met l.helping) (omega (arith, k.ranges.met, w.sized.few_cells), k.ranges.helping.0, k.ranges.helping.1) (k.ranges.met, k.ranges.helping)), tt)
+  written (ClearScan answer) k n = (scan_known Quiet tt, tt)
+  written PutAdd k n = (given_known (v (name.Count l.row)) _ refl (w.each (name.Count l.row) n) (more.given l.row n), tt)
+  written PutKey k n = (first_in_range l.call k.ranges.call, tt)
+  written PutValue k n = (value_known (put_value l.call) (put_in_range l.call k.ranges.call), tt)
+  written Announce k n = (exchanges (λ u. IsEntry z (pend_of u)) (v (name.Pend l.row s)) _ _ (w.each (name.Pend l.row s) n) (entry_known z (pend.Pending l.cell) (omega (arith, k.ranges.cell, w.sized.few_cells)) k.ranges.cell), tt)
+  written Stamp k n = (exchanges (λ u. IsEntry z (pend_of u)) (v (name.Pend l.row s)) _ _ (w.each (name.Pend l.row s) n) (entry_known z (pend.Stamped l.cell l.version) (omega (arith, k.ranges.cell, w.sized.few_cells), k.ranges.version.0, k.ranges.version.1) (k.ranges.cell, k.ranges.version)), tt)
+  written PutVersion k n = (k.ranges.version.1, tt)
+  written InsSet k n = (held_below l.held k.ranges.held, tt)
+  written Insert k n = (linked l.link (v (link_name l.row l.link)) (w.each (link_name l.row l.link) n) k.ranges.cell, led l.link _)
     where
       linked : (link : Option ℕ) (found : ℕ) → IsWord z (link_name l.row link) found → l.cell < z.cells → IsWord z (link_name l.row link) (word_after (Exchange (cell_link_word l.held) (cell_link_word (Some l.cell))) found)
       linked (Some c) found f o = exchanges (λ x. x ≤ z.cells) found _ _ f (omega (arith, o))
@@ -144,35 +178,35 @@ module _ (z : Sizes) (rows : ℕ) (v : Words) (s : ℕ) (choice : Choice) (l : L
       led : (link : Option ℕ) (x : ℕ) → IsLed rows (link_name l.row link) x
       led (Some c) x = tt
       led None x = tt
-  written PutClear o k n c g = (entry_known z pend.Idle tt tt, tt)
-  written (Leave answer) o k n c g = (omega arith, tt)
-  written Again o k n c g = (omega arith, tt)
-  written (BalNormal seat) o k n c g = set_state l.row (state.Infant seat) Normal tt tt tt n
-  written Engage o k n c g = set_state l.row Normal (Leader 0) (omega arith) tt tt n
-  written (MarkLink count) o k n c g = marked_known rows (v (name.Next l.row)) _ refl (w.each (name.Next l.row) n) (w.led (name.Next l.row) n)
-  written (Decide count) o k n c g = set_state l.row (Leader 0) (Leader count) k.activity tt tt n
-  written FreezeCount o k n c g = (frozen_known (v (name.Count l.row)) _ refl (w.each (name.Count l.row) n), tt)
-  written (Freeze i) o k n c g = (exchanges (λ x. IsEntry z (pend_of x)) (v (name.Pend l.row i)) _ _ (w.each (name.Pend l.row i) n) (entry_known z pend.Frozen tt tt), tt)
-  written (HelpDraw i) o k n c g = ((omega arith, c), tt)
-  written (HelpSettle i) o k n c g = (exchanges (λ x. IsKnownWord (scan_of x)) (v (name.Scan i)) _ _ (w.each (name.Scan i) n) (scan_known (Drawn l.rebalance.drawn) k.ranges.rebalance.drawn), tt)
-  written SeekFirst o k n c g = absurd o
-  written TakeRow o k n c g = absurd o
-  written GiveBack o k n c g = absurd o
-  written WriteCount o k n c g = absurd o
-  written WriteMin o k n c g = absurd o
-  written WriteNext o k n c g = absurd o
-  written WriteFirst o k n c g = absurd o
-  written (WritePend i) o k n c g = absurd o
-  written (WriteKey j) o k n c g = absurd o
-  written (WriteValue j) o k n c g = absurd o
-  written (WriteVersion j) o k n c g = absurd o
-  written (WriteAfter j) o k n c g = absurd o
-  written Before o k n c g = absurd o
-  written Replace o k n c g = absurd o
-  written Normalise o k n c g = absurd o
-  written Number o k n c g = absurd o
-  written Retire o k n c g = absurd o
-  written a o k n c g = loaded (transition z a s choice l).operation.name n
+  written PutClear k n = (entry_known z pend.Idle tt tt, tt)
+  written (Leave answer) k n = (omega arith, tt)
+  written Again k n = (omega arith, tt)
+  written (BalNormal seat) k n = set_state l.row (state.Infant seat) Normal tt tt tt n
+  written Engage k n = set_state l.row Normal (Leader 0) (omega arith) tt tt n
+  written (MarkLink count) k n = marked_known rows (v (name.Next l.row)) _ refl (w.each (name.Next l.row) n) (w.led (name.Next l.row) n)
+  written (Decide count) k n = set_state l.row (Leader 0) (Leader count) k.activity tt tt n
+  written FreezeCount k n = (frozen_known (v (name.Count l.row)) _ refl (w.each (name.Count l.row) n), tt)
+  written (Freeze i) k n = (exchanges (λ u. IsEntry z (pend_of u)) (v (name.Pend l.row i)) _ _ (w.each (name.Pend l.row i) n) (entry_known z pend.Frozen tt tt), tt)
+  written (HelpDraw i) k n = ((omega arith, more.clock), tt)
+  written (HelpSettle i) k n = (exchanges (λ u. IsKnownWord (scan_of u)) (v (name.Scan i)) _ _ (w.each (name.Scan i) n) (scan_known (Drawn l.rebalance.drawn) k.ranges.rebalance.drawn), tt)
+  written SeekFirst k n = seeks choice n
+  written TakeRow k n = set_state l.rebalance.sought state.Free (state.Infant s) (omega (arith, more.seat, w.sized.few_seats)) more.seat tt n
+  written GiveBack k n = (state_known z state.Free tt tt, state_below rows state.Free tt tt)
+  written WriteCount k n = (new.count_known z rows l w.sized k.ranges k.below, tt)
+  written WriteMin k n = (new.least_known z rows l w.sized k.ranges k.below, tt)
+  written WriteNext k n = new.next_known z rows l w.sized k.ranges k.below
+  written WriteFirst k n = (new.first_known z rows l w.sized k.ranges k.below, tt)
+  written (WritePend i) k n = (entry_known z pend.Idle tt tt, tt)
+  written (WriteKey j) k n = (new.key_known z rows l w.sized k.ranges k.below j, tt)
+  written (WriteValue j) k n = (new.value_known z rows l w.sized k.ranges k.below j, tt)
+  written (WriteVersion j) k n = (new.version_known z rows l w.sized k.ranges k.below j, tt)
+  written (WriteAfter j) k n = (new.after_known z rows l w.sized k.ranges k.below j k.activity, tt)
+  written Before k n = guesses choice n
+  written Replace k n = links l.rebalance.before n k
+  written Normalise k n = set_state (infant l) (state.Infant s) Normal tt tt tt n
+  written Number k n = ((omega arith, more.epoch), tt)
+  written Retire k n = (state_known z (state.Retired l.rebalance.number) k.ranges.rebalance.number k.ranges.rebalance.number, state_below rows (state.Retired l.rebalance.number) k.ranges.rebalance.number tt)
+  written a k n = loaded (transition z a s choice l).operation.name n
 
   -- a word after the event: the one that was written, or another
   each_word : (v' : Words) (it : Transition) → Writes it → IsWithin z.seats z.cells rows it.operation.name → Changed z rows v v' it → (m : Name) → IsWithin z.seats z.cells rows m → IsWord z m (v' m) × IsLed rows m (v' m)
@@ -186,7 +220,7 @@ module _ (z : Sizes) (rows : ℕ) (v : Words) (s : ℕ) (choice : Choice) (l : L
       which (inr d) = let f : v' m ≡ v m = h.other m i (λ e. d (ap (place_of z.seats z.cells) e)) in (subst (IsWord z m) (sym f) (w.each m i), subst (IsLed rows m) (sym f) (w.led m i))
 
   -- all words after the event
-  pub words_sane : (a : Activity) (v' : Words) → IsReached z a → IsKnownAt z rows a l → IsWithin z.seats z.cells rows (transition z a s choice l).operation.name → v name.Clock + 1 < VERSION_END → ((q : ℕ) → q < rows → given_in v q + 1 < GIVEN_END) → Changed z rows v v' (transition z a s choice l) → AreSane z rows v'
-  words_sane a v' o k n c g h =
-      let each = each_word v' (transition z a s choice l) (written a o k n c g) n h in
+  pub words_sane : (a : Activity) (v' : Words) → IsKnownAt z rows a l → IsWithin z.seats z.cells rows (transition z a s choice l).operation.name → Changed z rows v v' (transition z a s choice l) → AreSane z rows v'
+  words_sane a v' k n h =
+      let each = each_word v' (transition z a s choice l) (written a k n) n h in
       record { sized = w.sized; each = λ m i. (each m i).0; led = λ m i. (each m i).1 }

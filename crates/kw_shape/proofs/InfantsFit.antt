@@ -1,6 +1,6 @@
 -- The rows that a seat took are rows of the table, and what it writes of them fits its words: so a sane world gives what `InfantsOwn`
 -- and `ReplaceEvent` ask for.
-use Rattle.std.proofs.Common.{ℕ, ◌≡◌, ◌+◌, ◌-◌, ◌<◌, ◌≤◌, All, List, Option, Some, None, arith, refl, sym, ◌∙◌, subst, drop, length, slice_get, slice_index, take}
+use Rattle.std.proofs.Common.{ℕ, ◌≡◌, ◌+◌, ◌-◌, ◌<◌, ◌≤◌, All, List, Option, Some, None, arith, refl, subst, drop, length, slice_get, slice_index, take}
 use Rattle.std.proofs.lemmas.List.{length-drop, length-take}
 use Rattle.std.proofs.lemmas.List.Elements.{All-get_or}
 use Rattle.std.proofs.lemmas.Option.{get_or_from_slice_get, slice_get_within}
@@ -16,17 +16,17 @@ use Rattle.kw_world.specs.WorldView.{WorldView}
 use Rattle.kw_world.specs.WriteTransitions.{infant_count, infant_link, row_or, unmarked_link}
 
 -- an element of a list of rows of the table is one
-row_below : (rows : ℕ) (xs : List ℕ) → All (λ x. x < rows) xs → (i q : ℕ) → slice_get xs i ≡ Some q → q < rows
+pub row_below : (rows : ℕ) (xs : List ℕ) → All (λ x. x < rows) xs → (i q : ℕ) → slice_get xs i ≡ Some q → q < rows
 row_below rows xs all i q e = subst (λ x. x < rows) (get_or_from_slice_get xs i q 0 e) (All-get_or (λ x. x < rows) xs i 0 (slice_get_within xs i q e) all)
 
 -- a row of the table fits a link, and so does none
-row_fits : (rows : ℕ) (o a : Option ℕ) → ((q : ℕ) → o ≡ Some q → q < rows) → IsRowBelow rows a → rows ≤ MOST_ROWS → IsRow (row_or o a)
+pub row_fits : (rows : ℕ) (o a : Option ℕ) → ((q : ℕ) → o ≡ Some q → q < rows) → IsRowBelow rows a → rows ≤ MOST_ROWS → IsRow (row_or o a)
 row_fits rows (Some q) a f b m = omega (arith, f q refl, m)
 row_fits rows None (Some q) f b m = omega (arith, b, m)
 row_fits rows None None f b m = tt
 
 -- a part of a list is not longer
-part_length : {A : Type 0} (n m : ℕ) (xs : List A) → length (take n (drop m xs)) ≤ length xs
+pub part_length : {A : Type 0} (n m : ℕ) (xs : List A) → length (take n (drop m xs)) ≤ length xs
 part_length n m xs = omega (arith, length-take n (drop m xs), length-drop m xs)
 
 module _ (z : Sizes) (w : WorldView) (s : ℕ) (l : Local) (sane : IsSane z w) (knows : slice_get w.locals s ≡ Some l) where

@@ -45,7 +45,7 @@ place_of_row (x ∷ xs) q (inl e) = (0, ap Some (sym e))
 place_of_row (x ∷ xs) q (inr i) = let y = place_of_row xs q i in (suc y.0, y.1)
 
 -- the state of a row is no other word
-no_state : {A : Type 0} (q : ℕ) (n : Name) → is_state n ≡ false → Some (name.State q) ≡ Some n → A
+pub no_state : {A : Type 0} (q : ℕ) (n : Name) → is_state n ≡ false → Some (name.State q) ≡ Some n → A
 no_state q n f e = let x : true ≡ false = ap is_state (same_Some (name.State q) n e) ∙ f in absurd (cc)
 
 module _ {z : Sizes} {r r' : Run} {s : ℕ} {choice : Choice} {l l' : Local} where

@@ -79,7 +79,7 @@ infants_stable z rows v v' g g' t a l y inside x = record {
 }
 
 -- a row whose least key the seat knows is one that it may name
-measured : (a : Activity) (l : Local) → IsMeasured a l → IsSearching a l
+pub measured : (a : Activity) (l : Local) → IsMeasured a l → IsSearching a l
 measured BeforeLink l m = tt
 measured BeforeMin l m = tt
 measured Replace l m = tt

@@ -1,5 +1,5 @@
 -- What the acting seat knows stays in range, by the arrow that it takes.
-use Rattle.std.proofs.Common.{ℕ, ◌≡◌, ◌+◌, ◌-◌, ◌<◌, ◌≤◌, ◌==◌, nat_le, nat_lt, Bool, true, false, if◌then◌else◌, Option, Some, None, List, [], ◌∷◌, ◌++◌, arith, refl, subst, All, length, length-append}
+use Rattle.std.proofs.Common.{ℕ, zero, suc, ◌≡◌, ◌⊎◌, inl, inr, ◌+◌, ◌-◌, ◌<◌, ◌≤◌, ◌==◌, nat_le, nat_lt, Bool, true, false, if◌then◌else◌, Option, Some, None, List, [], ◌∷◌, ◌++◌, arith, refl, subst, All, length, length-append}
 use Rattle.std.proofs.lemmas.List.Elements.{All-nil, All-append, All-cons}
 use Rattle.std.proofs.Math.Nat.{min-le_right}
 use Rattle.kw_words.specs.declared.layout.Name.{Name}
@@ -15,19 +15,26 @@ use Rattle.kw_words.specs.Count.{count_of}
 use Rattle.kw_words.specs.Link.{link_of}
 use Rattle.kw_words.specs.Plain.{IsValue, key_of_word, value_of_word, cell_of_link_word}
 use Rattle.kw_words.proofs.PlainWords.{key_of_word-below}
+use Rattle.kw_cells.specs.declared.cell.Cell as kw_cell
 use Rattle.kw_cells.specs.Cells.{pairs_of}
+use Rattle.kw_cells.specs.Cuts.{starts_from, starts_of}
+use Rattle.kw_cells.specs.Kept.{kept_of}
+use Rattle.kw_cells.specs.declared.cell.Cell.{Cell}
+use Rattle.kw_cells.proofs.KeptOf.{kept_of-all, kept_of-length}
 use Rattle.kw_words.specs.declared.link.Link.{Link}
 use Rattle.kw_world.specs.declared.answer.Answer.{Answer}
 use Rattle.kw_world.specs.declared.answer.Answer.TheVariants.{NoRows, Spent}
 use Rattle.kw_world.specs.EngageTransitions.{again, followed_by, refuse, to_rebalance}
 use Rattle.kw_world.specs.declared.activity.Activity.{Activity}
-use Rattle.kw_world.specs.declared.activity.Activity.TheVariants.{Idle, Walk, WalkMin, Look, PutCount, Again, AgainEpoch, BalClock, BalEpoch, BalState, BalNormal, Engage, MarkLink, Decide, FreezeCount, FreezeLook, Freeze, ScanLook, HelpDraw, HelpSettle, TakeFrom, TakeKey, TakeVersion, TakeValue, TakeRestKey, TakeRestValue, SeekFirst, Seek, TakeRow, GiveBack, WriteCount, WriteMin, WriteNext, WriteFirst, WritePend, WriteKey, WriteValue, WriteVersion, WriteAfter, Before, BeforeGuess, BeforeHead, BeforeLink, BeforeMin, Replace, Normalise, Number, Retire}
+use Rattle.kw_world.specs.declared.activity.Activity.TheVariants.{Idle, Walk, WalkMin, Look, PutCount, Again, BalClock, FreezeLook, Freeze, ScanLook, HelpDraw, HelpSettle, TakeFrom, TakeRestKey, SeekFirst}
 use Rattle.kw_world.specs.declared.limits.TheConstants.{NEWEST}
 use Rattle.kw_world.specs.declared.local.Local.{Local}
 use Rattle.kw_world.specs.declared.marks.Mark.{Mark}
+use Rattle.kw_world.specs.declared.rebalance.Afterwards.{Afterwards}
 use Rattle.kw_world.specs.declared.rebalance.Rebalance.{Rebalance}
-use Rattle.kw_core.specs.Stages.{IsReached}
+use Rattle.kw_world.specs.SeekTransitions.{moved_left, seeking, with_row}
 use Rattle.kw_world.specs.declared.event.Choice.{Choice}
+use Rattle.kw_world.specs.declared.event.Choice.TheVariants.{Guess}
 use Rattle.kw_world.specs.Sizes.{Sizes}
 use Rattle.kw_world.specs.Marks.{least_mark, mark_of, unmarked}
 use Rattle.kw_world.specs.Calls.{first_key, last_key}
@@ -36,17 +43,19 @@ use Rattle.kw_cells.specs.InOrder.{with_cell}
 use Rattle.kw_words.specs.declared.scan.ScanWord.TheVariants as scan
 use Rattle.kw_words.proofs.ScanWords.{IsScan-scan_of}
 use Rattle.kw_world.specs.FreezeTransitions.{needing, to_scans}
-use Rattle.kw_world.specs.TakeTransitions.{keeping, to_take}
+use Rattle.kw_world.specs.TakeTransitions.{keeping, planned, to_take}
 use Rattle.kw_world.specs.ReadTransitions.{cell_in_hand, with_pairs, gathering, remembering}
-use Rattle.kw_world.specs.Sane.{IsVersion, IsEntry, IsWord, IsLed, IsOffered, IsPair, IsAnswer, IsMark, IsCopy, IsActivity, IsRowBelow, IsLinkBelow, IsRowState, IsCellBelow, IsLocal, IsLocalBelow, IsKnown, HasRebalanceRoom, marks_by}
+use Rattle.kw_world.specs.Sane.{IsVersion, IsEntry, IsWord, IsLed, IsOffered, IsPair, IsAnswer, IsMark, IsCopy, IsPlaced, IsActivity, IsRowBelow, IsLinkBelow, IsRowState, IsCellBelow, IsLocal, IsLocalBelow, IsKnown, HasRebalanceRoom, marks_by}
 use Rattle.kw_world.proofs.Opens.{none_below, none_ranges, none_room, rests_known}
 use Rattle.kw_core.specs.Words.{Words}
 use Rattle.kw_core.proofs.Events.{IsBegun}
 use Rattle.kw_core.proofs.RoomBelow.{room_below}
 use Rattle.kw_core.proofs.InRange.{unmarked_in_range, unmarked_few, least_holds, version_in_hand, gathered_in_range, gathered_few, version_of_scan, answer_in_range, pairs_in_range, value_in_range, first_in_range, last_in_range, linked_in_range, stopped_in_range, with_cell_in_range}
 use Rattle.kw_cells.proofs.InOrder.{length-with_cell}
-use Rattle.kw_core.proofs.Arrows.{Arrow, begins, enters, is_spent, waits, draws, settles_empty, settles, starts_at_head, guesses, takes_head, guess_serves, stops, puts_in_last, reads_last, meets_next, walks_on, puts_before, reads_before, meets_pending, meets_stamped, meets_neither, is_passed, loads_to_help, helps, finds_stamped, finds_other, list_leads, list_ends, key_below, key_within, key_above, loads_version, gathers_listed, rest_wanted, rest_passed, gathers_rest, clears_scan, finds_none, takes_cell, takes_none, is_refused, loads_clock, is_stamped, is_not_own, stores_version, meets_cell, meets_none, key_before, version_before, loses, clears, leaves, enters_again, clock_is_spent, epoch_is_spent, finds_infant, finds_leader, finds_other_state, engages, marks_link, marks_led, decides, decides_last, decides_not, marks_last, finds_full, takes_full, announces_full, stamps_full, NextLook, looks, lists, NextRest, rests, answers, ends_scan, scans_on, freezes_count, meets_idle, meets_unstamped, remembers, remembers_last, meets_frozen, meets_frozen_last, freezes_entry, freezes_last, looks_again, meets_quiet, meets_quiet_last, helps_scan, meets_drawn, meets_drawn_last, draws_for, settles_scan, settles_last, finds_drawn, finds_drawn_last, finds_no_scan, finds_no_scan_last, take_leads, takes_left, takes_no_more, takes_last, takes_key, takes_version, keeps_taken, takes_left_key, keeps_left, keeps_no_more, keeps_last, goes_no_further, below, builds}
-use Rattle.kw_core.proofs.Building.{never_built}
+use Rattle.kw_core.proofs.Arrows.{Arrow, begins, enters, is_spent, waits, draws, settles_empty, settles, starts_at_head, guesses, takes_head, guess_serves, stops, puts_in_last, reads_last, meets_next, walks_on, puts_before, reads_before, meets_pending, meets_stamped, meets_neither, is_passed, loads_to_help, helps, finds_stamped, finds_other, list_leads, list_ends, key_below, key_within, key_above, loads_version, gathers_listed, rest_wanted, rest_passed, gathers_rest, clears_scan, finds_none, takes_cell, takes_none, is_refused, loads_clock, is_stamped, is_not_own, stores_version, meets_cell, meets_none, key_before, version_before, loses, clears, leaves, enters_again, clock_is_spent, epoch_is_spent, finds_infant, finds_leader, finds_other_state, engages, marks_link, marks_led, decides, decides_not, finds_full, takes_full, announces_full, stamps_full, NextLook, looks, lists, NextRest, rests, answers, ends_scan, scans_on, freezes_count, meets_idle, meets_unstamped, remembers, remembers_last, meets_frozen, meets_frozen_last, freezes_entry, freezes_last, looks_again, meets_quiet, meets_quiet_last, helps_scan, meets_drawn, meets_drawn_last, draws_for, settles_scan, settles_last, finds_drawn, finds_drawn_last, finds_no_scan, finds_no_scan_last, take_leads, takes_left, takes_no_more, takes_key, takes_version, keeps_taken, takes_left_key, keeps_left, keeps_no_more, below, builds}
+use Rattle.kw_core.proofs.Building.{Building, IsBuilding, first_is_free, first_is_taken, sought_is_free, sought_is_taken, takes_row, loses_row, gives_one_back, gives_last_back, writes_count, writes_least, writes_link, writes_first, writes_entry, writes_key, writes_value, writes_version, writes_after, begins_before, guesses_before, guess_before_fails, before_serves, before_is_above, takes_head_before, leads_to_full, leads_on_marked, leads_to_other, leads_nowhere, walks_before, walks_past, replaces_row, is_marked_before, is_replaced, makes_normal, makes_last_normal, draws_number, retires_row}
+use Rattle.kw_core.proofs.NextBuilt as following
+use Rattle.kw_core.proofs.NextBuilt.{GivenBack, is_refused_rows, moves_left, NextBack, gives_back, has_none, NextSeek, asks, has_asked, NextTaken, wants_more, has_enough, NextNewRow, writes_row, has_written, NextNewCell, fills, empties, has_cells, NextNewEntry, writes_idle, has_entries, NextBefore, is_first, is_behind}
 
 -- all words of a table are in range
 pub record AreSane (z : Sizes) (rows : ℕ) (v : Words) : Type 0 where
@@ -78,43 +87,21 @@ at_activity z rows a l e k = record {
   rebalance = subst (λ q. HasRebalanceRoom z q l.rebalance) e k.room.rebalance;
 }
 
--- the lists of a rebalance have room at every activity to which a seat may come
-lists_of : (z : Sizes) (a : Activity) (b : Rebalance) → IsReached z a → IsActivity z a → HasRebalanceRoom z a b → HasRebalanceRoom z Idle b
-lists_of z (FreezeLook i) b o y k = record { marks = omega (arith, k.marks, y); needed = k.needed; gathered = k.gathered; taken = λ t. absurd t }
-lists_of z (Freeze i) b o y k = record { marks = omega (arith, k.marks, y); needed = k.needed; gathered = k.gathered; taken = λ t. absurd t }
-lists_of z (ScanLook i) b o y k = record { marks = k.marks; needed = omega (arith, k.needed, y); gathered = k.gathered; taken = λ t. absurd t }
-lists_of z (HelpDraw i) b o y k = record { marks = k.marks; needed = omega (arith, k.needed, y); gathered = k.gathered; taken = λ t. absurd t }
-lists_of z (HelpSettle i) b o y k = record { marks = k.marks; needed = omega (arith, k.needed, y); gathered = k.gathered; taken = λ t. absurd t }
-lists_of z SeekFirst b o y k = absurd o
-lists_of z Seek b o y k = absurd o
-lists_of z TakeRow b o y k = absurd o
-lists_of z GiveBack b o y k = absurd o
-lists_of z WriteCount b o y k = absurd o
-lists_of z WriteMin b o y k = absurd o
-lists_of z WriteNext b o y k = absurd o
-lists_of z WriteFirst b o y k = absurd o
-lists_of z (WritePend i) b o y k = absurd o
-lists_of z (WriteKey j) b o y k = absurd o
-lists_of z (WriteValue j) b o y k = absurd o
-lists_of z (WriteVersion j) b o y k = absurd o
-lists_of z (WriteAfter j) b o y k = absurd o
-lists_of z Before b o y k = absurd o
-lists_of z BeforeGuess b o y k = absurd o
-lists_of z BeforeHead b o y k = absurd o
-lists_of z BeforeLink b o y k = absurd o
-lists_of z BeforeMin b o y k = absurd o
-lists_of z Replace b o y k = absurd o
-lists_of z Normalise b o y k = absurd o
-lists_of z Number b o y k = absurd o
-lists_of z Retire b o y k = absurd o
-lists_of z _ b o y k = record { marks = k.marks; needed = k.needed; gathered = k.gathered; taken = λ t. absurd t }
+-- the lists of a rebalance have room at every activity
+lists_of : (z : Sizes) (a : Activity) (b : Rebalance) → IsActivity z a → HasRebalanceRoom z a b → HasRebalanceRoom z Idle b
+lists_of z (FreezeLook i) b y k = record { marks = omega (arith, k.marks, y); needed = k.needed; gathered = k.gathered; taken = λ t. absurd t }
+lists_of z (Freeze i) b y k = record { marks = omega (arith, k.marks, y); needed = k.needed; gathered = k.gathered; taken = λ t. absurd t }
+lists_of z (ScanLook i) b y k = record { marks = k.marks; needed = omega (arith, k.needed, y); gathered = k.gathered; taken = λ t. absurd t }
+lists_of z (HelpDraw i) b y k = record { marks = k.marks; needed = omega (arith, k.needed, y); gathered = k.gathered; taken = λ t. absurd t }
+lists_of z (HelpSettle i) b y k = record { marks = k.marks; needed = omega (arith, k.needed, y); gathered = k.gathered; taken = λ t. absurd t }
+lists_of z _ b y k = record { marks = k.marks; needed = k.needed; gathered = k.gathered; taken = λ t. absurd t }
 
 -- the entry that was met
 entry : (z : Sizes) (rows : ℕ) (v : Words) (l : Local) → AreSane z rows v → (i : ℕ) (x : Pend) → l.row < rows → i < z.seats → pend_of (v (name.Pend l.row i)) ≡ Some x → IsEntry z (Some x)
 entry z rows v l w i x o u e = subst (IsEntry z) e (w.each (name.Pend l.row i) (o, u))
 
 -- a link between cells leads to one that is in range
-linked_below : (w c n : ℕ) → cell_of_link_word w ≡ Some c → w ≤ n → c < n
+pub linked_below : (w c n : ℕ) → cell_of_link_word w ≡ Some c → w ≤ n → c < n
 unfolding cell_of_link_word
 linked_below w c n e o = met (w == 0) (nat_le w MOST_CELLS) refl refl e
   where
@@ -123,7 +110,7 @@ linked_below w c n e o = met (w == 0) (nat_le w MOST_CELLS) refl refl e
     met false true f g e = let x : Some (w - 1) ≡ Some c = e in let y : w - 1 ≡ c = cc in grind (arith, nat_tests)
     met false false f g e = let x : None ≡ Some c = e in absurd (cc)
 
-link_below : (z : Sizes) (rows : ℕ) (v : Words) → AreSane z rows v → (r : ℕ) (link : Option ℕ) → IsCellBelow z.cells link → r < rows → v (link_name r link) ≤ z.cells
+pub link_below : (z : Sizes) (rows : ℕ) (v : Words) → AreSane z rows v → (r : ℕ) (link : Option ℕ) → IsCellBelow z.cells link → r < rows → v (link_name r link) ≤ z.cells
 link_below z rows v w r (Some c) o u = w.each (name.After r c) (u, o)
 link_below z rows v w r None o u = w.each (name.First r) u
 
@@ -252,7 +239,7 @@ begins_to_take : (z : Sizes) (rows : ℕ) (l : Local) → IsLocal z l → IsLoca
 begins_to_take z rows l k b m g x y =
     let never : ⊥ → length l.rebalance.taken < length l.rebalance.starts = λ t. absurd t in
     let none : 0 ≤ z.cells = omega arith in
-    assumption (k, b, m, g, x, y, none, never, All-nil IsCopy)
+    assumption (k, b, m, g, x, y, none, never, All-nil IsCopy, All-nil (IsPlaced z))
 
 -- one more version is needed
 needs : (z : Sizes) (l : Local) (version : ℕ) → IsLocal z l → IsVersion version → All IsVersion (l.rebalance.needed ++ version ∷ [])
@@ -272,7 +259,7 @@ needs_last z rows l j version o k b m g x n u =
     let p = needs z l version k u in
     let q : length (l.rebalance.needed ++ version ∷ []) ≤ z.seats = omega (arith, length-append l.rebalance.needed (version ∷ []), n, o) in
     let none : 0 ≤ z.cells = omega arith in
-    assumption (k, b, m, g, x, p, q, none, never, All-nil IsCopy)
+    assumption (k, b, m, g, x, p, q, none, never, All-nil IsCopy, All-nil (IsPlaced z))
 
 -- a remembered cell is read
 left_known : (z : Sizes) (rows : ℕ) (l : Local) (m : Mark) → least_mark l.rebalance.marks ≡ Some m → IsLocal z l → IsLocalBelow rows l → length l.remembered ≤ z.seats → length l.gathered ≤ z.cells → HasRebalanceRoom z TakeFrom l.rebalance →
@@ -285,11 +272,12 @@ left_known z rows l m o k b u g x =
 
 -- a cell is gathered for the new rows
 kept_more : (z : Sizes) (value : Option ℕ) (l : Local) → IsValue value → IsLocal z l → length l.rebalance.gathered ≤ z.cells → IsLocal z (keeping z value l) × (length (keeping z value l).rebalance.gathered ≤ z.cells)
-kept_more z value l u k n = (let a = kept_in_range (nat_lt (length l.rebalance.gathered) z.cells) in assumption (k, a), few (nat_lt (length l.rebalance.gathered) z.cells) refl)
+kept_more z value l u k n =
+    (let a = more IsCopy (k.place_key, k.place_version, u) k.rebalance.gathered (nat_lt (length l.rebalance.gathered) z.cells) in let p = more (IsPlaced z) k.place k.rebalance.placed (nat_lt (length l.rebalance.gathered) z.cells) in assumption (k, a, p), few (nat_lt (length l.rebalance.gathered) z.cells) refl)
   where
-    kept_in_range : (b : Bool) → All IsCopy (if b then with_cell (cell_in_hand value l) l.rebalance.gathered else l.rebalance.gathered)
-    kept_in_range true = with_cell_in_range IsCopy (cell_in_hand value l) l.rebalance.gathered (k.place_key, k.place_version, u) k.rebalance.gathered
-    kept_in_range false = k.rebalance.gathered
+    more : (P : kw_cell.Cell → Type 0) → P (cell_in_hand value l) → All P l.rebalance.gathered → (b : Bool) → All P (if b then with_cell (cell_in_hand value l) l.rebalance.gathered else l.rebalance.gathered)
+    more P p g true = with_cell_in_range P (cell_in_hand value l) l.rebalance.gathered p g
+    more P p g false = g
 
     few : (b : Bool) → nat_lt (length l.rebalance.gathered) z.cells ≡ b → length (if b then with_cell (cell_in_hand value l) l.rebalance.gathered else l.rebalance.gathered) ≤ z.cells
     few true e = let w : length l.rebalance.gathered < z.cells = below _ _ e in omega (arith, w, length-with_cell (cell_in_hand value l) l.rebalance.gathered)
@@ -304,151 +292,283 @@ row_below rows None b = tt
 follows_known : (z : Sizes) (rows : ℕ) (after : Option ℕ) (l : Local) → IsRowBelow rows after → IsLocal z l → IsLocalBelow rows l → IsLocal z (followed_by after l) × IsLocalBelow rows (followed_by after l)
 follows_known z rows after l o k b = (assumption k, assumption (b, o))
 
+-- What a seat knows that takes, writes and links new rows.
+
+-- the row that is asked is one of the table, and no more than all were asked
+pub record IsSoughtIn (rows : ℕ) (l : Local) : Type 0 where
+  pub sought : l.rebalance.sought < rows
+  pub asked : l.rebalance.asked ≤ rows
+
+-- some row starts where cells are kept, and where none is
+starts_some : (built : ℕ) (kept : List Cell) → 0 < length (starts_of built kept)
+unfolding starts_of
+starts_some built kept = which (length kept + 1) (omega arith)
+  where
+    which : (n : ℕ) → 0 < n → 0 < length (starts_from n built kept 0)
+    which zero o = absurd (omega (arith, o))
+    which (suc n) o = omega arith
+
+-- all cells are gathered, and the search for new rows begins
+seeks_rows : (z : Sizes) (rows : ℕ) (l : Local) → IsSized z.seats z.cells rows → IsLocal z l → IsLocalBelow rows l → length l.remembered ≤ z.seats → length l.gathered ≤ z.cells → length l.rebalance.marks ≤ z.seats → length l.rebalance.needed ≤ z.seats → length l.rebalance.gathered ≤ z.cells →
+    IsKnown z rows (record (planned z l) { activity = SeekFirst })
+seeks_rows z rows l sized k b m g x y n =
+    let kept : All IsCopy (kept_of l.rebalance.gathered l.rebalance.needed) = kept_of-all IsCopy l.rebalance.gathered l.rebalance.needed k.rebalance.gathered in
+    let places : All (IsPlaced z) (kept_of l.rebalance.gathered l.rebalance.needed) = kept_of-all (IsPlaced z) l.rebalance.gathered l.rebalance.needed k.rebalance.placed in
+    let few : length (kept_of l.rebalance.gathered l.rebalance.needed) ≤ z.cells = omega (arith, n, kept_of-length l.rebalance.gathered l.rebalance.needed) in
+    let none : 0 ≤ 0 = omega arith in
+    let first : 0 < rows = omega (arith, sized.some_rows) in
+    let one : 1 ≤ rows = sized.some_rows in
+    let some : Unit {0} → 0 < length (starts_of z.built (kept_of l.rebalance.gathered l.rebalance.needed)) = λ t. starts_some z.built (kept_of l.rebalance.gathered l.rebalance.needed) in
+    assumption (k, b, m, g, x, y, n, kept, places, few, none, first, one, some, All-nil (λ (r : ℕ). r < rows))
+
+-- the row before the full one, or the first one
+before_below : (rows : ℕ) (before : Option ℕ) → 0 < rows → IsRowBelow rows before → row_or_first before < rows
+before_below rows (Some p) o b = b
+before_below rows None o b = o
+
+-- a seat that may take one more row has lists as another has
+idle_room : (z : Sizes) (b : Rebalance) → length b.marks ≤ z.seats → length b.needed ≤ z.seats → length b.gathered ≤ z.cells → HasRebalanceRoom z Idle b
+idle_room z b m n g = record { marks = m; needed = n; gathered = g; taken = λ t. absurd t }
+
+-- a row that is guessed, or was asked before
+chosen_below : (rows : ℕ) (choice : Choice) (q r : ℕ) → IsOffered rows choice → r < rows → (choice ≡ Guess q) ⊎ (q ≡ r) → q < rows
+chosen_below rows choice q r i o (inl e) = subst (IsOffered rows) e i
+chosen_below rows choice q r i o (inr e) = omega (arith, o, e)
+
+module _ (z : Sizes) (rows : ℕ) (sized : IsSized z.seats z.cells rows) where
+  -- nothing is taken any more
+  given_known : (a : Afterwards) (l next : Local) → GivenBack l a next → IsLocal z l → IsLocalBelow rows l → length l.remembered ≤ z.seats → length l.gathered ≤ z.cells → IsKnown z rows next
+  given_known a l next following.tries_again k b m g = tries_again z rows l sized k b m g
+  given_known a l next is_refused_rows k b m g = is_refusing z rows l sized NoRows tt k b m g
+  given_known a l next moves_left k b m g =
+      let o : row_or_first l.rebalance.before < rows = before_below rows l.rebalance.before (omega (arith, sized.some_rows)) b.rebalance.before in
+      is_balancing z rows (moved_left l) sized (assumption k) (assumption (b, o)) m g
+
+  back_known : (a : Afterwards) (l next : Local) → NextBack a l next → IsLocal z l → IsLocalBelow rows l → length l.remembered ≤ z.seats → length l.gathered ≤ z.cells → HasLists z l → IsKnown z rows next
+  back_known a l next (gives_back o) k b m g n = let first : 0 ≤ length l.rebalance.taken = omega arith in assumption (k, b, m, g, n, first)
+  back_known a l next (has_none other o y) k b m g n = given_known a l next y k b m g
+
+  -- the next row is asked
+  seek_known : (r : ℕ) (l next : Local) → NextSeek r l next → IsSoughtIn rows next → IsLocal z l → IsLocalBelow rows l → length l.remembered ≤ z.seats → length l.gathered ≤ z.cells → HasLists z l → length l.rebalance.taken < length l.rebalance.starts → IsKnown z rows next
+  seek_known r l next (asks o) s k b m g n t = let room : Unit {0} → length l.rebalance.taken < length l.rebalance.starts = λ y. t in assumption (k, b, m, g, n, s, room)
+  seek_known r l next (has_asked other o y) s k b m g n t = back_known _ l next y k b m g n
+
+  -- a row is taken
+  with_fits : (l : Local) → IsLocal z l → l.rebalance.at ≤ length (l.rebalance.taken ++ l.rebalance.sought ∷ [])
+  with_fits l k = omega (arith, k.rebalance.at, length-append l.rebalance.taken (l.rebalance.sought ∷ []))
+
+  with_below : (l : Local) → IsLocalBelow rows l → All (λ r. r < rows) (l.rebalance.taken ++ l.rebalance.sought ∷ [])
+  with_below l b = All-append (λ r. r < rows) l.rebalance.taken (l.rebalance.sought ∷ []) b.rebalance.taken (All-cons (λ r. r < rows) l.rebalance.sought [] b.rebalance.sought (All-nil (λ r. r < rows)))
+
+  taken_known : (r : ℕ) (l next : Local) → NextTaken r (with_row l) next → IsSoughtIn rows next → IsLocal z l → IsLocalBelow rows l → length l.remembered ≤ z.seats → length l.gathered ≤ z.cells → HasLists z l → IsKnown z rows next
+  taken_known r l next (wants_more other o x) s k b m g n = seek_known r (with_row l) next x s (assumption (k, with_fits l k)) (assumption (b, with_below l b)) m g (idle_room z (with_row l).rebalance n.marks n.needed n.gathered) o
+  taken_known r l next (has_enough o) s k b m g n = let first : 0 ≤ length (l.rebalance.taken ++ l.rebalance.sought ∷ []) = omega arith in let never : ⊥ → length (l.rebalance.taken ++ l.rebalance.sought ∷ []) < length l.rebalance.starts = λ t. absurd t in let all = with_below l b in assumption (k, b, m, g, n, all, first, never)
+
+  -- the next row, cell or entry is written
+  row_known : (l next : Local) → NextNewRow l next → IsLocal z l → IsLocalBelow rows l → length l.remembered ≤ z.seats → length l.gathered ≤ z.cells → HasLists z l → IsKnown z rows next
+  row_known l next (writes_row o) k b m g n = let i : l.rebalance.at + 1 ≤ length l.rebalance.taken = omega (arith, o) in assumption (k, b, m, g, n, i)
+  row_known l next (has_written o) k b m g n = assumption (k, b, m, g, n)
+
+  cell_known : (j : ℕ) (l next : Local) → NextNewCell z j l next → IsLocal z l → IsLocalBelow rows l → length l.remembered ≤ z.seats → length l.gathered ≤ z.cells → HasLists z l → IsKnown z rows next
+  cell_known j l next (fills o p) k b m g n = assumption (k, b, m, g, n, o)
+  cell_known j l next (empties o p) k b m g n = assumption (k, b, m, g, n, o)
+  cell_known j l next (has_cells other o y) k b m g n = row_known l next y k b m g n
+
+  entry_known : (j : ℕ) (l next : Local) → NextNewEntry z j l next → IsLocal z l → IsLocalBelow rows l → length l.remembered ≤ z.seats → length l.gathered ≤ z.cells → HasLists z l → IsKnown z rows next
+  entry_known j l next (writes_idle o) k b m g n = assumption (k, b, m, g, n, o)
+  entry_known j l next (has_entries other o y) k b m g n = cell_known 0 l next y k b m g n
+
+  -- the walk to the row before the full one begins
+  before_known : (r : ℕ) (l next : Local) → NextBefore r l next → r < rows → IsLocal z l → IsLocalBelow rows l → length l.remembered ≤ z.seats → length l.gathered ≤ z.cells → HasLists z l → IsKnown z rows next
+  before_known r l next (is_first e) o k b m g n = let zero_key : 0 < KEY_END = omega arith in assumption (k, b, m, g, n, zero_key)
+  before_known r l next (is_behind d) o k b m g n = let zero_key : 0 < KEY_END = omega arith in assumption (k, b, m, g, n, zero_key, o)
+
+-- by each of these events
+built_known : (z : Sizes) (rows : ℕ) (v : Words) (choice : Choice) (l : Local) (a : Activity) (next : Local) → AreSane z rows v → row_or_first (row_linked (link_of (v name.Head))) < rows → IsOffered rows choice → IsKnownAt z rows a l → Building z v choice l a next → IsSoughtIn rows next → IsKnown z rows next
+built_known z rows v choice l a next w c i k (first_is_free q e f) s = assumption (k, s)
+built_known z rows v choice l a next w c i k (first_is_taken q r other e d y) s =
+    let o : q < rows = chosen_below rows choice q l.rebalance.sought i k.below.rebalance.sought e in
+    seek_known z rows w.sized r (seeking q l) next y s (assumption k.ranges) (assumption (k.below, o)) k.remembered k.gathered (idle_room z (seeking q l).rebalance k.rebalance.marks k.rebalance.needed k.rebalance.gathered) (k.rebalance.taken tt)
+built_known z rows v choice l a next w c i k (sought_is_free e) s = assumption (k, s)
+built_known z rows v choice l a next w c i k (sought_is_taken r other d y) s = seek_known z rows w.sized r l next y s k.ranges k.below k.remembered k.gathered (idle_room z l.rebalance k.rebalance.marks k.rebalance.needed k.rebalance.gathered) (k.rebalance.taken tt)
+built_known z rows v choice l a next w c i k (takes_row r other e y) s = taken_known z rows w.sized r l next y s k.ranges k.below k.remembered k.gathered (idle_room z l.rebalance k.rebalance.marks k.rebalance.needed k.rebalance.gathered)
+built_known z rows v choice l a next w c i k (loses_row r other d y) s = seek_known z rows w.sized r l next y s k.ranges k.below k.remembered k.gathered (idle_room z l.rebalance k.rebalance.marks k.rebalance.needed k.rebalance.gathered) (k.rebalance.taken tt)
+built_known z rows v choice l a next w c i k (gives_one_back o) s = let n : l.rebalance.at + 1 ≤ length l.rebalance.taken = omega (arith, o) in assumption (k, n)
+built_known z rows v choice l a next w c i k (gives_last_back other o y) s = given_known z rows w.sized _ l next y k.ranges k.below k.remembered k.gathered
+built_known z rows v choice l a next w c i k writes_count s = assumption k
+built_known z rows v choice l a next w c i k writes_least s = assumption k
+built_known z rows v choice l a next w c i k writes_link s = assumption k
+built_known z rows v choice l a next w c i k (writes_first other y) s = entry_known z rows w.sized 0 l next y k.ranges k.below k.remembered k.gathered (idle_room z l.rebalance k.rebalance.marks k.rebalance.needed k.rebalance.gathered)
+built_known z rows v choice l a next w c i k (writes_entry j other y) s = entry_known z rows w.sized _ l next y k.ranges k.below k.remembered k.gathered (idle_room z l.rebalance k.rebalance.marks k.rebalance.needed k.rebalance.gathered)
+built_known z rows v choice l a next w c i k (writes_key j) s = assumption k
+built_known z rows v choice l a next w c i k (writes_value j) s = assumption k
+built_known z rows v choice l a next w c i k (writes_version j) s = assumption k
+built_known z rows v choice l a next w c i k (writes_after j other y) s = cell_known z rows w.sized _ l next y k.ranges k.below k.remembered k.gathered (idle_room z l.rebalance k.rebalance.marks k.rebalance.needed k.rebalance.gathered)
+built_known z rows v choice l a next w c i k (begins_before other y) s = before_known z rows w.sized _ l next y c k.ranges k.below k.remembered k.gathered (idle_room z l.rebalance k.rebalance.marks k.rebalance.needed k.rebalance.gathered)
+built_known z rows v choice l a next w c i k (guesses_before q e f) s = let o : q < rows = subst (IsOffered rows) e i in assumption (k, o)
+built_known z rows v choice l a next w c i k guess_before_fails s = assumption k
+built_known z rows v choice l a next w c i k (before_serves o) s = let u = key_of_word-below (v (name.Min (row_or_first l.rebalance.before))) in assumption (k, u)
+built_known z rows v choice l a next w c i k (before_is_above o) s = assumption k
+built_known z rows v choice l a next w c i k (takes_head_before other y) s = before_known z rows w.sized _ l next y c k.ranges k.below k.remembered k.gathered (idle_room z l.rebalance k.rebalance.marks k.rebalance.needed k.rebalance.gathered)
+built_known z rows v choice l a next w c i k (leads_to_full e) s = assumption k
+built_known z rows v choice l a next w c i k (leads_on_marked other e y) s = back_known z rows w.sized _ l next y k.ranges k.below k.remembered k.gathered (idle_room z l.rebalance k.rebalance.marks k.rebalance.needed k.rebalance.gathered)
+built_known z rows v choice l a next w c i k (leads_to_other q e d) s =
+    let o : row_or_first l.rebalance.before < rows = before_below rows l.rebalance.before (omega (arith, w.sized.some_rows)) k.below.rebalance.before in
+    let u = linked_in_range rows q (link_of (v (name.Next (row_or_first l.rebalance.before)))) (w.led (name.Next (row_or_first l.rebalance.before)) o) e in
+    assumption (k, u)
+built_known z rows v choice l a next w c i k (leads_nowhere other e y) s = back_known z rows w.sized _ l next y k.ranges k.below k.remembered k.gathered (idle_room z l.rebalance k.rebalance.marks k.rebalance.needed k.rebalance.gathered)
+built_known z rows v choice l a next w c i k (walks_before o) s = let u = key_of_word-below (v (name.Min l.candidate)) in assumption (k, u)
+built_known z rows v choice l a next w c i k (walks_past other o y) s = back_known z rows w.sized _ l next y k.ranges k.below k.remembered k.gathered (idle_room z l.rebalance k.rebalance.marks k.rebalance.needed k.rebalance.gathered)
+built_known z rows v choice l a next w c i k (replaces_row e) s = let first : 0 ≤ length l.rebalance.taken = omega arith in assumption (k, first)
+built_known z rows v choice l a next w c i k (is_marked_before other e y) s = back_known z rows w.sized _ l next y k.ranges k.below k.remembered k.gathered (idle_room z l.rebalance k.rebalance.marks k.rebalance.needed k.rebalance.gathered)
+built_known z rows v choice l a next w c i k (is_replaced other d y) s = back_known z rows w.sized _ l next y k.ranges k.below k.remembered k.gathered (idle_room z l.rebalance k.rebalance.marks k.rebalance.needed k.rebalance.gathered)
+built_known z rows v choice l a next w c i k (makes_normal o) s = let n : l.rebalance.at + 1 ≤ length l.rebalance.taken = omega (arith, o) in assumption (k, n)
+built_known z rows v choice l a next w c i k (makes_last_normal o) s = assumption k
+built_known z rows v choice l a next w c i k draws_number s = let y = w.each name.Epoch tt in assumption (k, y)
+built_known z rows v choice l a next w c i k retires_row s = tries_again z rows l w.sized k.ranges k.below k.remembered k.gathered
+
 -- by the arrow that the seat takes
-pub known_by : (z : Sizes) (rows : ℕ) (v : Words) (s : ℕ) (choice : Choice) (l : Local) (a : Activity) (l' : Local) → Arrow z v s choice l a l' → AreSane z rows v → row_or_first (row_linked (link_of (v name.Head))) < rows → s < z.seats → IsBegun a choice → IsOffered rows choice → IsKnownAt z rows a l → IsReached z a → IsKnown z rows l'
-known_by z rows v s choice l a l' (builds x next y o t) w c u b i k r = never_built z x y o
-known_by z rows v s choice l a l' (begins call e g) w c t b i k r = let y = w.each name.Epoch tt in assumption (k, y, g)
-known_by z rows v s choice l a l' (enters y) w c t b i k r = let f = first_in_range l.call k.ranges.call in assumption (k, f)
-known_by z rows v s choice l a l' (is_spent y) w c t b i k r = is_leaving z rows l w.sized _ tt k.ranges k.below k.remembered k.gathered (lists_of z _ l.rebalance r k.activity k.rebalance)
-known_by z rows v s choice l a l' (waits y) w c t b i k r = let u = w.each name.Clock tt in assumption (k, u)
-known_by z rows v s choice l a l' draws w c t b i k r = let u = w.each name.Clock tt in assumption (k, u)
-known_by z rows v s choice l a l' (settles_empty y) w c t b i k r = let u = version_of_scan (v (name.Scan s)) l.drawn k.ranges.drawn in assumption (k, u)
-known_by z rows v s choice l a l' (settles y) w c t b i k r = let u = version_of_scan (v (name.Scan s)) l.drawn k.ranges.drawn in let f = first_in_range l.call k.ranges.call in assumption (k, u, f)
-known_by z rows v s choice l a l' starts_at_head w c t b i k r = takes_first z rows l w.sized v c k.ranges k.below k.remembered k.gathered (lists_of z _ l.rebalance r k.activity k.rebalance)
-known_by z rows v s choice l a l' (guesses q y n) w c t b i k r = let o : q < rows = subst (IsOffered rows) y i in assumption (k, o)
-known_by z rows v s choice l a l' takes_head w c t b i k r = takes_first z rows l w.sized v c k.ranges k.below k.remembered k.gathered (lists_of z _ l.rebalance r k.activity k.rebalance)
-known_by z rows v s choice l a l' (guess_serves o) w c t b i k r = let u = key_of_word-below (v (name.Min l.row)) in assumption (k, u)
-known_by z rows v s choice l a l' (stops y) w c t b i k r = is_leaving z rows l w.sized _ tt k.ranges k.below k.remembered k.gathered (lists_of z _ l.rebalance r k.activity k.rebalance)
-known_by z rows v s choice l a l' (puts_in_last y n) w c t b i k r = puts_last z rows l w.sized k
-known_by z rows v s choice l a l' (reads_last y n) w c t b i k r = comes_last z rows l w.sized k
-known_by z rows v s choice l a l' (meets_next q n) w c t b i k r = let o = linked_in_range rows q (link_of (v (name.Next l.row))) (w.led (name.Next l.row) k.below.row) n in assumption (k, o)
-known_by z rows v s choice l a l' (walks_on o) w c t b i k r = let u = key_of_word-below (v (name.Min l.candidate)) in assumption (k, u)
-known_by z rows v s choice l a l' (puts_before y o) w c t b i k r = let u = key_of_word-below (v (name.Min l.candidate)) in assumption (k, u)
-known_by z rows v s choice l a l' (reads_before y o) w c t b i k r = comes_before z rows l w.sized (key_of_word (v (name.Min l.candidate))) (key_of_word-below (v (name.Min l.candidate))) k
-known_by z rows v s choice l a l' (meets_pending j x y) w c t b i k r = let u : x < z.cells = entry z rows v l w j (pend.Pending x) k.below.row k.activity y in assumption (k, u)
-known_by z rows v s choice l a l' (meets_stamped j x version next y n) w c t b i k r = let u = entry z rows v l w j (pend.Stamped x version) k.below.row k.activity y in look_marks z rows l w.sized j x version next n k.ranges k.below k.remembered k.activity k.gathered (lists_of z _ l.rebalance r k.activity k.rebalance) u.0 u.1
-known_by z rows v s choice l a l' (meets_neither j next y n) w c t b i k r = next_look z rows l w.sized (j + 1) next n k.ranges k.below (omega (arith, k.remembered)) (omega (arith, k.remembered, k.activity)) k.gathered (lists_of z _ l.rebalance r k.activity k.rebalance)
-known_by z rows v s choice l a l' (is_passed next y n) w c t b i k r = next_look z rows l w.sized (l.looked + 1) next n k.ranges k.below (omega (arith, k.remembered)) (omega (arith, k.remembered, k.ranges.looked)) k.gathered (lists_of z _ l.rebalance r k.activity k.rebalance)
-known_by z rows v s choice l a l' loads_to_help w c t b i k r = let u = w.each name.Clock tt in assumption (k, u)
-known_by z rows v s choice l a l' (helps next y n) w c t b i k r = look_marks z rows l w.sized l.looked l.met l.helping next n k.ranges k.below k.remembered k.ranges.looked k.gathered (lists_of z _ l.rebalance r k.activity k.rebalance) k.ranges.met k.ranges.helping
-known_by z rows v s choice l a l' (finds_stamped x version next y n) w c t b i k r = let u = entry z rows v l w l.looked (pend.Stamped x version) k.below.row k.ranges.looked y in look_marks z rows l w.sized l.looked x version next n k.ranges k.below k.remembered k.ranges.looked k.gathered (lists_of z _ l.rebalance r k.activity k.rebalance) u.0 u.1
-known_by z rows v s choice l a l' (finds_other next y n) w c t b i k r = next_look z rows l w.sized (l.looked + 1) next n k.ranges k.below (omega (arith, k.remembered)) (omega (arith, k.remembered, k.ranges.looked)) k.gathered (lists_of z _ l.rebalance r k.activity k.rebalance)
-known_by z rows v s choice l a l' (list_leads x y) w c t b i k r =
+pub known_by : (z : Sizes) (rows : ℕ) (v : Words) (s : ℕ) (choice : Choice) (l : Local) (a : Activity) (l' : Local) → Arrow z v s choice l a l' → AreSane z rows v → row_or_first (row_linked (link_of (v name.Head))) < rows → s < z.seats → IsBegun a choice → IsOffered rows choice → IsKnownAt z rows a l → (IsBuilding a → IsSoughtIn rows l') → IsKnown z rows l'
+known_by z rows v s choice l a l' (builds x next y o t) w c u b i k sought = built_known z rows v choice l x next w c i k t (sought y)
+known_by z rows v s choice l a l' (begins call e g) w c t b i k sought = let y = w.each name.Epoch tt in assumption (k, y, g)
+known_by z rows v s choice l a l' (enters y) w c t b i k sought = let f = first_in_range l.call k.ranges.call in assumption (k, f)
+known_by z rows v s choice l a l' (is_spent y) w c t b i k sought = is_leaving z rows l w.sized _ tt k.ranges k.below k.remembered k.gathered (lists_of z _ l.rebalance k.activity k.rebalance)
+known_by z rows v s choice l a l' (waits y) w c t b i k sought = let u = w.each name.Clock tt in assumption (k, u)
+known_by z rows v s choice l a l' draws w c t b i k sought = let u = w.each name.Clock tt in assumption (k, u)
+known_by z rows v s choice l a l' (settles_empty y) w c t b i k sought = let u = version_of_scan (v (name.Scan s)) l.drawn k.ranges.drawn in assumption (k, u)
+known_by z rows v s choice l a l' (settles y) w c t b i k sought = let u = version_of_scan (v (name.Scan s)) l.drawn k.ranges.drawn in let f = first_in_range l.call k.ranges.call in assumption (k, u, f)
+known_by z rows v s choice l a l' starts_at_head w c t b i k sought = takes_first z rows l w.sized v c k.ranges k.below k.remembered k.gathered (lists_of z _ l.rebalance k.activity k.rebalance)
+known_by z rows v s choice l a l' (guesses q y n) w c t b i k sought = let o : q < rows = subst (IsOffered rows) y i in assumption (k, o)
+known_by z rows v s choice l a l' takes_head w c t b i k sought = takes_first z rows l w.sized v c k.ranges k.below k.remembered k.gathered (lists_of z _ l.rebalance k.activity k.rebalance)
+known_by z rows v s choice l a l' (guess_serves o) w c t b i k sought = let u = key_of_word-below (v (name.Min l.row)) in assumption (k, u)
+known_by z rows v s choice l a l' (stops y) w c t b i k sought = is_leaving z rows l w.sized _ tt k.ranges k.below k.remembered k.gathered (lists_of z _ l.rebalance k.activity k.rebalance)
+known_by z rows v s choice l a l' (puts_in_last y n) w c t b i k sought = puts_last z rows l w.sized k
+known_by z rows v s choice l a l' (reads_last y n) w c t b i k sought = comes_last z rows l w.sized k
+known_by z rows v s choice l a l' (meets_next q n) w c t b i k sought = let o = linked_in_range rows q (link_of (v (name.Next l.row))) (w.led (name.Next l.row) k.below.row) n in assumption (k, o)
+known_by z rows v s choice l a l' (walks_on o) w c t b i k sought = let u = key_of_word-below (v (name.Min l.candidate)) in assumption (k, u)
+known_by z rows v s choice l a l' (puts_before y o) w c t b i k sought = let u = key_of_word-below (v (name.Min l.candidate)) in assumption (k, u)
+known_by z rows v s choice l a l' (reads_before y o) w c t b i k sought = comes_before z rows l w.sized (key_of_word (v (name.Min l.candidate))) (key_of_word-below (v (name.Min l.candidate))) k
+known_by z rows v s choice l a l' (meets_pending j x y) w c t b i k sought = let u : x < z.cells = entry z rows v l w j (pend.Pending x) k.below.row k.activity y in assumption (k, u)
+known_by z rows v s choice l a l' (meets_stamped j x version next y n) w c t b i k sought = let u = entry z rows v l w j (pend.Stamped x version) k.below.row k.activity y in look_marks z rows l w.sized j x version next n k.ranges k.below k.remembered k.activity k.gathered (lists_of z _ l.rebalance k.activity k.rebalance) u.0 u.1
+known_by z rows v s choice l a l' (meets_neither j next y n) w c t b i k sought = next_look z rows l w.sized (j + 1) next n k.ranges k.below (omega (arith, k.remembered)) (omega (arith, k.remembered, k.activity)) k.gathered (lists_of z _ l.rebalance k.activity k.rebalance)
+known_by z rows v s choice l a l' (is_passed next y n) w c t b i k sought = next_look z rows l w.sized (l.looked + 1) next n k.ranges k.below (omega (arith, k.remembered)) (omega (arith, k.remembered, k.ranges.looked)) k.gathered (lists_of z _ l.rebalance k.activity k.rebalance)
+known_by z rows v s choice l a l' loads_to_help w c t b i k sought = let u = w.each name.Clock tt in assumption (k, u)
+known_by z rows v s choice l a l' (helps next y n) w c t b i k sought = look_marks z rows l w.sized l.looked l.met l.helping next n k.ranges k.below k.remembered k.ranges.looked k.gathered (lists_of z _ l.rebalance k.activity k.rebalance) k.ranges.met k.ranges.helping
+known_by z rows v s choice l a l' (finds_stamped x version next y n) w c t b i k sought = let u = entry z rows v l w l.looked (pend.Stamped x version) k.below.row k.ranges.looked y in look_marks z rows l w.sized l.looked x version next n k.ranges k.below k.remembered k.ranges.looked k.gathered (lists_of z _ l.rebalance k.activity k.rebalance) u.0 u.1
+known_by z rows v s choice l a l' (finds_other next y n) w c t b i k sought = next_look z rows l w.sized (l.looked + 1) next n k.ranges k.below (omega (arith, k.remembered)) (omega (arith, k.remembered, k.ranges.looked)) k.gathered (lists_of z _ l.rebalance k.activity k.rebalance)
+known_by z rows v s choice l a l' (list_leads x y) w c t b i k sought =
     let u : x < z.cells = linked_below (v (link_name l.row l.link)) x z.cells y (link_below z rows v w l.row l.link k.ranges.link k.below.row) in
     let o = min-le_right (l.walked + 1) z.cells in
     let marks = unmarked_in_range (IsMark z) x l.remembered k.ranges.marks in
     let few : length (unmarked x l.remembered) ≤ z.seats = omega (arith, unmarked_few x l.remembered, k.remembered) in
     assumption (k, u, o, marks, few)
-known_by z rows v s choice l a l' (list_ends next y n) w c t b i k r = next_cell z rows l w.sized next n k.ranges k.below k.remembered k.gathered (lists_of z _ l.rebalance r k.activity k.rebalance)
-known_by z rows v s choice l a l' (key_below y) w c t b i k r = assumption k
-known_by z rows v s choice l a l' (key_within y o) w c t b i k r = let u = key_of_word-below (v (name.Key l.row l.place)) in assumption (k, u)
-known_by z rows v s choice l a l' (key_above next y n) w c t b i k r = next_cell z rows l w.sized next n k.ranges k.below k.remembered k.gathered (lists_of z _ l.rebalance r k.activity k.rebalance)
-known_by z rows v s choice l a l' loads_version w c t b i k r = let u = version_in_hand (v (name.Version l.row l.place)) (w.each (name.Version l.row l.place) (k.below.row, k.ranges.place)) in assumption (k, u)
-known_by z rows v s choice l a l' gathers_listed w c t b i k r =
+known_by z rows v s choice l a l' (list_ends next y n) w c t b i k sought = next_cell z rows l w.sized next n k.ranges k.below k.remembered k.gathered (lists_of z _ l.rebalance k.activity k.rebalance)
+known_by z rows v s choice l a l' (key_below y) w c t b i k sought = assumption k
+known_by z rows v s choice l a l' (key_within y o) w c t b i k sought = let u = key_of_word-below (v (name.Key l.row l.place)) in assumption (k, u)
+known_by z rows v s choice l a l' (key_above next y n) w c t b i k sought = next_cell z rows l w.sized next n k.ranges k.below k.remembered k.gathered (lists_of z _ l.rebalance k.activity k.rebalance)
+known_by z rows v s choice l a l' loads_version w c t b i k sought = let u = version_in_hand (v (name.Version l.row l.place)) (w.each (name.Version l.row l.place) (k.below.row, k.ranges.place)) in assumption (k, u)
+known_by z rows v s choice l a l' gathers_listed w c t b i k sought =
     let u = value_in_range (v (name.Value l.row l.place)) (w.each (name.Value l.row l.place) (k.below.row, k.ranges.place)) in
     let m = gathered_more z (value_of_word (v (name.Value l.row l.place))) l u k.ranges in
     let g = gathered_few z (value_of_word (v (name.Value l.row l.place))) l k.gathered in
     assumption (k, m, g)
-known_by z rows v s choice l a l' (rest_wanted y) w c t b i k r = let u = key_of_word-below (v (name.Key l.row l.place)) in assumption (k, u)
-known_by z rows v s choice l a l' (rest_passed next y n) w c t b i k r = next_cell z rows l w.sized next n k.ranges k.below k.remembered k.gathered (lists_of z _ l.rebalance r k.activity k.rebalance)
-known_by z rows v s choice l a l' (gathers_rest next n) w c t b i k r =
+known_by z rows v s choice l a l' (rest_wanted y) w c t b i k sought = let u = key_of_word-below (v (name.Key l.row l.place)) in assumption (k, u)
+known_by z rows v s choice l a l' (rest_passed next y n) w c t b i k sought = next_cell z rows l w.sized next n k.ranges k.below k.remembered k.gathered (lists_of z _ l.rebalance k.activity k.rebalance)
+known_by z rows v s choice l a l' (gathers_rest next n) w c t b i k sought =
     let u = value_in_range (v (name.Value l.row l.place)) (w.each (name.Value l.row l.place) (k.below.row, k.ranges.place)) in
-    next_cell z rows (gathering z (value_of_word (v (name.Value l.row l.place))) l) w.sized next n (gathered_more z _ l u k.ranges) (assumption k) k.remembered (gathered_few z (value_of_word (v (name.Value l.row l.place))) l k.gathered) (lists_of z _ l.rebalance r k.activity k.rebalance)
-known_by z rows v s choice l a l' (clears_scan answer) w c t b i k r = is_leaving z rows l w.sized _ (stopped_in_range answer choice k.activity) k.ranges k.below k.remembered k.gathered (lists_of z _ l.rebalance r k.activity k.rebalance)
-known_by z rows v s choice l a l' (finds_none y e) w c t b i k r = is_leaving z rows l w.sized _ tt k.ranges k.below k.remembered k.gathered (lists_of z _ l.rebalance r k.activity k.rebalance)
-known_by z rows v s choice l a l' (finds_full y e) w c t b i k r = is_balancing z rows l w.sized k.ranges k.below k.remembered k.gathered
-known_by z rows v s choice l a l' (takes_cell y) w c t b i k r = let u = room_below z (count_of (v (name.Count l.row))) y in assumption (k, u)
-known_by z rows v s choice l a l' (takes_none y e) w c t b i k r = is_leaving z rows l w.sized _ tt k.ranges k.below k.remembered k.gathered (lists_of z _ l.rebalance r k.activity k.rebalance)
-known_by z rows v s choice l a l' (takes_full y e) w c t b i k r = is_balancing z rows l w.sized k.ranges k.below k.remembered k.gathered
-known_by z rows v s choice l a l' (is_refused y e) w c t b i k r = is_leaving z rows l w.sized _ tt k.ranges k.below k.remembered k.gathered (lists_of z _ l.rebalance r k.activity k.rebalance)
-known_by z rows v s choice l a l' (announces_full y e) w c t b i k r = is_balancing z rows l w.sized k.ranges k.below k.remembered k.gathered
-known_by z rows v s choice l a l' loads_clock w c t b i k r = let u = w.each name.Clock tt in assumption (k, u)
-known_by z rows v s choice l a l' (is_stamped version y) w c t b i k r = let u = (entry z rows v l w s (pend.Stamped l.cell version) k.below.row t y).1 in assumption (k, u)
-known_by z rows v s choice l a l' (is_not_own y e) w c t b i k r = is_leaving z rows l w.sized _ tt k.ranges k.below k.remembered k.gathered (lists_of z _ l.rebalance r k.activity k.rebalance)
-known_by z rows v s choice l a l' (stamps_full y e) w c t b i k r = is_balancing z rows l w.sized k.ranges k.below k.remembered k.gathered
-known_by z rows v s choice l a l' stores_version w c t b i k r = let o : 0 ≤ z.cells = omega arith in assumption (k, o)
-known_by z rows v s choice l a l' (meets_cell x y) w c t b i k r =
+    next_cell z rows (gathering z (value_of_word (v (name.Value l.row l.place))) l) w.sized next n (gathered_more z _ l u k.ranges) (assumption k) k.remembered (gathered_few z (value_of_word (v (name.Value l.row l.place))) l k.gathered) (lists_of z _ l.rebalance k.activity k.rebalance)
+known_by z rows v s choice l a l' (clears_scan answer) w c t b i k sought = is_leaving z rows l w.sized _ (stopped_in_range answer choice k.activity) k.ranges k.below k.remembered k.gathered (lists_of z _ l.rebalance k.activity k.rebalance)
+known_by z rows v s choice l a l' (finds_none y e) w c t b i k sought = is_leaving z rows l w.sized _ tt k.ranges k.below k.remembered k.gathered (lists_of z _ l.rebalance k.activity k.rebalance)
+known_by z rows v s choice l a l' (finds_full y e) w c t b i k sought = is_balancing z rows l w.sized k.ranges k.below k.remembered k.gathered
+known_by z rows v s choice l a l' (takes_cell y) w c t b i k sought = let u = room_below z (count_of (v (name.Count l.row))) y in assumption (k, u)
+known_by z rows v s choice l a l' (takes_none y e) w c t b i k sought = is_leaving z rows l w.sized _ tt k.ranges k.below k.remembered k.gathered (lists_of z _ l.rebalance k.activity k.rebalance)
+known_by z rows v s choice l a l' (takes_full y e) w c t b i k sought = is_balancing z rows l w.sized k.ranges k.below k.remembered k.gathered
+known_by z rows v s choice l a l' (is_refused y e) w c t b i k sought = is_leaving z rows l w.sized _ tt k.ranges k.below k.remembered k.gathered (lists_of z _ l.rebalance k.activity k.rebalance)
+known_by z rows v s choice l a l' (announces_full y e) w c t b i k sought = is_balancing z rows l w.sized k.ranges k.below k.remembered k.gathered
+known_by z rows v s choice l a l' loads_clock w c t b i k sought = let u = w.each name.Clock tt in assumption (k, u)
+known_by z rows v s choice l a l' (is_stamped version y) w c t b i k sought = let u = (entry z rows v l w s (pend.Stamped l.cell version) k.below.row t y).1 in assumption (k, u)
+known_by z rows v s choice l a l' (is_not_own y e) w c t b i k sought = is_leaving z rows l w.sized _ tt k.ranges k.below k.remembered k.gathered (lists_of z _ l.rebalance k.activity k.rebalance)
+known_by z rows v s choice l a l' (stamps_full y e) w c t b i k sought = is_balancing z rows l w.sized k.ranges k.below k.remembered k.gathered
+known_by z rows v s choice l a l' stores_version w c t b i k sought = let o : 0 ≤ z.cells = omega arith in assumption (k, o)
+known_by z rows v s choice l a l' (meets_cell x y) w c t b i k sought =
     let u : x < z.cells = linked_below (v (link_name l.row l.link)) x z.cells y (link_below z rows v w l.row l.link k.ranges.link k.below.row) in
     let o = min-le_right (l.walked + 1) z.cells in
     assumption (k, u, o)
-known_by z rows v s choice l a l' (meets_none y) w c t b i k r = assumption k
-known_by z rows v s choice l a l' (key_before y) w c t b i k r = assumption k
-known_by z rows v s choice l a l' (version_before y) w c t b i k r = assumption k
-known_by z rows v s choice l a l' (loses y) w c t b i k r = let o = min-le_right (l.lost + 1) z.cells in let p : 0 ≤ z.cells = omega arith in assumption (k, o, p)
-known_by z rows v s choice l a l' clears w c t b i k r = is_leaving z rows l w.sized _ tt k.ranges k.below k.remembered k.gathered (lists_of z _ l.rebalance r k.activity k.rebalance)
-known_by z rows v s choice l a l' (leaves answer) w c t b i k r = rests_known z rows l.number w.sized
-known_by z rows v s choice l a l' enters_again w c t b i k r = let y = w.each name.Epoch tt in assumption (k, y)
-known_by z rows v s choice l a l' (clock_is_spent e) w c t b i k r = is_refusing z rows l w.sized Spent tt k.ranges k.below k.remembered k.gathered
-known_by z rows v s choice l a l' (epoch_is_spent e) w c t b i k r = is_refusing z rows l w.sized Spent tt k.ranges k.below k.remembered k.gathered
-known_by z rows v s choice l a l' (finds_infant seat e) w c t b i k r = let o : seat < z.seats = subst (IsRowState z) e (w.each (name.State l.row) k.below.row) in assumption (k, o)
-known_by z rows v s choice l a l' (finds_leader count e o) w c t b i k r = let u : count ≤ MOST_GROUP = omega (arith, o) in assumption (k, u)
-known_by z rows v s choice l a l' finds_other_state w c t b i k r = tries_again z rows l w.sized k.ranges k.below k.remembered k.gathered
-known_by z rows v s choice l a l' (engages e) w c t b i k r = let u : 0 ≤ MOST_GROUP = omega arith in assumption (k, u)
-known_by z rows v s choice l a l' (marks_link count e) w c t b i k r =
+known_by z rows v s choice l a l' (meets_none y) w c t b i k sought = assumption k
+known_by z rows v s choice l a l' (key_before y) w c t b i k sought = assumption k
+known_by z rows v s choice l a l' (version_before y) w c t b i k sought = assumption k
+known_by z rows v s choice l a l' (loses y) w c t b i k sought = let o = min-le_right (l.lost + 1) z.cells in let p : 0 ≤ z.cells = omega arith in assumption (k, o, p)
+known_by z rows v s choice l a l' clears w c t b i k sought = is_leaving z rows l w.sized _ tt k.ranges k.below k.remembered k.gathered (lists_of z _ l.rebalance k.activity k.rebalance)
+known_by z rows v s choice l a l' (leaves answer) w c t b i k sought = rests_known z rows l.number w.sized
+known_by z rows v s choice l a l' enters_again w c t b i k sought = let y = w.each name.Epoch tt in assumption (k, y)
+known_by z rows v s choice l a l' (clock_is_spent e) w c t b i k sought = is_refusing z rows l w.sized Spent tt k.ranges k.below k.remembered k.gathered
+known_by z rows v s choice l a l' (epoch_is_spent e) w c t b i k sought = is_refusing z rows l w.sized Spent tt k.ranges k.below k.remembered k.gathered
+known_by z rows v s choice l a l' (finds_infant seat e) w c t b i k sought = let o : seat < z.seats = subst (IsRowState z) e (w.each (name.State l.row) k.below.row) in assumption (k, o)
+known_by z rows v s choice l a l' (finds_leader count e o) w c t b i k sought = let u : count ≤ MOST_GROUP = omega (arith, o) in assumption (k, u)
+known_by z rows v s choice l a l' finds_other_state w c t b i k sought = tries_again z rows l w.sized k.ranges k.below k.remembered k.gathered
+known_by z rows v s choice l a l' (engages e) w c t b i k sought = let u : 0 ≤ MOST_GROUP = omega arith in assumption (k, u)
+known_by z rows v s choice l a l' (marks_link count e) w c t b i k sought =
     let u : 1 ≤ MOST_GROUP = omega arith in
     let f = follows_known z rows (row_linked (link_of (v (name.Next l.row)))) l (row_below rows (link_of (v (name.Next l.row))) (w.led (name.Next l.row) k.below.row)) k.ranges k.below in
     assumption (f, k, u)
-known_by z rows v s choice l a l' (marks_led count e f) w c t b i k r =
+known_by z rows v s choice l a l' (marks_led count e) w c t b i k sought =
     let f = follows_known z rows (row_linked (link_of (v (name.Next l.row)))) l (row_below rows (link_of (v (name.Next l.row))) (w.led (name.Next l.row) k.below.row)) k.ranges k.below in
     assumption (f, k)
-known_by z rows v s choice l a l' (marks_last count e f) w c t b i k r =
-    let f = follows_known z rows (row_linked (link_of (v (name.Next l.row)))) l (row_below rows (link_of (v (name.Next l.row))) (w.led (name.Next l.row) k.below.row)) k.ranges k.below in
-    is_refusing z rows (followed_by (row_linked (link_of (v (name.Next l.row)))) l) w.sized NoRows tt f.0 f.1 k.remembered k.gathered
-known_by z rows v s choice l a l' (decides count m e o f) w c t b i k r = assumption k
-known_by z rows v s choice l a l' (decides_last count m e o f) w c t b i k r = is_refusing z rows l w.sized NoRows tt k.ranges k.below k.remembered k.gathered
-known_by z rows v s choice l a l' (decides_not count) w c t b i k r = tries_again z rows l w.sized k.ranges k.below k.remembered k.gathered
-known_by z rows v s choice l a l' freezes_count w c t b i k r = let o : 0 < z.seats = omega (arith, w.sized.some_seats) in let n : 0 ≤ 0 = omega arith in assumption (k, o, n, All-nil (IsMark z))
-known_by z rows v s choice l a l' (meets_idle j e) w c t b i k r = let u : IsEntry z (Some pend.Idle) = tt in assumption (k, u)
-known_by z rows v s choice l a l' (meets_unstamped j x e) w c t b i k r = let u : x < z.cells = entry z rows v l w j (pend.Pending x) k.below.row k.activity e in assumption (k, u)
-known_by z rows v s choice l a l' (remembers j x version e o) w c t b i k r =
+known_by z rows v s choice l a l' (decides count m e o) w c t b i k sought = assumption k
+known_by z rows v s choice l a l' (decides_not count) w c t b i k sought = tries_again z rows l w.sized k.ranges k.below k.remembered k.gathered
+known_by z rows v s choice l a l' freezes_count w c t b i k sought = let o : 0 < z.seats = omega (arith, w.sized.some_seats) in let n : 0 ≤ 0 = omega arith in assumption (k, o, n, All-nil (IsMark z))
+known_by z rows v s choice l a l' (meets_idle j e) w c t b i k sought = let u : IsEntry z (Some pend.Idle) = tt in assumption (k, u)
+known_by z rows v s choice l a l' (meets_unstamped j x e) w c t b i k sought = let u : x < z.cells = entry z rows v l w j (pend.Pending x) k.below.row k.activity e in assumption (k, u)
+known_by z rows v s choice l a l' (remembers j x version e o) w c t b i k sought =
     let u = entry z rows v l w j (pend.Stamped x version) k.below.row k.activity e in
     let m = marked z l.rebalance.marks x version k.ranges.rebalance.marks u.0 u.1 in
     let n = one_more_mark j x version l.rebalance.marks k.rebalance.marks in
     assumption (k, m, n, o)
-known_by z rows v s choice l a l' (remembers_last j x version e o) w c t b i k r =
+known_by z rows v s choice l a l' (remembers_last j x version e o) w c t b i k sought =
     let u = entry z rows v l w j (pend.Stamped x version) k.below.row k.activity e in
     let m = marked z l.rebalance.marks x version k.ranges.rebalance.marks u.0 u.1 in
     let n : length (l.rebalance.marks ++ mark_of x version ∷ []) ≤ z.seats = omega (arith, one_more_mark j x version l.rebalance.marks k.rebalance.marks, k.activity) in
     let y : 0 < z.seats = omega (arith, w.sized.some_seats) in
     let none : 0 ≤ 0 = omega arith in
     assumption (k, m, n, y, none, All-nil IsVersion)
-known_by z rows v s choice l a l' (meets_frozen j e o) w c t b i k r = let n : length l.rebalance.marks ≤ j + 1 = omega (arith, k.rebalance.marks) in assumption (k, n, o)
-known_by z rows v s choice l a l' (meets_frozen_last j e o) w c t b i k r = looks_at_scans z rows l w.sized k.ranges k.below k.remembered k.gathered k.rebalance.gathered (omega (arith, k.rebalance.marks, k.activity))
-known_by z rows v s choice l a l' (freezes_entry j e o) w c t b i k r = let n : length l.rebalance.marks ≤ j + 1 = omega (arith, k.rebalance.marks) in assumption (k, n, o)
-known_by z rows v s choice l a l' (freezes_last j e o) w c t b i k r = looks_at_scans z rows l w.sized k.ranges k.below k.remembered k.gathered k.rebalance.gathered (omega (arith, k.rebalance.marks, k.activity))
-known_by z rows v s choice l a l' (looks_again j e) w c t b i k r = assumption k
-known_by z rows v s choice l a l' (meets_quiet j e o) w c t b i k r = let n : length l.rebalance.needed ≤ j + 1 = omega (arith, k.rebalance.needed) in assumption (k, n, o)
-known_by z rows v s choice l a l' (meets_quiet_last j e o) w c t b i k r = begins_to_take z rows l k.ranges k.below k.remembered k.gathered k.rebalance.marks (omega (arith, k.rebalance.needed, k.activity))
-known_by z rows v s choice l a l' (helps_scan j clock e) w c t b i k r = let u : IsVersion clock = IsScan-scan_of (v (name.Scan j)) (scan.Waiting clock) e in assumption (k, u)
-known_by z rows v s choice l a l' (meets_drawn j version e o) w c t b i k r = needs_more z rows l j version o k.ranges k.below k.remembered k.gathered k.rebalance.marks k.rebalance.gathered k.rebalance.needed (IsScan-scan_of (v (name.Scan j)) (scan.Drawn version) e)
-known_by z rows v s choice l a l' (meets_drawn_last j version e o) w c t b i k r = needs_last z rows l j version k.activity k.ranges k.below k.remembered k.gathered k.rebalance.marks k.rebalance.needed (IsScan-scan_of (v (name.Scan j)) (scan.Drawn version) e)
-known_by z rows v s choice l a l' (draws_for j) w c t b i k r = let u = w.each name.Clock tt in assumption (k, u)
-known_by z rows v s choice l a l' (settles_scan j e o) w c t b i k r = needs_more z rows l j l.rebalance.drawn o k.ranges k.below k.remembered k.gathered k.rebalance.marks k.rebalance.gathered k.rebalance.needed k.ranges.rebalance.drawn
-known_by z rows v s choice l a l' (settles_last j e o) w c t b i k r = needs_last z rows l j l.rebalance.drawn k.activity k.ranges k.below k.remembered k.gathered k.rebalance.marks k.rebalance.needed k.ranges.rebalance.drawn
-known_by z rows v s choice l a l' (finds_drawn j version e o) w c t b i k r = needs_more z rows l j version o k.ranges k.below k.remembered k.gathered k.rebalance.marks k.rebalance.gathered k.rebalance.needed (IsScan-scan_of (v (name.Scan j)) (scan.Drawn version) e)
-known_by z rows v s choice l a l' (finds_drawn_last j version e o) w c t b i k r = needs_last z rows l j version k.activity k.ranges k.below k.remembered k.gathered k.rebalance.marks k.rebalance.needed (IsScan-scan_of (v (name.Scan j)) (scan.Drawn version) e)
-known_by z rows v s choice l a l' (finds_no_scan j e o) w c t b i k r = let n : length l.rebalance.needed ≤ j + 1 = omega (arith, k.rebalance.needed) in assumption (k, n, o)
-known_by z rows v s choice l a l' (finds_no_scan_last j e o) w c t b i k r = begins_to_take z rows l k.ranges k.below k.remembered k.gathered k.rebalance.marks (omega (arith, k.rebalance.needed, k.activity))
-known_by z rows v s choice l a l' (take_leads x e) w c t b i k r =
+known_by z rows v s choice l a l' (meets_frozen j e o) w c t b i k sought = let n : length l.rebalance.marks ≤ j + 1 = omega (arith, k.rebalance.marks) in assumption (k, n, o)
+known_by z rows v s choice l a l' (meets_frozen_last j e o) w c t b i k sought = looks_at_scans z rows l w.sized k.ranges k.below k.remembered k.gathered k.rebalance.gathered (omega (arith, k.rebalance.marks, k.activity))
+known_by z rows v s choice l a l' (freezes_entry j e o) w c t b i k sought = let n : length l.rebalance.marks ≤ j + 1 = omega (arith, k.rebalance.marks) in assumption (k, n, o)
+known_by z rows v s choice l a l' (freezes_last j e o) w c t b i k sought = looks_at_scans z rows l w.sized k.ranges k.below k.remembered k.gathered k.rebalance.gathered (omega (arith, k.rebalance.marks, k.activity))
+known_by z rows v s choice l a l' (looks_again j e) w c t b i k sought = assumption k
+known_by z rows v s choice l a l' (meets_quiet j e o) w c t b i k sought = let n : length l.rebalance.needed ≤ j + 1 = omega (arith, k.rebalance.needed) in assumption (k, n, o)
+known_by z rows v s choice l a l' (meets_quiet_last j e o) w c t b i k sought = begins_to_take z rows l k.ranges k.below k.remembered k.gathered k.rebalance.marks (omega (arith, k.rebalance.needed, k.activity))
+known_by z rows v s choice l a l' (helps_scan j clock e) w c t b i k sought = let u : IsVersion clock = IsScan-scan_of (v (name.Scan j)) (scan.Waiting clock) e in assumption (k, u)
+known_by z rows v s choice l a l' (meets_drawn j version e o) w c t b i k sought = needs_more z rows l j version o k.ranges k.below k.remembered k.gathered k.rebalance.marks k.rebalance.gathered k.rebalance.needed (IsScan-scan_of (v (name.Scan j)) (scan.Drawn version) e)
+known_by z rows v s choice l a l' (meets_drawn_last j version e o) w c t b i k sought = needs_last z rows l j version k.activity k.ranges k.below k.remembered k.gathered k.rebalance.marks k.rebalance.needed (IsScan-scan_of (v (name.Scan j)) (scan.Drawn version) e)
+known_by z rows v s choice l a l' (draws_for j) w c t b i k sought = let u = w.each name.Clock tt in assumption (k, u)
+known_by z rows v s choice l a l' (settles_scan j e o) w c t b i k sought = needs_more z rows l j l.rebalance.drawn o k.ranges k.below k.remembered k.gathered k.rebalance.marks k.rebalance.gathered k.rebalance.needed k.ranges.rebalance.drawn
+known_by z rows v s choice l a l' (settles_last j e o) w c t b i k sought = needs_last z rows l j l.rebalance.drawn k.activity k.ranges k.below k.remembered k.gathered k.rebalance.marks k.rebalance.needed k.ranges.rebalance.drawn
+known_by z rows v s choice l a l' (finds_drawn j version e o) w c t b i k sought = needs_more z rows l j version o k.ranges k.below k.remembered k.gathered k.rebalance.marks k.rebalance.gathered k.rebalance.needed (IsScan-scan_of (v (name.Scan j)) (scan.Drawn version) e)
+known_by z rows v s choice l a l' (finds_drawn_last j version e o) w c t b i k sought = needs_last z rows l j version k.activity k.ranges k.below k.remembered k.gathered k.rebalance.marks k.rebalance.needed (IsScan-scan_of (v (name.Scan j)) (scan.Drawn version) e)
+known_by z rows v s choice l a l' (finds_no_scan j e o) w c t b i k sought = let n : length l.rebalance.needed ≤ j + 1 = omega (arith, k.rebalance.needed) in assumption (k, n, o)
+known_by z rows v s choice l a l' (finds_no_scan_last j e o) w c t b i k sought = begins_to_take z rows l k.ranges k.below k.remembered k.gathered k.rebalance.marks (omega (arith, k.rebalance.needed, k.activity))
+known_by z rows v s choice l a l' (take_leads x e) w c t b i k sought =
     let u : x < z.cells = linked_below (v (link_name l.row l.link)) x z.cells e (link_below z rows v w l.row l.link k.ranges.link k.below.row) in
     let o = min-le_right (l.walked + 1) z.cells in
     let m = unmarked_in_range (IsMark z) x l.rebalance.marks k.ranges.rebalance.marks in
     let n : length (unmarked x l.rebalance.marks) ≤ z.seats = omega (arith, unmarked_few x l.rebalance.marks, k.rebalance.marks) in
     assumption (k, u, o, m, n)
-known_by z rows v s choice l a l' (takes_left x e y) w c t b i k r = left_known z rows l x y k.ranges k.below k.remembered k.gathered k.rebalance
-known_by z rows v s choice l a l' (takes_no_more e y f) w c t b i k r = goes_no_further z.form r f
-known_by z rows v s choice l a l' (takes_last e y f) w c t b i k r = is_refusing z rows l w.sized NoRows tt k.ranges k.below k.remembered k.gathered
-known_by z rows v s choice l a l' takes_key w c t b i k r = let u = key_of_word-below (v (name.Key l.row l.place)) in assumption (k, u)
-known_by z rows v s choice l a l' takes_version w c t b i k r = let u = version_in_hand (v (name.Version l.row l.place)) (w.each (name.Version l.row l.place) (k.below.row, k.ranges.place)) in assumption (k, u)
-known_by z rows v s choice l a l' keeps_taken w c t b i k r =
+known_by z rows v s choice l a l' (takes_left x e y) w c t b i k sought = left_known z rows l x y k.ranges k.below k.remembered k.gathered k.rebalance
+known_by z rows v s choice l a l' (takes_no_more e y) w c t b i k sought = seeks_rows z rows l w.sized k.ranges k.below k.remembered k.gathered k.rebalance.marks k.rebalance.needed k.rebalance.gathered
+known_by z rows v s choice l a l' takes_key w c t b i k sought = let u = key_of_word-below (v (name.Key l.row l.place)) in assumption (k, u)
+known_by z rows v s choice l a l' takes_version w c t b i k sought = let u = version_in_hand (v (name.Version l.row l.place)) (w.each (name.Version l.row l.place) (k.below.row, k.ranges.place)) in assumption (k, u)
+known_by z rows v s choice l a l' keeps_taken w c t b i k sought =
     let u = value_in_range (v (name.Value l.row l.place)) (w.each (name.Value l.row l.place) (k.below.row, k.ranges.place)) in
     let m = kept_more z (value_of_word (v (name.Value l.row l.place))) l u k.ranges k.rebalance.gathered in
     assumption (k, m)
-known_by z rows v s choice l a l' takes_left_key w c t b i k r = let u = key_of_word-below (v (name.Key l.row l.place)) in assumption (k, u)
-known_by z rows v s choice l a l' (keeps_left x y) w c t b i k r =
+known_by z rows v s choice l a l' takes_left_key w c t b i k sought = let u = key_of_word-below (v (name.Key l.row l.place)) in assumption (k, u)
+known_by z rows v s choice l a l' (keeps_left x y) w c t b i k sought =
     let u = value_in_range (v (name.Value l.row l.place)) (w.each (name.Value l.row l.place) (k.below.row, k.ranges.place)) in
     let m = kept_more z (value_of_word (v (name.Value l.row l.place))) l u k.ranges k.rebalance.gathered in
     left_known z rows (keeping z (value_of_word (v (name.Value l.row l.place))) l) x y m.0 (assumption k) k.remembered k.gathered (record { marks = k.rebalance.marks; needed = k.rebalance.needed; gathered = m.1; taken = λ t. absurd t })
-known_by z rows v s choice l a l' (keeps_no_more y f) w c t b i k r = goes_no_further z.form r f
-known_by z rows v s choice l a l' (keeps_last y f) w c t b i k r = is_refusing z rows l w.sized NoRows tt k.ranges k.below k.remembered k.gathered
-known_by z rows v s choice l a l' _ w c t b i k r = assumption k
+known_by z rows v s choice l a l' (keeps_no_more y) w c t b i k sought =
+    let u = value_in_range (v (name.Value l.row l.place)) (w.each (name.Value l.row l.place) (k.below.row, k.ranges.place)) in
+    let n = kept_more z (value_of_word (v (name.Value l.row l.place))) l u k.ranges k.rebalance.gathered in
+    seeks_rows z rows (keeping z (value_of_word (v (name.Value l.row l.place))) l) w.sized n.0 (assumption k) k.remembered k.gathered k.rebalance.marks k.rebalance.needed n.1
+known_by z rows v s choice l a l' _ w c t b i k sought = assumption k

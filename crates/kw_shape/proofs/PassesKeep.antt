@@ -1,12 +1,13 @@
 -- Every event keeps what holds of the passes of seats and of the numbers: a seat stores the epoch of its call as it enters, and clears it
 -- as it leaves.
-use Rattle.std.proofs.Common.{ℕ, ◌≡◌, ◌≢◌, ◌<◌, Some, None, arith, refl, sym, ◌∙◌, ap, subst, length, slice_get}
+use Rattle.std.proofs.Common.{ℕ, ◌≡◌, ◌≢◌, ◌⊎◌, inl, inr, ◌<◌, ◌≤◌, Some, None, arith, refl, sym, ◌∙◌, ap, subst, length, slice_get}
+use Rattle.std.proofs.lemmas.Bool.{cases_eq}
 use Rattle.std.proofs.lemmas.Option.{same_Some, slice_get_within}
 use Rattle.kw_words.specs.declared.layout.Name.TheVariants as name
 use Rattle.kw_words.specs.Plain.{pass_word}
-use Rattle.kw_rows.specs.Ledger as kw_rows
+use Rattle.kw_rows.specs.Ledger.{Past}
 use Rattle.kw_world.specs.declared.activity.Activity.{Activity}
-use Rattle.kw_world.specs.declared.activity.Activity.TheVariants.{Idle, Enter, Again, AgainEpoch}
+use Rattle.kw_world.specs.declared.activity.Activity.TheVariants.{Idle, Enter, Again, AgainEpoch, Number}
 use Rattle.kw_world.specs.declared.event.Choice.{Choice}
 use Rattle.kw_world.specs.declared.local.Local.{Local}
 use Rattle.kw_world.specs.Sizes.{Sizes}
@@ -14,13 +15,17 @@ use Rattle.kw_world.specs.Step.{word}
 use Rattle.kw_core.specs.Run.{Run}
 use Rattle.kw_core.specs.Stages.{IsBusy, IsPassing}
 use Rattle.kw_core.specs.Words.{Words}
-use Rattle.kw_core.proofs.Arrows.{Arrow, begins, enters, enters_scan, meets_stamped, meets_neither, is_passed, helps, finds_stamped, finds_other, list_ends, key_above, rest_passed, gathers_rest, leaves, NextLook, looks, lists, NextRest, rests, answers, ends_scan, scans_on, retries, enters_again, builds, finds_none, takes_none, is_refused, is_not_own, marks_led, decides}
-use Rattle.kw_core.proofs.Building.{never_built}
-use Rattle.kw_core.proofs.Frame.{WritesPass, fixed, pass_kept}
+use Rattle.kw_core.proofs.Arrows.{Arrow, begins, enters, enters_scan, meets_stamped, meets_neither, is_passed, helps, finds_stamped, finds_other, list_ends, key_above, rest_passed, gathers_rest, leaves, NextLook, looks, lists, NextRest, rests, answers, ends_scan, scans_on, retries, enters_again, builds}
+use Rattle.kw_core.proofs.BuiltNext.{built_goes}
+use Rattle.kw_core.proofs.Fates.{number_of_drawn, numbers_stay, other_numbers, others_stay}
+use Rattle.kw_core.proofs.Frame.{WritesPass, pass_kept}
 use Rattle.kw_core.proofs.Happens.{Happens}
+use Rattle.kw_core.proofs.InfantFrames.{epoch_stays, number_drawn}
 use Rattle.kw_shape.specs.Passes.{Numbers, Passes}
 use Rattle.kw_shape.specs.Shape.{Shape}
-use Rattle.kw_shape.proofs.RowsKeep.{numbered_kept, others_kept, pass_begins, pass_ends, pass_taken_back, rows_kept}
+use Rattle.kw_shape.proofs.AfterBuilding.{after_passes, built_pass, built_passes}
+use Rattle.kw_shape.proofs.RelyRows.{is_passing}
+use Rattle.kw_shape.proofs.RowsKeep.{others_kept, pass_begins, pass_ends, pass_taken_back}
 
 -- What an arrow leaves of a pass.
 
@@ -38,8 +43,13 @@ rest_passes l k (answers o n) = (tt, tt, refl)
 rest_passes l k (ends_scan o y n) = (tt, tt, refl)
 rest_passes l k (scans_on q o y n u) = (tt, tt, refl)
 
+-- a seat that is in a pass makes a call
+passing_busy : (a : Activity) → IsPassing a → IsBusy a
+passing_busy Idle x = absurd x
+passing_busy _ x = tt
+
 arrow_passes : (z : Sizes) (v : Words) (s : ℕ) (choice : Choice) (l : Local) (a : Activity) (k : Local) → Arrow z v s choice l a k → IsPassing a → (WritesPass a → ⊥) → StaysIn l k
-arrow_passes z v s choice l a k (builds b next y o t) p n = never_built z b y o
+arrow_passes z v s choice l a k (builds b next y o t) p n = let g = built_goes z v choice l b next t in let x = after_passes next.activity g.next in (x.0, x.1, g.epoch)
 arrow_passes z v s choice l a k (begins call e b) p n = absurd p
 arrow_passes z v s choice l a k (enters e) p n = absurd p
 arrow_passes z v s choice l a k (enters_scan e) p n = absurd p
@@ -58,17 +68,42 @@ arrow_passes z v s choice l a k retries p n = absurd (n tt)
 arrow_passes z v s choice l a k enters_again p n = absurd p
 arrow_passes z v s choice l a k _ p n = (tt, tt, refl)
 
-module _ (z : Sizes) (r r' : Run) (s : ℕ) (choice : Choice) (l : Local) (a : Activity) (l' : Local) (h : Happens z r r' s choice l l' a) (i : Shape z r) where
-  -- the epoch is as it was
-  epoch_kept : word z r'.world name.Epoch ≡ word z r.world name.Epoch
-  epoch_kept = fixed a h name.Epoch tt refl
+module _ {z : Sizes} {r r' : Run} {s : ℕ} {choice : Choice} {l l' : Local} where
+  -- the epoch does not fall
+  epoch_rises : (a : Activity) → Happens z r r' s choice l l' a → word z r.world name.Epoch ≤ word z r'.world name.Epoch
+  epoch_rises Number h = omega (arith, number_drawn h)
+  epoch_rises a h = omega (arith, epoch_stays a h (λ x. x))
 
-  -- the numbers are as they were
-  pub numbers_keep : Numbers (word z r'.world) r'.ledger.rows
-  numbers_keep = record {
-    below = λ m at e. omega (arith, i.numbers.below m at (sym (numbered_kept a h m) ∙ e), epoch_kept);
-    rises = λ m n x y e f. i.numbers.rises m n x y (sym (numbered_kept a h m) ∙ e) (sym (numbered_kept a h n) ∙ f);
+  -- a number below it stays drawn where it was, or undrawn
+  pub old_number : (a : Activity) → Happens z r r' s choice l l' a → (m : ℕ) → m < word z r.world name.Epoch → r'.ledger.rows.numbered m ≡ r.ledger.rows.numbered m
+  old_number Number h m o = other_numbers h m (λ e. omega (arith, o, e))
+  old_number a h m o = numbers_stay a h (λ x. x) m
+
+  -- the numbers are as they were, or one more is drawn
+  numbers_by : (a : Activity) → Happens z r r' s choice l l' a → Past r.ledger.rows (length r.history.log) → Numbers (word z r.world) r.ledger.rows → Numbers (word z r'.world) r'.ledger.rows
+  numbers_by Number h past n = record { below = λ m at e. below m at e (cases_eq m (word z r.world name.Epoch)); rises = λ m k x y e f o. rises m k x y e f o (cases_eq m (word z r.world name.Epoch)) (cases_eq k (word z r.world name.Epoch)) }
+    where
+      below : (m at : ℕ) → r'.ledger.rows.numbered m ≡ Some at → (m ≡ word z r.world name.Epoch) ⊎ (m ≡ word z r.world name.Epoch → ⊥) → m < word z r'.world name.Epoch
+      below m at e (inl c) = omega (arith, c, number_drawn h)
+      below m at e (inr d) = omega (arith, n.below m at (sym (other_numbers h m d) ∙ e), number_drawn h)
+
+      now : (m at : ℕ) → m ≡ word z r.world name.Epoch → r'.ledger.rows.numbered m ≡ Some at → at ≡ length r.history.log
+      now m at c e = same_Some at (length r.history.log) (sym e ∙ ap r'.ledger.rows.numbered c ∙ number_of_drawn h)
+
+      rises : (m k x y : ℕ) → r'.ledger.rows.numbered m ≡ Some x → r'.ledger.rows.numbered k ≡ Some y → m < k → (m ≡ word z r.world name.Epoch) ⊎ (m ≡ word z r.world name.Epoch → ⊥) → (k ≡ word z r.world name.Epoch) ⊎ (k ≡ word z r.world name.Epoch → ⊥) → x < y
+      rises m k x y e f o (inl c) (inl d) = absurd (omega (arith, o, c, d))
+      rises m k x y e f o (inl c) (inr d) = absurd (omega (arith, o, c, n.below k y (sym (other_numbers h k d) ∙ f)))
+      rises m k x y e f o (inr c) (inl d) = omega (arith, past.drawn m x (sym (other_numbers h m c) ∙ e), now k y d f)
+      rises m k x y e f o (inr c) (inr d) = n.rises m k x y (sym (other_numbers h m c) ∙ e) (sym (other_numbers h k d) ∙ f) o
+  numbers_by a h past n = record {
+    below = λ m at e. omega (arith, n.below m at (sym (numbers_stay a h (λ x. x) m) ∙ e), epoch_stays a h (λ x. x));
+    rises = λ m k x y e f. n.rises m k x y (sym (numbers_stay a h (λ x. x) m) ∙ e) (sym (numbers_stay a h (λ x. x) k) ∙ f);
   }
+
+module _ (z : Sizes) (r r' : Run) (s : ℕ) (choice : Choice) (l : Local) (a : Activity) (l' : Local) (h : Happens z r r' s choice l l' a) (i : Shape z r) where
+  -- the numbers are in order still
+  pub numbers_keep : Numbers (word z r'.world) r'.ledger.rows
+  numbers_keep = numbers_by a h i.rows.past i.numbers
 
   -- another seat is in its pass, or in none
   pub passes_other : (t : ℕ) (k : Local) → t ≢ s → slice_get r.world.locals t ≡ Some k → Passes (word z r'.world) r'.ledger.rows t k.activity k
@@ -80,22 +115,27 @@ module _ (z : Sizes) (r r' : Run) (s : ℕ) (choice : Choice) (l : Local) (a : A
       record {
         in_pass = λ x. let q = p.in_pass x in record { since = q.since; passes = e ∙ q.passes; word = w ∙ q.word };
         in_none = λ x. let q = p.in_none x in record { passes = e ∙ q.passes; word = w ∙ q.word };
-        epoch = λ x. let q = p.epoch x in (q.0, omega (arith, q.1, epoch_kept));
-        before = λ m at since o u y. p.before m at since o (sym (numbered_kept a h m) ∙ u) (sym e ∙ y);
+        epoch = λ x. let q = p.epoch x in (q.0, omega (arith, q.1, epoch_rises a h));
+        before = λ m at since o u y. before p m at since o u (sym e ∙ y) (is_passing k.activity);
       }
+    where
+      -- a seat that is in its pass has an epoch that is not above the present one
+      before : Passes (word z r.world) r.ledger.rows t k.activity k → (m at since : ℕ) → m < k.epoch → r'.ledger.rows.numbered m ≡ Some at → r.ledger.rows.passes t ≡ Some since → IsPassing k.activity ⊎ (IsPassing k.activity → ⊥) → at < since
+      before p m at since o u y (inl x) = p.before m at since o (sym (old_number a h m (omega (arith, o, (p.epoch (passing_busy k.activity x)).1))) ∙ u) y
+      before p m at since o u y (inr n) = let x : None ≡ Some since = sym (p.in_none n).passes ∙ y in absurd (cc)
 
   -- a seat that goes on in its pass
   goes_on : Passes (word z r.world) r.ledger.rows s a l → IsPassing a → IsBusy a → (WritesPass a → ⊥) → StaysIn l l' → Passes (word z r'.world) r'.ledger.rows s l'.activity l'
   goes_on p x b n g =
       let w = pass_kept a h s h.seat (λ u e. n u) in
-      let e = ap (λ (q : kw_rows.Ledger). q.passes s) (rows_kept a h n) in
+      let e = others_stay a h s (λ u e. n u) in
       let q = p.in_pass x in
       let c = p.epoch b in
       record {
         in_pass = λ u. record { since = q.since; passes = e ∙ q.passes; word = w ∙ q.word ∙ ap (λ n. pass_word (Some n)) (sym g.2) };
         in_none = λ u. absurd (u g.0);
-        epoch = λ u. (omega (arith, c.0, g.2), omega (arith, c.1, g.2, epoch_kept));
-        before = λ m at since o u y. p.before m at since (omega (arith, o, g.2)) (sym (numbered_kept a h m) ∙ u) (sym e ∙ y);
+        epoch = λ u. (omega (arith, c.0, g.2), omega (arith, c.1, g.2, epoch_rises a h));
+        before = λ m at since o u y. p.before m at since (omega (arith, o, g.2)) (sym (old_number a h m (omega (arith, o, g.2, c.1))) ∙ u) (sym e ∙ y);
       }
 
 -- a seat that enters begins its pass: every number that is drawn was drawn before
@@ -106,21 +146,21 @@ entered z r r' s choice l l' h i g =
     record {
       in_pass = λ x. record { since = length r.history.log; passes = pass_begins h; word = h.changed.same ∙ ap (λ n. pass_word (Some n)) (sym g.2) };
       in_none = λ x. absurd (x g.0);
-      epoch = λ x. (omega (arith, c.0, g.2), omega (arith, c.1, g.2, epoch_kept z r r' s choice l Enter l' h i));
-      before = λ m at since o u y. omega (arith, i.rows.past.drawn m at (sym (numbered_kept Enter h m) ∙ u), same_Some (length r.history.log) since (sym (pass_begins h) ∙ y));
+      epoch = λ x. (omega (arith, c.0, g.2), omega (arith, c.1, g.2, epoch_rises Enter h));
+      before = λ m at since o u y. omega (arith, i.rows.past.drawn m at (sym (numbers_stay Enter h (λ x. x) m) ∙ u), same_Some (length r.history.log) since (sym (pass_begins h) ∙ y));
     }
 
 -- the acting seat is in its pass, or in none
 pub passes_own : (z : Sizes) (r r' : Run) (s : ℕ) (choice : Choice) (l : Local) (a : Activity) (l' : Local) → Arrow z (word z r.world) s choice l a l' → Happens z r r' s choice l l' a → Shape z r → Passes (word z r'.world) r'.ledger.rows s l'.activity l'
-passes_own z r r' s choice l a l' (builds b next y o t) h i = never_built z b y o
+passes_own z r r' s choice l a l' (builds b next y o t) h i = let x = built_passes b y in goes_on z r r' s choice l b l' h i (subst (λ q. Passes (word z r.world) r.ledger.rows s q l) h.activity (i.passes s l h.knows)) x.0 x.1 (built_pass b y) (arrow_passes z (word z r.world) s choice l b l' (builds b next y o t) x.0 (built_pass b y))
 passes_own z r r' s choice l a l' (begins call e b) h i =
     let p = subst (λ q. Passes (word z r.world) r.ledger.rows s q l) h.activity (i.passes s l h.knows) in
     let q = p.in_none (λ x. x) in
-    let e = ap (λ (g : kw_rows.Ledger). g.passes s) (rows_kept Idle h (λ x. x)) in
+    let e = others_stay Idle h s (λ x e. x) in
     record {
       in_pass = λ x. absurd x;
       in_none = λ x. record { passes = e ∙ q.passes; word = pass_kept Idle h s h.seat (λ x e. x) ∙ q.word };
-      epoch = λ x. ((i.sane.each name.Epoch tt).0, omega (arith, epoch_kept z r r' s choice l Idle l' h i));
+      epoch = λ x. ((i.sane.each name.Epoch tt).0, omega (arith, epoch_rises Idle h));
       before = λ m at since o u y. let x : None ≡ Some since = sym (e ∙ q.passes) ∙ y in absurd (cc);
     }
 passes_own z r r' s choice l a l' (enters e) h i = entered z r r' s choice l l' h i (tt, tt, refl)
@@ -137,17 +177,17 @@ passes_own z r r' s choice l a l' retries h i =
     record {
       in_pass = λ x. absurd x;
       in_none = λ x. record { passes = pass_taken_back h; word = h.changed.same };
-      epoch = λ x. (c.0, omega (arith, c.1, epoch_kept z r r' s choice l Again l' h i));
+      epoch = λ x. (c.0, omega (arith, c.1, epoch_rises Again h));
       before = λ m at since o u y. let x : None ≡ Some since = sym (pass_taken_back h) ∙ y in absurd (cc);
     }
 passes_own z r r' s choice l a l' enters_again h i =
     let p = subst (λ q. Passes (word z r.world) r.ledger.rows s q l) h.activity (i.passes s l h.knows) in
     let q = p.in_none (λ x. x) in
-    let e = ap (λ (g : kw_rows.Ledger). g.passes s) (rows_kept AgainEpoch h (λ x. x)) in
+    let e = others_stay AgainEpoch h s (λ x e. x) in
     record {
       in_pass = λ x. absurd x;
       in_none = λ x. record { passes = e ∙ q.passes; word = pass_kept AgainEpoch h s h.seat (λ x e. x) ∙ q.word };
-      epoch = λ x. ((i.sane.each name.Epoch tt).0, omega (arith, epoch_kept z r r' s choice l AgainEpoch l' h i));
+      epoch = λ x. ((i.sane.each name.Epoch tt).0, omega (arith, epoch_rises AgainEpoch h));
       before = λ m at since o u y. let x : None ≡ Some since = sym (e ∙ q.passes) ∙ y in absurd (cc);
     }
 passes_own z r r' s choice l a l' b h i = goes_on z r r' s choice l _ l' h i (subst (λ q. Passes (word z r.world) r.ledger.rows s q l) h.activity (i.passes s l h.knows)) tt tt (λ x. x) (arrow_passes z (word z r.world) s choice l _ l' b tt (λ x. x))

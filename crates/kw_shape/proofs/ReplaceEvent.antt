@@ -42,13 +42,13 @@ use Rattle.kw_shape.specs.RowsIn.{has_frozen, has_mark, rows_in}
 
 -- What is read of a row that is written whole.
 
-whole_next : (z : Sizes) (v : Words) (k : Local) (q : ℕ) → IsLink (infant_link k) → Written z v Before k q → link_of (v (name.Next q)) ≡ Some (infant_link k)
+pub whole_next : (z : Sizes) (v : Words) (k : Local) (q : ℕ) → IsLink (infant_link k) → Written z v Before k q → link_of (v (name.Next q)) ≡ Some (infant_link k)
 whole_next z v k q i w = ap link_of (w.next tt) ∙ link_of-link_word (infant_link k) i
 
 whole_count : (z : Sizes) (v : Words) (k : Local) (q : ℕ) → IsCount (infant_count k) → Written z v Before k q → count_of (v (name.Count q)) ≡ Some (infant_count k)
 whole_count z v k q i w = ap count_of (w.count tt) ∙ count_of-count_word (infant_count k) i
 
-whole_least : (z : Sizes) (v : Words) (k : Local) (q : ℕ) → infant_least k < KEY_END → Written z v Before k q → least_in v q ≡ infant_least k
+pub whole_least : (z : Sizes) (v : Words) (k : Local) (q : ℕ) → infant_least k < KEY_END → Written z v Before k q → least_in v q ≡ infant_least k
 whole_least z v k q i w = ap key_of_word (w.least tt) ∙ key_of_word-key_word (infant_least k) i
 
 -- rows of which each leads to the next one of a list, and the last one there, are so linked
@@ -97,7 +97,7 @@ first_of [] o = absurd (omega (arith, o))
 first_of (n ∷ more) o = (n, more, refl)
 
 -- the link that is exchanged is the head's, or that of the row before
-exchanged_head : (v : Words) (b : Option ℕ) → leads (rows_in v) b ≡ row_linked (link_of (v (replaced_link b)))
+pub exchanged_head : (v : Words) (b : Option ℕ) → leads (rows_in v) b ≡ row_linked (link_of (v (replaced_link b)))
 exchanged_head v None = refl
 exchanged_head v (Some p) = refl
 

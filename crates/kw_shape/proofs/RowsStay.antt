@@ -1,24 +1,21 @@
 -- What an event leaves of a row that was linked, and of the keys that it may hold; a put's row may hold its key.
-use Rattle.std.proofs.Common.{ℕ, ◌≡◌, ◌⊎◌, inl, inr, ◌<◌, ◌≤◌, true, false, Option, Some, None, arith, refl, sym, ◌∙◌, ap, subst, slice_get}
+use Rattle.std.proofs.Common.{ℕ, ◌≡◌, ◌⊎◌, inl, inr, ◌<◌, true, false, Option, Some, None, arith, refl, sym, ◌∙◌, ap, subst, slice_get}
 use Rattle.std.proofs.lemmas.Option.{same_Some}
 use Rattle.kw_model.specs.declared.call.Call.{Call}
 use Rattle.kw_model.specs.declared.call.Call.TheVariants.{Put, Del, Get, Scan}
+use Rattle.kw_world.specs.declared.activity.Activity.{Activity}
 use Rattle.kw_world.specs.declared.activity.Activity.TheVariants.{PutAdd}
 use Rattle.kw_world.specs.declared.local.Local.{Local}
-use Rattle.kw_world.specs.Sizes.{Sizes}
+use Rattle.kw_world.specs.Sizes.{IsRebalancing, Sizes}
 use Rattle.kw_world.specs.Calls.{first_key, is_scan}
 use Rattle.kw_world.specs.Step.{word}
 use Rattle.kw_core.specs.Stages.{IsAtRow, IsPastStart}
 use Rattle.kw_core.specs.Words.{Words, next_in, least_in}
-use Rattle.std.proofs.lemmas.Bool.{cases_lt}
-use Rattle.kw_rows.specs.Ledger.{Dead, Fate, Free, IsFresh, IsLive, Ledger, Live}
+use Rattle.kw_rows.specs.Ledger.{Dead, Free, IsFresh, IsLive, Ledger}
 use Rattle.kw_rows.specs.Rows.{Closed, WasLinked}
 use Rattle.kw_rows.proofs.Named.{held_by, last_row, one_beginning, row_after}
 use Rattle.kw_shape.specs.RowsIn.{rows_in}
-use Rattle.kw_world.specs.declared.activity.Activity.{Activity}
-use Rattle.kw_world.specs.declared.event.Choice.{Choice}
-use Rattle.kw_core.proofs.Happens.{Happens}
-use Rattle.kw_shape.proofs.RowsKeep.{fates_kept}
+pub use Rattle.kw_shape.proofs.LinkedRows.{fresh_linked, was_below}
 use Rattle.kw_shape.specs.Shape.{HoldsKey, IsAtItsRow, IsStill, IsPutCall, IsKind, Shape}
 use Rattle.kw_core.specs.Run.{Run}
 
@@ -42,60 +39,38 @@ holds_wanted v g t l at = record { from = at.from; below = λ u e. which l.next 
     which None f u e = let x : None ≡ Some u = sym (at.last f) ∙ e in absurd (cc)
     which (Some n) f u e = let k = at.next n f in omega (arith, k.below, same_Some l.upper u (sym k.ends ∙ e))
 
--- the row of a seat that asks for a cell may hold its key
-pub holds_first : (z : Sizes) (r : Run) (s : ℕ) (l : Local) → Shape z r → slice_get r.world.locals s ≡ Some l → l.activity ≡ PutAdd → HoldsKey (word z r.world) r.ledger.rows l.row (first_key l.call)
-holds_first z r s l y k e = wanted ((y.walks s l k).at (subst IsAtRow (sym e) tt)) ((y.walks s l k).wants (subst IsPastStart (sym e) tt))
+-- the row of a put or a delete may hold its key
+pub holds_put : (z : Sizes) (r : Run) (s : ℕ) (l : Local) (a : Activity) → Shape z r → slice_get r.world.locals s ≡ Some l → l.activity ≡ a → IsAtRow a → IsPastStart a → (IsKind a l → IsPutCall l.call) → HoldsKey (word z r.world) r.ledger.rows l.row (first_key l.call)
+holds_put z r s l a y k e row past put = wanted ((y.walks s l k).at (subst IsAtRow (sym e) row)) ((y.walks s l k).wants (subst IsPastStart (sym e) past))
   where
     kind : IsPutCall l.call
-    kind = subst (λ a. IsKind a l) e (y.kinds s l k).kind
+    kind = put (subst (λ b. IsKind b l) e (y.kinds s l k).kind)
 
     wanted : IsAtItsRow (word z r.world) r.ledger.rows s l → (l.want ≡ first_key l.call) ⊎ (is_scan l.call ≡ true) × (least_in (word z r.world) l.row ≡ l.want) → HoldsKey (word z r.world) r.ledger.rows l.row (first_key l.call)
     wanted at (inl x) = subst (HoldsKey (word z r.world) r.ledger.rows l.row) x (holds_wanted (word z r.world) r.ledger.rows s l at)
     wanted at (inr x) = put_scans l.call kind x.0
 
+-- so may that of a seat that asks for a cell
+pub holds_first : (z : Sizes) (r : Run) (s : ℕ) (l : Local) → Shape z r → slice_get r.world.locals s ≡ Some l → l.activity ≡ PutAdd → HoldsKey (word z r.world) r.ledger.rows l.row (first_key l.call)
+holds_first z r s l y k e = holds_put z r s l PutAdd y k e tt tt (λ x. x)
+
 -- Rows that were linked.
 
--- a row that was linked is one of the table
-pub was_below : (z : Sizes) (r : Run) → Shape z r → (q : ℕ) → WasLinked r.ledger.rows q → q < r.world.rows
-was_below z r i q k = which (cases_lt q r.world.rows)
-  where
-    not_free : WasLinked r.ledger.rows q → (r.ledger.rows.fates q).status ≡ Free → ⊥
-    not_free (inl e) f = let x : Live ≡ Free = sym e ∙ f in cc
-    not_free (inr e) f = let x : Dead ≡ Free = sym e ∙ f in cc
-
-    which : (q < r.world.rows) ⊎ (r.world.rows ≤ q) → q < r.world.rows
-    which (inl o) = o
-    which (inr o) = absurd (not_free k (i.beyond q o))
-
--- a row that a seat may name was linked
-pub fresh_linked : (g : Ledger) (t q : ℕ) → IsFresh g t q → WasLinked g q
-fresh_linked g t q (inl a) = inl a
-fresh_linked g t q (inr h) = inr h.dead
-
--- as long as no row is replaced, one that was linked is live
+-- where no row is rebalanced, one that was linked is live
 pub still_live : (g : Ledger) (q : ℕ) → IsStill g q → WasLinked g q → IsLive g q
 still_live g q (inl x) k = x
 still_live g q (inr x) (inl e) = e
 still_live g q (inr x) (inr e) = let y : Free ≡ Dead = sym x ∙ e in absurd (cc)
 
--- no event links a row, and one that was linked stays so
-pub linked_was : {z : Sizes} {r r' : Run} {s : ℕ} {choice : Choice} {l l' : Local} (a : Activity) → Happens z r r' s choice l l' a → (q : ℕ) → WasLinked r'.ledger.rows q → WasLinked r.ledger.rows q
-linked_was a h q (inl e) = inl (ap (λ (x : Fate). x.status) (sym (fates_kept a h q)) ∙ e)
-linked_was a h q (inr e) = inr (ap (λ (x : Fate). x.status) (sym (fates_kept a h q)) ∙ e)
-
-pub linked_stays : {z : Sizes} {r r' : Run} {s : ℕ} {choice : Choice} {l l' : Local} (a : Activity) → Happens z r r' s choice l l' a → (q : ℕ) → WasLinked r.ledger.rows q → WasLinked r'.ledger.rows q
-linked_stays a h q (inl e) = inl (ap (λ (x : Fate). x.status) (fates_kept a h q) ∙ e)
-linked_stays a h q (inr e) = inr (ap (λ (x : Fate). x.status) (fates_kept a h q) ∙ e)
-
--- as long as no row is replaced, the row that a seat knows to stand after its own is the one to which the link of that leads
-pub next_known : (z : Sizes) (r : Run) → Shape z r → (t : ℕ) (l : Local) → IsAtItsRow (word z r.world) r.ledger.rows t l → l.next ≡ next_in (word z r.world) l.row
-next_known z r i t l at = which l.next refl
+-- where no row is rebalanced, the row that a seat knows to stand after its own is the one to which the link of that leads
+pub next_known : (z : Sizes) (r : Run) → Shape z r → (IsRebalancing z.form → ⊥) → (t : ℕ) (l : Local) → IsAtItsRow (word z r.world) r.ledger.rows t l → l.next ≡ next_in (word z r.world) l.row
+next_known z r i n t l at = which l.next refl
   where
     closed : Closed (rows_in (word z r.world)) r.ledger.rows
     closed = i.rows.closed
 
     live : (q : ℕ) → IsFresh r.ledger.rows t q → IsLive r.ledger.rows q
-    live q f = still_live r.ledger.rows q (i.still q) (fresh_linked r.ledger.rows t q f)
+    live q f = still_live r.ledger.rows q (i.still n q) (fresh_linked r.ledger.rows t q f)
 
     which : (n : Option ℕ) → l.next ≡ n → n ≡ next_in (word z r.world) l.row
     which None e = sym (last_row (rows_in (word z r.world)) r.ledger.rows closed l.row (held_by r.ledger.rows t l.row at.fresh) (at.last e))

@@ -2,10 +2,11 @@
 use Rattle.std.proofs.Common.{ℕ, ◌≡◌, ◌≢◌, ◌⊎◌, inl, inr, ◌+◌, ◌*◌, ◌<◌, ◌≤◌, true, false, Option, Some, None, arith, refl, sym, ◌∙◌, ap, subst, length, slice_get}
 use Rattle.kw_words.specs.declared.layout.Name.TheVariants as name
 use Rattle.kw_world.specs.declared.activity.Activity.{Activity}
-use Rattle.kw_world.specs.declared.activity.Activity.TheVariants.{Idle, Enter, ScanClock, PutCount, PutAdd, AgainEpoch, BalClock, FreezeCount}
+use Rattle.kw_world.specs.declared.activity.Activity.TheVariants.{Idle, Enter, ScanClock, PutCount, PutAdd, AgainEpoch, BalClock, FreezeCount, HelpDraw, ScanDraw, WriteCount, TakeRow, GiveBack, Replace}
 use Rattle.kw_world.specs.declared.local.Local.{Local}
 use Rattle.kw_world.specs.declared.event.Choice.{Choice}
-use Rattle.kw_world.specs.Sizes.{Sizes}
+use Rattle.kw_world.specs.SeekTransitions.{infant}
+use Rattle.kw_world.specs.Sizes.{IsRebalancing, Sizes}
 use Rattle.kw_world.specs.WorldView.{WorldView}
 use Rattle.kw_words.specs.declared.sizes.TheConstants.{MOST_SEATS, SPENT}
 use Rattle.kw_words.specs.Layout.{IsSized, IsWithin, words_of}
@@ -19,28 +20,43 @@ use Rattle.kw_words.specs.Count.{count_of}
 use Rattle.kw_world.specs.PutTransitions.{given_of}
 use Rattle.kw_shape.specs.Rooms.{adding, adders, drawing, drawers}
 use Rattle.kw_core.proofs.Frame.{given-next}
-use Rattle.kw_core.proofs.FreezeFrame.{clock_stays, count_stays, freezes_given, helper_raises}
+use Rattle.kw_core.proofs.FreezeFrame.{DrawsVersion, clock_stays, freezes_given, helper_raises}
 use Rattle.kw_core.proofs.RoomBelow.{room_below}
-use Rattle.kw_shape.proofs.Counts.{adders-set, adders_at_most, drawers-set, drawers_few, square_few, adding_next, drawing_next}
+use Rattle.kw_shape.proofs.Counts.{adders-set, adders_at_most, adders_but_one, built_adds, built_draws, drawers-set, drawers_few, square_few, adding_next, drawing_next}
 use Rattle.kw_core.proofs.Happens.{chosen, not_chosen}
 use Rattle.kw_words.specs.declared.link.Link.{Link}
 use Rattle.kw_world.specs.Calls.{first_key, is_scan}
 use Rattle.kw_world.specs.Transition.{row_linked, row_or_first}
 use Rattle.kw_core.specs.Words.{Words, given_in}
-use Rattle.kw_rows.specs.Ledger.{Fate, Ledger}
+use Rattle.kw_rows.specs.Ledger.{Fate}
 use Rattle.kw_shape.specs.Balances.{Balances}
+use Rattle.kw_shape.specs.Infants.{HasLostNone, Infants}
 use Rattle.kw_shape.specs.Passes.{Passes}
+use Rattle.kw_shape.specs.Plans.{Plans}
+use Rattle.kw_shape.specs.Search.{Search}
+use Rattle.kw_shape.specs.Won.{Won}
+use Rattle.kw_shape.proofs.NoneLost.{none_lost_other, none_lost_own}
+use Rattle.kw_shape.proofs.NursedKeep.{infants_go, infants_other, search_go, search_other}
+use Rattle.kw_shape.proofs.WonKeep.{won_other, won_own}
 use Rattle.kw_shape.specs.Shape.{IsStill, Walks, Kinds, Shape}
 use Rattle.kw_shape.proofs.PassesKeep.{numbers_keep, passes_other, passes_own}
 use Rattle.kw_shape.proofs.BalancesKeep.{balances_other, balances_own}
+use Rattle.kw_core.proofs.Fates.{fate_stays}
+use Rattle.kw_rows.specs.Events.{IsIn}
+use Rattle.kw_shape.proofs.InfantsFit.{taken_below}
+use Rattle.kw_shape.proofs.InfantsRely.{place_of_row}
+use Rattle.kw_shape.proofs.InfantsStay.{infant_at}
+use Rattle.kw_shape.proofs.LinkedRows.{infants_at}
+use Rattle.kw_shape.proofs.PlansKeep.{plans_own}
 use Rattle.kw_shape.proofs.OwnRows.{own_rely}
 use Rattle.kw_shape.proofs.RelyRows.{is_passing, walks_outside, walks_stable}
-use Rattle.kw_shape.proofs.RowsKeep.{fates_kept, others_kept, rely_rows, structure_keeps}
-use Rattle.kw_core.proofs.Happens.{Happens, each_seat}
+use Rattle.kw_shape.proofs.RowsKeep.{others_kept, rely_rows, structure_keeps}
+use Rattle.kw_core.proofs.Happens.{Happens, each_seat, knows_next}
 use Rattle.kw_core.proofs.Frame.{WritesPass}
 use Rattle.kw_shape.proofs.Walking.{walks_by}
 use Rattle.kw_shape.proofs.Known.{AreSane, at_activity, known_by}
 use Rattle.kw_shape.proofs.InTable.{words_sane}
+use Rattle.kw_shape.proofs.SoughtRows.{sought_in}
 use Rattle.std.proofs.Common.{◌&&◌}
 use Rattle.std.proofs.lemmas.Bool.{and_parts}
 use Rattle.kw_model.specs.declared.call.Call.{Call}
@@ -54,8 +70,18 @@ use Rattle.kw_world.specs.ScanTransitions.{answer_or_stopped}
 use Rattle.kw_world.specs.WalkTransitions.{is_stop}
 use Rattle.kw_core.specs.Stages.{IsPassing, is_put}
 use Rattle.kw_shape.specs.Shape.{IsSomeCall, IsPutCall, IsReadCall, IsScanCall, IsAnswerOf, IsPairs}
-use Rattle.kw_core.proofs.Arrows.{Arrow, begins, enters, enters_scan, is_spent, waits, stores_waiting, draws, settles_empty, settles, starts_at_head, guesses, guess_fails, takes_head, guess_serves, guess_is_above, stops, puts_in_last, reads_last, meets_next, walks_on, puts_before, reads_before, meets_pending, meets_stamped, meets_neither, is_wanted, is_passed, loads_to_help, helps, finds_stamped, finds_other, list_leads, list_ends, key_below, key_within, key_above, loads_version, gathers_listed, rest_wanted, rest_passed, gathers_rest, clears_scan, finds_room, finds_none, takes_cell, takes_none, stores_key, stores_value, announces, is_refused, loads_clock, stamps, is_stamped, is_not_own, stores_version, meets_cell, meets_none, key_before, key_same, key_after, version_before, version_after, stores_after, inserts, loses, clears, leaves, retries, enters_again, clock_is_spent, clock_serves, epoch_is_spent, epoch_serves, finds_infant, finds_normal, finds_leader, finds_other_state, normalises, engages, is_engaged, marks_link, marks_led, decides, decides_not, finds_full, takes_full, announces_full, stamps_full, marks_last, decides_last, NextLook, looks, lists, NextRest, rests, answers, ends_scan, scans_on, not_below, freezes_count, meets_idle, meets_unstamped, remembers, remembers_last, meets_frozen, meets_frozen_last, freezes_entry, freezes_last, looks_again, meets_quiet, meets_quiet_last, helps_scan, meets_drawn, meets_drawn_last, draws_for, settles_scan, settles_last, finds_drawn, finds_drawn_last, finds_no_scan, finds_no_scan_last, take_leads, takes_left, takes_no_more, takes_last, takes_key, takes_version, keeps_taken, takes_left_key, keeps_left, keeps_no_more, keeps_last, goes_to_freeze, goes_no_further, builds}
-use Rattle.kw_core.proofs.Building.{never_built}
+use Rattle.kw_core.proofs.BuiltNext.{built_goes, built_next}
+use Rattle.kw_core.proofs.InfantFrames.{count_stays, count_written}
+use Rattle.kw_words.proofs.CountWords.{count_of-count_word}
+use Rattle.kw_world.specs.WriteTransitions.{infant_cells, infant_count}
+use Rattle.kw_shape.proofs.EpochKeeps.{epoch_keeps}
+use Rattle.kw_shape.proofs.KeyedKeeps.{keyed_keeps}
+use Rattle.kw_shape.proofs.KeysKeep.{keys_own, keys_stay}
+use Rattle.kw_shape.specs.Keyed.{Keys}
+use Rattle.kw_shape.proofs.NewWords.{cells_few}
+use Rattle.kw_shape.proofs.AfterBuilding.{after_kinds, built_kinds, built_pass, built_passes, no_rows}
+use Rattle.kw_core.proofs.Arrows.{Arrow, begins, enters, enters_scan, is_spent, waits, stores_waiting, draws, settles_empty, settles, starts_at_head, guesses, guess_fails, takes_head, guess_serves, guess_is_above, stops, puts_in_last, reads_last, meets_next, walks_on, puts_before, reads_before, meets_pending, meets_stamped, meets_neither, is_wanted, is_passed, loads_to_help, helps, finds_stamped, finds_other, list_leads, list_ends, key_below, key_within, key_above, loads_version, gathers_listed, rest_wanted, rest_passed, gathers_rest, clears_scan, finds_room, finds_none, takes_cell, takes_none, stores_key, stores_value, announces, is_refused, loads_clock, stamps, is_stamped, is_not_own, stores_version, meets_cell, meets_none, key_before, key_same, key_after, version_before, version_after, stores_after, inserts, loses, clears, leaves, retries, enters_again, clock_is_spent, clock_serves, epoch_is_spent, epoch_serves, finds_infant, finds_normal, finds_leader, finds_other_state, normalises, engages, is_engaged, marks_link, marks_led, decides, decides_not, finds_full, takes_full, announces_full, stamps_full, NextLook, looks, lists, NextRest, rests, answers, ends_scan, scans_on, not_below, freezes_count, meets_idle, meets_unstamped, remembers, remembers_last, meets_frozen, meets_frozen_last, freezes_entry, freezes_last, looks_again, meets_quiet, meets_quiet_last, helps_scan, meets_drawn, meets_drawn_last, draws_for, settles_scan, settles_last, finds_drawn, finds_drawn_last, finds_no_scan, finds_no_scan_last, take_leads, takes_left, takes_no_more, takes_key, takes_version, keeps_taken, takes_left_key, keeps_left, keeps_no_more, builds}
+use Rattle.kw_core.proofs.Building.{IsBuilding}
 
 -- The acting seat.
 
@@ -70,13 +96,17 @@ head_below rows None h = absurd h
 
 -- what the acting seat knows is in range
 known_own : (z : Sizes) (r r' : Run) (s : ℕ) (choice : Choice) (l : Local) (a : Activity) (l' : Local) → Arrow z (word z r.world) s choice l a l' → Happens z r r' s choice l l' a → Shape z r → IsKnown z r.world.rows l'
-known_own z r r' s choice l a l' b h i = known_by z r.world.rows (word z r.world) s choice l a l' b (words_of_sane z r.world i.sane) (head_below r.world.rows _ (i.sane.led name.Head tt)) h.seat h.begins h.offers (at_activity z r.world.rows a l h.activity (i.sane.locals s l h.knows)) h.reached
+known_own z r r' s choice l a l' b h i = known_by z r.world.rows (word z r.world) s choice l a l' b (words_of_sane z r.world i.sane) (head_below r.world.rows _ (i.sane.led name.Head tt)) h.seat h.begins h.offers (at_activity z r.world.rows a l h.activity (i.sane.locals s l h.knows)) (λ y. sought_in a y h i.sane)
 
 -- the words are in range
 words_keep : (z : Sizes) (r r' : Run) (s : ℕ) (choice : Choice) (l : Local) (a : Activity) (l' : Local) → Happens z r r' s choice l l' a → Shape z r → AreSane z r.world.rows (word z r'.world)
 words_keep z r r' s choice l a l' h i =
-    words_sane z r.world.rows (word z r.world) s choice l (words_of_sane z r.world i.sane) a (word z r'.world) h.reached (at_activity z r.world.rows a l h.activity (i.sane.locals s l h.knows)) h.named
-    (omega (arith, i.clock, i.sane.sized.few_seats, square_few z.seats MOST_SEATS i.sane.sized.few_seats)) (λ q o. omega (arith, i.room q o, i.sane.sized.few_seats, i.sane.sized.few_cells)) h.changed
+    words_sane z r.world.rows (word z r.world) s choice l (words_of_sane z r.world i.sane) (record {
+      seat = h.seat;
+      clock = omega (arith, i.clock, i.sane.sized.few_seats, square_few z.seats MOST_SEATS i.sane.sized.few_seats);
+      epoch = omega (arith, i.epoch, i.sane.sized.few_seats);
+      given = λ q o. omega (arith, i.room q o, i.sane.sized.few_seats, i.sane.sized.few_cells);
+    }) a (word z r'.world) (at_activity z r.world.rows a l h.activity (i.sane.locals s l h.knows)) h.named h.changed
 
 -- the world is sane
 pub sane_keeps : (z : Sizes) (r r' : Run) (s : ℕ) (choice : Choice) (l : Local) (a : Activity) (l' : Local) → Arrow z (word z r.world) s choice l a l' → Happens z r r' s choice l l' a → Shape z r → IsSane z r'.world
@@ -107,26 +137,46 @@ room_add z r r' s choice l l' h i q f o = which (cases_eq q l.row)
         let x : given_in (word z r'.world) l.row ≡ given_in (word z r.world) l.row + 1 = ap (λ w. given_of (count_of w)) h.changed.same ∙ given-next (word z r.world (name.Count l.row)) _ refl (i.sane.each (name.Count l.row) (subst (λ y. y < r.world.rows) u o)) in
         let y : given_in (word z r'.world) q ≡ given_in (word z r.world) q + 1 = subst (λ t. given_in (word z r'.world) t ≡ given_in (word z r.world) t + 1) (sym u) x in
         omega (arith, i.room q o, y, f, part, chosen {A = ℕ} l.row q 1 0 (sym u), adders-set q r.world.locals s l l' h.knows, ap (adders q) h.locals)
-    which (inr d) = room_plain z r r' s choice l PutAdd l' h i q (ap (λ w. given_of (count_of w)) (count_stays PutAdd h q o (λ x u. d u))) f o
+    which (inr d) = room_plain z r r' s choice l PutAdd l' h i q (ap (λ w. given_of (count_of w)) (count_stays PutAdd h q o d)) f o
+
+-- an event that writes or links new rows: a new row has no more cells than a row has, and the seat asks for none
+room_built : (z : Sizes) (r r' : Run) (s : ℕ) (choice : Choice) (l : Local) (a : Activity) (l' : Local) → IsBuilding a → {q : ℕ} → adding l'.activity l'.row q ≡ 0 → Happens z r r' s choice l l' a → Shape z r → q < r.world.rows → given_in (word z r'.world) q + adders q r'.world.locals < z.cells + z.seats
+room_built z r r' s choice l PutAdd l' b {q} f h i o = absurd b
+room_built z r r' s choice l FreezeCount l' b {q} f h i o = absurd b
+room_built z r r' s choice l WriteCount l' b {q} f h i o = which (cases_eq q (infant l))
+  where
+    k : IsKnown z r.world.rows l
+    k = i.sane.locals s l h.knows
+
+    few : length (infant_cells l) ≤ z.cells
+    few = cells_few z r.world.rows l i.sane.sized k.ranges k.below
+
+    given : given_in (word z r'.world) (infant l) ≡ length (infant_cells l)
+    given = ap (λ w. given_of (count_of w)) (count_written h) ∙ ap given_of (count_of-count_word (infant_count l) (omega (arith, few, i.sane.sized.few_cells)))
+
+    which : (q ≡ infant l) ⊎ (q ≡ infant l → ⊥) → given_in (word z r'.world) q + adders q r'.world.locals < z.cells + z.seats
+    which (inl e) = omega (arith, few, ap (given_in (word z r'.world)) e ∙ given, adders_but_one q r'.world.locals s l' (knows_next h) f, ap length h.locals, length-set r.world.locals s l', i.sane.seats)
+    which (inr d) = room_plain z r r' s choice l WriteCount l' h i q (ap (λ w. given_of (count_of w)) (count_stays WriteCount h q o d)) f o
+room_built z r r' s choice l a l' b {q} f h i o = room_plain z r r' s choice l a l' h i q (ap (λ w. given_of (count_of w)) (count_stays a h q o (λ c. c))) f o
 
 -- each row has room for the cells that are asked for
 pub room_keeps : (z : Sizes) (r r' : Run) (s : ℕ) (choice : Choice) (l : Local) (a : Activity) (l' : Local) → Arrow z (word z r.world) s choice l a l' → Happens z r r' s choice l l' a → Shape z r → (q : ℕ) → q < r.world.rows → given_in (word z r'.world) q + adders q r'.world.locals < z.cells + z.seats
-room_keeps z r r' s choice l a l' (builds b next y c t) h i q o = never_built z b y c
+room_keeps z r r' s choice l a l' (builds b next y c t) h i q o = room_built z r r' s choice l b l' y (built_adds next.activity next.row q (built_next z (word z r.world) choice l b next t)) h i o
 room_keeps z r r' s choice l a l' (finds_room e) h i q o = which (cases_eq l.row q)
   where
     seats : length (slice_set r.world.locals s l') ≡ length r.world.locals
     seats = length-set r.world.locals s l'
 
     same : given_in (word z r'.world) q ≡ given_in (word z r.world) q
-    same = ap (λ w. given_of (count_of w)) (count_stays PutCount h q o (λ x u. x))
+    same = ap (λ w. given_of (count_of w)) (count_stays PutCount h q o (λ c. c))
 
     which : (l.row ≡ q) ⊎ (l.row ≡ q → ⊥) → given_in (word z r'.world) q + adders q r'.world.locals < z.cells + z.seats
     which (inl u) =
         let x : given_in (word z r.world) q < z.cells = subst (λ y. given_in (word z r.world) y < z.cells) u (room_below z (count_of (word z r.world (name.Count l.row))) e) in
         omega (arith, same, x, adders_at_most q r'.world.locals, ap length h.locals, seats, i.sane.seats)
     which (inr d) = room_plain z r r' s choice l PutCount _ h i q same (not_chosen {A = ℕ} l.row q 1 0 d) o
-room_keeps z r r' s choice l a l' (finds_none e f) h i q o = room_plain z r r' s choice l PutCount _ h i q (ap (λ w. given_of (count_of w)) (count_stays PutCount h q o (λ x u. x))) refl o
-room_keeps z r r' s choice l a l' (finds_full e f) h i q o = room_plain z r r' s choice l PutCount _ h i q (ap (λ w. given_of (count_of w)) (count_stays PutCount h q o (λ x u. x))) refl o
+room_keeps z r r' s choice l a l' (finds_none e f) h i q o = room_plain z r r' s choice l PutCount _ h i q (ap (λ w. given_of (count_of w)) (count_stays PutCount h q o (λ c. c))) refl o
+room_keeps z r r' s choice l a l' (finds_full e f) h i q o = room_plain z r r' s choice l PutCount _ h i q (ap (λ w. given_of (count_of w)) (count_stays PutCount h q o (λ c. c))) refl o
 room_keeps z r r' s choice l a l' (takes_cell e) h i q o = room_add z r r' s choice l _ h i q refl o
 room_keeps z r r' s choice l a l' (takes_none e f) h i q o = room_add z r r' s choice l _ h i q refl o
 room_keeps z r r' s choice l a l' (takes_full e f) h i q o = room_add z r r' s choice l _ h i q refl o
@@ -138,12 +188,18 @@ room_keeps z r r' s choice l a l' freezes_count h i q o = room_plain z r r' s ch
 
     frozen_given : (q ≡ l.row) ⊎ (q ≡ l.row → ⊥) → given_in (word z r'.world) q ≡ given_in (word z r.world) q
     frozen_given (inl e) = subst (λ x. given_in (word z r'.world) x ≡ given_in (word z r.world) x) (sym e) (at_row _ refl (i.sane.each (name.Count l.row) (i.sane.locals s l h.knows).below.row))
-    frozen_given (inr d) = ap (λ w. given_of (count_of w)) (count_stays FreezeCount h q o (λ x u. d u))
-room_keeps z r r' s choice l a l' b h i q o = room_plain z r r' s choice l _ l' h i q (ap (λ w. given_of (count_of w)) (count_stays _ h q o (λ x u. x))) (adding_next z (word z r.world) s choice l _ l' q b (λ x. x)) o
+    frozen_given (inr d) = ap (λ w. given_of (count_of w)) (count_stays FreezeCount h q o d)
+room_keeps z r r' s choice l a l' b h i q o = room_plain z r r' s choice l _ l' h i q (ap (λ w. given_of (count_of w)) (count_stays _ h q o (λ c. c))) (adding_next z (word z r.world) s choice l _ l' q b (λ x. x)) o
+
+-- an event that takes, writes or links new rows draws no version
+built_draws_none : (a : Activity) → IsBuilding a → DrawsVersion a → ⊥
+built_draws_none ScanDraw b d = b
+built_draws_none (HelpDraw j) b d = b
+built_draws_none _ b d = d
 
 -- the clock has room for the versions that are drawn
 pub clock_keeps : (z : Sizes) (r r' : Run) (s : ℕ) (choice : Choice) (l : Local) (a : Activity) (l' : Local) → Arrow z (word z r.world) s choice l a l' → Happens z r r' s choice l l' a → Shape z r → word z r'.world name.Clock + drawers z.seats r'.world.locals ≤ SPENT + z.seats * z.seats
-clock_keeps z r r' s choice l a l' (builds b next y o t) h i = never_built z b y o
+clock_keeps z r r' s choice l a l' (builds b next y o t) h i = omega (arith, i.clock, clock_stays b h (built_draws_none b y), built_draws z.seats next.activity (built_next z (word z r.world) choice l b next t), drawers-set z.seats r.world.locals s l l' h.knows, ap (drawers z.seats) h.locals)
 clock_keeps z r r' s choice l a l' (waits e) h i = omega (arith, e, clock_stays ScanClock h (λ x. x), drawers_few z.seats r'.world.locals i.sane.sized.some_seats (omega (arith, ap length h.locals, length-set r.world.locals s l', i.sane.seats)))
 clock_keeps z r r' s choice l a l' (clock_serves e) h i = omega (arith, e, clock_stays BalClock h (λ x. x), drawers_few z.seats r'.world.locals i.sane.sized.some_seats (omega (arith, ap length h.locals, length-set r.world.locals s l', i.sane.seats)))
 clock_keeps z r r' s choice l a l' (is_spent e) h i = omega (arith, i.clock, clock_stays ScanClock h (λ x. x), drawers-set z.seats r.world.locals s l l' h.knows, ap (drawers z.seats) h.locals)
@@ -204,13 +260,6 @@ put_spent (Some (Get key)) k = absurd k
 put_spent (Some (Scan from upto)) k = absurd k
 put_spent None k = absurd k
 
-no_rows : (c : Option Call) → IsPutCall c → IsAnswerOf c NoRows
-no_rows (Some (Put key value)) k = tt
-no_rows (Some (Del key)) k = tt
-no_rows (Some (Get key)) k = k
-no_rows (Some (Scan from upto)) k = k
-no_rows None k = k
-
 put_done : (c : Option Call) → IsPutCall c → IsAnswerOf c Done
 put_done (Some (Put key value)) k = tt
 put_done (Some (Del key)) k = tt
@@ -252,7 +301,7 @@ kinds_cell z l next (scans_on q o y n w) k e = record { reached = tt; kind = som
 
 -- by the arrow that the seat takes
 kinds_by : (z : Sizes) (v : Words) (s : ℕ) (choice : Choice) (l : Local) (a : Activity) (l' : Local) → Arrow z v s choice l a l' → Kinds z a l → Kinds z l'.activity l'
-kinds_by z v s choice l a l' (builds b next y o t) k = never_built z b y o
+kinds_by z v s choice l a l' (builds b next y o t) k = let p = built_kinds z b l y k in let g = built_goes z v choice l b next t in after_kinds z next.activity next g.next p.0 (subst IsPutCall (sym g.call) p.1)
 kinds_by z v s choice l a l' (begins call e y) k = record { reached = tt; kind = tt; range = λ x. absurd x }
 kinds_by z v s choice l a l' (enters y) k = record { reached = tt; kind = k.kind; range = λ x. one_key l.call y }
 kinds_by z v s choice l a l' (enters_scan y) k = record { reached = tt; kind = scan_call l.call y; range = λ x. absurd x }
@@ -346,10 +395,8 @@ kinds_by z v s choice l a l' (normalises seat) k = record { reached = k.reached;
 kinds_by z v s choice l a l' (engages e) k = record { reached = k.reached; kind = (k.kind, omega arith); range = λ x. absurd x }
 kinds_by z v s choice l a l' (is_engaged e) k = record { reached = k.reached; kind = k.kind; range = λ x. absurd x }
 kinds_by z v s choice l a l' (marks_link count e) k = record { reached = k.reached; kind = (k.kind.0, refl); range = λ x. absurd x }
-kinds_by z v s choice l a l' (marks_led count e f) k = record { reached = goes_to_freeze z.form k.reached f; kind = k.kind.0; range = λ x. absurd x }
-kinds_by z v s choice l a l' (marks_last count e f) k = record { reached = tt; kind = no_rows l.call k.kind.0; range = λ x. absurd x }
-kinds_by z v s choice l a l' (decides count n e o f) k = record { reached = goes_to_freeze z.form k.reached f; kind = k.kind.0; range = λ x. absurd x }
-kinds_by z v s choice l a l' (decides_last count n e o f) k = record { reached = tt; kind = no_rows l.call k.kind.0; range = λ x. absurd x }
+kinds_by z v s choice l a l' (marks_led count e) k = record { reached = k.reached; kind = k.kind.0; range = λ x. absurd x }
+kinds_by z v s choice l a l' (decides count n e o) k = record { reached = k.reached; kind = k.kind.0; range = λ x. absurd x }
 kinds_by z v s choice l a l' (decides_not count) k = record { reached = k.reached; kind = k.kind.0; range = λ x. absurd x }
 kinds_by z v s choice l a l' freezes_count k = record { reached = k.reached; kind = k.kind; range = λ x. absurd x }
 kinds_by z v s choice l a l' (meets_idle j e) k = record { reached = k.reached; kind = k.kind; range = λ x. absurd x }
@@ -380,10 +427,8 @@ kinds_by z v s choice l a l' takes_version k = record { reached = k.reached; kin
 kinds_by z v s choice l a l' keeps_taken k = record { reached = k.reached; kind = k.kind; range = λ x. absurd x }
 kinds_by z v s choice l a l' takes_left_key k = record { reached = k.reached; kind = k.kind; range = λ x. absurd x }
 kinds_by z v s choice l a l' (keeps_left m n) k = record { reached = k.reached; kind = k.kind; range = λ x. absurd x }
-kinds_by z v s choice l a l' (takes_no_more e n f) k = goes_no_further z.form k.reached f
-kinds_by z v s choice l a l' (takes_last e n f) k = record { reached = tt; kind = no_rows l.call k.kind; range = λ x. absurd x }
-kinds_by z v s choice l a l' (keeps_no_more n f) k = goes_no_further z.form k.reached f
-kinds_by z v s choice l a l' (keeps_last n f) k = record { reached = tt; kind = no_rows l.call k.kind; range = λ x. absurd x }
+kinds_by z v s choice l a l' (takes_no_more e n) k = record { reached = k.reached; kind = k.kind; range = λ x. absurd x }
+kinds_by z v s choice l a l' (keeps_no_more n) k = record { reached = k.reached; kind = k.kind; range = λ x. absurd x }
 
 -- the acting seat goes on to an activity of its call
 pub kinds_own : (z : Sizes) (r r' : Run) (s : ℕ) (choice : Choice) (l : Local) (a : Activity) (l' : Local) → Arrow z (word z r.world) s choice l a l' → Happens z r r' s choice l l' a → Shape z r → Kinds z l'.activity l'
@@ -396,7 +441,7 @@ walks_in_pass z r r' s choice l a l' b h i x n =
 
 -- the acting seat is where its call has it: as it enters and leaves it is nowhere along the rows, and else it goes on in its pass
 pub walks_own : (z : Sizes) (r r' : Run) (s : ℕ) (choice : Choice) (l : Local) (a : Activity) (l' : Local) → Arrow z (word z r.world) s choice l a l' → Happens z r r' s choice l l' a → Shape z r → Walks (word z r'.world) r'.ledger.rows s l'.activity l'
-walks_own z r r' s choice l a l' (builds b next y o t) h i = never_built z b y o
+walks_own z r r' s choice l a l' (builds b next y o t) h i = walks_in_pass z r r' s choice l b l' (builds b next y o t) h i (built_passes b y).0 (built_pass b y)
 walks_own z r r' s choice l a l' (begins call e b) h i = walks_outside _ _ s Enter l' (λ x. x)
 walks_own z r r' s choice l a l' (enters e) h i = record { on = tt; lower = λ q. absurd q; at = λ q. absurd q; begins = λ q. refl; wants = λ q. absurd q }
 walks_own z r r' s choice l a l' (enters_scan e) h i = record { on = tt; lower = λ q. absurd q; at = λ q. absurd q; begins = λ q. absurd q; wants = λ q. absurd q }
@@ -419,12 +464,30 @@ walks_other z r r' s choice l a l' h i t k d g = which (is_passing k.activity)
 
 -- The group.
 
--- a row is still in the list, or free
-still_keeps : (z : Sizes) (r r' : Run) (s : ℕ) (choice : Choice) (l : Local) (a : Activity) (l' : Local) → Happens z r r' s choice l l' a → Shape z r → (q : ℕ) → IsStill r'.ledger.rows q
-still_keeps z r r' s choice l a l' h i q = which (i.still q)
+module _ {z : Sizes} {r r' : Run} {s : ℕ} {choice : Choice} {l l' : Local} where
+  -- no event acts on a row that the table does not have
+  beyond_stays : (a : Activity) → Happens z r r' s choice l l' a → Shape z r → (q : ℕ) → r.world.rows ≤ q → r'.ledger.rows.fates q ≡ r.ledger.rows.fates q
+  beyond_stays TakeRow h i q o = fate_stays TakeRow h q (λ c. absurd (omega (arith, o, c, (i.sane.locals s l h.knows).below.rebalance.sought)))
+  beyond_stays GiveBack h i q o = fate_stays GiveBack h q (λ c. absurd (omega (arith, o, c, taken_below z r.world s l i.sane h.knows l.rebalance.at (infant l) (infant_at l ((infants_at GiveBack h i).hand tt)))))
+  beyond_stays Replace h i q o = fate_stays Replace h q acts
+    where
+      acts : (q ≡ l.row) ⊎ IsIn l.rebalance.taken q → ⊥
+      acts (inl c) = absurd (omega (arith, o, c, (i.sane.locals s l h.knows).below.row))
+      acts (inr c) = let p = place_of_row l.rebalance.taken q c in absurd (omega (arith, o, taken_below z r.world s l i.sane h.knows p.0 q p.1))
+  beyond_stays a h i q o = fate_stays a h q (λ x. x)
+
+-- a row is still in the list, or free, where no row is rebalanced
+still_keeps : (z : Sizes) (r r' : Run) (s : ℕ) (choice : Choice) (l : Local) (a : Activity) (l' : Local) → Happens z r r' s choice l l' a → Shape z r → (IsRebalancing z.form → ⊥) → (q : ℕ) → IsStill r'.ledger.rows q
+still_keeps z r r' s choice l a l' h i n q = which (i.still n q)
   where
     status : (r'.ledger.rows.fates q).status ≡ (r.ledger.rows.fates q).status
-    status = ap (λ (x : Fate). x.status) (fates_kept a h q)
+    status = ap (λ (x : Fate). x.status) (same a h)
+      where
+        same : (c : Activity) → Happens z r r' s choice l l' c → r'.ledger.rows.fates q ≡ r.ledger.rows.fates q
+        same TakeRow k = absurd (n k.reached)
+        same GiveBack k = absurd (n k.reached)
+        same Replace k = absurd (n k.reached)
+        same c k = fate_stays c k q (λ x. x)
 
     which : IsStill r.ledger.rows q → IsStill r'.ledger.rows q
     which (inl x) = inl (status ∙ x)
@@ -432,15 +495,27 @@ still_keeps z r r' s choice l a l' h i q = which (i.still q)
 
 pub shape_keeps : (z : Sizes) (r r' : Run) (s : ℕ) (choice : Choice) (l : Local) (a : Activity) (l' : Local) → Happens z r r' s choice l l' a → Shape z r → Shape z r'
 shape_keeps z r r' s choice l a l' h i = record {
-  sane = sane_keeps z r r' s choice l a l' h.arrow h i;
+  sane = sane;
+  built = i.built;
   room = λ q o. room_keeps z r r' s choice l a l' h.arrow h i q (subst (λ x. q < x) h.rows o);
   clock = clock_keeps z r r' s choice l a l' h.arrow h i;
   rows = structure_keeps a h i;
-  beyond = λ q o. ap (λ (x : Fate). x.status) (fates_kept a h q) ∙ i.beyond q (omega (arith, o, h.rows));
+  beyond = λ q o. ap (λ (x : Fate). x.status) (beyond_stays a h i q (omega (arith, o, h.rows))) ∙ i.beyond q (omega (arith, o, h.rows));
   still = still_keeps z r r' s choice l a l' h i;
+  keyed = keyed_keeps a h i sane;
+  epoch = epoch_keeps z r r' s choice l a l' h.arrow h i;
   numbers = numbers_keep z r r' s choice l a l' h i;
   kinds = each_seat h (λ t k. Kinds z k.activity k) (kinds_own z r r' s choice l a l' h.arrow h i) (λ t k d g. i.kinds t k g);
   passes = each_seat h (λ t k. Passes (word z r'.world) r'.ledger.rows t k.activity k) (passes_own z r r' s choice l a l' h.arrow h i) (passes_other z r r' s choice l a l' h i);
   walks = each_seat h (λ t k. Walks (word z r'.world) r'.ledger.rows t k.activity k) (walks_own z r r' s choice l a l' h.arrow h i) (walks_other z r r' s choice l a l' h i);
   balances = each_seat h (λ t k. Balances (word z r'.world) r'.ledger.rows t k.activity k) (balances_own z r r' s choice l a l' h.arrow h i) (balances_other z r r' s choice l a l' h i);
+  keys = each_seat h (λ t k. Keys (word z r'.world) r'.ledger.rows k.activity k) (keys_own a h i sane) (λ t k d g. keys_stay a h i t k g);
+  plans = each_seat h (λ t k. Plans z k.activity k) (plans_own z r r' s choice l a l' h.arrow h i) (λ t k d g. i.plans t k g);
+  infants = each_seat h (λ t k. Infants z (word z r'.world) r'.ledger.rows t k.activity k) (infants_go a h.arrow h i) (infants_other a h i);
+  none_lost = each_seat h (λ t k. HasLostNone r'.ledger.rows t k.activity k) (none_lost_own a l' h.arrow h i) (none_lost_other a h i);
+  search = each_seat h (λ t k. Search (word z r'.world) r'.ledger.rows t k.activity k) (search_go a h.arrow h i) (search_other a h i);
+  won = each_seat h (λ t k. Won r'.ledger.rows t k.activity k) (won_own a h.arrow h i) (won_other a h i);
 }
+  where
+    sane : IsSane z r'.world
+    sane = sane_keeps z r r' s choice l a l' h.arrow h i

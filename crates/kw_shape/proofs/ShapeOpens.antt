@@ -1,5 +1,5 @@
 -- The shape holds where nothing happened.
-use Rattle.std.proofs.Common.{ℕ, zero, suc, ◌≡◌, ◌⊎◌, inl, inr, ◌<◌, ◌≤◌, true, false, Some, None, arith, refl, sym, ◌∙◌, ap, subst}
+use Rattle.std.proofs.Common.{ℕ, zero, suc, ◌≡◌, ◌⊎◌, inl, inr, ◌<◌, ◌≤◌, true, false, Option, Some, None, arith, refl, sym, ◌∙◌, ap, subst}
 use Rattle.std.proofs.lemmas.Bool.{cases_lt}
 use Rattle.std.proofs.lemmas.Option.{slice_get_within}
 use Rattle.kw_world.specs.declared.activity.Activity.TheVariants.{Idle}
@@ -14,7 +14,6 @@ use Rattle.kw_words.specs.Count.{count_of}
 use Rattle.kw_words.specs.Link.{link_of, link_word}
 use Rattle.kw_words.specs.State.{state_of, state_word}
 use Rattle.kw_words.proofs.StateWords.{state_of-Free, state_of-Normal}
-use Rattle.kw_words.specs.Plain.{key_of_word}
 use Rattle.kw_world.specs.Local.{resting}
 use Rattle.kw_world.specs.Transition.{row_linked}
 use Rattle.kw_world.specs.PutTransitions.{given_of}
@@ -28,7 +27,7 @@ use Rattle.kw_core.specs.Words.{next_in, given_in}
 use Rattle.kw_core.specs.Ledger.{fate_at_first, ledger_at_first}
 use Rattle.kw_core.specs.Run.{start}
 use Rattle.kw_core.proofs.Beyond.{beyond}
-use Rattle.kw_rows.specs.Ledger.{Free, Live, Dead, IsDead, IsHeld, IsLive}
+use Rattle.kw_rows.specs.Ledger.{Free, Infant, Live, Dead, IsDead, IsHeld, IsLive}
 use Rattle.kw_rows.specs.RowState as row
 use Rattle.kw_rows.specs.Rows.{Chain, bound}
 use Rattle.kw_rows.specs.States.{IsLiveState, Marks, States}
@@ -36,7 +35,21 @@ use Rattle.kw_rows.specs.Structure.{Structure}
 use Rattle.kw_shape.specs.Passes.{Passes}
 use Rattle.kw_shape.specs.RowsIn.{has_frozen, has_mark, rows_in, state_met}
 use Rattle.kw_shape.specs.Balances.{Balances}
+use Rattle.kw_shape.specs.Infants.{HasLostNone, Infants}
+use Rattle.kw_shape.specs.Search.{Search}
+use Rattle.kw_shape.specs.Won.{Won}
+use Rattle.kw_shape.proofs.Comings.{unbuilt_search}
+use Rattle.kw_shape.proofs.InfantsKeep.{nowhere}
+use Rattle.kw_shape.proofs.WonKeep.{unwon}
 use Rattle.kw_shape.proofs.BalancesKeep.{outside}
+use Rattle.kw_shape.proofs.PlansKeep.{unplanned}
+use Rattle.kw_shape.specs.Plans.{Plans}
+use Rattle.kw_shape.specs.Epochs.{numberers}
+use Rattle.kw_shape.specs.Keyed.{IsLinkOf, IsOfCell, Keyed, Keys}
+use Rattle.kw_words.specs.Pend.{pend_of}
+use Rattle.kw_words.specs.Plain.{cell_of_link_word, key_of_word}
+use Rattle.kw_words.proofs.PendWords.{pend_of-Idle}
+use Rattle.kw_world.specs.ListTransitions.{link_name}
 use Rattle.kw_shape.specs.Shape.{IsStill, Kinds, Shape, Walks}
 use Rattle.kw_shape.proofs.RelyRows.{walks_outside}
 
@@ -47,6 +60,14 @@ no_adders (suc n) q = omega (arith, no_adders n q)
 no_drawers : (m n : ℕ) → drawers m (replicate n (resting 0)) ≡ 0
 no_drawers m zero = refl
 no_drawers m (suc n) = omega (arith, no_drawers m n)
+
+no_numberers : (n : ℕ) → numberers (replicate n (resting 0)) ≡ 0
+no_numberers zero = refl
+no_numberers (suc n) = omega (arith, no_numberers n)
+
+no_cell : cell_of_link_word 0 ≡ None
+unfolding cell_of_link_word
+no_cell = refl
 
 pub none_given : given_of (count_of 0) ≡ 0
 unfolding count_of
@@ -114,6 +135,11 @@ module _ (z : Sizes) (o : Opening) (i : IsOpening z o) where
   none_dead : {A : Type 0} (q : ℕ) → IsDead (ledger_at_first o).rows q → A
   none_dead zero a = let x : Live ≡ Dead = a in absurd (cc)
   none_dead (suc q) a = let x : Free ≡ Dead = a in absurd (cc)
+
+  -- nor is any taken
+  none_infant : {A : Type 0} (q : ℕ) → ((ledger_at_first o).rows.fates q).status ≡ Infant → A
+  none_infant zero e = let x : Live ≡ Infant = e in absurd (cc)
+  none_infant (suc q) e = let x : Free ≡ Infant = e in absurd (cc)
 
   -- no row is held but the first, which has no next row
   held_live : (q : ℕ) → IsHeld (ledger_at_first o).rows q → IsLive (ledger_at_first o).rows q
@@ -186,14 +212,34 @@ module _ (z : Sizes) (o : Opening) (i : IsOpening z o) where
     before = λ m at since o e f. let x : None ≡ Some at = e in absurd (cc);
   }
 
+  -- no entry names a cell, and no link leads to one
+  keyed_starts : (q : ℕ) → Keyed z (word z (opened z o)) (ledger_at_first o).rows q
+  keyed_starts q = record {
+    named = λ j c p x. absurd (subst (IsOfCell c) (ap pend_of (word-none (name.Pend q j) q (λ w. (w, p)) (omega arith) refl) ∙ pend_of-Idle) x);
+    linked = λ at c p x. let y : None ≡ Some c = sym (ap cell_of_link_word (link-none at p) ∙ no_cell) ∙ x in absurd (cc);
+  }
+    where
+      link-none : (at : Option ℕ) → IsLinkOf z at → word z (opened z o) (link_name q at) ≡ 0
+      link-none (Some c) p = word-none (name.After q c) q (λ w. (w, p)) (omega arith) refl
+      link-none None p = word-none (name.First q) q (λ w. w) (omega arith) refl
+
   pub shape_starts : Shape z (start z o)
   shape_starts = record {
     sane = opened-sane z o i;
+    built = i.built;
     room = λ q w. omega (arith, given-none q w, no_adders o.seats q, i.sized.some_cells);
     clock = omega (arith, opens name.Clock tt, no_drawers z.seats o.seats, i.clock);
     rows = structure_starts;
     beyond = beyond_starts;
-    still = still_starts;
+    still = λ n. still_starts;
+    keyed = λ q k. keyed_starts q;
+    epoch = omega (arith, opens name.Epoch tt, no_numberers o.seats, i.epoch);
+    keys = each_rests z o (λ t l. Keys (word z (opened z o)) (ledger_at_first o).rows l.activity l) (λ t. record { own = λ x. absurd x; held = λ x. absurd x; marks = λ x. absurd x; met = λ x. absurd x; key = λ x. absurd x; gathered = λ x. absurd x });
+    plans = each_rests z o (λ t l. Plans z l.activity l) (λ t. unplanned z Idle (resting 0) refl);
+    infants = each_rests z o (λ t l. Infants z (word z (opened z o)) (ledger_at_first o).rows t l.activity l) (λ t. nowhere z (word z (opened z o)) (ledger_at_first o).rows t Idle (resting 0) refl);
+    none_lost = each_rests z o (λ t l. HasLostNone (ledger_at_first o).rows t l.activity l) (λ t q x. none_infant q x.status);
+    search = each_rests z o (λ t l. Search (word z (opened z o)) (ledger_at_first o).rows t l.activity l) (λ t. unbuilt_search (word z (opened z o)) (ledger_at_first o).rows t Idle (resting 0) (λ x. x));
+    won = each_rests z o (λ t l. Won (ledger_at_first o).rows t l.activity l) (λ t. unwon (ledger_at_first o).rows t Idle (resting 0) (λ x. x));
     numbers = record { below = λ m at e. let x : None ≡ Some at = e in absurd (cc); rises = λ m n x y e f. let u : None ≡ Some x = e in absurd (cc) };
     kinds = each_rests z o (λ t l. Kinds z l.activity l) (λ t. record { reached = tt; kind = tt; range = λ x. absurd x });
     passes = λ t l g. each_rests z o (λ t l. t < z.seats → Passes (word z (opened z o)) (ledger_at_first o).rows t l.activity l) passes_start t l g (omega (arith, slice_get_within (opened z o).locals t l g, (opened-sane z o i).seats));

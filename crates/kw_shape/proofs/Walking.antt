@@ -18,8 +18,9 @@ use Rattle.kw_rows.specs.Structure.{Structure}
 use Rattle.kw_rows.proofs.Named.{above_least, ends_at, ends_nowhere, fresh_next, held_by, normal_live}
 use Rattle.kw_shape.specs.RowsIn.{rows_in, state_met}
 use Rattle.kw_shape.specs.Shape.{IsAtItsRow, IsOnWalk, Walks}
-use Rattle.kw_core.proofs.Arrows.{Arrow, enters, settles, starts_at_head, guesses, guess_fails, takes_head, guess_serves, guess_is_above, puts_in_last, reads_last, meets_next, walks_on, puts_before, reads_before, meets_pending, meets_stamped, meets_neither, is_wanted, is_passed, loads_to_help, helps, finds_stamped, finds_other, list_leads, list_ends, key_below, key_within, key_above, loads_version, gathers_listed, rest_wanted, rest_passed, gathers_rest, finds_room, takes_cell, stores_key, stores_value, announces, loads_clock, stamps, is_stamped, stores_version, meets_cell, meets_none, key_before, key_same, key_after, version_before, version_after, stores_after, inserts, loses, NextLook, looks, lists, NextRest, rests, answers, ends_scan, scans_on, builds, finds_none, takes_none, is_refused, is_not_own, marks_led, decides}
-use Rattle.kw_core.proofs.Building.{never_built}
+use Rattle.kw_core.proofs.Arrows.{Arrow, enters, settles, starts_at_head, guesses, guess_fails, takes_head, guess_serves, guess_is_above, puts_in_last, reads_last, meets_next, walks_on, puts_before, reads_before, meets_pending, meets_stamped, meets_neither, is_wanted, is_passed, loads_to_help, helps, finds_stamped, finds_other, list_leads, list_ends, key_below, key_within, key_above, loads_version, gathers_listed, rest_wanted, rest_passed, gathers_rest, finds_room, takes_cell, stores_key, stores_value, announces, loads_clock, stamps, is_stamped, stores_version, meets_cell, meets_none, key_before, key_same, key_after, version_before, version_after, stores_after, inserts, loses, NextLook, looks, lists, NextRest, rests, answers, ends_scan, scans_on, builds}
+use Rattle.kw_core.proofs.BuiltNext.{built_next}
+use Rattle.kw_shape.proofs.AfterBuilding.{after_walks}
 
 -- At a row.
 
@@ -158,7 +159,7 @@ module _ (v : Words) (g : Ledger) (t : ℕ) {now : ℕ} (rows : Structure (rows_
 
 -- by the arrow that the seat takes
 pub walks_by : (z : Sizes) (v : Words) (g : Ledger) {now : ℕ} (s : ℕ) (choice : Choice) (l : Local) (a : Activity) (l' : Local) → Arrow z v s choice l a l' → Structure (rows_in v) g now → Walks v g s a l → Walks v g s l'.activity l'
-walks_by z v g s choice l a l' (builds b next y o t) c w = never_built z b y o
+walks_by z v g s choice l a l' (builds b next y o t) c w = after_walks v g s next.activity next (built_next z v choice l b next t)
 walks_by z v g s choice l a l' (enters y) c w = record { on = tt; lower = λ q. absurd q; at = λ q. absurd q; begins = λ q. refl; wants = λ q. absurd q }
 walks_by z v g s choice l a l' (settles y) c w = record { on = tt; lower = λ q. absurd q; at = λ q. absurd q; begins = λ q. refl; wants = λ q. absurd q }
 walks_by z v g s choice l a l' starts_at_head c w = at_first v g s c _ refl refl (w.begins tt)

@@ -3,7 +3,7 @@
 --
 -- A rebalance replaces one row, so the group is that row alone. Once the row is decided, what the seat knows of it stays so whatever
 -- others do, also when somebody else has replaced the row.
-use Rattle.std.specs.Prelude.{ℕ, ◌≡◌}
+use Rattle.std.specs.Prelude.{ℕ, ◌≡◌, true}
 use Rattle.kw_world.specs.declared.activity.Activity.{Activity}
 use Rattle.kw_world.specs.declared.activity.Activity.TheVariants.{MarkLink, Decide, FreezeCount, FreezeLook, Freeze, ScanLook, HelpDraw, HelpSettle, TakeFrom, TakeKey, TakeVersion, TakeValue, TakeRestKey, TakeRestValue, SeekFirst, Seek, TakeRow, GiveBack, WriteCount, WriteMin, WriteNext, WriteFirst, WritePend, WriteKey, WriteValue, WriteVersion, WriteAfter, Before, BeforeGuess, BeforeHead, BeforeLink, BeforeMin, Replace}
 use Rattle.kw_world.specs.declared.local.Local.{Local}
@@ -51,8 +51,43 @@ view_of BeforeMin l = Alone l.row l.rebalance.after
 view_of Replace l = Alone l.row l.rebalance.after
 view_of _ l = Elsewhere
 
+-- the seat has frozen the count of its row, and has neither replaced the row nor given it up
+abbrev pub HasFrozen : Activity → Type 0
+HasFrozen (FreezeLook i) = Unit {0}
+HasFrozen (Freeze i) = Unit {0}
+HasFrozen (ScanLook i) = Unit {0}
+HasFrozen (HelpDraw i) = Unit {0}
+HasFrozen (HelpSettle i) = Unit {0}
+HasFrozen TakeFrom = Unit {0}
+HasFrozen TakeKey = Unit {0}
+HasFrozen TakeVersion = Unit {0}
+HasFrozen TakeValue = Unit {0}
+HasFrozen TakeRestKey = Unit {0}
+HasFrozen TakeRestValue = Unit {0}
+HasFrozen SeekFirst = Unit {0}
+HasFrozen Seek = Unit {0}
+HasFrozen TakeRow = Unit {0}
+HasFrozen GiveBack = Unit {0}
+HasFrozen WriteCount = Unit {0}
+HasFrozen WriteMin = Unit {0}
+HasFrozen WriteNext = Unit {0}
+HasFrozen WriteFirst = Unit {0}
+HasFrozen (WritePend i) = Unit {0}
+HasFrozen (WriteKey j) = Unit {0}
+HasFrozen (WriteValue j) = Unit {0}
+HasFrozen (WriteVersion j) = Unit {0}
+HasFrozen (WriteAfter j) = Unit {0}
+HasFrozen Before = Unit {0}
+HasFrozen BeforeGuess = Unit {0}
+HasFrozen BeforeHead = Unit {0}
+HasFrozen BeforeLink = Unit {0}
+HasFrozen BeforeMin = Unit {0}
+HasFrozen Replace = Unit {0}
+HasFrozen _ = ⊥
+
 -- what a seat that rebalances knows of its row
 pub record Balances (v : Words) (g : Ledger) (t : ℕ) (a : Activity) (l : Local) : Type 0 where
   pub fresh : IsBalancing a → IsFresh g t l.row
   pub lower : IsBalancing a → l.lower ≡ least_in v l.row
   pub group : Group (rows_in v) g (view_of a l)
+  pub frozen : HasFrozen a → (rows_in v).frozen l.row ≡ true

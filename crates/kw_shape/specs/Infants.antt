@@ -194,3 +194,11 @@ pub record Infants (z : Sizes) (v : Words) (g : Ledger) (t : ℕ) (a : Activity)
   pub enough : HasAll (nursing_of a) → (0 < length l.rebalance.taken) × (length l.rebalance.starts ≤ length l.rebalance.taken)
   pub whole : (i q : ℕ) → IsWhole (nursing_of a) l i → slice_get l.rebalance.taken i ≡ Some q → Written z v Before (at_infant i l) q
   pub words : IsWriting (nursing_of a) → Written z v a l (infant l)
+
+-- the row is one of those that the seat took, and has still
+abbrev pub IsNursedRow : Activity → Local → ℕ → Type 0
+IsNursedRow a l q = (i : ℕ) × IsNursed (nursing_of a) l i × (slice_get l.rebalance.taken i ≡ Some q)
+
+-- the seat has lost none: each row that it took, and that is neither linked nor given back, is one of those that it has
+abbrev pub HasLostNone : Ledger → ℕ → Activity → Local → Type 0
+HasLostNone g t a l = (q : ℕ) → IsInfantOf g t q → IsNursedRow a l q

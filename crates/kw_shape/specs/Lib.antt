@@ -6,3 +6,7 @@ pub mod Shape
 pub mod MetRows
 pub mod Infants
 pub mod Search
+pub mod Epochs
+pub mod Keyed
+pub mod Plans
+pub mod Won

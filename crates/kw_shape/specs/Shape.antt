@@ -12,7 +12,7 @@ use Rattle.kw_world.specs.declared.answer.Answer.TheVariants.{Done, Value, Absen
 use Rattle.kw_world.specs.declared.activity.Activity.{Activity}
 use Rattle.kw_world.specs.declared.activity.Activity.TheVariants.{Idle, ScanClock, ScanWait, ScanDraw, ScanSettle, GuessMin, Walk, WalkMin, Look, LookKey, LookClock, LookHelp, ListFrom, ListKey, ListVer, ListVal, RestKey, RestVal, ClearScan, PutCount, PutAdd, PutKey, PutValue, Announce, PutClock, Stamp, PutVersion, InsFrom, InsKey, InsVer, InsSet, Insert, PutClear, Leave, AgainEpoch, MarkLink, Decide}
 use Rattle.kw_world.specs.declared.local.Local.{Local}
-use Rattle.kw_world.specs.Sizes.{Sizes}
+use Rattle.kw_world.specs.Sizes.{Sizes, IsRebalancing}
 use Rattle.kw_world.specs.Calls.{first_key, last_key, is_scan}
 use Rattle.kw_world.specs.Sane.{IsSane}
 use Rattle.kw_world.specs.Step.{word}
@@ -23,15 +23,22 @@ use Rattle.kw_core.specs.Stages.{stage_of, IsStarting, IsCovering, IsAtRow, IsPa
 use Rattle.kw_core.specs.Run.{Run}
 use Rattle.kw_rows.specs.Ledger.{Ledger, Free, IsLive, IsFresh}
 use Rattle.kw_rows.specs.Rows as rows
+use Rattle.kw_rows.specs.Rows.{WasLinked}
 use Rattle.kw_rows.specs.Structure.{Structure}
 use Rattle.kw_shape.specs.Rooms.{adders, drawers}
 use Rattle.kw_shape.specs.RowsIn.{rows_in}
 use Rattle.kw_shape.specs.Passes.{Passes, Numbers}
 use Rattle.kw_shape.specs.Balances.{Balances}
+use Rattle.kw_shape.specs.Epochs.{numberers}
+use Rattle.kw_shape.specs.Keyed.{Keyed, Keys}
+use Rattle.kw_shape.specs.Plans.{Plans}
+use Rattle.kw_shape.specs.Infants.{HasLostNone, Infants}
+use Rattle.kw_shape.specs.Search.{Search}
+use Rattle.kw_shape.specs.Won.{Won}
 
 -- The rows.
 
--- what stands in place of rows that come and go, as long as no row is replaced: the row is in the list, or free
+-- what stands in place of rows that come and go, where no row is rebalanced: the row is in the list, or free
 abbrev pub IsStill : Ledger → ℕ → Type 0
 IsStill g q = IsLive g q ⊎ ((g.fates q).status ≡ Free)
 
@@ -173,16 +180,30 @@ pub record Kinds (z : Sizes) (a : Activity) (l : Local) : Type 0 where
 -- has it
 pub record Shape (z : Sizes) (r : Run) : Type 0 where
   pub sane : IsSane z r.world
+  -- of one key a row that is built has room for more cells than scans may need at once, so the new rows of one full row differ in their least keys
+  pub built : z.seats < z.built
   pub room : (q : ℕ) → q < r.world.rows → given_in (word z r.world) q + adders q r.world.locals < z.cells + z.seats
   pub clock : word z r.world name.Clock + drawers z.seats r.world.locals ≤ SPENT + z.seats * z.seats
   -- the live rows are one list, rows that a seat may name lead to such rows, and states and marks go with the fates
   pub rows : Structure (rows_in (word z r.world)) r.ledger.rows (length r.history.log)
   -- a row that the table does not have is free
   pub beyond : (q : ℕ) → r.world.rows ≤ q → (r.ledger.rows.fates q).status ≡ Free
-  -- as long as no row is replaced, none comes or goes
-  pub still : (q : ℕ) → IsStill r.ledger.rows q
+  -- where no row is rebalanced, none comes or goes
+  pub still : (IsRebalancing z.form → ⊥) → (q : ℕ) → IsStill r.ledger.rows q
+  -- the keys that stand in a row are such as it may hold
+  pub keyed : (q : ℕ) → WasLinked r.ledger.rows q → Keyed z (word z r.world) r.ledger.rows q
+  -- the epoch has room for the numbers that are drawn
+  pub epoch : word z r.world name.Epoch + numberers r.world.locals ≤ SPENT + z.seats
   pub numbers : Numbers (word z r.world) r.ledger.rows
   pub kinds : (t : ℕ) (l : Local) → slice_get r.world.locals t ≡ Some l → Kinds z l.activity l
   pub passes : (t : ℕ) (l : Local) → slice_get r.world.locals t ≡ Some l → Passes (word z r.world) r.ledger.rows t l.activity l
   pub walks : (t : ℕ) (l : Local) → slice_get r.world.locals t ≡ Some l → Walks (word z r.world) r.ledger.rows t l.activity l
   pub balances : (t : ℕ) (l : Local) → slice_get r.world.locals t ≡ Some l → Balances (word z r.world) r.ledger.rows t l.activity l
+  -- each seat knows keys of its row, what it has planned, the rows that it took, of which none is lost, the row before its full one, and what it has
+  -- replaced
+  pub keys : (t : ℕ) (l : Local) → slice_get r.world.locals t ≡ Some l → Keys (word z r.world) r.ledger.rows l.activity l
+  pub plans : (t : ℕ) (l : Local) → slice_get r.world.locals t ≡ Some l → Plans z l.activity l
+  pub infants : (t : ℕ) (l : Local) → slice_get r.world.locals t ≡ Some l → Infants z (word z r.world) r.ledger.rows t l.activity l
+  pub none_lost : (t : ℕ) (l : Local) → slice_get r.world.locals t ≡ Some l → HasLostNone r.ledger.rows t l.activity l
+  pub search : (t : ℕ) (l : Local) → slice_get r.world.locals t ≡ Some l → Search (word z r.world) r.ledger.rows t l.activity l
+  pub won : (t : ℕ) (l : Local) → slice_get r.world.locals t ≡ Some l → Won r.ledger.rows t l.activity l

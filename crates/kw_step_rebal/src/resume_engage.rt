@@ -3,7 +3,6 @@ ghost use Rattle.std.specs.Prelude.{◌≡◌, ◌==◌};
 ghost use Rattle.kw_words.specs.Link.{link_of};
 ghost use Rattle.kw_words.specs.State.{state_of, state_word};
 ghost use Rattle.kw_words.specs.declared.state.State.{State};
-ghost use Rattle.kw_world.specs.Sizes.{product};
 ghost use Rattle.kw_world.specs.EngageTransitions.{to_rebalance, again, refuse, balance_clock, balance_epoch, is_alone, state_met, engaged, link_marked, decided};
 ghost use Rattle.kw_world.specs.Transition.{outcome, row_linked};
 
@@ -96,7 +95,7 @@ pub(crate) fn engage(local: &mut Local, found: u64) -> StepDone
 
 // The seat has marked the link of the full row, which leads so many rows, and was told the link found.
 pub(crate) fn link_marked(local: &mut Local, count: u32, found: u64) -> StepDone
-    ensures { outcome local.new result ≡ link_marked product count (row_linked (link_of found)) local.old }
+    ensures { outcome local.new result ≡ link_marked count (row_linked (link_of found)) local.old }
 {
     local.rebalance.after = match Link::unpack(found) {
         Some(link) => link.row,
@@ -111,7 +110,7 @@ pub(crate) fn link_marked(local: &mut Local, count: u32, found: u64) -> StepDone
 
 // The seat has tried to decide how many rows are replaced, and was told the state found.
 pub(crate) fn decide(local: &mut Local, found: u64) -> StepDone
-    ensures { outcome local.new result ≡ decided product (state_of found) local.old }
+    ensures { outcome local.new result ≡ decided (state_of found) local.old }
 {
     match State::unpack(found) {
         Some(State::Leader(count)) if is_alone(count) => to(local, Activity::FreezeCount),

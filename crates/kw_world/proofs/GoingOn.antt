@@ -25,7 +25,7 @@ use Rattle.kw_world.specs.declared.activity.Activity.TheVariants.{Idle, Enter, S
 use Rattle.kw_world.specs.declared.local.Local.{Local}
 use Rattle.kw_world.specs.declared.event.Choice.{Choice}
 use Rattle.kw_world.specs.declared.event.Choice.TheVariants.{Begin, Go, Guess, Stop}
-use Rattle.kw_world.specs.Sizes.{Form, Refused, Decided, Gathered, Sizes}
+use Rattle.kw_world.specs.Sizes.{Form, Refused, Alone, Sizes}
 use Rattle.kw_world.specs.Transition.{Outcome, row_linked, row_or_first, to, leave}
 use Rattle.kw_world.specs.PutTransitions.{stamp_met, full_in, full, has_room, given_of}
 use Rattle.kw_world.specs.ListTransitions.{insert_from, insert_key, insert_past, insert_tried, is_newer}
@@ -40,9 +40,9 @@ use Rattle.kw_words.specs.declared.link.Link.{Link}
 use Rattle.kw_words.specs.State.{state_word}
 use Rattle.kw_world.specs.declared.rebalance.Afterwards.{Afterwards}
 use Rattle.kw_world.specs.declared.rebalance.Afterwards.TheVariants.{TryAgain, Refuse, MoveLeft}
-use Rattle.kw_world.specs.EngageTransitions.{again, refuse, is_alone, state_met, engaged, followed_by, led_in, led_alone, link_marked, decided}
+use Rattle.kw_world.specs.EngageTransitions.{again, refuse, is_alone, state_met, engaged, followed_by, link_marked, decided}
 use Rattle.kw_world.specs.FreezeTransitions.{to_scans, to_freeze_look, marking, freeze_met, entry_tried, to_scan_look, needing, scan_met, scan_helped}
-use Rattle.kw_world.specs.TakeTransitions.{to_take, left_of, take_met, keeping, packed_in, planned}
+use Rattle.kw_world.specs.TakeTransitions.{to_take, left_of, take_met, keeping}
 use Rattle.kw_world.specs.SeekTransitions.{given_back, give_back, gave_back, at_infant, has_more, row_behind, to_seek, seek_met, seeking, seek_first_transition, with_row, take_row}
 use Rattle.kw_world.specs.WriteTransitions.{infant_cells, row_written, to_write_cell, to_write_entry}
 use Rattle.kw_world.specs.ReplaceTransitions.{at_before, first_before, guess_before, before_transition, row_before, link_before, row_replaced, replaced}
@@ -111,11 +111,10 @@ list_goes z None l = rests l
 list_key_goes : (key : ℕ) (l : Local) → Goes l.number (list_key key l)
 list_key_goes key l = either (nat_lt key (first_key l.call)) (list_past l) _ (record { moved = refl; number = refl }) (either (nat_le key (last_key l.call)) (to ListVer (record l { place_key = key })) (to_rest l) (record { moved = refl; number = refl }) (rests l))
 
--- a put that has met a full row, in any form
+-- a put that has met a full row, in either form
 full_goes : (f : Form) (l : Local) → Goes l.number (full_in f l)
 full_goes Refused l = record { moved = refl; number = refl }
-full_goes Decided l = record { moved = refl; number = refl }
-full_goes Gathered l = record { moved = refl; number = refl }
+full_goes Alone l = record { moved = refl; number = refl }
 
 stamp_goes : (z : Sizes) (e : Option Pend) (l : Local) → Goes l.number (stamp_met z e l)
 stamp_goes z (Some pend.Idle) l = full_goes z.form l
@@ -197,23 +196,17 @@ engaged_goes : (b : Bool) (l : Local) → Goes l.number (engaged b l)
 engaged_goes true l = record { moved = refl; number = refl }
 engaged_goes false l = record { moved = refl; number = refl }
 
--- and a row that is led alone
-led_goes : (f : Form) (l : Local) → Goes l.number (led_in f l)
-led_goes Refused l = record { moved = refl; number = refl }
-led_goes Decided l = record { moved = refl; number = refl }
-led_goes Gathered l = record { moved = refl; number = refl }
+marked_goes : (count : ℕ) (after : Option ℕ) (l : Local) → Goes l.number (link_marked count after l)
+marked_goes count after l = either (count == 0) (to (Decide 1) (followed_by after l)) (to FreezeCount (followed_by after l)) (record { moved = refl; number = refl }) (record { moved = refl; number = refl })
 
-marked_goes : (z : Sizes) (count : ℕ) (after : Option ℕ) (l : Local) → Goes l.number (link_marked z count after l)
-marked_goes z count after l = either (count == 0) (to (Decide 1) (followed_by after l)) (led_alone z (followed_by after l)) (record { moved = refl; number = refl }) (led_goes z.form (followed_by after l))
-
-decided_goes : (z : Sizes) (state : Option State) (l : Local) → Goes l.number (decided z state l)
-decided_goes z (Some Free) l = record { moved = refl; number = refl }
-decided_goes z (Some (Infant seat)) l = record { moved = refl; number = refl }
-decided_goes z (Some Normal) l = record { moved = refl; number = refl }
-decided_goes z (Some (Leader count)) l = either (is_alone count) (led_alone z l) (again l) (led_goes z.form l) (record { moved = refl; number = refl })
-decided_goes z (Some (Follower leader)) l = record { moved = refl; number = refl }
-decided_goes z (Some (Retired number)) l = record { moved = refl; number = refl }
-decided_goes z None l = record { moved = refl; number = refl }
+decided_goes : (state : Option State) (l : Local) → Goes l.number (decided state l)
+decided_goes (Some Free) l = record { moved = refl; number = refl }
+decided_goes (Some (Infant seat)) l = record { moved = refl; number = refl }
+decided_goes (Some Normal) l = record { moved = refl; number = refl }
+decided_goes (Some (Leader count)) l = either (is_alone count) (to FreezeCount l) (again l) (record { moved = refl; number = refl }) (record { moved = refl; number = refl })
+decided_goes (Some (Follower leader)) l = record { moved = refl; number = refl }
+decided_goes (Some (Retired number)) l = record { moved = refl; number = refl }
+decided_goes None l = record { moved = refl; number = refl }
 
 freeze_looks : (z : Sizes) (i : ℕ) (l : Local) → Goes l.number (to_freeze_look z i l)
 freeze_looks z i l = either (nat_lt i z.seats) (to (FreezeLook i) l) (to_scans l) (record { moved = refl; number = refl }) (record { moved = refl; number = refl })
@@ -249,14 +242,9 @@ helped_goes z i (Some (scan.Waiting clock)) l = scan_looks_then z (i + 1) (if cl
 helped_goes z i (Some (scan.Drawn version)) l = scan_looks_then z (i + 1) (needing version l) refl
 helped_goes z i None l = scan_looks_then z (i + 1) l refl
 
-packed_goes : (f : Form) (l : Local) → Goes l.number (packed_in f l)
-packed_goes Refused l = record { moved = refl; number = refl }
-packed_goes Decided l = record { moved = refl; number = refl }
-packed_goes Gathered l = record { moved = refl; number = refl }
-
 left_goes : (z : Sizes) (m : Option Mark) (l : Local) → Goes l.number (left_of z m l)
 left_goes z (Some m) l = record { moved = refl; number = refl }
-left_goes z None l = packed_goes z.form (planned z l)
+left_goes z None l = record { moved = refl; number = refl }
 
 take_goes : (z : Sizes) (cell : Option ℕ) (l : Local) → Goes l.number (take_met z cell l)
 take_goes z (Some cell) l = record { moved = refl; number = refl }
@@ -394,8 +382,8 @@ goes_on z BalEpoch s choice l rows told e n = either (nat_le SPENT told) (refuse
 goes_on z BalState s choice l rows told e n = state_goes (state_of told) l
 goes_on z (BalNormal seat) s choice l rows told e n = record { moved = refl; number = refl }
 goes_on z Engage s choice l rows told e n = engaged_goes (told == state_word Normal) l
-goes_on z (MarkLink count) s choice l rows told e n = marked_goes z count (row_linked (link_of told)) l
-goes_on z (Decide count) s choice l rows told e n = decided_goes z (state_of told) l
+goes_on z (MarkLink count) s choice l rows told e n = marked_goes count (row_linked (link_of told)) l
+goes_on z (Decide count) s choice l rows told e n = decided_goes (state_of told) l
 goes_on z FreezeCount s choice l rows told e n = record { moved = refl; number = refl }
 goes_on z (FreezeLook i) s choice l rows told e n = freeze_goes z i (pend_of told) l
 goes_on z (Freeze i) s choice l rows told e n = entry_goes z i (told == pend_word l.rebalance.entry) l

@@ -22,7 +22,7 @@ use Rattle.kw_world.specs.Local.{resting, no_rebalance}
 use Rattle.kw_world.specs.declared.activity.Activity.{Activity}
 use Rattle.kw_world.specs.declared.activity.Activity.TheVariants.{Idle}
 use Rattle.kw_world.specs.Opening.{IsOpening, opened, opening_word, link_to}
-use Rattle.kw_world.specs.Sane.{IsSane, IsKnown, IsWord, IsLed, IsHead, IsStateBelow, IsLinkBelow, IsRowState, IsKnownWord, IsGiven, IsEntry, IsPair, IsMark, IsCopy, IsVersion, IsRebalance, IsRebalanceBelow, HasRebalanceRoom, IsTakingRows}
+use Rattle.kw_world.specs.Sane.{IsSane, IsKnown, IsWord, IsLed, IsHead, IsStateBelow, IsLinkBelow, IsRowState, IsKnownWord, IsGiven, IsEntry, IsPair, IsMark, IsCopy, IsPlaced, IsVersion, IsRebalance, IsRebalanceBelow, HasRebalanceRoom, IsTakingRows}
 use Rattle.kw_world.specs.Step.{word}
 use Rattle.kw_world.proofs.Begins.{opened-word, length-opened}
 use Rattle.kw_world.proofs.Lists.{get-set_same, get-set_other}
@@ -36,7 +36,9 @@ none_ranges z = record {
   drawn = (omega arith, omega arith);
   needed = All-nil IsVersion;
   gathered = All-nil IsCopy;
+  placed = All-nil (IsPlaced z);
   kept = All-nil IsCopy;
+  places = All-nil (IsPlaced z);
   few = omega arith;
   at = omega arith;
   least = omega arith;

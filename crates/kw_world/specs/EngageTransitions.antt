@@ -6,11 +6,10 @@ use Rattle.kw_words.specs.declared.sizes.TheConstants.{SPENT}
 use Rattle.kw_words.specs.declared.state.State.{State}
 use Rattle.kw_words.specs.declared.state.State.TheVariants.{Free, Infant, Normal, Leader, Follower, Retired}
 use Rattle.kw_world.specs.declared.answer.Answer.{Answer}
-use Rattle.kw_world.specs.declared.answer.Answer.TheVariants.{NoRows, Spent}
+use Rattle.kw_world.specs.declared.answer.Answer.TheVariants.{Spent}
 use Rattle.kw_world.specs.declared.activity.Activity.TheVariants.{Again, BalClock, BalEpoch, BalState, BalNormal, Engage, MarkLink, Decide, FreezeCount}
 use Rattle.kw_world.specs.declared.local.Local.{Local}
 use Rattle.kw_world.specs.Local.{without_rows, without_rebalance}
-use Rattle.kw_world.specs.Sizes.{Form, Refused, Decided, Gathered, Sizes}
 use Rattle.kw_world.specs.Transition.{Outcome, to, leave}
 
 -- the rebalance of the seat's row begins, and nothing is known of an earlier one
@@ -56,26 +55,17 @@ engaged false l = to BalState l
 abbrev pub followed_by : Option ℕ → Local → Local
 followed_by after l = record l { rebalance = record l.rebalance { after = after } }
 
--- the row is led alone, in a table of this form: it is frozen, and a form that goes no further refuses the put
-abbrev pub led_in : Form → Local → Outcome
-led_in Refused l = to FreezeCount l
-led_in Decided l = refuse NoRows l
-led_in Gathered l = to FreezeCount l
+-- MarkLink: the link does not change any more. It is decided that one row is replaced, unless it was decided before: then it is frozen
+abbrev pub link_marked : ℕ → Option ℕ → Local → Outcome
+link_marked count after l = if count == 0 then to (Decide 1) (followed_by after l) else to FreezeCount (followed_by after l)
 
--- the row is led alone
-abbrev pub led_alone : Sizes → Local → Outcome
-led_alone z l = led_in z.form l
-
--- MarkLink: the link does not change any more. It is decided that one row is replaced, unless it was decided before
-abbrev pub link_marked : Sizes → ℕ → Option ℕ → Local → Outcome
-link_marked z count after l = if count == 0 then to (Decide 1) (followed_by after l) else led_alone z (followed_by after l)
-
--- Decide: the exchange was made, or somebody else decided the same; in any other state the row is not this seat's any more
-abbrev pub decided : Sizes → Option State → Local → Outcome
-decided z (Some Free) l = again l
-decided z (Some (Infant seat)) l = again l
-decided z (Some Normal) l = again l
-decided z (Some (Leader count)) l = if is_alone count then led_alone z l else again l
-decided z (Some (Follower leader)) l = again l
-decided z (Some (Retired number)) l = again l
-decided z None l = again l
+-- Decide: the exchange was made, or somebody else decided the same, and the row is frozen; in any other state it is not this seat's any
+-- more
+abbrev pub decided : Option State → Local → Outcome
+decided (Some Free) l = again l
+decided (Some (Infant seat)) l = again l
+decided (Some Normal) l = again l
+decided (Some (Leader count)) l = if is_alone count then to FreezeCount l else again l
+decided (Some (Follower leader)) l = again l
+decided (Some (Retired number)) l = again l
+decided None l = again l

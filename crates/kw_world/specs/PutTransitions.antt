@@ -6,15 +6,14 @@ use Rattle.kw_words.specs.declared.count.Count.{Count}
 use Rattle.kw_world.specs.declared.answer.Answer.TheVariants.{NoRows}
 use Rattle.kw_world.specs.declared.activity.Activity.TheVariants.{PutVersion}
 use Rattle.kw_world.specs.declared.local.Local.{Local}
-use Rattle.kw_world.specs.Sizes.{Form, Refused, Decided, Gathered, Sizes}
+use Rattle.kw_world.specs.Sizes.{Form, Refused, Alone, Sizes}
 use Rattle.kw_world.specs.Transition.{Outcome, to, leave}
 use Rattle.kw_world.specs.EngageTransitions.{to_rebalance}
 
 -- what a put does that has met a full row, in a table of this form: it is refused, or rebalances the row
 abbrev pub full_in : Form → Local → Outcome
 full_in Refused l = leave NoRows l
-full_in Decided l = to_rebalance l
-full_in Gathered l = to_rebalance l
+full_in Alone l = to_rebalance l
 
 -- Full has no event of its own
 abbrev pub full : Sizes → Local → Outcome

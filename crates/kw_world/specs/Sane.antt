@@ -184,6 +184,10 @@ IsMark z m = (m.cell < z.cells) × IsVersion m.version
 abbrev pub IsCopy : kw_cell.Cell → Type 0
 IsCopy c = (c.key < KEY_END) × IsVersion c.version × IsValue c.value
 
+-- a gathered cell stood in its row at a place that a row has
+abbrev pub IsPlaced : Sizes → kw_cell.Cell → Type 0
+IsPlaced z c = c.place < z.cells
+
 -- what a seat knows of its rebalance is in range; rows aside
 pub record IsRebalance (z : Sizes) (b : Rebalance) : Type 0 where
   pub entry : IsEntry z (Some b.entry)
@@ -192,7 +196,9 @@ pub record IsRebalance (z : Sizes) (b : Rebalance) : Type 0 where
   pub drawn : IsVersion b.drawn
   pub needed : All IsVersion b.needed
   pub gathered : All IsCopy b.gathered
+  pub placed : All (IsPlaced z) b.gathered
   pub kept : All IsCopy b.kept
+  pub places : All (IsPlaced z) b.kept
   pub few : length b.kept ≤ z.cells
   pub at : b.at ≤ length b.taken
   pub least : b.least < KEY_END

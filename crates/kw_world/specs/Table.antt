@@ -111,8 +111,8 @@ transition z BalEpoch s choice l = at kind.LoadEpoch Epoch Load (λ e. balance_e
 transition z BalState s choice l = at kind.LoadState (State l.row) Load (λ w. state_met (state_of w) l)
 transition z (BalNormal seat) s choice l = at kind.Normalise (State l.row) (Exchange (state_word (state.Infant seat)) (state_word state.Normal)) (λ _. to BalState l)
 transition z Engage s choice l = at kind.Engage (State l.row) (Exchange (state_word state.Normal) (state_word (state.Leader 0))) (λ w. engaged (w == state_word state.Normal) l)
-transition z (MarkLink count) s choice l = at kind.MarkLink (Next l.row) (Or MARK_BIT) (λ w. link_marked z count (row_linked (link_of w)) l)
-transition z (Decide count) s choice l = at kind.Decide (State l.row) (Exchange (state_word (state.Leader 0)) (state_word (state.Leader count))) (λ w. decided z (state_of w) l)
+transition z (MarkLink count) s choice l = at kind.MarkLink (Next l.row) (Or MARK_BIT) (λ w. link_marked count (row_linked (link_of w)) l)
+transition z (Decide count) s choice l = at kind.Decide (State l.row) (Exchange (state_word (state.Leader 0)) (state_word (state.Leader count))) (λ w. decided (state_of w) l)
 -- the row is frozen, and the scans are looked at
 transition z FreezeCount s choice l = at kind.FreezeCount (Count l.row) (Or FROZEN_BIT) (λ _. count_frozen l)
 transition z (FreezeLook i) s choice l = at kind.LoadPend (Pend l.row i) Load (λ w. freeze_met z i (pend_of w) l)

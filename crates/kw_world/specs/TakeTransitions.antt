@@ -9,12 +9,10 @@ use Rattle.kw_cells.specs.InOrder.{with_cell}
 use Rattle.kw_world.specs.declared.activity.Activity.TheVariants.{TakeFrom, TakeKey, TakeValue, TakeRestKey, SeekFirst}
 use Rattle.kw_world.specs.declared.local.Local.{Local}
 use Rattle.kw_world.specs.declared.marks.Mark.{Mark}
-use Rattle.kw_world.specs.Sizes.{Form, Refused, Decided, Gathered, Sizes}
+use Rattle.kw_world.specs.Sizes.{Sizes}
 use Rattle.kw_world.specs.Marks.{unmarked, least_mark}
 use Rattle.kw_world.specs.ListTransitions.{at_first, one_more, past_cell}
 use Rattle.kw_world.specs.ReadTransitions.{cell_in_hand}
-use Rattle.kw_world.specs.declared.answer.Answer.TheVariants.{NoRows}
-use Rattle.kw_world.specs.EngageTransitions.{refuse}
 use Rattle.kw_world.specs.Transition.{Outcome, to}
 
 -- the walk begins at the row's first link, and no cell is gathered
@@ -34,21 +32,11 @@ planned z l = record l {
   };
 }
 
--- all cells are gathered and the plan is made, in a table of this form: free rows are sought, and a form that goes no further refuses
--- the put
-abbrev pub packed_in : Form → Local → Outcome
-packed_in Refused l = to SeekFirst l
-packed_in Decided l = to SeekFirst l
-packed_in Gathered l = refuse NoRows l
-
--- all cells are gathered, and the plan is made
-abbrev pub packed : Sizes → Local → Outcome
-packed z l = packed_in z.form (planned z l)
-
--- a remembered cell of the least place is read, and remembered no more; where none is left, the search for new rows begins
+-- a remembered cell of the least place is read, and remembered no more; where none is left, all cells are gathered: the plan is made,
+-- and the search for new rows begins
 abbrev pub left_of : Sizes → Option Mark → Local → Outcome
 left_of z (Some m) l = to TakeRestKey (record l { place = m.cell; place_version = m.version; rebalance = record l.rebalance { marks = unmarked m.cell l.rebalance.marks } })
-left_of z None l = packed z l
+left_of z None l = to SeekFirst (planned z l)
 
 -- the remembered cells that were not met are left
 abbrev pub to_left : Sizes → Local → Outcome

@@ -1,6 +1,6 @@
 use Rattle.std.proofs.Common.{◌∙◌, ap}
 use Rattle.kw_world.specs.declared.activity.Activity.TheVariants.{ListFrom}
-use Rattle.kw_follow.specs.Following.{unpaired}
+use Rattle.kw_follow.specs.Following.{as_carried}
 use Rattle.kw_follow.proofs.OneEvent.{follows_ranges}
 use Rattle.kw_follow.proofs.PutEvents.{next_at}
 use Rattle.kw_follow.proofs.ReadEvents.{asks_list_link}
@@ -13,4 +13,4 @@ pub met_link-requires : goal.met_link-requires
 met_link-requires c = (follows_ranges _ _ _ c.requires.follows).walked
 
 pub returns-clause-line : goal.returns-clause-line
-returns-clause-line c = c.met_link.ensures ∙ ap (unpaired c.args.local.now) (next_at _ ListFrom c.args.local.now _ c.requires.activity)
+returns-clause-line c = c.met_link.ensures ∙ ap (as_carried c.args.local.now) (next_at _ ListFrom c.args.local.now _ c.requires.activity)

@@ -94,4 +94,4 @@ returns-in-Ok-clause-recorded c = λ r w i.
     ap (λ (x : Activity). settled_by product (prepared product c.args.recorder.now r e l) (entry_of product c.args.recorder.now l (happening_at product r.world e l)) x) next in
     subst (λ (x : Recording). Records product x (goes_on product r e)) (sym settles)
     (subst (λ (x : Run). Records product (settled_by product (prepared product c.args.recorder.now r e l) (entry_of product c.args.recorder.now l (happening_at product r.world e l)) (next_activity product r e l)) x) (sym (goes_on-moved product r e l knows moves))
-    (records_on product c.args.recorder.now r e l i sane (k.3.shape.kinds e.seat l (subst (λ (x : WorldView). slice_get x.locals e.seat ≡ Some l) (sym k.1) c.local-local.ensures)).reached knows))
+    (records_on product c.args.recorder.now r e l i sane knows))

@@ -1,13 +1,13 @@
-use Rattle.std.proofs.Common.{ap, ◌∙◌, subst, sym}
-use Rattle.kw_core.specs.Stages.{IsAtPut, is_putting, is_putting_stage}
-use Rattle.kw_live.proofs.PutStages.{fewer_yet, puts_at, tries_on}
+use Rattle.std.proofs.Common.{ap, ◌∙◌, sym}
+use Rattle.kw_core.specs.Stages.{is_putting, is_putting_stage}
+use Rattle.kw_live.proofs.PutStages.{fewer_yet, tries_on}
 use Rattle.kw_live.proofs.putting.try_put.Goals as goal
 
 pub go_put-requires-clause-putting : goal.go_put-requires-clause-putting
-go_put-requires-clause-putting c = puts_at _ (ap is_putting_stage (sym c.of.ensures) ∙ sym c.is_putting.ensures ∙ c.loop-pass-test.true)
+go_put-requires-clause-putting c = ap is_putting_stage (sym c.of.ensures) ∙ sym c.is_putting.ensures ∙ c.loop-pass-test.true
 
 pub go_put-requires-in-InsKey-clause-putting : goal.go_put-requires-in-InsKey-clause-putting
-go_put-requires-in-InsKey-clause-putting c = subst IsAtPut (sym c.in-InsKey.is) tt
+go_put-requires-in-InsKey-clause-putting c = ap is_putting c.in-InsKey.is
 
 pub loop-pass-smaller-in-InsKey : goal.loop-pass-smaller-in-InsKey
 loop-pass-smaller-in-InsKey c =

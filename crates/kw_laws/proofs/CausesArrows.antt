@@ -1,0 +1,510 @@
+-- What the events of a call so far say of a seat that is about to be refused, or searches for rows, and that each event of the seat keeps it.
+use Rattle.std.proofs.Common.{ℕ, ◌≡◌, ◌≢◌, ◌⊎◌, inl, inr, ◌+◌, ◌<◌, ◌≤◌, ◌==◌, Bool, true, false, nat_lt, if◌then◌else◌, Option, Some, None, List, [], ◌∷◌, ◌++◌, arith, refl, sym, ◌∙◌, ap, subst, length, slice_get, length-append}
+use Rattle.std.proofs.lemmas.Bool.Decides.{nat_tests}
+use Rattle.std.proofs.lemmas.Option.{same_Some}
+use Rattle.kw_words.specs.declared.kind.Kind.TheVariants as kind
+use Rattle.kw_words.specs.declared.layout.Name.TheVariants as name
+use Rattle.kw_words.specs.declared.pend.Pend.{Pend}
+use Rattle.kw_words.specs.declared.pend.Pend.TheVariants as pend
+use Rattle.kw_words.specs.declared.sizes.TheConstants.{SPENT}
+use Rattle.kw_words.specs.declared.state.State.{State}
+use Rattle.kw_words.specs.declared.state.State.TheVariants.{Free, Infant, Normal, Leader, Follower, Retired}
+use Rattle.kw_words.specs.Count.{count_of}
+use Rattle.kw_words.specs.Pend.{pend_of, pend_word}
+use Rattle.kw_words.specs.State.{state_of, state_word}
+use Rattle.kw_words.proofs.PendWords.{pend_word_of}
+use Rattle.kw_words.proofs.StateWords.{state_of-Free}
+use Rattle.kw_model.specs.declared.call.Call.{Call}
+use Rattle.kw_model.specs.declared.call.Call.TheVariants.{Put, Del, Get, Scan}
+use Rattle.kw_world.specs.declared.activity.Activity.{Activity}
+use Rattle.kw_world.specs.declared.activity.Activity.TheVariants.{Leave, ClearScan, ScanClock, PutCount, PutAdd, Announce, Stamp, BalClock, BalEpoch, SeekFirst, Seek, TakeRow, GiveBack, WriteCount}
+use Rattle.kw_world.specs.declared.answer.Answer.{Answer}
+use Rattle.kw_world.specs.declared.answer.Answer.TheVariants.{Pairs, NoRows, Spent}
+use Rattle.kw_world.specs.declared.event.Choice.{Choice}
+use Rattle.kw_world.specs.declared.event.Choice.TheVariants.{Begin, Go, Guess, Stop}
+use Rattle.kw_world.specs.declared.event.Event.{Event}
+use Rattle.kw_world.specs.declared.local.Local.{Local}
+use Rattle.kw_world.specs.declared.opening.Opening.{Opening}
+use Rattle.kw_world.specs.declared.operation.Action.TheVariants.{Load}
+use Rattle.kw_world.specs.declared.operation.Operation.{Operation}
+use Rattle.kw_world.specs.declared.rebalance.Afterwards.{Afterwards}
+use Rattle.kw_world.specs.declared.rebalance.Afterwards.TheVariants.{TryAgain, Refuse, MoveLeft}
+use Rattle.kw_world.specs.Answers.{answer_found}
+use Rattle.kw_world.specs.PutTransitions.{has_room}
+use Rattle.kw_world.specs.ScanTransitions.{answer_or_stopped}
+use Rattle.kw_world.specs.SeekTransitions.{at_infant, has_more, row_behind, given_back, give_back, to_seek, seek_met, seeking, seek_first_transition, with_row, take_row}
+use Rattle.kw_world.specs.Sizes.{Refused, IsRebalancing, Sizes}
+use Rattle.kw_world.specs.Table.{transition}
+use Rattle.kw_world.specs.Transition.{Transition, Outcome, to}
+use Rattle.kw_world.specs.WalkTransitions.{offered}
+use Rattle.kw_world.specs.WorldView.{WorldView}
+use Rattle.kw_world.specs.Sane.{IsOffered}
+use Rattle.kw_world.specs.Step.{word, followed, transition_at}
+use Rattle.kw_world.proofs.Steps.{transition_of-transition}
+use Rattle.kw_core.specs.Events.{event, world}
+use Rattle.kw_core.specs.Run.{Run}
+use Rattle.kw_core.specs.Stages.{IsReached}
+use Rattle.kw_core.specs.Words.{Words}
+use Rattle.kw_core.proofs.Arrows.{Arrow, NextLook, looks, lists, NextRest, rests, answers, ends_scan, scans_on, IsNotOwn, is_spent, meets_stamped, meets_neither, is_passed, helps, finds_stamped, finds_other, list_ends, key_above, rest_passed, gathers_rest, clears_scan, finds_none, takes_none, is_refused, is_not_own, clock_is_spent, epoch_is_spent, takes_no_more, keeps_no_more, builds}
+use Rattle.kw_core.proofs.Building.{Building, first_is_free, first_is_taken, sought_is_free, sought_is_taken, takes_row, loses_row, gives_one_back, gives_last_back, writes_first, writes_entry, writes_after, begins_before, takes_head_before, leads_on_marked, leads_nowhere, walks_past, is_marked_before, is_replaced}
+use Rattle.kw_core.proofs.NextBuilt.{tries_again, moves_left, NextBack, gives_back, has_none, NextNewRow, writes_row, has_written, NextNewCell, fills, empties, has_cells, NextNewEntry, writes_idle, has_entries, NextBefore, is_first, is_behind}
+use Rattle.kw_core.proofs.Happens.{Happens, found_at}
+use Rattle.kw_reads.specs.Inv.{Inv}
+use Rattle.kw_rows.specs.Events.{IsIn}
+use Rattle.kw_shape.specs.Shape.{IsKind, IsPutCall, IsScanCall, IsPairs}
+use Rattle.kw_laws.specs.Causes.{IsAsking, IsSpentBy, IsAskingRow, IsTrying, FoundTaken, TookRow, asking, taking}
+use Rattle.kw_laws.specs.Mirror.{Occurs, Acts}
+use Rattle.kw_laws.specs.Unfrozen.{RebalancesNone, HasCellOfOwn, IsUnfrozen}
+use Rattle.kw_laws.proofs.CausesLast.{WhyNoRows, IsSearching, trying_searches, spent_lasts, why_lasts}
+use Rattle.kw_laws.proofs.CausesSearch.{none_passed, in_front, in_last, in_was, some_start, IsBeforeSearch, Searching, searching_lasts, asked_all, next_row}
+use Rattle.kw_laws.proofs.Occurs.{occurs_now, occurs_was, occurs_within}
+
+-- what the events of the call, which began at this position, say of its seat
+abbrev pub Since : Activity → Sizes → Opening → List Event → ℕ → ℕ → Call → Local → Type 0
+Since (Leave Spent) z o es s first call l = IsSpentBy z o es call s first (length es)
+Since (Leave NoRows) z o es s first call l = WhyNoRows z o es s first (length es)
+Since GiveBack z o es s first call l = l.rebalance.afterwards ≡ Refuse → WhyNoRows z o es s first (length es)
+Since SeekFirst z o es s first call l = IsBeforeSearch l.rebalance
+Since Seek z o es s first call l = Searching z o es s first l.rebalance
+Since TakeRow z o es s first call l = Searching z o es s first l.rebalance
+Since _ z o es s first call l = Unit {0}
+
+-- over one more event, by which the seat asks for no row
+pub since_lasts : (z : Sizes) (o : Opening) (es : List Event) (e : Event) (s first : ℕ) (call : Call) (l : Local) (a : Activity) → length es ≤ length (es ++ e ∷ []) → ((u found : ℕ) (b : Activity) (op : Operation) → IsSearching b → length es ≤ u → u < length (es ++ e ∷ []) → Acts z o (es ++ e ∷ []) u s b op found → ⊥) →
+    Since a z o es s first call l → Since a z o (es ++ e ∷ []) s first call l
+since_lasts z o es e s first call l a w idle p = by a p
+  where
+    inside : length es ≤ length es
+    inside = omega arith
+
+    rows : WhyNoRows z o es s first (length es) → WhyNoRows z o (es ++ e ∷ []) s first (length (es ++ e ∷ []))
+    rows = why_lasts z o es e s (length es) (length (es ++ e ∷ [])) w inside idle first
+
+    search : Searching z o es s first l.rebalance → Searching z o (es ++ e ∷ []) s first l.rebalance
+    search = searching_lasts z o es e s first l.rebalance w (λ u found op f g c. idle u found SeekFirst op tt f g c) (λ q u found b op n f g d c. idle u found b op (trying_searches s q b op d) f g c)
+
+    by : (b : Activity) → Since b z o es s first call l → Since b z o (es ++ e ∷ []) s first call l
+    by (Leave Spent) q = spent_lasts z o es e s (length es) (length (es ++ e ∷ [])) w call first q
+    by (Leave NoRows) q = rows q
+    by GiveBack q = λ x. rows (q x)
+    by SeekFirst q = q
+    by Seek q = search q
+    by TakeRow q = search q
+    by _ q = tt
+
+-- Which calls ask, and when.
+
+asks_scan : (call : Call) → IsScanCall (Some call) → IsAsking call ScanClock (record { kind = kind.LoadClock; name = name.Clock; action = Load })
+asks_scan (Put key value) k = absurd k
+asks_scan (Del key) k = absurd k
+asks_scan (Get key) k = absurd k
+asks_scan (Scan from upto) k = refl
+
+asks_clock : (call : Call) → IsPutCall (Some call) → IsAsking call BalClock (record { kind = kind.LoadClock; name = name.Clock; action = Load })
+asks_clock (Put key value) k = refl
+asks_clock (Del key) k = refl
+asks_clock (Get key) k = absurd k
+asks_clock (Scan from upto) k = absurd k
+
+asks_epoch : (call : Call) → IsPutCall (Some call) → IsAsking call BalEpoch (record { kind = kind.LoadEpoch; name = name.Epoch; action = Load })
+asks_epoch (Put key value) k = refl
+asks_epoch (Del key) k = refl
+asks_epoch (Get key) k = absurd k
+asks_epoch (Scan from upto) k = absurd k
+
+-- an entry that is this put's is not another one
+not_own : (own w : ℕ) (x : Option Pend) → pend_of w ≡ x → HasCellOfOwn own x → IsNotOwn own w → ⊥
+not_own own w (Some pend.Idle) e h n = h
+not_own own w (Some (pend.Pending cell)) e h n = n.pending (e ∙ ap (λ c. Some (pend.Pending c)) h)
+not_own own w (Some (pend.Stamped cell version)) e h n = n.stamped version (e ∙ ap (λ c. Some (pend.Stamped c version)) h)
+not_own own w (Some pend.Frozen) e h n = h
+not_own own w None e h n = h
+
+-- a state that is not free is not the word of a free one
+not_free : (w : ℕ) (x : Option State) → state_of w ≡ x → x ≢ Some Free → w ≢ state_word Free
+not_free w x e n f = n (sym e ∙ ap state_of f ∙ state_of-Free)
+
+-- the activity is none of a search, or of what gives back what it took
+abbrev IsOffSearch : Activity → Type 0
+IsOffSearch SeekFirst = ⊥
+IsOffSearch Seek = ⊥
+IsOffSearch TakeRow = ⊥
+IsOffSearch GiveBack = ⊥
+IsOffSearch _ = Unit {0}
+
+-- One more event, of a seat that makes this call and knows l.
+
+module _ (z : Sizes) (o : Opening) (es : List Event) (e : Event) (r r' : Run) (l l' : Local) (a : Activity) (h : Happens z r r' e.seat (offered r.world.rows e.choice) l l' a) (i : Inv z r) (unfrozen : RebalancesNone z → IsUnfrozen z r.world) (led : world z o es ≡ r.world) (rows : r.world.rows ≡ o.rows) (first : ℕ) (call : Call) (asked : l.call ≡ Some call) (past : first < length es) where
+  -- the words, and the choice
+  abbrev v : Words
+  v = word z r.world
+
+  abbrev choice : Choice
+  choice = offered r.world.rows e.choice
+
+  abbrev ess : List Event
+  ess = es ++ e ∷ []
+
+  longer : length es < length (es ++ e ∷ [])
+  longer = omega (arith, length-append es (e ∷ []))
+
+  -- what the seat does now
+  occurs_here : Occurs z o (es ++ e ∷ []) (length es) r.world e
+  occurs_here = let t = occurs_now z o es e in record { stands = t.stands; before = t.before ∙ led }
+
+  operates_here : (b : Activity) (op : Operation) → a ≡ b → (transition z b e.seat (offered r.world.rows e.choice) l).operation ≡ op → (transition_at z r.world e l).operation ≡ op
+  operates_here b op is f = ap (λ (x : Transition). x.operation) (transition_of-transition z e.seat (offered r.world.rows e.choice) l ∙ ap (λ c. transition z c e.seat (offered r.world.rows e.choice) l) (h.activity ∙ is)) ∙ f
+
+  abbrev acts_here : (b : Activity) (op : Operation) (found : ℕ) → a ≡ b → (transition z b e.seat (offered r.world.rows e.choice) l).operation ≡ op → word z r.world op.name ≡ found → Acts z o (es ++ e ∷ []) (length es) e.seat b op found
+  acts_here b op found is f g = record { before = r.world; choice = e.choice; local = l; occurs = occurs_here; knows = h.knows; activity = h.activity ∙ is; operates = operates_here b op is f; finds = g }
+
+  -- it is of the call's kind
+  kind_here : (b : Activity) → a ≡ b → IsKind b l
+  kind_here b is = subst (λ c. IsKind c l) (h.activity ∙ is) (i.shape.kinds e.seat l h.knows).kind
+
+  -- Refusals.
+
+  spent_here : (b : Activity) (op : Operation) → a ≡ b → (transition z b e.seat (offered r.world.rows e.choice) l).operation ≡ op → IsAsking call b op → SPENT ≤ word z r.world op.name → IsSpentBy z o (es ++ e ∷ []) call e.seat first (length (es ++ e ∷ []))
+  spent_here b op is f asks w = record { at = length es; after = past; before = longer; activity = b; op = op; asks = asks; found = word z r.world op.name; acts = acts_here b op (word z r.world op.name) is f refl; spent = w }
+
+  none_frozen : z.form ≡ Refused → IsUnfrozen z r.world
+  none_frozen f = unfrozen (λ x. subst IsRebalancing f x)
+
+  room_here : (b : Activity) (op : Operation) → a ≡ b → (transition z b e.seat (offered r.world.rows e.choice) l).operation ≡ op → IsAskingRow l.row b op → op.name ≡ name.Count l.row → has_room z (count_of (word z r.world (name.Count l.row))) ≡ false → z.form ≡ Refused → WhyNoRows z o (es ++ e ∷ []) e.seat first (length (es ++ e ∷ []))
+  room_here b op is f asks n g c = inl (
+    c,
+    record {
+      at = length es;
+      after = past;
+      before = longer;
+      row = l.row;
+      activity = b;
+      op = op;
+      asks = asks;
+      found = word z r.world (name.Count l.row);
+      acts = acts_here b op (word z r.world (name.Count l.row)) is f (ap (word z r.world) n);
+      given = (none_frozen c).full l.row (i.shape.sane.locals e.seat l h.knows).below.row g;
+    },
+  )
+
+  -- no entry refuses a put where no row is frozen
+  no_frozen_entry : {A : Type 0} → a ≡ Announce → word z r.world (name.Pend l.row e.seat) ≢ pend_word pend.Idle → z.form ≡ Refused → A
+  no_frozen_entry is n c = absurd (n (sym (pend_word_of _ pend.Idle ((none_frozen c).announces e.seat l h.knows (h.activity ∙ is)))))
+
+  no_other_entry : {A : Type 0} → a ≡ Stamp → IsNotOwn l.cell (word z r.world (name.Pend l.row e.seat)) → z.form ≡ Refused → A
+  no_other_entry is n c = absurd (not_own l.cell (word z r.world (name.Pend l.row e.seat)) (pend_of (word z r.world (name.Pend l.row e.seat))) refl ((none_frozen c).stamps e.seat l h.knows (h.activity ∙ is)) n)
+
+  -- What follows without an event of its own.
+
+  abbrev Then : Local → Type 0
+  Then k = Since k.activity z o (es ++ e ∷ []) e.seat first call k
+
+  next_look : (j : ℕ) (next : Activity) (k : Local) → NextLook z j next → Since next z o (es ++ e ∷ []) e.seat first call k
+  next_look j next k (looks w) = tt
+  next_look j next k (lists w) = tt
+
+  found_leaves : (x : Option ℕ) (k : Local) → Since (Leave (answer_found x)) z o (es ++ e ∷ []) e.seat first call k
+  found_leaves (Some value) k = tt
+  found_leaves None k = tt
+
+  next_rest : (m k : Local) → NextRest m k → Then k
+  next_rest m k (rests x w) = tt
+  next_rest m k (answers w x) = found_leaves _ _
+  next_rest m k (ends_scan w x y) = tt
+  next_rest m k (scans_on q w x y n) = tt
+
+  cleared : (answer : Answer) (c : Choice) (k : Local) → IsPairs answer → Since (Leave (answer_or_stopped answer c)) z o (es ++ e ∷ []) e.seat first call k
+  cleared Pairs (Begin x) k p = tt
+  cleared Pairs Go k p = tt
+  cleared Pairs (Guess q) k p = tt
+  cleared answer Stop k p = tt
+  cleared _ c k p = absurd p
+
+  next_row_written : (m k : Local) → NextNewRow m k → Then k
+  next_row_written m k (writes_row w) = tt
+  next_row_written m k (has_written w) = tt
+
+  next_cell : (j : ℕ) (m k : Local) → NextNewCell z j m k → Then k
+  next_cell j m k (fills w x) = tt
+  next_cell j m k (empties w x) = tt
+  next_cell j m k (has_cells next w n) = next_row_written m k n
+
+  next_entry : (j : ℕ) (m k : Local) → NextNewEntry z j m k → Then k
+  next_entry j m k (writes_idle w) = tt
+  next_entry j m k (has_entries next w n) = next_cell 0 m k n
+
+  next_before : (q : ℕ) (m k : Local) → NextBefore q m k → Then k
+  next_before q m k (is_first w) = tt
+  next_before q m k (is_behind w) = tt
+
+  -- rows that are given back so that the put goes on elsewhere
+  back_again : (m k : Local) → NextBack TryAgain m k → Then k
+  back_again m k (gives_back w) = λ x. let y : TryAgain ≡ Refuse = x in absurd (cc)
+  back_again m k (has_none next w tries_again) = tt
+
+  back_left : (m k : Local) → NextBack MoveLeft m k → Then k
+  back_left m k (gives_back w) = λ x. let y : MoveLeft ≡ Refuse = x in absurd (cc)
+  back_left m k (has_none next w moves_left) = tt
+
+  -- Away from a search.
+
+  built : (b : Activity) (k : Local) → Building z v choice l b k → IsOffSearch b → Then k
+  built b k (first_is_free q c f) x = absurd x
+  built b k (first_is_taken q n next c f t) x = absurd x
+  built b k (sought_is_free f) x = absurd x
+  built b k (sought_is_taken n next f t) x = absurd x
+  built b k (takes_row n next f t) x = absurd x
+  built b k (loses_row n next f t) x = absurd x
+  built b k (gives_one_back w) x = absurd x
+  built b k (gives_last_back next w t) x = absurd x
+  built b k (writes_first next t) x = next_entry 0 l k t
+  built b k (writes_entry j next t) x = next_entry _ l k t
+  built b k (writes_after j next t) x = next_cell _ l k t
+  built b k (begins_before next t) x = next_before _ l k t
+  built b k (takes_head_before next t) x = next_before _ l k t
+  built b k (leads_on_marked next f t) x = back_left l k t
+  built b k (leads_nowhere next f t) x = back_again l k t
+  built b k (walks_past next f t) x = back_again l k t
+  built b k (is_marked_before next f t) x = back_left l k t
+  built b k (is_replaced next f t) x = back_again l k t
+  built b k _ x = tt
+
+  by_arrow : (b : Activity) (k : Local) → a ≡ b → Arrow z v e.seat choice l b k → IsOffSearch b → Then k
+  by_arrow b k is (builds c next y n t) x = built c next t x
+  by_arrow b k is (is_spent w) x = spent_here ScanClock _ is refl (asks_scan call (subst IsScanCall asked (kind_here ScanClock is))) w
+  by_arrow b k is (clock_is_spent w) x = spent_here BalClock _ is refl (asks_clock call (subst IsPutCall asked (kind_here BalClock is))) w
+  by_arrow b k is (epoch_is_spent w) x = spent_here BalEpoch _ is refl (asks_epoch call (subst IsPutCall asked (kind_here BalEpoch is))) w
+  by_arrow b k is (meets_stamped j c version next f n) x = next_look _ next _ n
+  by_arrow b k is (meets_neither j next f n) x = next_look _ next _ n
+  by_arrow b k is (is_passed next f n) x = next_look _ next _ n
+  by_arrow b k is (helps next f n) x = next_look _ next _ n
+  by_arrow b k is (finds_stamped c version next f n) x = next_look _ next _ n
+  by_arrow b k is (finds_other next f n) x = next_look _ next _ n
+  by_arrow b k is (list_ends next f n) x = next_rest _ k n
+  by_arrow b k is (key_above next f n) x = next_rest _ k n
+  by_arrow b k is (rest_passed next f n) x = next_rest _ k n
+  by_arrow b k is (gathers_rest next n) x = next_rest _ k n
+  by_arrow b k is (clears_scan answer) x = cleared answer choice _ (kind_here (ClearScan answer) is).1
+  by_arrow b k is (finds_none n f) x = room_here PutCount _ is refl refl refl n f
+  by_arrow b k is (takes_none n f) x = room_here PutAdd _ is refl refl refl n f
+  by_arrow b k is (is_refused n f) x = no_frozen_entry is n f
+  by_arrow b k is (is_not_own n f) x = no_other_entry is n f
+  by_arrow b k is (takes_no_more f n) x = record { sought = refl; asked = refl; taken = refl; some = some_start z.built _ }
+  by_arrow b k is (keeps_no_more n) x = record { sought = refl; asked = refl; taken = refl; some = some_start z.built _ }
+  by_arrow b k is _ x = tt
+
+  -- In a search.
+
+  -- what the seat does now it does by its line
+  acts_same : (u found : ℕ) (b : Activity) (op : Operation) → length es ≤ u → u < length (es ++ e ∷ []) → Acts z o (es ++ e ∷ []) u e.seat b op found → (a ≡ b) × ((transition_at z r.world e l).operation ≡ op)
+  acts_same u found b op w x t = which (occurs_was z o es e u t.before (event e.seat t.choice) t.occurs)
+    where
+      which : Occurs z o es u t.before (event e.seat t.choice) ⊎ ((u ≡ length es) × (e ≡ event e.seat t.choice) × (world z o es ≡ t.before)) → (a ≡ b) × ((transition_at z r.world e l).operation ≡ op)
+      which (inl y) = absurd (omega (arith, w, occurs_within z o es u t.before (event e.seat t.choice) y))
+      which (inr y) =
+          let at : t.before ≡ r.world = sym y.2 ∙ led in
+          let k : slice_get r.world.locals e.seat ≡ Some t.local = subst (λ (q : WorldView). slice_get q.locals e.seat ≡ Some t.local) at t.knows in
+          let same : l ≡ t.local = same_Some l t.local (sym h.knows ∙ k) in
+          let line : (transition_at z r.world e l).operation ≡ (transition_at z t.before (event e.seat t.choice) t.local).operation =
+          ap (λ m. (transition_at z r.world e m).operation) same ∙ ap (λ (d : Event). (transition_at z r.world d t.local).operation) y.1 ∙ ap (λ (q : WorldView). (transition_at z q (event e.seat t.choice) t.local).operation) (sym at) in
+          (sym h.activity ∙ ap (λ (m : Local). m.activity) same ∙ t.activity, line ∙ t.operates)
+
+  -- the row that it asks for is found taken, in a search that began at any position
+  abbrev IsTakenNow : ℕ → Type 0
+  IsTakenNow q = (begun : ℕ) → begun ≤ length es → FoundTaken z o (es ++ e ∷ []) e.seat begun (length (es ++ e ∷ [])) q
+
+  taken_here : (b : Activity) (op : Operation) (q : ℕ) → a ≡ b → (transition z b e.seat (offered r.world.rows e.choice) l).operation ≡ op → IsTrying e.seat q b op → op.name ≡ name.State q → word z r.world (name.State q) ≢ state_word Free → IsTakenNow q
+  taken_here b op q is f tries n free begun w = record { at = length es; after = w; before = longer; activity = b; op = op; tries = tries; found = word z r.world (name.State q); acts = acts_here b op (word z r.world (name.State q)) is f (ap (word z r.world) n); taken = free; final = λ u x c y g d t k. omega (arith, g, d, length-append es (e ∷ [])) }
+
+  -- rows that are given back for want of others
+  gives_up : (k : Local) → WhyNoRows z o (es ++ e ∷ []) e.seat first (length (es ++ e ∷ [])) → Then (give_back Refuse k).local
+  gives_up k p = met (nat_lt 0 (length k.rebalance.taken))
+    where
+      met : (b : Bool) → Then (let x : Outcome = if b then to GiveBack (record k { rebalance = record k.rebalance { at = 0; afterwards = Refuse } }) else given_back Refuse k in x).local
+      met true = λ x. p
+      met false = p
+
+  -- the next row is asked, or all were
+  goes_on : (k : Local) → IsRebalancing z.form → Searching z o (es ++ e ∷ []) e.seat first k.rebalance → IsIn k.rebalance.taken k.rebalance.sought ⊎ IsTakenNow k.rebalance.sought → Then (to_seek o.rows k).local
+  goes_on k c p asks = met (nat_lt k.rebalance.asked o.rows) refl
+    where
+      here : IsIn k.rebalance.taken k.rebalance.sought ⊎ FoundTaken z o (es ++ e ∷ []) e.seat p.begun (length (es ++ e ∷ [])) k.rebalance.sought
+      here = which asks
+        where
+          which : IsIn k.rebalance.taken k.rebalance.sought ⊎ IsTakenNow k.rebalance.sought → IsIn k.rebalance.taken k.rebalance.sought ⊎ FoundTaken z o (es ++ e ∷ []) e.seat p.begun (length (es ++ e ∷ [])) k.rebalance.sought
+          which (inl x) = inl x
+          which (inr x) = inr (x p.begun (omega (arith, p.before, length-append es (e ∷ []))))
+
+      met : (b : Bool) → nat_lt k.rebalance.asked o.rows ≡ b → Then (let x : Outcome = if b then to Seek (record k { rebalance = record k.rebalance { sought = row_behind o.rows k.rebalance.sought; asked = k.rebalance.asked + 1 } }) else give_back Refuse k in x).local
+      met true y = let more : k.rebalance.asked < o.rows = grind (arith, nat_tests) in next_row z o (es ++ e ∷ []) e.seat first k.rebalance more p here
+      met false y = let all : o.rows ≤ k.rebalance.asked = grind (arith, nat_tests) in gives_up k (inr (c, asked_all z o (es ++ e ∷ []) e.seat first k.rebalance all p here))
+
+  -- a row whose state is met
+  meets : (k : Local) (x : Option State) → IsRebalancing z.form → Searching z o (es ++ e ∷ []) e.seat first k.rebalance → (x ≢ Some Free → IsTakenNow k.rebalance.sought) → Then (seek_met o.rows x k).local
+  meets k (Some Free) c p t = p
+  meets k (Some (Infant seat)) c p t = goes_on k c p (inr (t (λ f. let y : Some (Infant seat) ≡ Some Free = f in cc)))
+  meets k (Some Normal) c p t = goes_on k c p (inr (t (λ f. let y : Some Normal ≡ Some Free = f in cc)))
+  meets k (Some (Leader count)) c p t = goes_on k c p (inr (t (λ f. let y : Some (Leader count) ≡ Some Free = f in cc)))
+  meets k (Some (Follower leader)) c p t = goes_on k c p (inr (t (λ f. let y : Some (Follower leader) ≡ Some Free = f in cc)))
+  meets k (Some (Retired number)) c p t = goes_on k c p (inr (t (λ f. let y : Some (Retired number) ≡ Some Free = f in cc)))
+  meets k None c p t = goes_on k c p (inr (t (λ f. let y : None ≡ Some Free = f in cc)))
+
+  -- what the seat knows next, by its line
+  next_is : (b : Activity) → a ≡ b → l' ≡ (followed o.rows (transition z b e.seat (offered r.world.rows e.choice) l) (found_at z (word z r.world) b e.seat (offered r.world.rows e.choice) l)).local
+  next_is b is = subst (λ n. l' ≡ (followed n (transition z b e.seat (offered r.world.rows e.choice) l) (found_at z (word z r.world) b e.seat (offered r.world.rows e.choice) l)).local) rows (subst (λ c. l' ≡ (followed r.world.rows (transition z c e.seat (offered r.world.rows e.choice) l) (found_at z (word z r.world) c e.seat (offered r.world.rows e.choice) l)).local) is h.next)
+
+  then_so : (k : Local) → l' ≡ k → Then k → Then l'
+  then_so k f p = subst Then (sym f) p
+
+  rebalancing : (b : Activity) → a ≡ b → IsReached z b
+  rebalancing b is = subst (IsReached z) is h.reached
+
+  -- a search begins at this row
+  begins_search : (q : ℕ) → a ≡ SeekFirst → q < o.rows → (transition z SeekFirst e.seat (offered r.world.rows e.choice) l).operation ≡ asking q → IsBeforeSearch l.rebalance → Searching z o (es ++ e ∷ []) e.seat first (seeking q l).rebalance
+  begins_search q is w f p = record {
+    begun = length es;
+    after = past;
+    before = longer;
+    row = q;
+    found = word z r.world (name.State q);
+    begins = acts_here SeekFirst (asking q) (word z r.world (name.State q)) is f refl;
+    starts = refl;
+    within = w;
+    sought = w;
+    turn = inl (omega arith, omega (arith, p.asked));
+    alone = λ u found op x y t. omega (arith, x, y, length-append es (e ∷ []));
+    took = λ d x. absurd (subst (λ xs. IsIn xs d) p.taken x);
+    fewer = omega (arith, ap (λ (xs : List ℕ). length xs) p.taken, p.some);
+    passed = λ d x y. none_passed q d y;
+  }
+
+  first_row : (q : ℕ) → a ≡ SeekFirst → q < o.rows → (transition z SeekFirst e.seat (offered r.world.rows e.choice) l).operation ≡ asking q → l' ≡ (seek_met o.rows (state_of (word z r.world (name.State q))) (seeking q l)).local → IsBeforeSearch l.rebalance → Then l'
+  first_row q is w f n p =
+      let c : IsRebalancing z.form = rebalancing SeekFirst is in
+      then_so _ n (meets (seeking q l) (state_of (word z r.world (name.State q))) c (begins_search q is w f p) (λ x. taken_here SeekFirst (asking q) q is f refl refl (not_free _ _ refl x)))
+
+  at_first : a ≡ SeekFirst → IsBeforeSearch l.rebalance → Then l'
+  at_first is p = chosen (offered r.world.rows e.choice) refl h.offers
+    where
+      some_rows : l.rebalance.sought < o.rows
+      some_rows = omega (arith, p.sought, rows, i.shape.sane.sized.some_rows)
+
+      line : (d : Choice) → offered r.world.rows e.choice ≡ d → (transition z SeekFirst e.seat (offered r.world.rows e.choice) l).operation ≡ (seek_first_transition d l).operation
+      line d c = ap (λ x. (seek_first_transition x l).operation) c
+
+      next : (d : Choice) → offered r.world.rows e.choice ≡ d → l' ≡ (followed o.rows (seek_first_transition d l) (word z r.world (seek_first_transition d l).operation.name)).local
+      next d c = next_is SeekFirst is ∙ ap (λ x. (followed o.rows (seek_first_transition x l) (word z r.world (seek_first_transition x l).operation.name)).local) c
+
+      chosen : (d : Choice) → offered r.world.rows e.choice ≡ d → IsOffered r.world.rows (offered r.world.rows e.choice) → Then l'
+      chosen (Begin x) c y = first_row l.rebalance.sought is some_rows (line (Begin x) c) (next (Begin x) c) p
+      chosen Go c y = first_row l.rebalance.sought is some_rows (line Go c) (next Go c) p
+      chosen (Guess q) c y = let w : q < r.world.rows = subst (IsOffered r.world.rows) c y in first_row q is (omega (arith, w, rows)) (line (Guess q) c) (next (Guess q) c) p
+      chosen Stop c y = first_row l.rebalance.sought is some_rows (line Stop c) (next Stop c) p
+
+  -- the search that goes on, over this event
+  still : (b : Activity) (op : Operation) → a ≡ b → (transition z b e.seat (offered r.world.rows e.choice) l).operation ≡ op → b ≢ SeekFirst → ((q : ℕ) → q ≢ l.rebalance.sought → IsTrying e.seat q b op → ⊥) → Searching z o es e.seat first l.rebalance → Searching z o (es ++ e ∷ []) e.seat first l.rebalance
+  still b op is f n other p =
+      let w : length es ≤ length (es ++ e ∷ []) = omega (arith, longer) in
+      searching_lasts z o es e e.seat first l.rebalance w (λ u found d x y t. n (sym is ∙ (acts_same u found SeekFirst d x y t).0)) (λ q u found c d g x y k t.
+      let s = acts_same u found c d x y t in
+      other q g (subst (λ m. IsTrying e.seat q m op) (sym s.0 ∙ is) (subst (λ m. IsTrying e.seat q c m) (sym s.1 ∙ operates_here b op is f) k))) p
+
+  -- no other row is asked for
+  asks_one : (q row : ℕ) → q ≢ row → asking row ≡ asking q → ⊥
+  asks_one q row n f = n (let x : name.State row ≡ name.State q = ap (λ (op : Operation). op.name) f in cc)
+
+  takes_one : (q row : ℕ) → q ≢ row → taking e.seat row ≡ taking e.seat q → ⊥
+  takes_one q row n f = n (let x : name.State row ≡ name.State q = ap (λ (op : Operation). op.name) f in cc)
+
+  -- a search that asks for a row, and one that tries to take it
+  still_asking : a ≡ Seek → Searching z o es e.seat first l.rebalance → Searching z o (es ++ e ∷ []) e.seat first l.rebalance
+  still_asking is = still Seek (asking l.rebalance.sought) is refl (λ x. cc) (λ q n f. asks_one q l.rebalance.sought n f)
+
+  still_taking : a ≡ TakeRow → Searching z o es e.seat first l.rebalance → Searching z o (es ++ e ∷ []) e.seat first l.rebalance
+  still_taking is = still TakeRow (taking e.seat l.rebalance.sought) is refl (λ x. cc) (λ q n f. takes_one q l.rebalance.sought n f)
+
+  at_seek : a ≡ Seek → Searching z o es e.seat first l.rebalance → Then l'
+  at_seek is p =
+      let c : IsRebalancing z.form = rebalancing Seek is in
+      then_so _ (next_is Seek is) (meets (seeking l.rebalance.sought l) (state_of (word z r.world (name.State l.rebalance.sought))) c (still_asking is p)
+      (λ x. taken_here Seek (asking l.rebalance.sought) l.rebalance.sought is refl refl refl (not_free _ _ refl x)))
+
+  -- a row that the seat takes
+  with_taken : (p : Searching z o es e.seat first l.rebalance) → a ≡ TakeRow → word z r.world (name.State l.rebalance.sought) ≡ state_word Free → length (with_row l).rebalance.taken < length l.rebalance.starts → Searching z o (es ++ e ∷ []) e.seat first (with_row l).rebalance
+  with_taken p is won fewer = record {
+    begun = same.begun;
+    after = same.after;
+    before = same.before;
+    row = same.row;
+    found = same.found;
+    begins = same.begins;
+    starts = same.starts;
+    within = same.within;
+    sought = same.sought;
+    turn = same.turn;
+    alone = same.alone;
+    took = λ q x. took q (in_was l.rebalance.taken l.rebalance.sought q x);
+    fewer = fewer;
+    passed = λ q w x. passed q (same.passed q w x);
+  }
+    where
+      same : Searching z o (es ++ e ∷ []) e.seat first l.rebalance
+      same = still_taking is p
+
+      now : TookRow z o (es ++ e ∷ []) e.seat same.begun (length (es ++ e ∷ [])) l.rebalance.sought
+      now = record { at = length es; after = omega (arith, same.before, length-append es (e ∷ [])); before = longer; acts = acts_here TakeRow (taking e.seat l.rebalance.sought) (state_word Free) is refl won }
+
+      took : (q : ℕ) → IsIn l.rebalance.taken q ⊎ (q ≡ l.rebalance.sought) → TookRow z o (es ++ e ∷ []) e.seat same.begun (length (es ++ e ∷ [])) q
+      took q (inl x) = same.took q x
+      took q (inr x) = subst (λ y. TookRow z o (es ++ e ∷ []) e.seat same.begun (length (es ++ e ∷ [])) y) (sym x) now
+
+      passed : (q : ℕ) → IsIn l.rebalance.taken q ⊎ FoundTaken z o (es ++ e ∷ []) e.seat same.begun (length (es ++ e ∷ [])) q → IsIn (with_row l).rebalance.taken q ⊎ FoundTaken z o (es ++ e ∷ []) e.seat same.begun (length (es ++ e ∷ [])) q
+      passed q (inl x) = inl (in_front l.rebalance.taken l.rebalance.sought q x)
+      passed q (inr x) = inr x
+
+  at_take : a ≡ TakeRow → Searching z o es e.seat first l.rebalance → Then l'
+  at_take is p = then_so _ (next_is TakeRow is) (met (word z r.world (name.State l.rebalance.sought) == state_word Free) refl)
+    where
+      c : IsRebalancing z.form
+      c = rebalancing TakeRow is
+
+      more : word z r.world (name.State l.rebalance.sought) ≡ state_word Free → (b : Bool) → nat_lt (length (with_row l).rebalance.taken) (length l.rebalance.starts) ≡ b →
+          Then (let x : Outcome = if b then to_seek o.rows (with_row l) else to WriteCount (at_infant 0 (with_row l)) in x).local
+      more won true y = let w : length (with_row l).rebalance.taken < length l.rebalance.starts = grind (arith, nat_tests) in goes_on (with_row l) c (with_taken p is won w) (inl (in_last l.rebalance.taken l.rebalance.sought))
+      more won false y = tt
+
+      met : (b : Bool) → (word z r.world (name.State l.rebalance.sought) == state_word Free) ≡ b → Then (take_row o.rows b l).local
+      met true y = let won : word z r.world (name.State l.rebalance.sought) ≡ state_word Free = grind (arith, nat_tests) in more won (nat_lt (length (with_row l).rebalance.taken) (length l.rebalance.starts)) refl
+      met false y =
+          let lost : word z r.world (name.State l.rebalance.sought) ≢ state_word Free = grind (arith, nat_tests) in
+          goes_on l c (still_taking is p) (inr (taken_here TakeRow (taking e.seat l.rebalance.sought) l.rebalance.sought is refl refl refl lost))
+
+  at_give_back : a ≡ GiveBack → (l.rebalance.afterwards ≡ Refuse → WhyNoRows z o es e.seat first (length es)) → Then l'
+  at_give_back is p = then_so _ (next_is GiveBack is) (met (has_more l))
+    where
+      later : l.rebalance.afterwards ≡ Refuse → WhyNoRows z o (es ++ e ∷ []) e.seat first (length (es ++ e ∷ []))
+      later x =
+          let w : length es ≤ length (es ++ e ∷ []) = omega (arith, longer) in
+          let inside : length es ≤ length es = omega arith in
+          why_lasts z o es e e.seat (length es) (length (es ++ e ∷ [])) w inside (λ u found b op y f g t. subst IsSearching (sym (acts_same u found b op f g t).0 ∙ is) y) first (p x)
+
+      given : (f : Afterwards) → l.rebalance.afterwards ≡ f → Then (given_back f l).local
+      given TryAgain x = tt
+      given Refuse x = later x
+      given MoveLeft x = tt
+
+      met : (b : Bool) → Then (let x : Outcome = if b then to GiveBack (at_infant (l.rebalance.at + 1) l) else given_back l.rebalance.afterwards l in x).local
+      met true = later
+      met false = given l.rebalance.afterwards refl
+
+  -- All of it.
+
+  pub since_own : Since a z o es e.seat first call l → Then l'
+  since_own p = by a refl p
+    where
+      by : (b : Activity) → a ≡ b → Since b z o es e.seat first call l → Then l'
+      by SeekFirst is q = at_first is q
+      by Seek is q = at_seek is q
+      by TakeRow is q = at_take is q
+      by GiveBack is q = at_give_back is q
+      by b is q = by_arrow b l' is (subst (λ c. Arrow z (word z r.world) e.seat (offered r.world.rows e.choice) l c l') is h.arrow) tt

@@ -1,0 +1,215 @@
+-- A search of the table, as it goes round: which rows it has asked, and what it found at each.
+use Rattle.std.proofs.Common.{ℕ, zero, suc, ◌≡◌, ◌≢◌, ◌⊎◌, inl, inr, ◌+◌, ◌<◌, ◌≤◌, Bool, true, false, nat_lt, if◌then◌else◌, List, [], ◌∷◌, ◌++◌, arith, refl, sym, ap, subst, length}
+use Rattle.std.proofs.lemmas.Bool.{cases_lt}
+use Rattle.std.proofs.lemmas.Bool.Decides.{nat_tests}
+use Rattle.kw_cells.specs.declared.cell.Cell.{Cell}
+use Rattle.kw_cells.specs.Cuts.{starts_from, starts_of}
+use Rattle.kw_world.specs.declared.activity.Activity.{Activity}
+use Rattle.kw_world.specs.declared.activity.Activity.TheVariants.{SeekFirst}
+use Rattle.kw_world.specs.declared.event.Event.{Event}
+use Rattle.kw_world.specs.declared.opening.Opening.{Opening}
+use Rattle.kw_world.specs.declared.operation.Operation.{Operation}
+use Rattle.kw_world.specs.declared.rebalance.Rebalance.{Rebalance}
+use Rattle.kw_world.specs.SeekTransitions.{row_behind}
+use Rattle.kw_world.specs.Sizes.{Sizes}
+use Rattle.kw_rows.specs.Events.{IsIn}
+use Rattle.kw_laws.specs.Causes.{IsTrying, FoundTaken, TookRow, NoSearch, AskedAll, asking}
+use Rattle.kw_laws.specs.Mirror.{Acts}
+use Rattle.kw_laws.proofs.CausesLast.{acts_on, taken_lasts, took_lasts, search_lasts}
+
+-- Round the table.
+
+-- of a search that began at this row, the row sought is the one of this number that it asks
+abbrev pub IsTurn : ℕ → ℕ → ℕ → ℕ → Type 0
+IsTurn first sought asked rows = ((first ≤ sought) × (sought + 1 ≡ asked + first)) ⊎ ((sought < first) × (asked + first ≡ rows + sought + 1))
+
+-- the row was asked before the one that is sought
+abbrev pub IsPassed : ℕ → ℕ → ℕ → Type 0
+IsPassed first sought q = ((first ≤ q) × (q < sought)) ⊎ ((sought < first) × ((first ≤ q) ⊎ (q < sought)))
+
+-- where the row behind stands
+pub row_behind_is : (rows r : ℕ) → ((r + 1 < rows) × (row_behind rows r ≡ r + 1)) ⊎ ((rows ≤ r + 1) × (row_behind rows r ≡ 0))
+row_behind_is rows r = met (nat_lt (r + 1) rows) refl
+  where
+    met : (b : Bool) → nat_lt (r + 1) rows ≡ b → ((r + 1 < rows) × ((if b then r + 1 else 0) ≡ r + 1)) ⊎ ((rows ≤ r + 1) × ((if b then r + 1 else 0) ≡ 0))
+    met true e = inl (grind (arith, nat_tests), refl)
+    met false e = inr (grind (arith, nat_tests), refl)
+
+module _ (first sought asked rows : ℕ) where
+  -- the next row is asked, and is one of the table
+  pub turn_next : first < rows → sought < rows → asked < rows → IsTurn first sought asked rows → IsTurn first (row_behind rows sought) (asked + 1) rows × (row_behind rows sought < rows)
+  turn_next f g h t = which t (row_behind_is rows sought)
+    where
+      which : IsTurn first sought asked rows → ((sought + 1 < rows) × (row_behind rows sought ≡ sought + 1)) ⊎ ((rows ≤ sought + 1) × (row_behind rows sought ≡ 0)) → IsTurn first (row_behind rows sought) (asked + 1) rows × (row_behind rows sought < rows)
+      which (inl x) (inl y) = (inl (omega (arith, x.0, y.1), omega (arith, x.1, y.1)), omega (arith, y.0, y.1))
+      which (inl x) (inr y) = (inr (omega (arith, x.0, x.1, y.0, y.1, h, g), omega (arith, x.1, y.0, y.1, g)), omega (arith, g, y.1))
+      which (inr x) (inl y) = (inr (omega (arith, x.0, x.1, y.0, y.1, h), omega (arith, x.1, y.1)), omega (arith, y.0, y.1))
+      which (inr x) (inr y) = absurd (omega (arith, x.0, y.0, f))
+
+  -- the rows that were asked before it were so before, or the row that was sought is the one
+  pub passed_next : first < rows → sought < rows → asked < rows → IsTurn first sought asked rows → (q : ℕ) → q < rows → IsPassed first (row_behind rows sought) q → IsPassed first sought q ⊎ (q ≡ sought)
+  passed_next f g h t q w p = which t (row_behind_is rows sought) p (cases_lt q sought)
+    where
+      which : IsTurn first sought asked rows → ((sought + 1 < rows) × (row_behind rows sought ≡ sought + 1)) ⊎ ((rows ≤ sought + 1) × (row_behind rows sought ≡ 0)) → IsPassed first (row_behind rows sought) q → (q < sought) ⊎ (sought ≤ q) → IsPassed first sought q ⊎ (q ≡ sought)
+      which (inl x) (inl y) (inl c) (inl d) = inl (inl (c.0, d))
+      which (inl x) (inl y) (inl c) (inr d) = inr (omega (arith, c.1, y.1, d))
+      which (inl x) (inl y) (inr c) d = absurd (omega (arith, c.0, y.1, x.0))
+      which (inl x) (inr y) (inl c) d = absurd (omega (arith, c.1, y.1))
+      which (inl x) (inr y) (inr (c, inl k)) (inl d) = inl (inl (k, d))
+      which (inl x) (inr y) (inr (c, inl k)) (inr d) = inr (omega (arith, w, d, y.0))
+      which (inl x) (inr y) (inr (c, inr k)) d = absurd (omega (arith, k, y.1))
+      which (inr x) (inl y) (inl c) d = absurd (omega (arith, c.0, c.1, y.1, x.0))
+      which (inr x) (inl y) (inr (c, inl k)) d = inl (inr (x.0, inl k))
+      which (inr x) (inl y) (inr (c, inr k)) (inl d) = inl (inr (x.0, inr d))
+      which (inr x) (inl y) (inr (c, inr k)) (inr d) = inr (omega (arith, k, d, y.1))
+      which (inr x) (inr y) c d = absurd (omega (arith, x.0, y.0, f))
+
+  -- once all are asked, each row was asked before the row that is sought, or is that one
+  pub passed_all : sought < rows → rows ≤ asked → IsTurn first sought asked rows → (q : ℕ) → q < rows → IsPassed first sought q ⊎ (q ≡ sought)
+  passed_all g h t q w = which t (cases_lt q sought) (cases_lt q first)
+    where
+      which : IsTurn first sought asked rows → (q < sought) ⊎ (sought ≤ q) → (q < first) ⊎ (first ≤ q) → IsPassed first sought q ⊎ (q ≡ sought)
+      which (inl x) (inl d) k = inl (inl (omega (arith, x.1, h, g), d))
+      which (inl x) (inr d) k = inr (omega (arith, x.1, h, g, w, d))
+      which (inr x) (inl d) k = inl (inr (x.0, inr d))
+      which (inr x) (inr d) (inl k) = inr (omega (arith, x.1, h, d, k))
+      which (inr x) (inr d) (inr k) = inl (inr (x.0, inl k))
+
+-- the row that is sought was not asked before
+pub passed_other : (first sought q : ℕ) → IsPassed first sought q → q ≢ sought
+passed_other first sought q (inl x) e = omega (arith, x.1, e)
+passed_other first sought q (inr (x, inl y)) e = omega (arith, x, y, e)
+passed_other first sought q (inr (x, inr y)) e = omega (arith, y, e)
+
+-- no row was asked before the first one
+pub none_passed : {A : Type 0} (first q : ℕ) → IsPassed first first q → A
+none_passed first q (inl x) = absurd (omega (arith, x.0, x.1))
+none_passed first q (inr x) = absurd (omega (arith, x.0))
+
+-- Lists of rows.
+
+pub in_front : (xs : List ℕ) (y q : ℕ) → IsIn xs q → IsIn (xs ++ y ∷ []) q
+in_front [] y q t = absurd t
+in_front (x ∷ xs) y q (inl e) = inl e
+in_front (x ∷ xs) y q (inr t) = inr (in_front xs y q t)
+
+pub in_last : (xs : List ℕ) (y : ℕ) → IsIn (xs ++ y ∷ []) y
+in_last [] y = inl refl
+in_last (x ∷ xs) y = inr (in_last xs y)
+
+pub in_was : (xs : List ℕ) (y q : ℕ) → IsIn (xs ++ y ∷ []) q → IsIn xs q ⊎ (q ≡ y)
+in_was [] y q (inl e) = inr e
+in_was [] y q (inr t) = absurd t
+in_was (x ∷ xs) y q (inl e) = inl (inl e)
+in_was (x ∷ xs) y q (inr t) = which (in_was xs y q t)
+  where
+    which : IsIn xs q ⊎ (q ≡ y) → IsIn (x ∷ xs) q ⊎ (q ≡ y)
+    which (inl c) = inl (inr c)
+    which (inr c) = inr c
+
+-- some row starts where cells are kept, and where none is
+some_from : (n built start : ℕ) (kept : List Cell) → 0 < n → 0 < length (starts_from n built kept start)
+some_from zero built start kept w = absurd (omega (arith, w))
+some_from (suc n) built start kept w = omega arith
+
+pub some_start : (built : ℕ) (kept : List Cell) → 0 < length (starts_of built kept)
+unfolding starts_of
+some_start built kept = some_from (length kept + 1) built 0 kept (omega arith)
+
+-- What is kept of a search.
+
+-- before a search: row 0 is asked first, and no row is taken
+pub record IsBeforeSearch (b : Rebalance) : Type 0 where
+  pub sought : b.sought ≡ 0
+  pub asked : b.asked ≡ 1
+  pub taken : b.taken ≡ []
+  pub some : 0 < length b.starts
+
+-- the seat began its search in its call, and of the rows that it asked each one was taken, or is one that it took
+pub record Searching (z : Sizes) (o : Opening) (es : List Event) (s first : ℕ) (b : Rebalance) : Type 0 where
+  pub begun : ℕ
+  pub after : first < begun
+  pub before : begun < length es
+  pub row : ℕ
+  pub found : ℕ
+  pub begins : Acts z o es begun s SeekFirst (asking row) found
+  pub starts : b.starts ≡ begins.local.rebalance.starts
+  pub within : row < o.rows
+  pub sought : b.sought < o.rows
+  pub turn : IsTurn row b.sought b.asked o.rows
+  pub alone : NoSearch z o es s begun (length es)
+  pub took : (q : ℕ) → IsIn b.taken q → TookRow z o es s begun (length es) q
+  pub fewer : length b.taken < length b.starts
+  pub passed : (q : ℕ) → q < o.rows → IsPassed row b.sought q → IsIn b.taken q ⊎ FoundTaken z o es s begun (length es) q
+
+-- one more event, by which the seat begins no search, and asks for no row but the one that is sought
+pub searching_lasts : (z : Sizes) (o : Opening) (es : List Event) (e : Event) (s first : ℕ) (b : Rebalance) → length es ≤ length (es ++ e ∷ []) → ((u found : ℕ) (op : Operation) → length es ≤ u → u < length (es ++ e ∷ []) → Acts z o (es ++ e ∷ []) u s SeekFirst op found → ⊥) →
+    ((q u found : ℕ) (a : Activity) (op : Operation) → q ≢ b.sought → length es ≤ u → u < length (es ++ e ∷ []) → IsTrying s q a op → Acts z o (es ++ e ∷ []) u s a op found → ⊥) → Searching z o es s first b → Searching z o (es ++ e ∷ []) s first b
+searching_lasts z o es e s first b longer quiet untried t = record {
+  begun = t.begun;
+  after = t.after;
+  before = omega (arith, longer, t.before);
+  row = t.row;
+  found = t.found;
+  begins = acts_on z o es e t.begun s _ _ _ t.begins;
+  starts = t.starts;
+  within = t.within;
+  sought = t.sought;
+  turn = t.turn;
+  alone = search_lasts z o es e s (length es) (length (es ++ e ∷ [])) longer inside t.begun quiet t.alone;
+  took = λ q x. took_lasts z o es e s (length es) (length (es ++ e ∷ [])) longer t.begun q (t.took q x);
+  fewer = t.fewer;
+  passed = λ q w x. either q (passed_other t.row b.sought q x) (t.passed q w x);
+}
+  where
+    inside : length es ≤ length es
+    inside = omega arith
+
+    either : (q : ℕ) → q ≢ b.sought → IsIn b.taken q ⊎ FoundTaken z o es s t.begun (length es) q → IsIn b.taken q ⊎ FoundTaken z o (es ++ e ∷ []) s t.begun (length (es ++ e ∷ [])) q
+    either q n (inl x) = inl x
+    either q n (inr x) = inr (taken_lasts z o es e s (length es) (length (es ++ e ∷ [])) longer inside t.begun q (λ u found a op f g d c. untried q u found a op n f g d c) x)
+
+-- of a search that has asked all rows, the one that is sought too
+pub asked_all : (z : Sizes) (o : Opening) (es : List Event) (s first : ℕ) (b : Rebalance) → o.rows ≤ b.asked → (t : Searching z o es s first b) → IsIn b.taken b.sought ⊎ FoundTaken z o es s t.begun (length es) b.sought → AskedAll z o es s o.rows first (length es)
+asked_all z o es s first b all t here = record {
+  begun = t.begun;
+  after = t.after;
+  before = t.before;
+  row = t.row;
+  found = t.found;
+  begins = t.begins;
+  alone = t.alone;
+  taken = b.taken;
+  took = t.took;
+  fewer = omega (arith, t.fewer, ap (λ xs. length xs) t.starts);
+  asked = λ q w. which q w (passed_all t.row b.sought b.asked o.rows t.sought all t.turn q w);
+}
+  where
+    which : (q : ℕ) → q < o.rows → IsPassed t.row b.sought q ⊎ (q ≡ b.sought) → IsIn b.taken q ⊎ FoundTaken z o es s t.begun (length es) q
+    which q w (inl x) = t.passed q w x
+    which q w (inr x) = subst (λ y. IsIn b.taken y ⊎ FoundTaken z o es s t.begun (length es) y) (sym x) here
+
+-- and one that has not goes on to the next row
+pub next_row : (z : Sizes) (o : Opening) (es : List Event) (s first : ℕ) (b : Rebalance) → b.asked < o.rows → (t : Searching z o es s first b) → IsIn b.taken b.sought ⊎ FoundTaken z o es s t.begun (length es) b.sought → Searching z o es s first (record b { sought = row_behind o.rows b.sought; asked = b.asked + 1 })
+next_row z o es s first b more t here =
+    let turn = turn_next t.row b.sought b.asked o.rows t.within t.sought more t.turn in
+    record {
+      begun = t.begun;
+      after = t.after;
+      before = t.before;
+      row = t.row;
+      found = t.found;
+      begins = t.begins;
+      starts = t.starts;
+      within = t.within;
+      sought = turn.1;
+      turn = turn.0;
+      alone = t.alone;
+      took = t.took;
+      fewer = t.fewer;
+      passed = λ q w x. which q w (passed_next t.row b.sought b.asked o.rows t.within t.sought more t.turn q w x);
+    }
+  where
+    which : (q : ℕ) → q < o.rows → IsPassed t.row b.sought q ⊎ (q ≡ b.sought) → IsIn b.taken q ⊎ FoundTaken z o es s t.begun (length es) q
+    which q w (inl x) = t.passed q w x
+    which q w (inr x) = subst (λ y. IsIn b.taken y ⊎ FoundTaken z o es s t.begun (length es) y) (sym x) here

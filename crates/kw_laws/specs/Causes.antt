@@ -1,0 +1,143 @@
+-- Why a call was refused, in the words of the events: what its seat found within the call.
+--
+-- A scan loads the clock before it waits, and a put or a delete loads the clock and the epoch before it rebalances a row: each is refused as
+-- spent where it finds one of them at its bound. For want of rows a put or a delete is refused, where a full row refuses its puts, as its
+-- row has given all its cells, and, where a full row is replaced, as it has asked each row of the table in one search, and was left without
+-- as many as it needs.
+use Rattle.std.specs.Prelude.{ℕ, ◌≡◌, ◌≢◌, ◌⊎◌, ◌<◌, ◌≤◌, Some, List, length}
+use Rattle.kw_words.specs.declared.kind.Kind.TheVariants as kind
+use Rattle.kw_words.specs.declared.layout.Name.TheVariants as name
+use Rattle.kw_words.specs.declared.sizes.TheConstants.{SPENT}
+use Rattle.kw_words.specs.declared.state.State.TheVariants as state
+use Rattle.kw_words.specs.Count.{count_of}
+use Rattle.kw_words.specs.State.{state_word}
+use Rattle.kw_model.specs.declared.call.Call.{Call}
+use Rattle.kw_model.specs.declared.call.Call.TheVariants.{Put, Del, Scan}
+use Rattle.kw_model.specs.declared.call.Reply.TheVariants.{NoRows, Spent}
+use Rattle.kw_world.specs.declared.activity.Activity.{Activity}
+use Rattle.kw_world.specs.declared.activity.Activity.TheVariants.{ScanClock, PutCount, PutAdd, BalClock, BalEpoch, SeekFirst, Seek, TakeRow}
+use Rattle.kw_world.specs.declared.event.Event.{Event}
+use Rattle.kw_world.specs.declared.opening.Opening.{Opening}
+use Rattle.kw_world.specs.declared.operation.Action.TheVariants.{Load, Add, Exchange}
+use Rattle.kw_world.specs.declared.operation.Operation.{Operation}
+use Rattle.kw_world.specs.PutTransitions.{given_of}
+use Rattle.kw_world.specs.Sizes.{Refused, IsRebalancing, Sizes}
+use Rattle.kw_core.specs.History.{History, called}
+use Rattle.kw_core.specs.declared.history.End.{End}
+use Rattle.kw_rows.specs.Events.{IsIn}
+use Rattle.kw_laws.specs.Mirror.{Acts, operation}
+
+-- No version is left.
+
+-- by this operation a seat that makes the call asks at this activity for a version, or for a number
+abbrev pub IsAsking : Call → Activity → Operation → Type 0
+IsAsking (Scan from upto) ScanClock op = op ≡ operation kind.LoadClock name.Clock Load
+IsAsking (Put key value) BalClock op = op ≡ operation kind.LoadClock name.Clock Load
+IsAsking (Put key value) BalEpoch op = op ≡ operation kind.LoadEpoch name.Epoch Load
+IsAsking (Del key) BalClock op = op ≡ operation kind.LoadClock name.Clock Load
+IsAsking (Del key) BalEpoch op = op ≡ operation kind.LoadEpoch name.Epoch Load
+IsAsking _ _ op = ⊥
+
+-- after the first position and before the last the seat, which makes this call, asked, and found none left
+pub record IsSpentBy (z : Sizes) (o : Opening) (es : List Event) (call : Call) (s first last : ℕ) : Type 0 where
+  pub at : ℕ
+  pub after : first < at
+  pub before : at < last
+  pub activity : Activity
+  pub op : Operation
+  pub asks : IsAsking call activity op
+  pub found : ℕ
+  pub acts : Acts z o es at s activity op found
+  pub spent : SPENT ≤ found
+
+-- No cell is left in the row.
+
+-- by this operation a put or a delete asks the row at this activity for a cell: it looks whether there is one, or takes it
+abbrev pub IsAskingRow : ℕ → Activity → Operation → Type 0
+IsAskingRow row PutCount op = op ≡ operation kind.LoadCount (name.Count row) Load
+IsAskingRow row PutAdd op = op ≡ operation kind.AddCount (name.Count row) (Add 1)
+IsAskingRow row _ op = ⊥
+
+-- after the first position and before the last the seat asked a row for a cell, and found that the row had given all
+pub record FoundNoRoom (z : Sizes) (o : Opening) (es : List Event) (s first last : ℕ) : Type 0 where
+  pub at : ℕ
+  pub after : first < at
+  pub before : at < last
+  pub row : ℕ
+  pub activity : Activity
+  pub op : Operation
+  pub asks : IsAskingRow row activity op
+  pub found : ℕ
+  pub acts : Acts z o es at s activity op found
+  pub given : z.cells ≤ given_of (count_of found)
+
+-- No row is left in the table.
+
+-- the load by which a search asks for the state of a row
+abbrev pub asking : ℕ → Operation
+asking row = operation kind.LoadState (name.State row) Load
+
+-- the exchange by which the seat takes a free row
+abbrev pub taking : ℕ → ℕ → Operation
+taking s row = operation kind.TakeRow (name.State row) (Exchange (state_word state.Free) (state_word (state.Infant s)))
+
+-- by this operation the search of the seat asks at this activity for the row
+abbrev pub IsTrying : ℕ → ℕ → Activity → Operation → Type 0
+IsTrying s row SeekFirst op = op ≡ asking row
+IsTrying s row Seek op = op ≡ asking row
+IsTrying s row TakeRow op = op ≡ taking s row
+IsTrying s row _ op = ⊥
+
+-- after the first position and before the last the seat does not ask for the row
+abbrev pub NotTried : Sizes → Opening → List Event → ℕ → ℕ → ℕ → ℕ → Type 0
+NotTried z o es s first last row = (u found : ℕ) (a : Activity) (op : Operation) → first < u → u < last → IsTrying s row a op → Acts z o es u s a op found → ⊥
+
+-- from the first position on and before the last the seat asked for the row, or tried to take it, and did not find it free; and it asked for
+-- the row no more
+pub record FoundTaken (z : Sizes) (o : Opening) (es : List Event) (s first last row : ℕ) : Type 0 where
+  pub at : ℕ
+  pub after : first ≤ at
+  pub before : at < last
+  pub activity : Activity
+  pub op : Operation
+  pub tries : IsTrying s row activity op
+  pub found : ℕ
+  pub acts : Acts z o es at s activity op found
+  pub taken : found ≢ state_word state.Free
+  pub final : NotTried z o es s at last row
+
+-- from the first position on and before the last the seat took the row
+pub record TookRow (z : Sizes) (o : Opening) (es : List Event) (s first last row : ℕ) : Type 0 where
+  pub at : ℕ
+  pub after : first ≤ at
+  pub before : at < last
+  pub acts : Acts z o es at s TakeRow (taking s row) (state_word state.Free)
+
+-- after the first position and before the last the seat begins no search
+abbrev pub NoSearch : Sizes → Opening → List Event → ℕ → ℕ → ℕ → Type 0
+NoSearch z o es s first last = (u found : ℕ) (op : Operation) → first < u → u < last → Acts z o es u s SeekFirst op found → ⊥
+
+-- after the first position and before the last the seat began a search, its last one there, which asked for each row of the table: it found it
+-- taken, or took it, and it took fewer rows than the cells fill that it gathered
+pub record AskedAll (z : Sizes) (o : Opening) (es : List Event) (s rows first last : ℕ) : Type 0 where
+  pub begun : ℕ
+  pub after : first < begun
+  pub before : begun < last
+  pub row : ℕ
+  pub found : ℕ
+  pub begins : Acts z o es begun s SeekFirst (asking row) found
+  pub alone : NoSearch z o es s begun last
+  pub taken : List ℕ
+  pub took : (q : ℕ) → IsIn taken q → TookRow z o es s begun last q
+  pub fewer : length taken < length begins.local.rebalance.starts
+  pub asked : (q : ℕ) → q < rows → IsIn taken q ⊎ FoundTaken z o es s begun last q
+
+-- what a call that was refused for want of rows found, where a full row refuses its puts, and where it is replaced
+pub record HasNoRows (z : Sizes) (o : Opening) (es : List Event) (s first last : ℕ) : Type 0 where
+  pub refused : z.form ≡ Refused → FoundNoRoom z o es s first last
+  pub replaced : IsRebalancing z.form → AskedAll z o es s o.rows first last
+
+-- each call of the record that was refused has its cause: it was found after the call's first event and before its last
+pub record HaveCauses (z : Sizes) (o : Opening) (es : List Event) (h : History) : Type 0 where
+  pub spent : (x : ℕ) (e : End) → x < length h.calls → (called h x).end ≡ Some e → e.reply ≡ Spent → IsSpentBy z o es (called h x).call (called h x).seat (called h x).first e.at
+  pub no_rows : (x : ℕ) (e : End) → x < length h.calls → (called h x).end ≡ Some e → e.reply ≡ NoRows → HasNoRows z o es (called h x).seat (called h x).first e.at

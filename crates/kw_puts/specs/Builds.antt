@@ -1,0 +1,143 @@
+-- What a seat that rebalances gathers of its frozen row, and what the cells of the rows that it writes stand for.
+use Rattle.std.specs.Prelude.{ℕ, ◌≡◌, ◌⊎◌, ◌<◌, ◌≤◌, ◌==◌, Bool, true, false, if◌then◌else◌, Some, None, List, [], ◌∷◌, All, length, slice_get}
+use Rattle.kw_cells.specs.declared.cell.Cell.{Cell}
+use Rattle.kw_lists.specs.Counts.{count_below}
+use Rattle.kw_lists.specs.Rows.{Row, Stands, IsOn, IsBehind}
+use Rattle.kw_lists.specs.Walks.{IsPassed}
+use Rattle.kw_world.specs.declared.activity.Activity.{Activity}
+use Rattle.kw_world.specs.declared.activity.Activity.TheVariants.{TakeFrom, TakeKey, TakeVersion, TakeValue, TakeRestKey, TakeRestValue, Before}
+use Rattle.kw_world.specs.declared.local.Local.{Local}
+use Rattle.kw_world.specs.Marks.{is_marked}
+use Rattle.kw_world.specs.SeekTransitions.{at_infant, infant}
+use Rattle.kw_world.specs.Sizes.{Sizes}
+use Rattle.kw_world.specs.WriteTransitions.{infant_cells}
+use Rattle.kw_core.specs.History.{History, attempt}
+use Rattle.kw_core.specs.Listed.{Listed}
+use Rattle.kw_core.specs.Run.{Origins}
+use Rattle.kw_shape.specs.Infants.{Nursing, HasNone, nursing_of, IsWhole, IsWriting, HasCount, HasVersion, HasAfter}
+
+-- Cells that are gathered.
+
+-- the cell is that of a stamped attempt
+pub record IsCellOf (h : History) (c : Cell) (p : ℕ) : Type 0 where
+  pub stamped : (attempt h p).is_stamped ≡ true
+  pub key : (attempt h p).key ≡ c.key
+  pub version : (attempt h p).version ≡ c.version
+  pub value : (attempt h p).value ≡ c.value
+
+-- it was gathered in this row, at its place
+pub record IsGathered (h : History) (o : Origins) (row : ℕ) (c : Cell) : Type 0 where
+  pub put : ℕ
+  pub origin : o row c.place ≡ Some put
+  pub is : IsCellOf h c put
+
+-- a cell of this place is gathered
+abbrev pub has_place : ℕ → List Cell → Bool
+has_place c [] = false
+has_place c (d ∷ cells) = if d.place == c then true else has_place c cells
+
+-- The walk.
+
+-- the seat reads the cells of its frozen row
+abbrev pub IsGathering : Activity → Type 0
+IsGathering TakeFrom = Unit {0}
+IsGathering TakeKey = Unit {0}
+IsGathering TakeVersion = Unit {0}
+IsGathering TakeValue = Unit {0}
+IsGathering TakeRestKey = Unit {0}
+IsGathering TakeRestValue = Unit {0}
+IsGathering _ = ⊥
+
+-- it walks along the list
+abbrev pub IsTakeListing : Activity → Type 0
+IsTakeListing TakeFrom = Unit {0}
+IsTakeListing TakeKey = Unit {0}
+IsTakeListing TakeVersion = Unit {0}
+IsTakeListing TakeValue = Unit {0}
+IsTakeListing _ = ⊥
+
+-- it has a cell in hand
+abbrev pub HasTaken : Activity → Type 0
+HasTaken TakeFrom = ⊥
+HasTaken a = IsGathering a
+
+-- one that it met in the list
+abbrev pub HasTakenListed : Activity → Type 0
+HasTakenListed TakeKey = Unit {0}
+HasTakenListed TakeVersion = Unit {0}
+HasTakenListed TakeValue = Unit {0}
+HasTakenListed _ = ⊥
+
+-- with its version, with its key
+abbrev pub HasTakenVersion : Activity → Type 0
+HasTakenVersion TakeValue = Unit {0}
+HasTakenVersion TakeRestKey = Unit {0}
+HasTakenVersion TakeRestValue = Unit {0}
+HasTakenVersion _ = ⊥
+
+abbrev pub HasTakenKey : Activity → Type 0
+HasTakenKey TakeVersion = Unit {0}
+HasTakenKey TakeValue = Unit {0}
+HasTakenKey TakeRestValue = Unit {0}
+HasTakenKey _ = ⊥
+
+-- the walk will meet the cell, or it is in hand
+abbrev pub IsToTake : Row → Activity → Local → ℕ → Type 0
+IsToTake r TakeFrom l c = (r.listed c ≡ true) × IsBehind r l.link c
+IsToTake r TakeKey l c = (r.listed c ≡ true) × ((c ≡ l.place) ⊎ Stands r l.place c)
+IsToTake r TakeVersion l c = (r.listed c ≡ true) × ((c ≡ l.place) ⊎ Stands r l.place c)
+IsToTake r TakeValue l c = (r.listed c ≡ true) × ((c ≡ l.place) ⊎ Stands r l.place c)
+IsToTake r TakeRestKey l c = c ≡ l.place
+IsToTake r TakeRestValue l c = c ≡ l.place
+IsToTake r _ l c = ⊥
+
+-- the cell in hand is that of a stamped attempt, with the version and the key in hand, once they are
+pub record IsTakenOf (h : History) (o : Origins) (a : Activity) (l : Local) : Type 0 where
+  pub put : ℕ
+  pub origin : o l.row l.place ≡ Some put
+  pub stamped : (attempt h put).is_stamped ≡ true
+  pub version : HasTakenVersion a → (attempt h put).version ≡ l.place_version
+  pub key : HasTakenKey a → (attempt h put).key ≡ l.place_key
+
+-- each cell of the row that stands for a stamped attempt is gathered, remembered, or to come; none is gathered twice
+pub record Gathering (n : ℕ) (r : Row) (h : History) (o : Origins) (a : Activity) (l : Local) : Type 0 where
+  pub on : IsTakeListing a → IsOn r l.link
+  pub behind : HasTakenListed a → (r.listed l.place ≡ true) × IsBehind r l.link l.place
+  pub found : (c p : ℕ) → c < n → o l.row c ≡ Some p → (attempt h p).is_stamped ≡ true → (has_place c l.rebalance.gathered ≡ true) ⊎ (is_marked c l.rebalance.marks ≡ true) ⊎ IsToTake r a l c
+  pub hand : HasTaken a → IsTakenOf h o a l
+  pub few : length l.rebalance.gathered ≤ count_below n (λ c. has_place c l.rebalance.gathered)
+  pub below : (c : ℕ) → has_place c l.rebalance.gathered ≡ true → c < n
+  pub unmarked : (c : ℕ) → is_marked c l.rebalance.marks ≡ true → has_place c l.rebalance.gathered ≡ false
+  pub passed : IsTakeListing a → (c : ℕ) → has_place c l.rebalance.gathered ≡ true → (r.listed c ≡ true) × IsPassed r l.link c
+  pub fresh : HasTaken a → (IsTakeListing a → ⊥) → has_place l.place l.rebalance.gathered ≡ false
+  pub held : HasTaken a → is_marked l.place l.rebalance.marks ≡ false
+
+-- After the walk.
+
+-- all is gathered, and the plan is made: rows are sought, written, linked, or given back
+abbrev pub HasPlanned : Nursing → Type 0
+HasPlanned HasNone = ⊥
+HasPlanned _ = Unit {0}
+
+-- what is gathered holds all of the row
+abbrev pub HoldsRow : ℕ → History → Origins → Local → Type 0
+HoldsRow n h o l = (c p : ℕ) → c < n → o l.row c ≡ Some p → (attempt h p).is_stamped ≡ true → has_place c l.rebalance.gathered ≡ true
+
+-- what the cells of row q stand for and which are listed, where it is the row at hand of a seat that knows l and is about to do this: a copy stands
+-- for the attempt of the cell at which it was gathered
+pub record Copied (z : Sizes) (h : History) (o : Origins) (f : Listed) (a : Activity) (l : Local) (q : ℕ) : Type 0 where
+  pub origin : (j : ℕ) (c : Cell) → j < z.cells → HasVersion a j → slice_get (infant_cells l) j ≡ Some c → (p : ℕ) × (o q j ≡ Some p) × IsCellOf h c p
+  pub gathered : (j : ℕ) (c : Cell) → j < z.cells → HasVersion a j → slice_get (infant_cells l) j ≡ Some c → o q j ≡ o l.row c.place
+  pub rest : (j : ℕ) → j < z.cells → HasVersion a j → slice_get (infant_cells l) j ≡ None → o q j ≡ None
+  pub listed : (j : ℕ) → j < length (infant_cells l) → HasAfter a j → f q j ≡ true
+  pub unlisted : HasCount a → (j : ℕ) → f q j ≡ true → (j < length (infant_cells l)) × HasAfter a j
+
+-- what a seat that rebalances knows of the cells
+pub record Builds (z : Sizes) (r : Row) (h : History) (o : Origins) (f : Listed) (a : Activity) (l : Local) : Type 0 where
+  pub gathering : IsGathering a → Gathering z.cells r h o a l
+  pub gathered : IsGathering a → All (IsGathered h o l.row) l.rebalance.gathered
+  pub collected : HasPlanned (nursing_of a) → All (IsGathered h o l.row) l.rebalance.gathered
+  pub kept : HasPlanned (nursing_of a) → All (IsGathered h o l.row) l.rebalance.kept
+  pub holds : HasPlanned (nursing_of a) → HoldsRow z.cells h o l
+  pub whole : (i q : ℕ) → IsWhole (nursing_of a) l i → slice_get l.rebalance.taken i ≡ Some q → Copied z h o f Before (at_infant i l) q
+  pub words : IsWriting (nursing_of a) → Copied z h o f a l (infant l)

@@ -1,0 +1,146 @@
+-- Every event keeps what each reader knows of the puts that were stamped before it looked at its row.
+use Rattle.std.proofs.Common.{ℕ, zero, suc, ◌≡◌, ◌≢◌, ◌⊎◌, inl, inr, ◌≤◌, Some, arith, refl, sym, ◌∙◌, ap, subst, length, slice_get}
+use Rattle.kw_world.specs.declared.activity.Activity.{Activity}
+use Rattle.kw_world.specs.declared.activity.Activity.TheVariants.{Look, LookKey, LookClock, LookHelp, ListFrom, ListKey, ListVer, ListVal, RestKey, RestVal}
+use Rattle.kw_world.specs.declared.event.Choice.{Choice}
+use Rattle.kw_world.specs.declared.local.Local.{Local}
+use Rattle.kw_world.specs.Sizes.{Sizes}
+use Rattle.kw_world.specs.Step.{word}
+use Rattle.kw_core.specs.History.{History}
+use Rattle.kw_core.specs.Run.{Origins, Run, seat_after}
+use Rattle.kw_core.specs.Stages.{IsAtRow, IsReading, IsUnderway}
+use Rattle.kw_core.specs.Words.{Words}
+use Rattle.kw_core.specs.declared.seat_log.SeatLog.{SeatLog}
+use Rattle.kw_core.proofs.Arrows.{Arrow, NextRest, rests, answers, ends_scan, scans_on, builds, reads_last, reads_before, list_ends, key_above, rest_passed, gathers_rest}
+use Rattle.kw_core.proofs.Happens.{Happens, each_seat}
+use Rattle.kw_core.proofs.SeatLogs.{IsNoDraw}
+use Rattle.kw_shape.proofs.RowsStay.{fresh_linked}
+use Rattle.kw_puts.proofs.OwnScans.{looked_kept}
+use Rattle.kw_reads.specs.Contents.{Contents, HasRow, IsFronted, floor_of, version_of}
+use Rattle.kw_reads.specs.Inv.{Inv, lower}
+use Rattle.kw_reads.proofs.Floors.{IsOnWay, floor_before, floor_other, floor_own, row_from}
+use Rattle.kw_reads.proofs.Fronts.{first_look, fronted_lasts}
+use Rattle.kw_core.proofs.BuiltNext.{built_next}
+use Rattle.kw_reads.proofs.HistoryKeeps.{history_step}
+use Rattle.kw_reads.proofs.Later.{after_building}
+use Rattle.kw_reads.proofs.Relying.{rely}
+
+-- a reader is at its row
+pub reading_row : (a : Activity) → IsReading a → HasRow a × IsAtRow a × IsOnWay a
+reading_row (Look j) x = (tt, tt, tt)
+reading_row LookKey x = (tt, tt, tt)
+reading_row LookClock x = (tt, tt, tt)
+reading_row LookHelp x = (tt, tt, tt)
+reading_row ListFrom x = (tt, tt, tt)
+reading_row ListKey x = (tt, tt, tt)
+reading_row ListVer x = (tt, tt, tt)
+reading_row ListVal x = (tt, tt, tt)
+reading_row RestKey x = (tt, tt, tt)
+reading_row RestVal x = (tt, tt, tt)
+reading_row _ x = absurd x
+
+-- and its event neither begins nor ends a call, nor draws
+reading_way : (a : Activity) → IsReading a → IsUnderway a × IsNoDraw a
+reading_way (Look j) x = (tt, tt)
+reading_way LookKey x = (tt, tt)
+reading_way LookClock x = (tt, tt)
+reading_way LookHelp x = (tt, tt)
+reading_way ListFrom x = (tt, tt)
+reading_way ListKey x = (tt, tt)
+reading_way ListVer x = (tt, tt)
+reading_way ListVal x = (tt, tt)
+reading_way RestKey x = (tt, tt)
+reading_way RestVal x = (tt, tt)
+reading_way _ x = absurd x
+
+-- a seat that reads has looked at its first entry now, or read before, and is at the row at which it was
+record FromReading (l : Local) (a : Activity) (k : Local) : Type 0 where
+  at : (a ≡ Look 0) ⊎ IsReading a
+  row : k.row ≡ l.row
+  call : k.call ≡ l.call
+  version : k.version ≡ l.version
+
+-- a look is the first, or a later one
+look_at : (j : ℕ) → (Look j ≡ Look 0) ⊎ (1 ≤ j)
+look_at zero = inl refl
+look_at (suc j) = inr (omega arith)
+
+-- a reader that goes on to a remembered cell
+rests_from : (l m k : Local) (a : Activity) → IsReading a → m.row ≡ l.row → m.call ≡ l.call → m.version ≡ l.version → NextRest m k → IsReading k.activity → FromReading l a k
+rests_from l m k a x row call version (rests n e) y = record { at = inr x; row = row; call = call; version = version }
+rests_from l m k a x row call version (answers e f) y = absurd y
+rests_from l m k a x row call version (ends_scan e f n) y = absurd y
+rests_from l m k a x row call version (scans_on q e f n o) y = absurd y
+
+reading_from : (z : Sizes) (v : Words) (s : ℕ) (choice : Choice) (l : Local) (a : Activity) (k : Local) → Arrow z v s choice l a k → IsReading k.activity → FromReading l a k
+reading_from z v s choice l a k (builds b next y o t) x = after_building k.activity (built_next z v choice l a k t) (reading_row k.activity x).0
+reading_from z v s choice l a k (reads_last f n) x = absurd (omega (arith, x))
+reading_from z v s choice l a k (reads_before f w) x = absurd (omega (arith, x))
+reading_from z v s choice l a k (list_ends next e n) x = rests_from l _ next ListFrom tt refl refl refl n x
+reading_from z v s choice l a k (key_above next e n) x = rests_from l _ next ListKey tt refl refl refl n x
+reading_from z v s choice l a k (rest_passed next e n) x = rests_from l _ next RestKey tt refl refl refl n x
+reading_from z v s choice l a k (gathers_rest next n) x = rests_from l _ next RestVal tt refl refl refl n x
+reading_from z v s choice l (Look j) k b x = record { at = look_at j; row = refl; call = refl; version = refl }
+reading_from z v s choice l LookKey k b x = record { at = inr tt; row = refl; call = refl; version = refl }
+reading_from z v s choice l LookClock k b x = record { at = inr tt; row = refl; call = refl; version = refl }
+reading_from z v s choice l LookHelp k b x = record { at = inr tt; row = refl; call = refl; version = refl }
+reading_from z v s choice l ListFrom k b x = record { at = inr tt; row = refl; call = refl; version = refl }
+reading_from z v s choice l ListKey k b x = record { at = inr tt; row = refl; call = refl; version = refl }
+reading_from z v s choice l ListVer k b x = record { at = inr tt; row = refl; call = refl; version = refl }
+reading_from z v s choice l ListVal k b x = record { at = inr tt; row = refl; call = refl; version = refl }
+reading_from z v s choice l RestKey k b x = record { at = inr tt; row = refl; call = refl; version = refl }
+reading_from z v s choice l a k b x = absurd x
+
+-- the first look is now
+look_now : (z : Sizes) (choice : Choice) (l : Local) (found : ℕ) (next : Activity) (g : SeatLog) (o : Origins) (h : History) (settled : ℕ) (a : Activity) → a ≡ Look 0 → (seat_after z a choice l found next g o h settled).looked ≡ length h.log
+look_now z choice l found next g o h settled a e = subst (λ b. (seat_after z b choice l found next g o h settled).looked ≡ length h.log) (sym e) refl
+
+-- a call reads at the version at which it read
+pub version_same : (l m : Local) → m.call ≡ l.call → m.version ≡ l.version → version_of m ≡ version_of l
+version_same l m c v = rw (c, v) refl
+
+-- the same of a row of other names
+pub fronted_as : (z : Sizes) (r : Run) (row row' version version' floor floor' looked looked' : ℕ) → row' ≡ row → version' ≡ version → floor' ≡ floor → looked' ≡ looked → IsFronted z r row version floor looked → IsFronted z r row' version' floor' looked'
+fronted_as z r row row' version version' floor floor' looked looked' a b c d x = rw (a, b, c, d) x
+
+module _ (z : Sizes) (r r' : Run) (s : ℕ) (choice : Choice) (l : Local) (a : Activity) (l' : Local) (h : Happens z r r' s choice l l' a) (i : Inv z r) (c : Contents z r) where
+  -- what a seat knows of a row at which it is
+  lasts : (t : ℕ) (k : Local) → slice_get r.world.locals t ≡ Some k → IsAtRow k.activity → IsOnWay k.activity → (looked : ℕ) → looked ≤ length r.history.log → IsFronted z r k.row (version_of k) (floor_of r t k) looked → IsFronted z r' k.row (version_of k) (floor_of r t k) looked
+  lasts t k g x w looked o f = fronted_lasts a h i k.row (version_of k) (floor_of r t k) looked (fresh_linked r.ledger.rows t k.row ((i.shape.walks t k g).at x).fresh) (omega (arith, floor_before z r i t k g w)) o f
+
+  -- what the acting reader knew of its row, whatever it is at now
+  pub front_after : IsReading a → (m : Local) → m.row ≡ l.row → m.call ≡ l.call → m.version ≡ l.version → IsFronted z r' m.row (version_of m) (floor_of r' s m) (r'.seats s).looked
+  front_after x m row call version =
+      let y = subst IsReading (sym h.activity) x in
+      let w = reading_row l.activity y in
+      let u = reading_way a x in
+      fronted_as z r' l.row m.row _ _ _ _ _ _ row (version_same l m call version) (floor_own z r r' s choice l a l' h i u.0 u.1 m call) (looked_kept z r r' s choice l a l' h.arrow h (lower i) (history_step z r r' s choice l a l' h i) x)
+      (lasts s l h.knows w.1 w.2 (r.seats s).looked (i.positions.looks s) (c.front s l h.knows y))
+
+  -- the acting seat
+  front_own : IsReading l'.activity → IsFronted z r' l'.row (version_of l') (floor_of r' s l') (r'.seats s).looked
+  front_own x = which y.at
+    where
+      y : FromReading l a l'
+      y = reading_from z (word z r.world) s choice l a l' h.arrow x
+
+      first : a ≡ Look 0 → IsFronted z r' l'.row (version_of l') (floor_of r' s l') (r'.seats s).looked
+      first e =
+          let u = row_from z (word z r.world) s choice l a l' h.arrow (reading_row l'.activity x).0 in
+          fronted_as z r' l.row l'.row _ _ _ _ _ _ y.row (version_same l l' y.call y.version) (floor_own z r r' s choice l a l' h i u.1 u.2 l' y.call) (ap (λ (g : SeatLog). g.looked) h.log ∙ look_now z choice l _ l'.activity (r.seats s) r.origin r.history (r.settled s) a e)
+          (lasts s l h.knows (subst IsAtRow (sym (h.activity ∙ e)) tt) (subst IsOnWay (sym (h.activity ∙ e)) tt) (length r.history.log) (omega arith) (first_look z r i c s l h.knows (h.activity ∙ e)))
+
+      which : (a ≡ Look 0) ⊎ IsReading a → IsFronted z r' l'.row (version_of l') (floor_of r' s l') (r'.seats s).looked
+      which (inl e) = first e
+      which (inr u) = front_after u l' y.row y.call y.version
+
+  -- any seat
+  pub front_keeps : (t : ℕ) (k : Local) → slice_get r'.world.locals t ≡ Some k → IsReading k.activity → IsFronted z r' k.row (version_of k) (floor_of r' t k) (r'.seats t).looked
+  front_keeps = each_seat h (λ t k. IsReading k.activity → IsFronted z r' k.row (version_of k) (floor_of r' t k) (r'.seats t).looked) front_own other
+    where
+      other : (t : ℕ) (k : Local) → t ≢ s → slice_get r.world.locals t ≡ Some k → IsReading k.activity → IsFronted z r' k.row (version_of k) (floor_of r' t k) (r'.seats t).looked
+      other t k d g x =
+          let w = reading_row k.activity x in
+          let y = rely z r r' s choice l a l' h i t k d g in
+          fronted_as z r' k.row k.row _ _ _ _ _ _ refl refl (floor_other z r i t k g w.2 r' y) (ap (λ (q : SeatLog). q.looked) y.log)
+          (lasts t k g w.1 w.2 (r.seats t).looked (i.positions.looks t) (c.front t k g x))

@@ -1,0 +1,174 @@
+-- The rows that a walk names were not gone when its call drew, or began: each is in the list when the walk comes to it, or follows one that
+-- was not gone.
+use Rattle.std.proofs.Common.{ℕ, ◌≡◌, inl, inr, ◌<◌, ◌≤◌, Some, None, arith, refl, sym, ◌∙◌, ap, subst}
+use Rattle.std.proofs.lemmas.Option.{same_Some}
+use Rattle.kw_world.specs.declared.activity.Activity.{Activity}
+use Rattle.kw_world.specs.declared.activity.Activity.TheVariants.{Again, Leave, BalClock, GuessMin, Walk, WalkMin, Look, LookKey, LookClock, LookHelp, ListFrom, ListKey, ListVer, ListVal, RestKey, RestVal, PutCount, PutAdd, PutKey, PutValue, Announce, PutClock, Stamp, PutVersion, InsFrom, InsKey, InsVer, InsSet, Insert, PutClear}
+use Rattle.kw_world.specs.declared.local.Local.{Local}
+use Rattle.kw_world.specs.declared.event.Choice.{Choice}
+use Rattle.kw_world.specs.Sizes.{Sizes}
+use Rattle.kw_world.specs.Transition.{row_or_first}
+use Rattle.kw_core.specs.Stages.{IsAtRow}
+use Rattle.kw_core.specs.Words.{Words, next_in}
+use Rattle.kw_core.proofs.Arrows.{Arrow, starts_at_head, guesses, takes_head, guess_serves, puts_in_last, reads_last, meets_next, walks_on, puts_before, reads_before, meets_pending, meets_stamped, meets_neither, is_wanted, is_passed, loads_to_help, helps, finds_stamped, finds_other, list_leads, list_ends, key_below, key_within, key_above, loads_version, gathers_listed, rest_wanted, rest_passed, gathers_rest, finds_room, takes_cell, stores_key, stores_value, announces, loads_clock, stamps, is_stamped, stores_version, meets_cell, meets_none, key_before, key_same, key_after, version_before, version_after, stores_after, inserts, loses, NextLook, looks, lists, NextRest, rests, answers, ends_scan, scans_on, builds}
+use Rattle.kw_rows.specs.Ledger.{Dead, IsDead, IsFresh, IsHeld, IsLive, Ledger, Live}
+use Rattle.kw_rows.specs.Rows.{Closed}
+use Rattle.kw_rows.specs.Structure.{Structure}
+use Rattle.kw_rows.proofs.Named.{held_by, normal_live}
+use Rattle.kw_shape.specs.RowsIn.{rows_in, state_met}
+use Rattle.kw_shape.specs.Shape.{Walks}
+use Rattle.kw_reads.specs.Contents.{HasCandidate, HasRow, IsLater, IsSince}
+use Rattle.kw_core.proofs.BuiltNext.{IsAfterBuilding, built_next}
+
+-- Along the arrows; the ledger is that before the event.
+
+-- a seat at its row has no candidate, and has a row
+pub at_row_has : (a : Activity) → IsAtRow a → HasRow a
+at_row_has GuessMin x = absurd x
+at_row_has Walk x = absurd x
+at_row_has WalkMin x = absurd x
+at_row_has _ x = x
+
+no_candidate : {A : Type 0} (a : Activity) → IsAtRow a → HasCandidate a → A
+no_candidate WalkMin x y = absurd x
+no_candidate _ x y = absurd y
+
+-- a seat with a candidate has a row
+pub candidate_has : (a : Activity) → HasCandidate a → HasRow a
+candidate_has WalkMin x = tt
+candidate_has _ x = absurd x
+
+-- new rows are taken, written and linked at no row of a walk
+pub after_building : {A : Type 0} (a : Activity) → IsAfterBuilding a → HasRow a → A
+after_building Again x y = absurd y
+after_building BalClock x y = absurd y
+after_building (Leave answer) x y = absurd y
+after_building GuessMin x y = absurd x
+after_building Walk x y = absurd x
+after_building WalkMin x y = absurd x
+after_building (Look i) x y = absurd x
+after_building LookKey x y = absurd x
+after_building LookClock x y = absurd x
+after_building LookHelp x y = absurd x
+after_building ListFrom x y = absurd x
+after_building ListKey x y = absurd x
+after_building ListVer x y = absurd x
+after_building ListVal x y = absurd x
+after_building RestKey x y = absurd x
+after_building RestVal x y = absurd x
+after_building PutCount x y = absurd x
+after_building PutAdd x y = absurd x
+after_building PutKey x y = absurd x
+after_building PutValue x y = absurd x
+after_building Announce x y = absurd x
+after_building PutClock x y = absurd x
+after_building Stamp x y = absurd x
+after_building PutVersion x y = absurd x
+after_building InsFrom x y = absurd x
+after_building InsKey x y = absurd x
+after_building InsVer x y = absurd x
+after_building InsSet x y = absurd x
+after_building Insert x y = absurd x
+after_building PutClear x y = absurd x
+after_building _ x y = absurd y
+
+module _ (g : Ledger) (d : ℕ) where
+  -- a seat that is at no row of a walk names none
+  nowhere : (a : Activity) (l : Local) → (HasRow a → ⊥) → (HasCandidate a → ⊥) → (IsAtRow a → ⊥) → IsLater g d a l
+  nowhere a l x y u = record { row = λ q. absurd (x q); met = λ q. absurd (y q); next = λ q. absurd (u q) }
+
+  -- a seat that stays at its row
+  stays : (a : Activity) (l : Local) (b : Activity) (k : Local) → IsAtRow a → IsAtRow b → k.row ≡ l.row → k.next ≡ l.next → IsLater g d a l → IsLater g d b k
+  stays a l b k x y row next w = record { row = λ q. subst (IsSince g d) (sym row) (w.row (at_row_has a x)); met = λ q. no_candidate b y q; next = λ q n e. w.next x n (sym next ∙ e) }
+
+  -- the next look of a reader
+  look_stays : (z : Sizes) (j : ℕ) (a : Activity) (l : Local) (next : Activity) (k : Local) → NextLook z j next → IsAtRow a → k.row ≡ l.row → k.next ≡ l.next → IsLater g d a l → IsLater g d next k
+  look_stays z j a l next k (looks o) x row after w = stays a l (Look j) k x tt row after w
+  look_stays z j a l next k (lists o) x row after w = stays a l ListFrom k x tt row after w
+
+  -- the next cell of a reader, or the next row of a scan
+  cell_goes : (a : Activity) (l : Local) (k next : Local) → NextRest k next → IsAtRow a → k.row ≡ l.row → k.next ≡ l.next → IsLater g d a l → IsLater g d next.activity next
+  cell_goes a l k next (rests m o) x row after w = stays a l RestKey next x tt row after w
+  cell_goes a l k next (answers o n) x row after w = nowhere _ next (λ u. u) (λ u. u) (λ u. u)
+  cell_goes a l k next (ends_scan o y n) x row after w = nowhere _ next (λ u. u) (λ u. u) (λ u. u)
+  cell_goes a l k next (scans_on q o y n u) x row after w = record { row = λ c. w.next x q (sym after ∙ n); met = λ c. absurd c; next = λ c. absurd c }
+
+  -- a seat that has come to the row before its candidate
+  arrives_before : (b : Activity) (l k : Local) → IsAtRow b → k.row ≡ l.row → k.next ≡ Some l.candidate → IsLater g d WalkMin l → IsLater g d b k
+  arrives_before b l k y row next w = record { row = λ q. subst (IsSince g d) (sym row) (w.row tt); met = λ q. no_candidate b y q; next = λ q n e. subst (IsSince g d) (same_Some l.candidate n (sym next ∙ e)) (w.met tt) }
+
+  -- or to the last one
+  arrives_last : (b : Activity) (l k : Local) → IsAtRow b → k.row ≡ l.row → k.next ≡ None → IsLater g d Walk l → IsLater g d b k
+  arrives_last b l k y row next w = record { row = λ q. subst (IsSince g d) (sym row) (w.row tt); met = λ q. no_candidate b y q; next = λ q n e. let x : None ≡ Some n = sym next ∙ e in absurd (cc) }
+
+  -- a row of the list is later than any position
+  in_list : (a : Activity) (l : Local) → IsLive g l.row → (HasCandidate a → ⊥) → (IsAtRow a → ⊥) → IsLater g d a l
+  in_list a l e y u = record { row = λ q. inl e; met = λ q. absurd (y q); next = λ q. absurd (u q) }
+
+  -- the row after one that was not gone then was not either
+  next_since : (v : Words) (t x y : ℕ) → Closed (rows_in v) g → IsFresh g t x → next_in v x ≡ Some y → IsSince g d x → IsSince g d y
+  next_since v t x y c f e w = which (c.linked x y (held_by g t x f) e)
+    where
+      after : IsSince g d x → IsDead g x × ((g.fates x).gone ≤ (g.fates y).gone) → d < (g.fates y).gone
+      after (inl a) o = let q : Live ≡ Dead = sym a ∙ o.0 in absurd (cc)
+      after (inr a) o = omega (arith, a.1, o.1)
+
+      which : IsHeld g y → IsSince g d y
+      which (inl a) = inl a
+      which (inr h) = inr (h.1.dead, after w (c.later x y (held_by g t x f) e h.1.dead))
+
+-- by the arrow that the seat takes
+pub later_by : (z : Sizes) (v : Words) (g : Ledger) {now : ℕ} (s : ℕ) (choice : Choice) (l : Local) (a : Activity) (l' : Local) (d : ℕ) → Arrow z v s choice l a l' → Structure (rows_in v) g now → Walks v g s a l → IsLater g d a l → IsLater g d l'.activity l'
+later_by z v g s choice l a l' d (builds b next y o t) c k w = built l' (built_next z v choice l a l' t)
+  where
+    built : (k : Local) → IsAfterBuilding k.activity → IsLater g d k.activity k
+    built k x = record { row = λ q. after_building k.activity x q; met = λ q. after_building k.activity x (candidate_has k.activity q); next = λ q. after_building k.activity x (at_row_has k.activity q) }
+later_by z v g s choice l a l' d starts_at_head c k w = in_list g d Walk _ (subst (IsLive g) (sym (ap row_or_first c.chain.leads)) c.chain.first_live) (λ x. x) (λ x. x)
+later_by z v g s choice l a l' d takes_head c k w = in_list g d Walk _ (subst (IsLive g) (sym (ap row_or_first c.chain.leads)) c.chain.first_live) (λ x. x) (λ x. x)
+later_by z v g s choice l a l' d (guesses q y n) c k w = in_list g d GuessMin _ (normal_live (rows_in v) g q c.states (ap state_met n)) (λ x. x) (λ x. x)
+later_by z v g s choice l a l' d (guess_serves o) c k w = record { row = λ x. w.row tt; met = λ x. absurd x; next = λ x. absurd x }
+later_by z v g s choice l a l' d (meets_next q n) c k w = record { row = λ x. w.row tt; met = λ x. next_since g d v s l.row q c.closed k.on.0 n (w.row tt); next = λ x. absurd x }
+later_by z v g s choice l a l' d (walks_on o) c k w = record { row = λ x. w.met tt; met = λ x. absurd x; next = λ x. absurd x }
+later_by z v g s choice l a l' d (puts_in_last y n) c k w = arrives_last g d PutCount l _ tt refl refl w
+later_by z v g s choice l a l' d (reads_last y n) c k w = arrives_last g d (Look 0) l _ tt refl refl w
+later_by z v g s choice l a l' d (puts_before y o) c k w = arrives_before g d PutCount l _ tt refl refl w
+later_by z v g s choice l a l' d (reads_before y o) c k w = arrives_before g d (Look 0) l _ tt refl refl w
+later_by z v g s choice l a l' d (meets_pending j x y) c k w = stays g d (Look j) l LookKey _ tt tt refl refl w
+later_by z v g s choice l a l' d (meets_stamped j x version next y n) c k w = look_stays g d z _ (Look j) l next _ n tt refl refl w
+later_by z v g s choice l a l' d (meets_neither j next y n) c k w = look_stays g d z _ (Look j) l next _ n tt refl refl w
+later_by z v g s choice l a l' d (is_wanted y) c k w = stays g d LookKey l LookClock _ tt tt refl refl w
+later_by z v g s choice l a l' d (is_passed next y n) c k w = look_stays g d z _ LookKey l next _ n tt refl refl w
+later_by z v g s choice l a l' d loads_to_help c k w = stays g d LookClock l LookHelp _ tt tt refl refl w
+later_by z v g s choice l a l' d (helps next y n) c k w = look_stays g d z _ LookHelp l next _ n tt refl refl w
+later_by z v g s choice l a l' d (finds_stamped x version next y n) c k w = look_stays g d z _ LookHelp l next _ n tt refl refl w
+later_by z v g s choice l a l' d (finds_other next y n) c k w = look_stays g d z _ LookHelp l next _ n tt refl refl w
+later_by z v g s choice l a l' d (list_ends next e n) c k w = cell_goes g d ListFrom l _ next n tt refl refl w
+later_by z v g s choice l a l' d (list_leads x y) c k w = stays g d ListFrom l ListKey _ tt tt refl refl w
+later_by z v g s choice l a l' d (key_below y) c k w = stays g d ListKey l ListFrom _ tt tt refl refl w
+later_by z v g s choice l a l' d (key_within y u) c k w = stays g d ListKey l ListVer _ tt tt refl refl w
+later_by z v g s choice l a l' d loads_version c k w = stays g d ListVer l ListVal _ tt tt refl refl w
+later_by z v g s choice l a l' d gathers_listed c k w = stays g d ListVal l ListFrom _ tt tt refl refl w
+later_by z v g s choice l a l' d (rest_wanted y) c k w = stays g d RestKey l RestVal _ tt tt refl refl w
+later_by z v g s choice l a l' d (key_above next y n) c k w = cell_goes g d ListKey l _ next n tt refl refl w
+later_by z v g s choice l a l' d (rest_passed next y n) c k w = cell_goes g d RestKey l _ next n tt refl refl w
+later_by z v g s choice l a l' d (gathers_rest next n) c k w = cell_goes g d RestVal l _ next n tt refl refl w
+later_by z v g s choice l a l' d (finds_room y) c k w = stays g d PutCount l PutAdd _ tt tt refl refl w
+later_by z v g s choice l a l' d (takes_cell y) c k w = stays g d PutAdd l PutKey _ tt tt refl refl w
+later_by z v g s choice l a l' d stores_key c k w = stays g d PutKey l PutValue _ tt tt refl refl w
+later_by z v g s choice l a l' d stores_value c k w = stays g d PutValue l Announce _ tt tt refl refl w
+later_by z v g s choice l a l' d (announces y) c k w = stays g d Announce l PutClock _ tt tt refl refl w
+later_by z v g s choice l a l' d loads_clock c k w = stays g d PutClock l Stamp _ tt tt refl refl w
+later_by z v g s choice l a l' d (stamps y) c k w = stays g d Stamp l PutVersion _ tt tt refl refl w
+later_by z v g s choice l a l' d (is_stamped version y) c k w = stays g d Stamp l PutVersion _ tt tt refl refl w
+later_by z v g s choice l a l' d stores_version c k w = stays g d PutVersion l InsFrom _ tt tt refl refl w
+later_by z v g s choice l a l' d (meets_cell x y) c k w = stays g d InsFrom l InsKey _ tt tt refl refl w
+later_by z v g s choice l a l' d (meets_none y) c k w = stays g d InsFrom l InsSet _ tt tt refl refl w
+later_by z v g s choice l a l' d (key_before y) c k w = stays g d InsKey l InsFrom _ tt tt refl refl w
+later_by z v g s choice l a l' d (key_same y) c k w = stays g d InsKey l InsVer _ tt tt refl refl w
+later_by z v g s choice l a l' d (key_after y) c k w = stays g d InsKey l InsSet _ tt tt refl refl w
+later_by z v g s choice l a l' d (version_before y) c k w = stays g d InsVer l InsFrom _ tt tt refl refl w
+later_by z v g s choice l a l' d (version_after y) c k w = stays g d InsVer l InsSet _ tt tt refl refl w
+later_by z v g s choice l a l' d stores_after c k w = stays g d InsSet l Insert _ tt tt refl refl w
+later_by z v g s choice l a l' d (inserts y) c k w = stays g d Insert l PutClear _ tt tt refl refl w
+later_by z v g s choice l a l' d (loses y) c k w = stays g d Insert l InsFrom _ tt tt refl refl w
+later_by z v g s choice l a l' d _ c k w = record { row = λ x. absurd x; met = λ x. absurd x; next = λ x. absurd x }

@@ -1,0 +1,405 @@
+-- Every event keeps what a rebalance knows of the versions that scans need: it begins to ask when all entries of its row are settled, at the clock
+-- of that event; each scan that it looks at adds its version to the list, or needs none, or began to wait later; and what others do changes nothing
+-- of it.
+use Rattle.std.proofs.Common.{ℕ, ◌≡◌, ◌≢◌, ◌⊎◌, inl, inr, ◌+◌, ◌<◌, ◌≤◌, Contains, Option, Some, None, List, [], ◌∷◌, ◌++◌, arith, refl, sym, ◌∙◌, ap, subst, length, slice_get, eq-eqb}
+use Rattle.std.proofs.lemmas.Bool.{cases_lt}
+use Rattle.std.proofs.lemmas.List.Elements.{Contains-append_left, Contains-push}
+use Rattle.kw_words.specs.declared.layout.Name.TheVariants as name
+use Rattle.kw_words.specs.declared.scan.ScanWord.{ScanWord}
+use Rattle.kw_words.specs.declared.scan.ScanWord.TheVariants.{Quiet, Waiting, Drawn}
+use Rattle.kw_words.specs.Scan.{scan_of, scan_word}
+use Rattle.kw_words.proofs.ScanWords.{scan_word_of}
+use Rattle.kw_rows.specs.Rows.{WasLinked}
+use Rattle.kw_world.specs.declared.activity.Activity.{Activity}
+use Rattle.kw_world.specs.declared.activity.Activity.TheVariants.{Again, BalClock, BalEpoch, BalState, BalNormal, Engage, MarkLink, Decide, FreezeCount, Normalise, Number, Retire, FreezeLook, Freeze, HelpDraw, HelpSettle, Leave, ScanLook, ScanWait, TakeFrom}
+use Rattle.kw_world.specs.declared.event.Choice.{Choice}
+use Rattle.kw_world.specs.declared.local.Local.{Local}
+use Rattle.kw_world.specs.Sane.{IsActivity, IsKnownWord, frozen_by, needed_by}
+use Rattle.kw_world.specs.Sizes.{Sizes}
+use Rattle.kw_world.specs.Step.{word}
+use Rattle.kw_core.specs.History.{attempt}
+use Rattle.kw_core.specs.HistoryLaws.{IsPut}
+use Rattle.kw_core.specs.Ledger.{Ledger}
+use Rattle.kw_core.specs.Run.{Run}
+use Rattle.kw_core.specs.Stages.{IsBalancing}
+use Rattle.kw_core.specs.Step.{Step}
+use Rattle.kw_core.specs.Words.{Words}
+use Rattle.kw_core.proofs.Arrows.{builds, Arrow, meets_stamped, meets_neither, is_passed, helps, finds_stamped, finds_other, list_ends, key_above, rest_passed, gathers_rest, remembers_last, meets_frozen_last, freezes_last, meets_quiet, meets_quiet_last, helps_scan, meets_drawn, meets_drawn_last, draws_for, settles_scan, settles_last, finds_drawn, finds_drawn_last, finds_no_scan, finds_no_scan_last, IsNoScan, take_leads, takes_left, takes_no_more, takes_key, takes_version, keeps_taken, takes_left_key, keeps_left, keeps_no_more}
+use Rattle.kw_core.proofs.Building.{Building, IsBuilding, makes_normal, makes_last_normal, draws_number, retires_row}
+use Rattle.kw_core.proofs.Frame.{unwritten}
+use Rattle.kw_core.proofs.FreezeFrame.{clock_never_falls}
+use Rattle.kw_core.proofs.Happens.{Happens, exchanged, log_entry, not_exchanged}
+use Rattle.kw_core.proofs.Steps.{now_grows}
+use Rattle.kw_shape.proofs.LinkedRows.{fresh_linked}
+use Rattle.kw_kept.specs.Needed.{IsCovered, Moves}
+use Rattle.kw_kept.specs.Puts.{Put}
+use Rattle.kw_kept.proofs.NeededLists.{covered_still, late_starts, late_still, passes_covered}
+use Rattle.kw_puts.specs.Below.{Below}
+use Rattle.kw_puts.specs.Freezes.{HasFrozen, IsSettled}
+use Rattle.kw_puts.specs.Positions.{HelpsScan}
+use Rattle.kw_puts.proofs.Freezes.{look_freezes, rest_freezes}
+use Rattle.kw_puts.proofs.Helpers.{ScanStep, is_kept, begins_to_wait, waits_no_more, scan_step}
+use Rattle.kw_reads.specs.Contents.{Contents, HasPassedRow, InRow, Needs, Through, has_drawn, is_held, is_helped, scans_passed}
+use Rattle.kw_core.proofs.BuiltNext.{IsAfterBuilding, built_goes, built_keeps}
+use Rattle.kw_puts.proofs.RelyProof.{waits_stay}
+use Rattle.kw_reads.proofs.KeptKeeps.{same_put}
+use Rattle.kw_reads.proofs.RowCells.{settled_in_row}
+use Rattle.kw_reads.proofs.ScanMoves.{scans_move}
+
+-- The row of a seat that has passed its entries.
+
+-- it has frozen the row, rebalances it, and has passed all entries
+record PassesRow (z : Sizes) (a : Activity) : Type 0 where
+  frozen : HasFrozen a
+  balances : IsBalancing a
+  all : frozen_by z a ≡ z.seats
+
+-- a seat that has passed all entries has frozen the row
+passed_frozen : (a : Activity) → HasPassedRow a → HasFrozen a
+passed_frozen (FreezeLook i) x = absurd x
+passed_frozen (Freeze i) x = absurd x
+passed_frozen _ x = x
+
+-- it has passed as many as there are seats
+passed_all : (z : Sizes) (a : Activity) → HasPassedRow a → frozen_by z a ≡ z.seats
+passed_all z (FreezeLook i) x = absurd x
+passed_all z (Freeze i) x = absurd x
+passed_all z _ x = refl
+
+-- a seat that has frozen a row rebalances
+frozen_balances : (a : Activity) → HasFrozen a → IsBalancing a
+frozen_balances BalClock x = tt
+frozen_balances BalEpoch x = tt
+frozen_balances BalState x = tt
+frozen_balances (BalNormal seat) x = tt
+frozen_balances Engage x = tt
+frozen_balances (MarkLink count) x = tt
+frozen_balances (Decide count) x = tt
+frozen_balances FreezeCount x = tt
+frozen_balances Normalise x = tt
+frozen_balances Number x = tt
+frozen_balances Retire x = tt
+frozen_balances _ x = x
+
+-- all of it at once
+passes_row : (z : Sizes) (a : Activity) → HasPassedRow a → PassesRow z a
+passes_row z a x = record { frozen = passed_frozen a x; balances = frozen_balances a (passed_frozen a x); all = passed_all z a x }
+
+-- the entries of the row are settled, and the row was linked
+record IsPassedRow (z : Sizes) (r : Run) (q : ℕ) : Type 0 where
+  linked : WasLinked r.ledger.rows q
+  settled : (j : ℕ) → j < z.seats → IsSettled (word z r.world) (slice_get r.world.locals) q j
+
+-- such is the row of a seat that has passed all entries
+passed_row : (z : Sizes) (r : Run) → Below z r → (t : ℕ) (k : Local) → slice_get r.world.locals t ≡ Some k → HasPassedRow k.activity → IsPassedRow z r k.row
+passed_row z r i t k g x =
+    let p = passes_row z k.activity x in
+    record {
+      linked = fresh_linked r.ledger.rows t k.row ((i.shape.balances t k g).fresh p.balances);
+      settled = λ j o. (i.puts.freezes t k g).settled p.frozen j o (omega (arith, p.all, o));
+    }
+
+-- a stamped put has a version that was on the clock
+pub version_past : (z : Sizes) (r : Run) → Below z r → (p : ℕ) → IsPut r.history p → (attempt r.history p).version ≤ word z r.world name.Clock
+version_past z r i p x = i.positions.clocked.past _ _ _ (i.history.laws.loaded p x)
+
+-- What is needed through a scan, by its word.
+
+-- its word says what it has drawn, or that it waits
+through_says : (z : Sizes) (r : Run) (j u : ℕ) → Through z r j u → (word z r.world (name.Scan j) ≡ scan_word (Drawn u)) ⊎ ((c : ℕ) × (word z r.world (name.Scan j) ≡ scan_word (Waiting c)))
+through_says z r j u (has_drawn o w) = inl w
+through_says z r j u (is_held k o g e f w) = inr (k.waiting, w)
+through_says z r j u (is_helped t k o g e f w) = inr (k.rebalance.waiting, w)
+
+-- it is the scan of a seat
+through_within : (z : Sizes) (r : Run) (j u : ℕ) → Through z r j u → j < z.seats
+through_within z r j u (has_drawn o w) = o
+through_within z r j u (is_held k o g e f w) = o
+through_within z r j u (is_helped t k o g e f w) = o
+
+module _ (z : Sizes) (r r' : Run) (s : ℕ) (choice : Choice) (l : Local) (a : Activity) (l' : Local) (h : Happens z r r' s choice l l' a) (i : Below z r) (st : Step r.history r'.history (log_entry z r a s choice l)) where
+  -- what is needed through scans only shrinks
+  moves : Moves (word z r.world name.Clock) (word z r'.world name.Clock) r.ledger.waits r'.ledger.waits (Through z r) (Through z r')
+  moves = scans_move z r r' s choice l a l' h i
+
+  -- what is known of a row whose entries are passed stays, whoever acts, where all is covered after the event
+  needs_on : (b b' : Activity) (m m' : Local) → IsPassedRow z r m.row → m'.row ≡ m.row → (n : Needs z r b m) → IsCovered (Through z r') (scans_passed z b') (Contains m'.rebalance.needed) n.most →
+      ((j clock : ℕ) → HelpsScan j b' → word z r'.world (name.Scan j) ≡ scan_word (Waiting clock) → (clock ≡ m'.rebalance.waiting) ⊎ (n.since < r'.ledger.waits j)) → Needs z r' b' m'
+  needs_on b b' m m' x e n covered again = record {
+    most = n.most;
+    since = n.since;
+    past = omega (arith, n.past, now_grows r.history r'.history _ st);
+    bound = λ p y.
+        let w = settled_in_row a h i m.row p x.linked x.settled (subst (λ q. InRow z r' q p) e y) in
+        omega (arith, n.bound p w, ap (λ (v : Put). v.version) (same_put z r r' s choice l a l' h i st p w.is_put));
+    reached = omega (arith, n.reached, clock_never_falls a h);
+    late = late_still _ _ _ _ _ _ moves n.since n.most n.reached n.late;
+    covered = covered;
+    again = again;
+  }
+
+  -- what was covered is
+  still_covered : (b : Activity) (m : Local) (n : Needs z r b m) → IsCovered (Through z r') (scans_passed z b) (Contains m.rebalance.needed) n.most
+  still_covered b m n = covered_still _ _ _ _ _ _ moves (scans_passed z b) (Contains m.rebalance.needed) n.most n.reached n.covered
+
+  -- so of a seat that does not act
+  pub needs_other : Contents z r → (t : ℕ) (k : Local) → t ≢ s → slice_get r.world.locals t ≡ Some k → HasPassedRow k.activity → Needs z r' k.activity k
+  needs_other c t k d g x = needs_on k.activity k.activity k k (passed_row z r i t k g x) refl n (still_covered k.activity k n) again
+    where
+      n : Needs z r k.activity k
+      n = c.needs t k g x
+
+      within : (j : ℕ) (b : Activity) → k.activity ≡ b → HelpsScan j b → j < z.seats
+      within j (HelpDraw m) e y = subst (λ q. q < z.seats) (sym y) (subst (IsActivity z) e (i.shape.sane.locals t k g).ranges.activity)
+      within j (HelpSettle m) e y = subst (λ q. q < z.seats) (sym y) (subst (IsActivity z) e (i.shape.sane.locals t k g).ranges.activity)
+      within j _ e y = absurd y
+
+      again : (j clock : ℕ) → HelpsScan j k.activity → word z r'.world (name.Scan j) ≡ scan_word (Waiting clock) → (clock ≡ k.rebalance.waiting) ⊎ (n.since < r'.ledger.waits j)
+      again j clock y w = which (scan_step z r r' s choice l l' i a h j (within j k.activity refl y))
+        where
+          which : ScanStep z r r' s l a j → (clock ≡ k.rebalance.waiting) ⊎ (n.since < r'.ledger.waits j)
+          which (is_kept e f) = kept (n.again j clock y (sym e ∙ w)) (waits_stay z r r' s choice l a l' h j f)
+            where
+              kept : (clock ≡ k.rebalance.waiting) ⊎ (n.since < r.ledger.waits j) → r'.ledger.waits j ≡ r.ledger.waits j → (clock ≡ k.rebalance.waiting) ⊎ (n.since < r'.ledger.waits j)
+              kept (inl x) m = inl x
+              kept (inr x) m = inr (omega (arith, x, m))
+          which (begins_to_wait e is v) =
+              let now : r'.ledger.waits j ≡ length r.history.log = ap (λ (b : Ledger). b.waits j) (subst (Happens z r r' s choice l l') is h).ledger ∙ rw (eq-eqb j s e) refl in
+              inr (omega (arith, now, n.past))
+          which (waits_no_more f m) = absurd (f clock w)
+
+  -- The acting seat.
+
+  -- after the event, where one more scan is passed that needs nothing but what is listed, or began to wait late
+  passes_one : (b : Activity) (m : Local) (listed : List ℕ) (passed : ℕ → Type 0) (j : ℕ) (n : Needs z r b m) → ((q : ℕ) → passed q → (q ≡ j) ⊎ scans_passed z b q) → ((u : ℕ) → Contains m.rebalance.needed u → Contains listed u) → ((u : ℕ) → Through z r' j u → Contains listed u) ⊎ (n.since < r'.ledger.waits j) →
+      IsCovered (Through z r') passed (Contains listed) n.most
+  passes_one b m listed passed j n seat old looked = passes_covered n.since r'.ledger.waits (Through z r') (scans_passed z b) passed (Contains m.rebalance.needed) (Contains listed) n.most j
+      (record { seat = seat; old = old; looked = looked })
+      (late_still _ _ _ _ _ _ moves n.since n.most n.reached n.late)
+      (still_covered b m n)
+
+-- all scans are still to be looked at
+needs_start : (z : Sizes) (r r' : Run) (s : ℕ) (choice : Choice) (l : Local) (a : Activity) (l' : Local) → Happens z r r' s choice l l' a → Below z r → Step r.history r'.history (log_entry z r a s choice l) → Below z r' → Contents z r → a ≢ ScanWait → l'.activity ≡ ScanLook 0 → Needs z r' (ScanLook 0) l'
+needs_start z r r' s choice l a l' h i st after c d e = record {
+  most = word z r'.world name.Clock;
+  since = length r.history.log;
+  past = omega (arith, now_grows r.history r'.history _ st);
+  bound = λ p y. version_past z r' after p y.is_put;
+  reached = omega arith;
+  late = late_starts r'.ledger.waits (Through z r') (length r.history.log) (word z r'.world name.Clock) (λ j. omega (arith, waits_stay z r r' s choice l a l' h j (λ x y. d y), c.borns.waits j));
+  covered = λ j u p. absurd (omega (arith, p));
+  again = λ j clock x. absurd x;
+}
+
+-- What the word of a scan says is needed through it.
+
+-- nothing, where none is at work
+quiet_none : (z : Sizes) (r : Run) (j u : ℕ) → word z r.world (name.Scan j) ≡ scan_word Quiet → Through z r j u → ⊥
+quiet_none z r j u e t = which (through_says z r j u t)
+  where
+    which : (word z r.world (name.Scan j) ≡ scan_word (Drawn u)) ⊎ ((c : ℕ) × (word z r.world (name.Scan j) ≡ scan_word (Waiting c))) → ⊥
+    which (inl w) = let x : scan_word Quiet ≡ scan_word (Drawn u) = sym e ∙ w in omega (arith, x)
+    which (inr w) = let x : scan_word Quiet ≡ scan_word (Waiting w.0) = sym e ∙ w.1 in omega (arith, x)
+
+-- what it has drawn
+drawn_only : (z : Sizes) (r : Run) (j u v : ℕ) → word z r.world (name.Scan j) ≡ scan_word (Drawn v) → Through z r j u → v ≡ u
+drawn_only z r j u v e t = which (through_says z r j u t)
+  where
+    which : (word z r.world (name.Scan j) ≡ scan_word (Drawn u)) ⊎ ((c : ℕ) × (word z r.world (name.Scan j) ≡ scan_word (Waiting c))) → v ≡ u
+    which (inl w) = let x : scan_word (Drawn v) ≡ scan_word (Drawn u) = sym e ∙ w in omega (arith, x)
+    which (inr w) = let x : scan_word (Drawn v) ≡ scan_word (Waiting w.0) = sym e ∙ w.1 in absurd (omega (arith, x))
+
+-- a word that says nothing does not stand there
+is_quiet : (z : Sizes) (r : Run) (j : ℕ) → Below z r → j < z.seats → (scan_of (word z r.world (name.Scan j)) ≡ Some Quiet) ⊎ (scan_of (word z r.world (name.Scan j)) ≡ None) → word z r.world (name.Scan j) ≡ scan_word Quiet
+is_quiet z r j i o (inl e) = sym (scan_word_of _ Quiet e)
+is_quiet z r j i o (inr e) = absurd (subst IsKnownWord e (i.shape.sane.each (name.Scan j) o))
+
+-- a scan that is passed as the last of those below a bound
+below_or_last : (m n q : ℕ) → n ≤ m + 1 → q < n → (q ≡ m) ⊎ (q < m)
+below_or_last m n q o w = which (cases_lt q m)
+  where
+    which : (q < m) ⊎ (m ≤ q) → (q ≡ m) ⊎ (q < m)
+    which (inl x) = inr x
+    which (inr x) = inl (omega (arith, o, w, x))
+
+-- The acting seat.
+
+module _ (z : Sizes) (r r' : Run) (s : ℕ) (choice : Choice) (l : Local) (a : Activity) (l' : Local) (h : Happens z r r' s choice l l' a) (i : Below z r) (st : Step r.history r'.history (log_entry z r a s choice l)) (c : Contents z r) (x : HasPassedRow a) where
+  -- what it knew
+  own_needs : Needs z r a l
+  own_needs = subst (λ b. Needs z r b l) h.activity (c.needs s l h.knows (subst HasPassedRow (sym h.activity) x))
+
+  -- its entries are settled
+  own_row : IsPassedRow z r l.row
+  own_row = passed_row z r i s l h.knows (subst HasPassedRow (sym h.activity) x)
+
+  -- the seat goes on to no scan, and to none that waits
+  goes_on : (b : Activity) (k : Local) → k.row ≡ l.row → k.rebalance.needed ≡ l.rebalance.needed → needed_by z b ≡ needed_by z a → ((j : ℕ) → HelpsScan j b → ⊥) → Needs z r' b k
+  goes_on b k e f g n = needs_on z r r' s choice l a l' h i st a b l k own_row e own_needs covered (λ j clock y. absurd (n j y))
+    where
+      covered : IsCovered (Through z r') (scans_passed z b) (Contains k.rebalance.needed) own_needs.most
+      covered j u p t = subst (λ xs. Contains xs u ⊎ (own_needs.most ≤ u)) (sym f) (still_covered z r r' s choice l a l' h i st a l own_needs j u (omega (arith, p, g)) t)
+
+  -- it has passed one more scan
+  passes_scan : (m : ℕ) (b : Activity) (k : Local) → k.row ≡ l.row → needed_by z a ≡ m → needed_by z b ≤ m + 1 → ((u : ℕ) → Contains l.rebalance.needed u → Contains k.rebalance.needed u) → ((u : ℕ) → Through z r' m u → Contains k.rebalance.needed u) ⊎ (own_needs.since < r'.ledger.waits m) → ((j : ℕ) → HelpsScan j b → ⊥) → Needs z r' b k
+  passes_scan m b k e f g old looked n = needs_on z r r' s choice l a l' h i st a b l k own_row e own_needs
+      (passes_one z r r' s choice l a l' h i st a l k.rebalance.needed (scans_passed z b) m own_needs seat old looked)
+      (λ j clock y. absurd (n j y))
+    where
+      seat : (q : ℕ) → q < needed_by z b → (q ≡ m) ⊎ (q < needed_by z a)
+      seat q p = which (below_or_last m (needed_by z b) q g p)
+        where
+          which : (q ≡ m) ⊎ (q < m) → (q ≡ m) ⊎ (q < needed_by z a)
+          which (inl y) = inl y
+          which (inr y) = inr (omega (arith, y, f))
+
+  -- which says what it needs, by one word
+  passes_drawn : (m version : ℕ) (b : Activity) (k : Local) → k.row ≡ l.row → k.rebalance.needed ≡ l.rebalance.needed ++ version ∷ [] → needed_by z a ≡ m → needed_by z b ≤ m + 1 → word z r'.world (name.Scan m) ≡ scan_word (Drawn version) → ((j : ℕ) → HelpsScan j b → ⊥) → Needs z r' b k
+  passes_drawn m version b k e needed f g w n = passes_scan m b k e f g (λ u y. subst (λ xs. Contains xs u) (sym needed) (Contains-append_left l.rebalance.needed (version ∷ []) u y))
+      (inl (λ u t. subst (λ xs. Contains xs u) (sym needed) (subst (Contains (l.rebalance.needed ++ version ∷ [])) (drawn_only z r' m u version w t) (Contains-push l.rebalance.needed version)))) n
+
+  -- it needs nothing, by its word
+  passes_quiet : (m : ℕ) (b : Activity) (k : Local) → k.row ≡ l.row → k.rebalance.needed ≡ l.rebalance.needed → needed_by z a ≡ m → needed_by z b ≤ m + 1 → word z r'.world (name.Scan m) ≡ scan_word Quiet → ((j : ℕ) → HelpsScan j b → ⊥) → Needs z r' b k
+  passes_quiet m b k e needed f g w n = passes_scan m b k e f g (λ u y. subst (λ xs. Contains xs u) (sym needed) y) (inl (λ u t. absurd (quiet_none z r' m u w t))) n
+
+-- the seats that an activity names are seats
+own_seat : (z : Sizes) (r r' : Run) (s : ℕ) (choice : Choice) (l : Local) (a : Activity) (l' : Local) → Happens z r r' s choice l l' a → Below z r → IsActivity z a
+own_seat z r r' s choice l a l' h i = subst (IsActivity z) h.activity (i.shape.sane.locals s l h.knows).ranges.activity
+
+module _ (z : Sizes) (r r' : Run) (s : ℕ) (choice : Choice) (l l' : Local) (m : ℕ) (h : Happens z r r' s choice l l' (HelpSettle m)) (i : Below z r) (st : Step r.history r'.history (log_entry z r (HelpSettle m) s choice l)) (c : Contents z r) where
+  -- a word that does not wait as the seat found it is left alone
+  left_alone : word z r.world (name.Scan m) ≢ scan_word (Waiting l.rebalance.waiting) → word z r'.world (name.Scan m) ≡ word z r.world (name.Scan m)
+  left_alone d = not_exchanged _ _ _ _ h.changed.same d
+
+  -- a scan that waits since another clock began to wait late
+  passes_none : (b : Activity) (k : Local) → k.row ≡ l.row → k.rebalance.needed ≡ l.rebalance.needed → needed_by z b ≤ m + 1 → IsNoScan l.rebalance.waiting (word z r.world (name.Scan m)) → ((j : ℕ) → HelpsScan j b → ⊥) → Needs z r' b k
+  passes_none b k e needed g w n = which (scan_of (word z r.world (name.Scan m))) refl
+    where
+      quiet : (scan_of (word z r.world (name.Scan m)) ≡ Some Quiet) ⊎ (scan_of (word z r.world (name.Scan m)) ≡ None) → Needs z r' b k
+      quiet f =
+          let q = is_quiet z r m i (own_seat z r r' s choice l (HelpSettle m) l' h i) f in
+          passes_quiet z r r' s choice l (HelpSettle m) l' h i st c tt m b k e needed refl g (left_alone (λ y. let x : scan_word Quiet ≡ scan_word (Waiting l.rebalance.waiting) = sym q ∙ y in omega (arith, x)) ∙ q) n
+
+      waits : (clock : ℕ) → scan_of (word z r.world (name.Scan m)) ≡ Some (Waiting clock) → (clock ≡ l.rebalance.waiting) ⊎ ((own_needs z r r' s choice l (HelpSettle m) l' h i st c tt).since < r.ledger.waits m) → Needs z r' b k
+      waits clock f (inl y) = absurd (w.waiting (f ∙ ap (λ v. Some (Waiting v)) y))
+      waits clock f (inr y) = passes_scan z r r' s choice l (HelpSettle m) l' h i st c tt m b k e refl g (λ u v. subst (λ xs. Contains xs u) (sym needed) v) (inr (omega (arith, y, waits_stay z r r' s choice l (HelpSettle m) l' h m (λ v t. cc)))) n
+
+      which : (o : Option ScanWord) → scan_of (word z r.world (name.Scan m)) ≡ o → Needs z r' b k
+      which None f = quiet (inr f)
+      which (Some Quiet) f = quiet (inl f)
+      which (Some (Waiting clock)) f = waits clock f ((own_needs z r r' s choice l (HelpSettle m) l' h i st c tt).again m clock refl (sym (scan_word_of _ (Waiting clock) f)))
+      which (Some (Drawn version)) f = absurd (w.drawn version f)
+
+  -- one that waits as the seat found it has now what was drawn for it
+  passes_helped : (b : Activity) (k : Local) → k.row ≡ l.row → k.rebalance.needed ≡ l.rebalance.needed ++ l.rebalance.drawn ∷ [] → needed_by z b ≤ m + 1 → scan_of (word z r.world (name.Scan m)) ≡ Some (Waiting l.rebalance.waiting) → ((j : ℕ) → HelpsScan j b → ⊥) → Needs z r' b k
+  passes_helped b k e needed g w n = passes_drawn z r r' s choice l (HelpSettle m) l' h i st c tt m l.rebalance.drawn b k e needed refl g (exchanged _ _ _ _ h.changed.same (sym (scan_word_of _ (Waiting l.rebalance.waiting) w))) n
+
+  -- one that has drawn keeps it
+  passes_found : (version : ℕ) (b : Activity) (k : Local) → k.row ≡ l.row → k.rebalance.needed ≡ l.rebalance.needed ++ version ∷ [] → needed_by z b ≤ m + 1 → scan_of (word z r.world (name.Scan m)) ≡ Some (Drawn version) → ((j : ℕ) → HelpsScan j b → ⊥) → Needs z r' b k
+  passes_found version b k e needed g w n =
+      let q = sym (scan_word_of _ (Drawn version) w) in
+      passes_drawn z r r' s choice l (HelpSettle m) l' h i st c tt m version b k e needed refl g (left_alone (λ y. let x : scan_word (Drawn version) ≡ scan_word (Waiting l.rebalance.waiting) = sym q ∙ y in omega (arith, x)) ∙ q) n
+
+module _ (z : Sizes) (r r' : Run) (s : ℕ) (choice : Choice) (l l' : Local) (m : ℕ) (h : Happens z r r' s choice l l' (ScanLook m)) (i : Below z r) (st : Step r.history r'.history (log_entry z r (ScanLook m) s choice l)) (c : Contents z r) where
+  -- a look leaves the word
+  same_word : word z r'.world (name.Scan m) ≡ word z r.world (name.Scan m)
+  same_word = h.changed.loaded refl (name.Scan m)
+
+  -- a scan that is not at work needs nothing
+  looks_quiet : (b : Activity) (k : Local) → k.row ≡ l.row → k.rebalance.needed ≡ l.rebalance.needed → needed_by z b ≤ m + 1 → (scan_of (word z r.world (name.Scan m)) ≡ Some Quiet) ⊎ (scan_of (word z r.world (name.Scan m)) ≡ None) → ((j : ℕ) → HelpsScan j b → ⊥) → Needs z r' b k
+  looks_quiet b k e needed g w n = passes_quiet z r r' s choice l (ScanLook m) l' h i st c tt m b k e needed refl g (same_word ∙ is_quiet z r m i (own_seat z r r' s choice l (ScanLook m) l' h i) w) n
+
+  -- one that has drawn needs that version
+  looks_drawn : (version : ℕ) (b : Activity) (k : Local) → k.row ≡ l.row → k.rebalance.needed ≡ l.rebalance.needed ++ version ∷ [] → needed_by z b ≤ m + 1 → scan_of (word z r.world (name.Scan m)) ≡ Some (Drawn version) → ((j : ℕ) → HelpsScan j b → ⊥) → Needs z r' b k
+  looks_drawn version b k e needed g w n = passes_drawn z r r' s choice l (ScanLook m) l' h i st c tt m version b k e needed refl g (same_word ∙ sym (scan_word_of _ (Drawn version) w)) n
+
+-- a seat that builds after the event had passed its row, and needs as many scans
+built_passed : {z : Sizes} {v : Words} {choice : Choice} {l : Local} (a : Activity) (k : Local) → Building z v choice l a k → HasPassedRow k.activity → HasPassedRow a
+built_passed a k (makes_normal o) x = absurd x
+built_passed a k (makes_last_normal o) x = absurd x
+built_passed a k draws_number x = absurd x
+built_passed a k retires_row x = absurd x
+built_passed a k b x = tt
+
+-- such a seat builds
+after_passed : (a : Activity) → IsAfterBuilding a → HasPassedRow a → IsBuilding a
+after_passed Again n x = absurd x
+after_passed BalClock n x = absurd x
+after_passed (Leave answer) n x = absurd x
+after_passed _ n x = n
+
+-- it has looked at all scans
+built_needed : (z : Sizes) (a : Activity) → IsBuilding a → needed_by z a ≡ z.seats
+built_needed z (ScanLook i) b = absurd b
+built_needed z (HelpDraw i) b = absurd b
+built_needed z (HelpSettle i) b = absurd b
+built_needed z _ b = refl
+
+-- and helps none
+built_helps : (j : ℕ) (a : Activity) → IsBuilding a → HelpsScan j a → ⊥
+built_helps j (HelpDraw i) b x = b
+built_helps j (HelpSettle i) b x = b
+built_helps j _ b x = x
+
+-- a word says of one clock that a scan waits since it
+waits_since : (c n : ℕ) → scan_word (Waiting c) ≡ scan_word (Waiting n) → n ≡ c
+waits_since c n e = omega (arith, e)
+
+-- a draw for a scan leaves its word, and since when it waits
+still_again : (z : Sizes) (r r' : Run) (s : ℕ) (choice : Choice) (l l' : Local) (m : ℕ) (h : Happens z r r' s choice l l' (HelpDraw m)) (i : Below z r) (st : Step r.history r'.history (log_entry z r (HelpDraw m) s choice l)) (c : Contents z r) (clock : ℕ) → word z r'.world (name.Scan m) ≡ scan_word (Waiting clock) → (j : ℕ) → j ≡ m →
+    (clock ≡ l.rebalance.waiting) ⊎ ((own_needs z r r' s choice l (HelpDraw m) l' h i st c tt).since < r'.ledger.waits j)
+still_again z r r' s choice l l' m h i st c clock w j e = which ((own_needs z r r' s choice l (HelpDraw m) l' h i st c tt).again m clock refl (sym (unwritten (HelpDraw m) h (name.Scan m) (own_seat z r r' s choice l (HelpDraw m) l' h i) (λ y. cc)) ∙ w))
+  where
+    which : (clock ≡ l.rebalance.waiting) ⊎ ((own_needs z r r' s choice l (HelpDraw m) l' h i st c tt).since < r.ledger.waits m) → (clock ≡ l.rebalance.waiting) ⊎ ((own_needs z r r' s choice l (HelpDraw m) l' h i st c tt).since < r'.ledger.waits j)
+    which (inl y) = inl y
+    which (inr y) = inr (omega (arith, y, ap r.ledger.waits e, waits_stay z r r' s choice l (HelpDraw m) l' h j (λ v t. cc)))
+
+-- what the acting seat knows
+needs_by : (z : Sizes) (r r' : Run) (s : ℕ) (choice : Choice) (l : Local) (a : Activity) (l' : Local) → Arrow z (word z r.world) s choice l a l' → Happens z r r' s choice l l' a → Below z r → Step r.history r'.history (log_entry z r a s choice l) → Below z r' → Contents z r → HasPassedRow l'.activity → Needs z r' l'.activity l'
+needs_by z r r' s choice l a l' (builds b next y o t) h i st after c x =
+    let k = built_keeps z (word z r.world) choice l a l' t (after_passed l'.activity (built_goes z (word z r.world) choice l a l' t).next x) in
+    let d = after_passed l'.activity (built_goes z (word z r.world) choice l a l' t).next x in
+    goes_on z r r' s choice l a l' h i st c (built_passed a l' t x) l'.activity l' k.row k.needed (built_needed z l'.activity d ∙ sym (built_needed z a y)) (λ j. built_helps j l'.activity d)
+needs_by z r r' s choice l a l' (remembers_last m n version e u) h i st after c x = needs_start z r r' s choice l a l' h i st after c (λ y. cc) refl
+needs_by z r r' s choice l a l' (meets_frozen_last m e u) h i st after c x = needs_start z r r' s choice l a l' h i st after c (λ y. cc) refl
+needs_by z r r' s choice l a l' (freezes_last m e u) h i st after c x = needs_start z r r' s choice l a l' h i st after c (λ y. cc) refl
+needs_by z r r' s choice l a l' (meets_quiet m e u) h i st after c x = looks_quiet z r r' s choice l l' m h i st c (ScanLook (m + 1)) l' refl refl (omega arith) e (λ j y. y)
+needs_by z r r' s choice l a l' (meets_quiet_last m e u) h i st after c x = looks_quiet z r r' s choice l l' m h i st c TakeFrom l' refl refl u e (λ j y. y)
+needs_by z r r' s choice l a l' (helps_scan m clock e) h i st after c x = needs_on z r r' s choice l a l' h i st a (HelpDraw m) l l' (own_row z r r' s choice l a l' h i st c tt) refl (own_needs z r r' s choice l a l' h i st c tt)
+    (still_covered z r r' s choice l a l' h i st a l (own_needs z r r' s choice l a l' h i st c tt))
+    (λ j n y w. inl (waits_since clock n (scan_word_of _ (Waiting clock) e ∙ sym (h.changed.loaded refl (name.Scan m)) ∙ subst (λ q. word z r'.world (name.Scan q) ≡ scan_word (Waiting n)) y w)))
+needs_by z r r' s choice l a l' (meets_drawn m version e u) h i st after c x = looks_drawn z r r' s choice l l' m h i st c version (ScanLook (m + 1)) l' refl refl (omega arith) e (λ j y. y)
+needs_by z r r' s choice l a l' (meets_drawn_last m version e u) h i st after c x = looks_drawn z r r' s choice l l' m h i st c version TakeFrom l' refl refl u e (λ j y. y)
+needs_by z r r' s choice l a l' (draws_for m) h i st after c x = needs_on z r r' s choice l a l' h i st a (HelpSettle m) l l' (own_row z r r' s choice l a l' h i st c tt) refl (own_needs z r r' s choice l a l' h i st c tt)
+    (still_covered z r r' s choice l a l' h i st a l (own_needs z r r' s choice l a l' h i st c tt))
+    (λ j n y w. still_again z r r' s choice l l' m h i st c n (subst (λ q. word z r'.world (name.Scan q) ≡ scan_word (Waiting n)) y w) j y)
+needs_by z r r' s choice l a l' (settles_scan m e u) h i st after c x = passes_helped z r r' s choice l l' m h i st c (ScanLook (m + 1)) l' refl refl (omega arith) e (λ j y. y)
+needs_by z r r' s choice l a l' (settles_last m e u) h i st after c x = passes_helped z r r' s choice l l' m h i st c TakeFrom l' refl refl u e (λ j y. y)
+needs_by z r r' s choice l a l' (finds_drawn m version e u) h i st after c x = passes_found z r r' s choice l l' m h i st c version (ScanLook (m + 1)) l' refl refl (omega arith) e (λ j y. y)
+needs_by z r r' s choice l a l' (finds_drawn_last m version e u) h i st after c x = passes_found z r r' s choice l l' m h i st c version TakeFrom l' refl refl u e (λ j y. y)
+needs_by z r r' s choice l a l' (finds_no_scan m e u) h i st after c x = passes_none z r r' s choice l l' m h i st c (ScanLook (m + 1)) l' refl refl (omega arith) e (λ j y. y)
+needs_by z r r' s choice l a l' (finds_no_scan_last m e u) h i st after c x = passes_none z r r' s choice l l' m h i st c TakeFrom l' refl refl u e (λ j y. y)
+needs_by z r r' s choice l a l' (take_leads n e) h i st after c x = goes_on z r r' s choice l a l' h i st c tt _ l' refl refl refl (λ j y. y)
+needs_by z r r' s choice l a l' (takes_left m e u) h i st after c x = goes_on z r r' s choice l a l' h i st c tt _ l' refl refl refl (λ j y. y)
+needs_by z r r' s choice l a l' (takes_no_more e u) h i st after c x = goes_on z r r' s choice l a l' h i st c tt _ l' refl refl refl (λ j y. y)
+needs_by z r r' s choice l a l' takes_key h i st after c x = goes_on z r r' s choice l a l' h i st c tt _ l' refl refl refl (λ j y. y)
+needs_by z r r' s choice l a l' takes_version h i st after c x = goes_on z r r' s choice l a l' h i st c tt _ l' refl refl refl (λ j y. y)
+needs_by z r r' s choice l a l' keeps_taken h i st after c x = goes_on z r r' s choice l a l' h i st c tt _ l' refl refl refl (λ j y. y)
+needs_by z r r' s choice l a l' takes_left_key h i st after c x = goes_on z r r' s choice l a l' h i st c tt _ l' refl refl refl (λ j y. y)
+needs_by z r r' s choice l a l' (keeps_left m e) h i st after c x = goes_on z r r' s choice l a l' h i st c tt _ l' refl refl refl (λ j y. y)
+needs_by z r r' s choice l a l' (keeps_no_more e) h i st after c x = goes_on z r r' s choice l a l' h i st c tt _ l' refl refl refl (λ j y. y)
+needs_by z r r' s choice l a l' (meets_stamped j n version next e f) h i st after c x = absurd (look_freezes z _ next f (passed_frozen next x))
+needs_by z r r' s choice l a l' (meets_neither j next e f) h i st after c x = absurd (look_freezes z _ next f (passed_frozen next x))
+needs_by z r r' s choice l a l' (is_passed next e f) h i st after c x = absurd (look_freezes z _ next f (passed_frozen next x))
+needs_by z r r' s choice l a l' (helps next e f) h i st after c x = absurd (look_freezes z _ next f (passed_frozen next x))
+needs_by z r r' s choice l a l' (finds_stamped n version next e f) h i st after c x = absurd (look_freezes z _ next f (passed_frozen next x))
+needs_by z r r' s choice l a l' (finds_other next e f) h i st after c x = absurd (look_freezes z _ next f (passed_frozen next x))
+needs_by z r r' s choice l a l' (list_ends next e f) h i st after c x = absurd (rest_freezes _ next f (passed_frozen next.activity x))
+needs_by z r r' s choice l a l' (key_above next e f) h i st after c x = absurd (rest_freezes _ next f (passed_frozen next.activity x))
+needs_by z r r' s choice l a l' (rest_passed next e f) h i st after c x = absurd (rest_freezes _ next f (passed_frozen next.activity x))
+needs_by z r r' s choice l a l' (gathers_rest next f) h i st after c x = absurd (rest_freezes _ next f (passed_frozen next.activity x))
+needs_by z r r' s choice l a l' b h i st after c x = absurd x
+
+-- so the acting seat knows it after its event
+pub needs_own : (z : Sizes) (r r' : Run) (s : ℕ) (choice : Choice) (l : Local) (a : Activity) (l' : Local) → Happens z r r' s choice l l' a → Below z r → Step r.history r'.history (log_entry z r a s choice l) → Below z r' → Contents z r → HasPassedRow l'.activity → Needs z r' l'.activity l'
+needs_own z r r' s choice l a l' h i st after c x = needs_by z r r' s choice l a l' h.arrow h i st after c x

@@ -1,0 +1,189 @@
+-- What is so at each of the activities that take, write and link new rows, and at each that may follow them: the seat stays in its pass, for its put,
+-- and is at no row of a walk.
+use Rattle.std.proofs.Common.{ℕ, ◌≡◌, Option, Some, None, refl}
+use Rattle.kw_model.specs.declared.call.Call.{Call}
+use Rattle.kw_model.specs.declared.call.Call.TheVariants.{Put, Del, Get, Scan}
+use Rattle.kw_rows.specs.Ledger.{Ledger}
+use Rattle.kw_world.specs.declared.activity.Activity.{Activity}
+use Rattle.kw_world.specs.declared.activity.Activity.TheVariants.{Idle, Enter, Leave, Again, AgainEpoch, BalClock, PutClock, Stamp, PutVersion, InsFrom, InsKey, InsVer, InsSet, Insert, PutClear, SeekFirst, Seek, TakeRow, GiveBack, WriteCount, WriteMin, WriteNext, WriteFirst, WritePend, WriteKey, WriteValue, WriteVersion, WriteAfter, Before, BeforeGuess, BeforeHead, BeforeLink, BeforeMin, Replace, Normalise, Number, Retire}
+use Rattle.kw_world.specs.declared.answer.Answer.TheVariants.{Done, NoRows}
+use Rattle.kw_world.specs.declared.local.Local.{Local}
+use Rattle.kw_world.specs.Sizes.{IsRebalancing, Sizes}
+use Rattle.kw_core.specs.declared.stage.Stage.TheVariants.{Rebalancing}
+use Rattle.kw_core.specs.Stages.{IsBalancing, IsBusy, IsDone, IsPassing, IsPublished, stage_of}
+use Rattle.kw_core.specs.Words.{Words}
+use Rattle.kw_core.proofs.Building.{IsBuilding}
+use Rattle.kw_core.proofs.BuiltNext.{IsAfterBuilding}
+use Rattle.kw_core.proofs.Frame.{WritesPass}
+use Rattle.kw_shape.specs.Balances.{HasFrozen}
+use Rattle.kw_shape.specs.Shape.{IsAnswerOf, IsPutCall, Kinds, Walks}
+
+-- At such an activity.
+
+-- the seat rebalances its row
+built_stage : (a : Activity) → IsBuilding a → stage_of a ≡ Rebalancing
+built_stage SeekFirst x = refl
+built_stage Seek x = refl
+built_stage TakeRow x = refl
+built_stage GiveBack x = refl
+built_stage WriteCount x = refl
+built_stage WriteMin x = refl
+built_stage WriteNext x = refl
+built_stage WriteFirst x = refl
+built_stage (WritePend i) x = refl
+built_stage (WriteKey j) x = refl
+built_stage (WriteValue j) x = refl
+built_stage (WriteVersion j) x = refl
+built_stage (WriteAfter j) x = refl
+built_stage Before x = refl
+built_stage BeforeGuess x = refl
+built_stage BeforeHead x = refl
+built_stage BeforeLink x = refl
+built_stage BeforeMin x = refl
+built_stage Replace x = refl
+built_stage Normalise x = refl
+built_stage Number x = refl
+built_stage Retire x = refl
+built_stage _ x = absurd x
+
+pub built_balancing : (a : Activity) → IsBuilding a → IsBalancing a
+built_balancing a x = rw (built_stage a x) tt
+
+-- it is in its pass, and neither enters nor leaves
+pub built_passes : (a : Activity) → IsBuilding a → IsPassing a × IsBusy a
+built_passes Idle x = absurd x
+built_passes Enter x = absurd x
+built_passes AgainEpoch x = absurd x
+built_passes _ x = (tt, tt)
+
+pub built_pass : (a : Activity) → IsBuilding a → WritesPass a → ⊥
+built_pass Enter x w = x
+built_pass (Leave answer) x w = x
+built_pass Again x w = x
+built_pass _ x w = w
+
+-- it has announced no cell
+pub built_unpublished : (a : Activity) → IsBuilding a → IsPublished a → ⊥
+built_unpublished PutClock x p = x
+built_unpublished Stamp x p = x
+built_unpublished PutVersion x p = x
+built_unpublished InsFrom x p = x
+built_unpublished InsKey x p = x
+built_unpublished InsVer x p = x
+built_unpublished InsSet x p = x
+built_unpublished Insert x p = x
+built_unpublished PutClear x p = x
+built_unpublished _ x p = p
+
+-- its form rebalances rows, and its call is a put
+pub built_kinds : (z : Sizes) (a : Activity) (l : Local) → IsBuilding a → Kinds z a l → IsRebalancing z.form × IsPutCall l.call
+built_kinds z SeekFirst l x k = (k.reached, k.kind)
+built_kinds z Seek l x k = (k.reached, k.kind)
+built_kinds z TakeRow l x k = (k.reached, k.kind)
+built_kinds z GiveBack l x k = (k.reached, k.kind)
+built_kinds z WriteCount l x k = (k.reached, k.kind)
+built_kinds z WriteMin l x k = (k.reached, k.kind)
+built_kinds z WriteNext l x k = (k.reached, k.kind)
+built_kinds z WriteFirst l x k = (k.reached, k.kind)
+built_kinds z (WritePend i) l x k = (k.reached, k.kind)
+built_kinds z (WriteKey j) l x k = (k.reached, k.kind)
+built_kinds z (WriteValue j) l x k = (k.reached, k.kind)
+built_kinds z (WriteVersion j) l x k = (k.reached, k.kind)
+built_kinds z (WriteAfter j) l x k = (k.reached, k.kind)
+built_kinds z Before l x k = (k.reached, k.kind)
+built_kinds z BeforeGuess l x k = (k.reached, k.kind)
+built_kinds z BeforeHead l x k = (k.reached, k.kind)
+built_kinds z BeforeLink l x k = (k.reached, k.kind)
+built_kinds z BeforeMin l x k = (k.reached, k.kind)
+built_kinds z Replace l x k = (k.reached, k.kind)
+built_kinds z Normalise l x k = (k.reached, k.kind)
+built_kinds z Number l x k = (k.reached, k.kind)
+built_kinds z Retire l x k = (k.reached, k.kind)
+built_kinds z _ l x k = absurd x
+
+-- At what follows.
+
+-- the seat stays in its pass
+pub after_passes : (a : Activity) → IsAfterBuilding a → IsPassing a × IsBusy a
+after_passes Idle x = absurd x
+after_passes Enter x = absurd x
+after_passes AgainEpoch x = absurd x
+after_passes _ x = (tt, tt)
+
+-- its put is not done
+pub after_not_done : (a : Activity) → IsAfterBuilding a → IsDone a → ⊥
+after_not_done (Leave Done) x d = x
+after_not_done _ x d = d
+
+-- a put may be refused for want of rows
+pub no_rows : (c : Option Call) → IsPutCall c → IsAnswerOf c NoRows
+no_rows (Some (Put key value)) k = tt
+no_rows (Some (Del key)) k = tt
+no_rows (Some (Get key)) k = k
+no_rows (Some (Scan from upto)) k = k
+no_rows None k = k
+
+-- its activity is one of its put
+pub after_kinds : (z : Sizes) (a : Activity) (l : Local) → IsAfterBuilding a → IsRebalancing z.form → IsPutCall l.call → Kinds z a l
+after_kinds z SeekFirst l x o p = record { reached = o; kind = p; range = λ u. absurd u }
+after_kinds z Seek l x o p = record { reached = o; kind = p; range = λ u. absurd u }
+after_kinds z TakeRow l x o p = record { reached = o; kind = p; range = λ u. absurd u }
+after_kinds z GiveBack l x o p = record { reached = o; kind = p; range = λ u. absurd u }
+after_kinds z WriteCount l x o p = record { reached = o; kind = p; range = λ u. absurd u }
+after_kinds z WriteMin l x o p = record { reached = o; kind = p; range = λ u. absurd u }
+after_kinds z WriteNext l x o p = record { reached = o; kind = p; range = λ u. absurd u }
+after_kinds z WriteFirst l x o p = record { reached = o; kind = p; range = λ u. absurd u }
+after_kinds z (WritePend i) l x o p = record { reached = o; kind = p; range = λ u. absurd u }
+after_kinds z (WriteKey j) l x o p = record { reached = o; kind = p; range = λ u. absurd u }
+after_kinds z (WriteValue j) l x o p = record { reached = o; kind = p; range = λ u. absurd u }
+after_kinds z (WriteVersion j) l x o p = record { reached = o; kind = p; range = λ u. absurd u }
+after_kinds z (WriteAfter j) l x o p = record { reached = o; kind = p; range = λ u. absurd u }
+after_kinds z Before l x o p = record { reached = o; kind = p; range = λ u. absurd u }
+after_kinds z BeforeGuess l x o p = record { reached = o; kind = p; range = λ u. absurd u }
+after_kinds z BeforeHead l x o p = record { reached = o; kind = p; range = λ u. absurd u }
+after_kinds z BeforeLink l x o p = record { reached = o; kind = p; range = λ u. absurd u }
+after_kinds z BeforeMin l x o p = record { reached = o; kind = p; range = λ u. absurd u }
+after_kinds z Replace l x o p = record { reached = o; kind = p; range = λ u. absurd u }
+after_kinds z Normalise l x o p = record { reached = o; kind = p; range = λ u. absurd u }
+after_kinds z Number l x o p = record { reached = o; kind = p; range = λ u. absurd u }
+after_kinds z Retire l x o p = record { reached = o; kind = p; range = λ u. absurd u }
+after_kinds z Again l x o p = record { reached = o; kind = p; range = λ u. absurd u }
+after_kinds z BalClock l x o p = record { reached = o; kind = p; range = λ u. absurd u }
+after_kinds z (Leave NoRows) l x o p = record { reached = tt; kind = no_rows l.call p; range = λ u. absurd u }
+after_kinds z _ l x o p = absurd x
+
+-- it is at no row of a walk
+pub after_walks : (v : Words) (g : Ledger) (t : ℕ) (a : Activity) (l : Local) → IsAfterBuilding a → Walks v g t a l
+after_walks v g t SeekFirst l x = record { on = tt; lower = λ u. absurd u; at = λ u. absurd u; begins = λ u. absurd u; wants = λ u. absurd u }
+after_walks v g t Seek l x = record { on = tt; lower = λ u. absurd u; at = λ u. absurd u; begins = λ u. absurd u; wants = λ u. absurd u }
+after_walks v g t TakeRow l x = record { on = tt; lower = λ u. absurd u; at = λ u. absurd u; begins = λ u. absurd u; wants = λ u. absurd u }
+after_walks v g t GiveBack l x = record { on = tt; lower = λ u. absurd u; at = λ u. absurd u; begins = λ u. absurd u; wants = λ u. absurd u }
+after_walks v g t WriteCount l x = record { on = tt; lower = λ u. absurd u; at = λ u. absurd u; begins = λ u. absurd u; wants = λ u. absurd u }
+after_walks v g t WriteMin l x = record { on = tt; lower = λ u. absurd u; at = λ u. absurd u; begins = λ u. absurd u; wants = λ u. absurd u }
+after_walks v g t WriteNext l x = record { on = tt; lower = λ u. absurd u; at = λ u. absurd u; begins = λ u. absurd u; wants = λ u. absurd u }
+after_walks v g t WriteFirst l x = record { on = tt; lower = λ u. absurd u; at = λ u. absurd u; begins = λ u. absurd u; wants = λ u. absurd u }
+after_walks v g t (WritePend i) l x = record { on = tt; lower = λ u. absurd u; at = λ u. absurd u; begins = λ u. absurd u; wants = λ u. absurd u }
+after_walks v g t (WriteKey j) l x = record { on = tt; lower = λ u. absurd u; at = λ u. absurd u; begins = λ u. absurd u; wants = λ u. absurd u }
+after_walks v g t (WriteValue j) l x = record { on = tt; lower = λ u. absurd u; at = λ u. absurd u; begins = λ u. absurd u; wants = λ u. absurd u }
+after_walks v g t (WriteVersion j) l x = record { on = tt; lower = λ u. absurd u; at = λ u. absurd u; begins = λ u. absurd u; wants = λ u. absurd u }
+after_walks v g t (WriteAfter j) l x = record { on = tt; lower = λ u. absurd u; at = λ u. absurd u; begins = λ u. absurd u; wants = λ u. absurd u }
+after_walks v g t Before l x = record { on = tt; lower = λ u. absurd u; at = λ u. absurd u; begins = λ u. absurd u; wants = λ u. absurd u }
+after_walks v g t BeforeGuess l x = record { on = tt; lower = λ u. absurd u; at = λ u. absurd u; begins = λ u. absurd u; wants = λ u. absurd u }
+after_walks v g t BeforeHead l x = record { on = tt; lower = λ u. absurd u; at = λ u. absurd u; begins = λ u. absurd u; wants = λ u. absurd u }
+after_walks v g t BeforeLink l x = record { on = tt; lower = λ u. absurd u; at = λ u. absurd u; begins = λ u. absurd u; wants = λ u. absurd u }
+after_walks v g t BeforeMin l x = record { on = tt; lower = λ u. absurd u; at = λ u. absurd u; begins = λ u. absurd u; wants = λ u. absurd u }
+after_walks v g t Replace l x = record { on = tt; lower = λ u. absurd u; at = λ u. absurd u; begins = λ u. absurd u; wants = λ u. absurd u }
+after_walks v g t Normalise l x = record { on = tt; lower = λ u. absurd u; at = λ u. absurd u; begins = λ u. absurd u; wants = λ u. absurd u }
+after_walks v g t Number l x = record { on = tt; lower = λ u. absurd u; at = λ u. absurd u; begins = λ u. absurd u; wants = λ u. absurd u }
+after_walks v g t Retire l x = record { on = tt; lower = λ u. absurd u; at = λ u. absurd u; begins = λ u. absurd u; wants = λ u. absurd u }
+after_walks v g t Again l x = record { on = tt; lower = λ u. absurd u; at = λ u. absurd u; begins = λ u. absurd u; wants = λ u. absurd u }
+after_walks v g t BalClock l x = record { on = tt; lower = λ u. absurd u; at = λ u. absurd u; begins = λ u. absurd u; wants = λ u. absurd u }
+after_walks v g t (Leave NoRows) l x = record { on = tt; lower = λ u. absurd u; at = λ u. absurd u; begins = λ u. absurd u; wants = λ u. absurd u }
+after_walks v g t _ l x = absurd x
+
+-- a seat that has a frozen row there builds on, so what it knows of that row stays (`built_keeps`)
+pub frozen_builds : (a : Activity) → IsAfterBuilding a → HasFrozen a → IsBuilding a
+frozen_builds Again b x = absurd x
+frozen_builds BalClock b x = absurd x
+frozen_builds (Leave NoRows) b x = absurd x
+frozen_builds _ b x = b

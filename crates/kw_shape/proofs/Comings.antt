@@ -1,0 +1,104 @@
+-- How a seat comes to the activities that take, write and link new rows: by an event of these, or it has gathered its row and begins to seek rows.
+use Rattle.std.proofs.Common.{ℕ, ◌≡◌, [], refl}
+use Rattle.kw_rows.specs.Ledger.{Ledger}
+use Rattle.kw_world.specs.declared.activity.Activity.{Activity}
+use Rattle.kw_world.specs.declared.activity.Activity.TheVariants.{SeekFirst, Seek, TakeRow, GiveBack, WriteCount, WriteMin, WriteNext, WriteFirst, WritePend, WriteKey, WriteValue, WriteVersion, WriteAfter, Before, BeforeGuess, BeforeHead, BeforeLink, BeforeMin, Replace, Normalise, Number, Retire}
+use Rattle.kw_world.specs.declared.event.Choice.{Choice}
+use Rattle.kw_world.specs.declared.local.Local.{Local}
+use Rattle.kw_world.specs.Sizes.{Sizes}
+use Rattle.kw_core.specs.Words.{Words}
+use Rattle.kw_core.proofs.Arrows.{Arrow, NextLook, looks, lists, NextRest, rests, answers, ends_scan, scans_on, meets_stamped, meets_neither, is_passed, helps, finds_stamped, finds_other, list_ends, key_above, rest_passed, gathers_rest, takes_no_more, keeps_no_more, builds}
+use Rattle.kw_core.proofs.Building.{Building, IsBuilding}
+use Rattle.kw_shape.proofs.InfantsStay.{measured}
+use Rattle.kw_shape.proofs.SearchKeep.{elsewhere}
+use Rattle.kw_shape.specs.Infants.{HasNone, nursing_of}
+use Rattle.kw_shape.specs.Search.{HasBefore, HasMetNext, IsSearching, Search}
+use Rattle.kw_shape.specs.Won.{HasWon}
+
+-- it is at none of them, or begins to seek, or goes on from one
+pub data Comes (z : Sizes) (v : Words) (choice : Choice) (l : Local) (a : Activity) (k : Local) : Type 0 where
+  stays_out : (IsBuilding k.activity → ⊥) → Comes z v choice l a k
+  seeks : k.activity ≡ SeekFirst → k.rebalance.taken ≡ [] → Comes z v choice l a k
+  goes_on : IsBuilding a → Building z v choice l a k → Comes z v choice l a k
+
+look_out : (z : Sizes) (j : ℕ) (next : Activity) → NextLook z j next → IsBuilding next → ⊥
+look_out z j next (looks o) x = x
+look_out z j next (lists o) x = x
+
+rest_out : (l next : Local) → NextRest l next → IsBuilding next.activity → ⊥
+rest_out l next (rests m o) x = x
+rest_out l next (answers o n) x = x
+rest_out l next (ends_scan o y n) x = x
+rest_out l next (scans_on q o y n w) x = x
+
+-- each arrow is one of these
+pub comes : (z : Sizes) (v : Words) (s : ℕ) (choice : Choice) (l : Local) (a : Activity) (k : Local) → Arrow z v s choice l a k → Comes z v choice l a k
+comes z v s choice l a k (builds b next y o t) = goes_on y t
+comes z v s choice l a k (takes_no_more e n) = seeks refl refl
+comes z v s choice l a k (keeps_no_more n) = seeks refl refl
+comes z v s choice l a k (meets_stamped j c version next y n) = stays_out (look_out z _ next n)
+comes z v s choice l a k (meets_neither j next y n) = stays_out (look_out z _ next n)
+comes z v s choice l a k (is_passed next y n) = stays_out (look_out z _ next n)
+comes z v s choice l a k (helps next y n) = stays_out (look_out z _ next n)
+comes z v s choice l a k (finds_stamped c version next y n) = stays_out (look_out z _ next n)
+comes z v s choice l a k (finds_other next y n) = stays_out (look_out z _ next n)
+comes z v s choice l a k (list_ends next e n) = stays_out (rest_out _ next n)
+comes z v s choice l a k (key_above next y n) = stays_out (rest_out _ next n)
+comes z v s choice l a k (rest_passed next y n) = stays_out (rest_out _ next n)
+comes z v s choice l a k (gathers_rest next n) = stays_out (rest_out _ next n)
+comes z v s choice l a k _ = stays_out (λ x. x)
+
+-- Elsewhere.
+
+-- a seat has no infants
+pub unbuilt_nursing : (a : Activity) → (IsBuilding a → ⊥) → nursing_of a ≡ HasNone
+unbuilt_nursing SeekFirst n = absurd (n tt)
+unbuilt_nursing Seek n = absurd (n tt)
+unbuilt_nursing TakeRow n = absurd (n tt)
+unbuilt_nursing GiveBack n = absurd (n tt)
+unbuilt_nursing WriteCount n = absurd (n tt)
+unbuilt_nursing WriteMin n = absurd (n tt)
+unbuilt_nursing WriteNext n = absurd (n tt)
+unbuilt_nursing WriteFirst n = absurd (n tt)
+unbuilt_nursing (WritePend i) n = absurd (n tt)
+unbuilt_nursing (WriteKey j) n = absurd (n tt)
+unbuilt_nursing (WriteValue j) n = absurd (n tt)
+unbuilt_nursing (WriteVersion j) n = absurd (n tt)
+unbuilt_nursing (WriteAfter j) n = absurd (n tt)
+unbuilt_nursing Before n = absurd (n tt)
+unbuilt_nursing BeforeGuess n = absurd (n tt)
+unbuilt_nursing BeforeHead n = absurd (n tt)
+unbuilt_nursing BeforeLink n = absurd (n tt)
+unbuilt_nursing BeforeMin n = absurd (n tt)
+unbuilt_nursing Replace n = absurd (n tt)
+unbuilt_nursing _ n = refl
+
+-- it has replaced no row that it has not retired
+pub won_builds : (a : Activity) → HasWon a → IsBuilding a
+won_builds Normalise x = tt
+won_builds Number x = tt
+won_builds Retire x = tt
+won_builds _ x = absurd x
+
+-- it seeks no row before its own
+searching_builds : (a : Activity) (l : Local) → IsSearching a l → IsBuilding a
+searching_builds BeforeGuess l x = tt
+searching_builds BeforeLink l x = tt
+searching_builds BeforeMin l x = tt
+searching_builds Replace l x = tt
+searching_builds GiveBack l x = tt
+searching_builds _ l x = absurd x
+
+before_builds : (a : Activity) (l : Local) → HasBefore a l → IsBuilding a
+before_builds BeforeGuess l x = tt
+before_builds BeforeLink l x = tt
+before_builds BeforeMin l x = tt
+before_builds GiveBack l x = tt
+before_builds _ l x = absurd x
+
+met_builds : (a : Activity) → HasMetNext a → IsBuilding a
+met_builds BeforeMin x = tt
+met_builds _ x = absurd x
+
+pub unbuilt_search : (v : Words) (g : Ledger) (t : ℕ) (a : Activity) (l : Local) → (IsBuilding a → ⊥) → Search v g t a l
+unbuilt_search v g t a l n = elsewhere v g t a l (λ x. n (searching_builds a l x)) (λ x. n (searching_builds a l (measured a l x))) (λ x. n (before_builds a l x)) (λ x. n (met_builds a x))

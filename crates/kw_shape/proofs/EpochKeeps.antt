@@ -1,0 +1,90 @@
+-- The epoch has room for the numbers that are drawn: each seat that may still draw one asked it, and draws one alone.
+use Rattle.std.proofs.Common.{ℕ, zero, suc, ◌≡◌, ◌+◌, ◌≤◌, Some, None, List, [], ◌∷◌, arith, refl, ap, length, length-set, slice_get, slice_set}
+use Rattle.std.proofs.lemmas.Option.{same_Some}
+use Rattle.kw_words.specs.declared.layout.Name.TheVariants as name
+use Rattle.kw_words.specs.declared.sizes.TheConstants.{SPENT}
+use Rattle.kw_world.specs.declared.activity.Activity.{Activity}
+use Rattle.kw_world.specs.declared.activity.Activity.TheVariants.{BalEpoch, Number}
+use Rattle.kw_world.specs.declared.event.Choice.{Choice}
+use Rattle.kw_world.specs.declared.local.Local.{Local}
+use Rattle.kw_world.specs.declared.rebalance.Afterwards.{Afterwards}
+use Rattle.kw_world.specs.Sizes.{Sizes}
+use Rattle.kw_world.specs.Step.{word}
+use Rattle.kw_core.specs.Run.{Run}
+use Rattle.kw_core.specs.Words.{Words}
+use Rattle.kw_core.proofs.Arrows.{Arrow, meets_stamped, meets_neither, is_passed, helps, finds_stamped, finds_other, list_ends, key_above, rest_passed, gathers_rest, NextLook, looks, lists, NextRest, rests, answers, ends_scan, scans_on, epoch_is_spent, epoch_serves, builds}
+use Rattle.kw_core.proofs.Building.{Building, gives_one_back, gives_last_back, draws_number, retires_row}
+use Rattle.kw_core.proofs.Happens.{Happens}
+use Rattle.kw_core.proofs.InfantFrames.{epoch_stays, number_drawn}
+use Rattle.kw_core.proofs.NextBuilt.{GivenBack, tries_again, is_refused_rows, moves_left}
+use Rattle.kw_shape.specs.Epochs.{numberers, numbering}
+use Rattle.kw_shape.specs.Shape.{Shape}
+
+-- the seats that may still draw a number, with one seat's local set
+numberers-set : (ls : List Local) (s : ℕ) (l l' : Local) → slice_get ls s ≡ Some l → numberers (slice_set ls s l') + numbering l.activity ≡ numberers ls + numbering l'.activity
+numberers-set [] s l l' e = let x : None ≡ Some l = e in absurd (cc)
+numberers-set (k ∷ ls) zero l l' e = let x = ap (λ (y : Local). numbering y.activity) (same_Some k l e) in omega (arith, x)
+numberers-set (k ∷ ls) (suc s) l l' e = omega (arith, numberers-set ls s l l' e)
+
+numbering_at_most : (a : Activity) → numbering a ≤ 1
+numbering_at_most Number = omega arith
+numbering_at_most _ = omega arith
+
+-- there are no more of them than seats
+numberers_at_most : (ls : List Local) → numberers ls ≤ length ls
+numberers_at_most [] = omega arith
+numberers_at_most (l ∷ ls) = omega (arith, numbering_at_most l.activity, numberers_at_most ls)
+
+-- An event after which the seat may draw one is that of a seat that might, or asks the epoch.
+
+look_numbers : (z : Sizes) (j : ℕ) (next : Activity) → NextLook z j next → numbering next ≡ 0
+look_numbers z j next (looks o) = refl
+look_numbers z j next (lists o) = refl
+
+cell_numbers : (l : Local) (next : Local) → NextRest l next → numbering next.activity ≡ 0
+cell_numbers l k (rests m o) = refl
+cell_numbers l k (answers o n) = refl
+cell_numbers l k (ends_scan o y n) = refl
+cell_numbers l k (scans_on r o y n w) = refl
+
+given_numbers : (a : Afterwards) (l k : Local) → GivenBack l a k → numbering k.activity ≡ 0
+given_numbers a l k tries_again = refl
+given_numbers a l k is_refused_rows = refl
+given_numbers a l k moves_left = refl
+
+built_numbers : (z : Sizes) (v : Words) (choice : Choice) (l : Local) (a : Activity) (k : Local) → Building z v choice l a k → numbering k.activity ≤ numbering a
+built_numbers z v choice l a k (gives_one_back o) = omega arith
+built_numbers z v choice l a k (gives_last_back next o n) = omega (arith, given_numbers _ l next n)
+built_numbers z v choice l a k retires_row = omega arith
+built_numbers z v choice l a k _ = numbering_at_most k.activity
+
+abbrev AsksEpoch : Activity → Type 0
+AsksEpoch BalEpoch = Unit {0}
+AsksEpoch _ = ⊥
+
+numbers_next : (z : Sizes) (v : Words) (s : ℕ) (choice : Choice) (l : Local) (a : Activity) (l' : Local) → Arrow z v s choice l a l' → (AsksEpoch a → ⊥) → numbering l'.activity ≤ numbering a
+numbers_next z v s choice l a l' (builds b next y o t) n = built_numbers z v choice l b next t
+numbers_next z v s choice l a l' (epoch_serves e) n = absurd (n tt)
+numbers_next z v s choice l a l' (meets_stamped j c version next y m) n = omega (arith, look_numbers z _ next m)
+numbers_next z v s choice l a l' (meets_neither j next y m) n = omega (arith, look_numbers z _ next m)
+numbers_next z v s choice l a l' (is_passed next y m) n = omega (arith, look_numbers z _ next m)
+numbers_next z v s choice l a l' (helps next y m) n = omega (arith, look_numbers z _ next m)
+numbers_next z v s choice l a l' (finds_stamped c version next y m) n = omega (arith, look_numbers z _ next m)
+numbers_next z v s choice l a l' (finds_other next y m) n = omega (arith, look_numbers z _ next m)
+numbers_next z v s choice l a l' (list_ends next e m) n = omega (arith, cell_numbers _ next m)
+numbers_next z v s choice l a l' (key_above next y m) n = omega (arith, cell_numbers _ next m)
+numbers_next z v s choice l a l' (rest_passed next y m) n = omega (arith, cell_numbers _ next m)
+numbers_next z v s choice l a l' (gathers_rest next m) n = omega (arith, cell_numbers _ next m)
+numbers_next z v s choice l a l' _ n = omega arith
+
+-- a seat that draws a number may draw none after it
+epoch_built : (z : Sizes) (r r' : Run) (s : ℕ) (choice : Choice) (l : Local) (a : Activity) (l' : Local) → Building z (word z r.world) choice l a l' → Happens z r r' s choice l l' a → Shape z r → word z r'.world name.Epoch + numberers r'.world.locals ≤ SPENT + z.seats
+epoch_built z r r' s choice l a l' draws_number h i = omega (arith, i.epoch, number_drawn h, ap numbering h.activity, numberers-set r.world.locals s l l' h.knows, ap numberers h.locals)
+epoch_built z r r' s choice l a l' t h i = omega (arith, i.epoch, epoch_stays _ h (λ c. c), built_numbers z (word z r.world) choice l _ l' t, ap numbering h.activity, numberers-set r.world.locals s l l' h.knows, ap numberers h.locals)
+
+-- the epoch has room for the numbers that are drawn
+pub epoch_keeps : (z : Sizes) (r r' : Run) (s : ℕ) (choice : Choice) (l : Local) (a : Activity) (l' : Local) → Arrow z (word z r.world) s choice l a l' → Happens z r r' s choice l l' a → Shape z r → word z r'.world name.Epoch + numberers r'.world.locals ≤ SPENT + z.seats
+epoch_keeps z r r' s choice l a l' (epoch_serves e) h i = omega (arith, e, epoch_stays BalEpoch h (λ c. c), numberers_at_most r'.world.locals, ap length h.locals, length-set r.world.locals s l', i.sane.seats)
+epoch_keeps z r r' s choice l a l' (epoch_is_spent e) h i = omega (arith, i.epoch, epoch_stays BalEpoch h (λ c. c), numberers-set r.world.locals s l l' h.knows, ap numberers h.locals)
+epoch_keeps z r r' s choice l a l' (builds b next y o t) h i = epoch_built z r r' s choice l b next t h i
+epoch_keeps z r r' s choice l a l' b h i = omega (arith, i.epoch, epoch_stays _ h (λ c. c), numbers_next z (word z r.world) s choice l _ l' b (λ x. x), ap numbering h.activity, numberers-set r.world.locals s l l' h.knows, ap numberers h.locals)

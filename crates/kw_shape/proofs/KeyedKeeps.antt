@@ -1,0 +1,239 @@
+-- The cells of a row that an entry names, or to which a link leads, have keys that the row may hold: so it stays at every event, and so it
+-- is of the rows that are linked now.
+--
+-- A key is stored once, by a put whose key the row may hold. An entry that comes to name a cell, and a link that comes to lead to one, do so
+-- by a seat that knows this of the cell.
+use Rattle.std.proofs.Common.{ℕ, ◌≡◌, ◌≢◌, ◌⊎◌, inl, inr, ◌<◌, ◌≤◌, Option, Some, None, arith, refl, sym, ◌∙◌, ap, subst, length}
+use Rattle.std.proofs.lemmas.Bool.{cases_eq}
+use Rattle.std.proofs.lemmas.Option.{same_Some}
+use Rattle.kw_words.specs.declared.layout.Name.TheVariants as name
+use Rattle.kw_words.specs.declared.pend.Pend.{Pend}
+use Rattle.kw_words.specs.declared.pend.Pend.TheVariants as pend
+use Rattle.kw_words.specs.declared.sizes.TheConstants.{MOST_CELLS}
+use Rattle.kw_words.specs.Pend.{IsPend, pend_of, pend_word}
+use Rattle.kw_words.specs.Plain.{IsCell, cell_link_word, cell_of_link_word, key_of_word}
+use Rattle.kw_words.proofs.PendWords.{pend_of-pend_word}
+use Rattle.kw_words.proofs.PlainWords.{cell_of_link_word-cell_link_word, key_of_word-key_word}
+use Rattle.kw_rows.specs.Rows as rows
+use Rattle.kw_rows.specs.Rows.{WasLinked}
+use Rattle.kw_world.specs.declared.activity.Activity.{Activity}
+use Rattle.kw_world.specs.declared.activity.Activity.TheVariants.{LookHelp, PutKey, Announce, Stamp, PutClear, InsSet, Insert, Freeze}
+use Rattle.kw_world.specs.declared.event.Choice.{Choice}
+use Rattle.kw_world.specs.declared.local.Local.{Local}
+use Rattle.kw_world.specs.Calls.{first_key}
+use Rattle.kw_world.specs.ListTransitions.{link_name}
+use Rattle.kw_world.specs.Sane.{IsActivity, IsCellBelow, IsEntry, IsKnown, IsSane}
+use Rattle.kw_world.specs.Sizes.{Sizes}
+use Rattle.kw_world.specs.Step.{word}
+use Rattle.kw_core.specs.Run.{Run}
+use Rattle.kw_core.proofs.Happens.{Happens, exchanged, not_exchanged}
+use Rattle.kw_core.proofs.InRange.{first_in_range}
+use Rattle.kw_shape.proofs.Known.{AreSane, link_below, linked_below}
+use Rattle.kw_shape.proofs.LinkedRows.{ComesNow, linked_before, linked_keeps, was_below}
+use Rattle.kw_shape.proofs.LinkedWords.{linked_entry, linked_key, linked_link}
+use Rattle.kw_shape.proofs.NewRowsKeyed.{new_rows_keyed}
+use Rattle.kw_shape.proofs.RowsStay.{holds_put, holds_stays}
+use Rattle.kw_shape.specs.Keyed.{HoldsCell, IsLinkOf, IsOfCell, Keyed, Keys}
+use Rattle.kw_shape.specs.RowsIn.{rows_in}
+use Rattle.kw_shape.specs.Shape.{Shape}
+
+-- an entry of a cell is one of a cell that the row has
+cell_of_entry : (z : Sizes) (c : ℕ) (x : Option Pend) → IsEntry z x → IsOfCell c x → c < z.cells
+cell_of_entry z c (Some pend.Idle) e o = absurd o
+cell_of_entry z c (Some (pend.Pending cell)) e o = subst (λ (d : ℕ). d < z.cells) o e
+cell_of_entry z c (Some (pend.Stamped cell version)) e o = subst (λ (d : ℕ). d < z.cells) o e.0
+cell_of_entry z c (Some pend.Frozen) e o = absurd o
+cell_of_entry z c None e o = absurd o
+
+-- the first link, or that behind a cell of the row
+pub of_link : (z : Sizes) (at : Option ℕ) → IsLinkOf z at → IsCellBelow z.cells at
+of_link z (Some c) o = o
+of_link z None o = tt
+
+pub link_of_row : (z : Sizes) (at : Option ℕ) → IsCellBelow z.cells at → IsLinkOf z at
+link_of_row z (Some c) o = o
+link_of_row z None o = tt
+
+-- a link that is stored leads where it should
+stored_leads : (z : Sizes) (held : Option ℕ) (c : ℕ) → IsCell held → cell_of_link_word (cell_link_word held) ≡ Some c → held ≡ Some c
+stored_leads z held c i e = sym (cell_of_link_word-cell_link_word held i) ∙ e
+
+-- a link to a cell of the row, and to none, fits its word
+cell_fits : {n : ℕ} (held : Option ℕ) → IsCellBelow n held → n ≤ MOST_CELLS → IsCell held
+cell_fits (Some c) o m = omega (arith, o, m)
+cell_fits None o m = tt
+
+-- two links between cells are one, or not
+same_link : (x y : Option ℕ) → (x ≡ y) ⊎ (x ≡ y → ⊥)
+same_link (Some c) (Some d) = which (cases_eq c d)
+  where
+    which : (c ≡ d) ⊎ (c ≡ d → ⊥) → (Some c ≡ Some d) ⊎ (Some c ≡ Some d → ⊥)
+    which (inl e) = inl (ap Some e)
+    which (inr n) = inr (λ e. n (same_Some c d e))
+same_link (Some c) None = inr (λ e. let x : Some c ≡ None = e in cc)
+same_link None (Some d) = inr (λ e. let x : None ≡ Some d = e in cc)
+same_link None None = inl refl
+
+-- an entry after an exchange that names a cell: it was there, or is the new one
+entry_exchanged : (P : Option Pend → Type 0) (found after : ℕ) (x y : Pend) → IsPend y → (found ≡ pend_word x → after ≡ pend_word y) → (found ≢ pend_word x → after ≡ found) → P (pend_of after) → P (pend_of found) ⊎ (found ≡ pend_word x) × P (Some y)
+entry_exchanged P found after x y i won lost p = which (cases_eq found (pend_word x))
+  where
+    which : (found ≡ pend_word x) ⊎ (found ≡ pend_word x → ⊥) → P (pend_of found) ⊎ (found ≡ pend_word x) × P (Some y)
+    which (inl e) = inr (e, subst P (pend_of-pend_word y i) (subst (λ w. P (pend_of w)) (won e) p))
+    which (inr d) = inl (subst (λ w. P (pend_of w)) (lost d) p)
+
+-- a pending entry names its cell
+was_pending : (c found cell : ℕ) → found ≡ pend_word (pend.Pending cell) → IsPend (pend.Pending cell) → cell ≡ c → IsOfCell c (pend_of found)
+was_pending c found cell e i f = subst (IsOfCell c) (sym (ap pend_of e ∙ pend_of-pend_word (pend.Pending cell) i)) f
+
+module _ {z : Sizes} {r r' : Run} {s : ℕ} {choice : Choice} {l l' : Local} where
+  -- what the acting seat knows of keys, at its activity
+  pub keys_at : (a : Activity) → Happens z r r' s choice l l' a → Shape z r → Keys (word z r.world) r.ledger.rows a l
+  keys_at a h i = subst (λ b. Keys (word z r.world) r.ledger.rows b l) h.activity (i.keys s l h.knows)
+
+  known_at : (a : Activity) → Happens z r r' s choice l l' a → Shape z r → IsKnown z r.world.rows l
+  known_at a h i = i.sane.locals s l h.knows
+
+  -- a row that was linked may hold the keys that it might
+  pub key_keeps : (a : Activity) → Happens z r r' s choice l l' a → Shape z r → (q key : ℕ) → WasLinked r.ledger.rows q → rows.HoldsKey (rows_in (word z r.world)) r.ledger.rows q key → rows.HoldsKey (rows_in (word z r'.world)) r'.ledger.rows q key
+  key_keeps a h i q key k x = let y = linked_keeps a h i q k in holds_stays (word z r.world) (word z r'.world) r.ledger.rows r'.ledger.rows q key y.upper y.least x
+
+  -- and those of its cells whose words are as they were
+  same_cell : (a : Activity) → Happens z r r' s choice l l' a → Shape z r → (q c : ℕ) → WasLinked r.ledger.rows q → word z r'.world (name.Key q c) ≡ word z r.world (name.Key q c) → HoldsCell (word z r.world) r.ledger.rows q c → HoldsCell (word z r'.world) r'.ledger.rows q c
+  same_cell a h i q c k e x = subst (rows.HoldsKey (rows_in (word z r'.world)) r'.ledger.rows q) (sym (ap key_of_word e)) (key_keeps a h i q _ k x)
+
+  -- the key that a put stores is one that its row may hold
+  pub put_key_holds : Happens z r r' s choice l l' PutKey → Shape z r → WasLinked r.ledger.rows l.row → HoldsCell (word z r'.world) r'.ledger.rows l.row l.cell
+  put_key_holds h i k =
+      let e : key_of_word (word z r'.world (name.Key l.row l.cell)) ≡ first_key l.call = ap key_of_word h.changed.same ∙ key_of_word-key_word (first_key l.call) (first_in_range l.call (known_at PutKey h i).ranges.call) in
+      subst (rows.HoldsKey (rows_in (word z r'.world)) r'.ledger.rows l.row) (sym e) (key_keeps PutKey h i l.row (first_key l.call) k (holds_put z r s l PutKey i h.knows h.activity tt tt (λ x. x)))
+
+  -- so each cell of a row that was linked has a key that the row may hold, where it had one
+  pub cell_keeps : (a : Activity) → Happens z r r' s choice l l' a → Shape z r → (q c : ℕ) → WasLinked r.ledger.rows q → c < z.cells → HoldsCell (word z r.world) r.ledger.rows q c → HoldsCell (word z r'.world) r'.ledger.rows q c
+  cell_keeps PutKey h i q c k o x = which (cases_eq q l.row) (cases_eq c l.cell)
+    where
+      which : (q ≡ l.row) ⊎ (q ≡ l.row → ⊥) → (c ≡ l.cell) ⊎ (c ≡ l.cell → ⊥) → HoldsCell (word z r'.world) r'.ledger.rows q c
+      which (inl e) (inl f) = subst (λ y. HoldsCell (word z r'.world) r'.ledger.rows y c) (sym e) (subst (HoldsCell (word z r'.world) r'.ledger.rows l.row) (sym f) (put_key_holds h i (subst (WasLinked r.ledger.rows) e k)))
+      which (inl e) (inr d) = same_cell PutKey h i q c k (linked_key PutKey h i q c k o (λ w f g. d g)) x
+      which (inr d) f = same_cell PutKey h i q c k (linked_key PutKey h i q c k o (λ w f g. d f)) x
+  cell_keeps a h i q c k o x = same_cell a h i q c k (linked_key a h i q c k o (λ w f g. w)) x
+
+  -- Entries.
+
+  -- an entry of the acting seat's row, and every other one
+  at_entry : (a : Activity) → Happens z r r' s choice l l' a → Shape z r → (q j c m : ℕ) → WasLinked r.ledger.rows q → j < z.seats → IsOfCell c (pend_of (word z r'.world (name.Pend q j))) → (WasLinked r.ledger.rows l.row → IsOfCell c (pend_of (word z r'.world (name.Pend l.row m))) → HoldsCell (word z r.world) r.ledger.rows l.row c) →
+      ((q ≡ l.row → j ≡ m → ⊥) → word z r'.world (name.Pend q j) ≡ word z r.world (name.Pend q j)) → HoldsCell (word z r.world) r.ledger.rows q c
+  at_entry a h i q j c m k o x there other = which (cases_eq q l.row) (cases_eq j m)
+    where
+      same : (q ≡ l.row → j ≡ m → ⊥) → HoldsCell (word z r.world) r.ledger.rows q c
+      same d = (i.keyed q k).named j c o (subst (λ w. IsOfCell c (pend_of w)) (other d) x)
+
+      which : (q ≡ l.row) ⊎ (q ≡ l.row → ⊥) → (j ≡ m) ⊎ (j ≡ m → ⊥) → HoldsCell (word z r.world) r.ledger.rows q c
+      which (inl e) (inl f) =
+          let y : IsOfCell c (pend_of (word z r'.world (name.Pend l.row m))) = subst (λ n. IsOfCell c (pend_of (word z r'.world (name.Pend l.row n)))) f (subst (λ n. IsOfCell c (pend_of (word z r'.world (name.Pend n j)))) e x) in
+          subst (λ n. HoldsCell (word z r.world) r.ledger.rows n c) (sym e) (there (subst (WasLinked r.ledger.rows) e k) y)
+      which (inl e) (inr d) = same (λ f g. d g)
+      which (inr d) f = same (λ e g. d e)
+
+  -- one that names a cell after the event names one whose key the row might hold before it
+  named_before : (a : Activity) → Happens z r r' s choice l l' a → Shape z r → (q j c : ℕ) → WasLinked r.ledger.rows q → j < z.seats → IsOfCell c (pend_of (word z r'.world (name.Pend q j))) → HoldsCell (word z r.world) r.ledger.rows q c
+  named_before LookHelp h i q j c k o x = at_entry LookHelp h i q j c l.looked k o x there (λ d. linked_entry LookHelp h i q j k o (λ w e f. w) (λ w e f. d e f) (λ w e. w))
+    where
+      known : IsKnown z r.world.rows l
+      known = known_at LookHelp h i
+
+      there : WasLinked r.ledger.rows l.row → IsOfCell c (pend_of (word z r'.world (name.Pend l.row l.looked))) → HoldsCell (word z r.world) r.ledger.rows l.row c
+      there y p = which (entry_exchanged (IsOfCell c) (word z r.world (name.Pend l.row l.looked)) (word z r'.world (name.Pend l.row l.looked)) (pend.Pending l.met) (pend.Stamped l.met l.helping) (omega (arith, known.ranges.met, i.sane.sized.few_cells), known.ranges.helping.0, known.ranges.helping.1) (exchanged _ _ _ _ h.changed.same) (not_exchanged _ _ _ _ h.changed.same) p)
+        where
+          which : IsOfCell c (pend_of (word z r.world (name.Pend l.row l.looked))) ⊎ (word z r.world (name.Pend l.row l.looked) ≡ pend_word (pend.Pending l.met)) × (l.met ≡ c) → HoldsCell (word z r.world) r.ledger.rows l.row c
+          which (inl m) = (i.keyed l.row y).named l.looked c known.ranges.looked m
+          which (inr m) = (i.keyed l.row y).named l.looked c known.ranges.looked (was_pending c _ l.met m.0 (omega (arith, known.ranges.met, i.sane.sized.few_cells)) m.1)
+  named_before Announce h i q j c k o x = at_entry Announce h i q j c s k o x there (λ d. linked_entry Announce h i q j k o (λ w e f. d e f) (λ w e f. w) (λ w e. w))
+    where
+      there : WasLinked r.ledger.rows l.row → IsOfCell c (pend_of (word z r'.world (name.Pend l.row s))) → HoldsCell (word z r.world) r.ledger.rows l.row c
+      there y p = which (entry_exchanged (IsOfCell c) (word z r.world (name.Pend l.row s)) (word z r'.world (name.Pend l.row s)) pend.Idle (pend.Pending l.cell) (omega (arith, (known_at Announce h i).ranges.cell, i.sane.sized.few_cells)) (exchanged _ _ _ _ h.changed.same) (not_exchanged _ _ _ _ h.changed.same) p)
+        where
+          which : IsOfCell c (pend_of (word z r.world (name.Pend l.row s))) ⊎ (word z r.world (name.Pend l.row s) ≡ pend_word pend.Idle) × (l.cell ≡ c) → HoldsCell (word z r.world) r.ledger.rows l.row c
+          which (inl m) = (i.keyed l.row y).named s c h.seat m
+          which (inr m) = subst (HoldsCell (word z r.world) r.ledger.rows l.row) m.1 ((keys_at Announce h i).own tt)
+  named_before Stamp h i q j c k o x = at_entry Stamp h i q j c s k o x there (λ d. linked_entry Stamp h i q j k o (λ w e f. d e f) (λ w e f. w) (λ w e. w))
+    where
+      known : IsKnown z r.world.rows l
+      known = known_at Stamp h i
+
+      there : WasLinked r.ledger.rows l.row → IsOfCell c (pend_of (word z r'.world (name.Pend l.row s))) → HoldsCell (word z r.world) r.ledger.rows l.row c
+      there y p = which (entry_exchanged (IsOfCell c) (word z r.world (name.Pend l.row s)) (word z r'.world (name.Pend l.row s)) (pend.Pending l.cell) (pend.Stamped l.cell l.version) (omega (arith, known.ranges.cell, i.sane.sized.few_cells), known.ranges.version.0, known.ranges.version.1) (exchanged _ _ _ _ h.changed.same) (not_exchanged _ _ _ _ h.changed.same) p)
+        where
+          which : IsOfCell c (pend_of (word z r.world (name.Pend l.row s))) ⊎ (word z r.world (name.Pend l.row s) ≡ pend_word (pend.Pending l.cell)) × (l.cell ≡ c) → HoldsCell (word z r.world) r.ledger.rows l.row c
+          which (inl m) = (i.keyed l.row y).named s c h.seat m
+          which (inr m) = subst (HoldsCell (word z r.world) r.ledger.rows l.row) m.1 ((keys_at Stamp h i).own tt)
+  named_before PutClear h i q j c k o x = at_entry PutClear h i q j c s k o x (λ y p. absurd (subst (IsOfCell c) (ap pend_of h.changed.same ∙ pend_of-pend_word pend.Idle tt) p)) (λ d. linked_entry PutClear h i q j k o (λ w e f. d e f) (λ w e f. w) (λ w e. w))
+  named_before (Freeze n) h i q j c k o x = at_entry (Freeze n) h i q j c n k o x there (λ d. linked_entry (Freeze n) h i q j k o (λ w e f. w) (λ w e f. w) (λ f e. d e f))
+    where
+      inside : n < z.seats
+      inside = subst (IsActivity z) h.activity (known_at (Freeze n) h i).ranges.activity
+
+      there : WasLinked r.ledger.rows l.row → IsOfCell c (pend_of (word z r'.world (name.Pend l.row n))) → HoldsCell (word z r.world) r.ledger.rows l.row c
+      there y p = which (entry_exchanged (IsOfCell c) (word z r.world (name.Pend l.row n)) (word z r'.world (name.Pend l.row n)) l.rebalance.entry pend.Frozen tt (exchanged _ _ _ _ h.changed.same) (not_exchanged _ _ _ _ h.changed.same) p)
+        where
+          which : IsOfCell c (pend_of (word z r.world (name.Pend l.row n))) ⊎ (word z r.world (name.Pend l.row n) ≡ pend_word l.rebalance.entry) × ⊥ → HoldsCell (word z r.world) r.ledger.rows l.row c
+          which (inl m) = (i.keyed l.row y).named n c inside m
+          which (inr m) = absurd m.1
+  named_before a h i q j c k o x = (i.keyed q k).named j c o (subst (λ w. IsOfCell c (pend_of w)) (linked_entry a h i q j k o (λ w e f. w) (λ w e f. w) (λ w e. w)) x)
+
+  -- Links.
+
+  -- a link of the acting seat's row, and every other one
+  at_link : (a : Activity) → Happens z r r' s choice l l' a → Shape z r → (q : ℕ) (at m : Option ℕ) (c : ℕ) → WasLinked r.ledger.rows q → IsLinkOf z at → cell_of_link_word (word z r'.world (link_name q at)) ≡ Some c → (WasLinked r.ledger.rows l.row → cell_of_link_word (word z r'.world (link_name l.row m)) ≡ Some c → HoldsCell (word z r.world) r.ledger.rows l.row c) →
+      ((q ≡ l.row → at ≡ m → ⊥) → word z r'.world (link_name q at) ≡ word z r.world (link_name q at)) → HoldsCell (word z r.world) r.ledger.rows q c
+  at_link a h i q at m c k o x there other = which (cases_eq q l.row) (same_link at m)
+    where
+      same : (q ≡ l.row → at ≡ m → ⊥) → HoldsCell (word z r.world) r.ledger.rows q c
+      same d = (i.keyed q k).linked at c o (ap cell_of_link_word (sym (other d)) ∙ x)
+
+      which : (q ≡ l.row) ⊎ (q ≡ l.row → ⊥) → (at ≡ m) ⊎ (at ≡ m → ⊥) → HoldsCell (word z r.world) r.ledger.rows q c
+      which (inl e) (inl f) =
+          let y : cell_of_link_word (word z r'.world (link_name l.row m)) ≡ Some c = subst (λ n. cell_of_link_word (word z r'.world (link_name l.row n)) ≡ Some c) f (subst (λ n. cell_of_link_word (word z r'.world (link_name n at)) ≡ Some c) e x) in
+          subst (λ n. HoldsCell (word z r.world) r.ledger.rows n c) (sym e) (there (subst (WasLinked r.ledger.rows) e k) y)
+      which (inl e) (inr d) = same (λ f g. d g)
+      which (inr d) f = same (λ e g. d e)
+
+  -- one that leads to a cell after the event leads to one whose key the row might hold before it
+  linked_to_before : (a : Activity) → Happens z r r' s choice l l' a → Shape z r → (q : ℕ) (at : Option ℕ) (c : ℕ) → WasLinked r.ledger.rows q → IsLinkOf z at → cell_of_link_word (word z r'.world (link_name q at)) ≡ Some c → HoldsCell (word z r.world) r.ledger.rows q c
+  linked_to_before InsSet h i q at c k o x =
+      at_link InsSet h i q at (Some l.cell) c k o x (λ y p. (keys_at InsSet h i).held tt c (stored_leads z l.held c (cell_fits l.held (known_at InsSet h i).ranges.held i.sane.sized.few_cells) (sym (ap cell_of_link_word h.changed.same) ∙ p))) (λ d. linked_link InsSet h i q at k (of_link z at o) (λ w e f. d e f) (λ w e f. w))
+  linked_to_before Insert h i q at c k o x = at_link Insert h i q at l.link c k o x there (λ d. linked_link Insert h i q at k (of_link z at o) (λ w e f. w) (λ w e f. d e f))
+    where
+      known : IsKnown z r.world.rows l
+      known = known_at Insert h i
+
+      there : WasLinked r.ledger.rows l.row → cell_of_link_word (word z r'.world (link_name l.row l.link)) ≡ Some c → HoldsCell (word z r.world) r.ledger.rows l.row c
+      there y p = which (cases_eq (word z r.world (link_name l.row l.link)) (cell_link_word l.held))
+        where
+          which : (word z r.world (link_name l.row l.link) ≡ cell_link_word l.held) ⊎ (word z r.world (link_name l.row l.link) ≡ cell_link_word l.held → ⊥) → HoldsCell (word z r.world) r.ledger.rows l.row c
+          which (inl e) =
+              let f : Some l.cell ≡ Some c = stored_leads z (Some l.cell) c (omega (arith, known.ranges.cell, i.sane.sized.few_cells)) (sym (ap cell_of_link_word (exchanged _ _ _ _ h.changed.same e)) ∙ p) in
+              subst (HoldsCell (word z r.world) r.ledger.rows l.row) (same_Some l.cell c f) ((keys_at Insert h i).own tt)
+          which (inr d) = (i.keyed l.row y).linked l.link c (link_of_row z l.link known.ranges.link) (sym (ap cell_of_link_word (not_exchanged _ _ _ _ h.changed.same d)) ∙ p)
+  linked_to_before a h i q at c k o x = (i.keyed q k).linked at c o (ap cell_of_link_word (sym (linked_link a h i q at k (of_link z at o) (λ w e f. w) (λ w e f. w))) ∙ x)
+
+  -- so a row that was linked has keys that it may hold
+  pub keyed_stays : (a : Activity) → Happens z r r' s choice l l' a → Shape z r → IsSane z r'.world → (q : ℕ) → WasLinked r.ledger.rows q → Keyed z (word z r'.world) r'.ledger.rows q
+  keyed_stays a h i sane q k = record {
+    named = λ j c o x. cell_keeps a h i q c k (cell_of_entry z c _ (sane.each (name.Pend q j) (below, o)) x) (named_before a h i q j c k o x);
+    linked = λ at c o x. cell_keeps a h i q c k (linked_below (word z r'.world (link_name q at)) c z.cells x (link_below z r'.world.rows (word z r'.world) words q at (of_link z at o) below)) (linked_to_before a h i q at c k o x);
+  }
+    where
+      below : q < r'.world.rows
+      below = omega (arith, was_below z r i q k, h.rows)
+
+      words : AreSane z r'.world.rows (word z r'.world)
+      words = record { sized = sane.sized; each = sane.each; led = sane.led }
+
+  -- and so has each row that is linked now
+  pub keyed_keeps : (a : Activity) → Happens z r r' s choice l l' a → Shape z r → IsSane z r'.world → (q : ℕ) → WasLinked r'.ledger.rows q → Keyed z (word z r'.world) r'.ledger.rows q
+  keyed_keeps a h i sane q k = which (linked_before a h i q k)
+    where
+      which : WasLinked r.ledger.rows q ⊎ ComesNow (word z r.world) r.ledger.rows r'.ledger.rows s (length r.history.log) l a q → Keyed z (word z r'.world) r'.ledger.rows q
+      which (inl x) = keyed_stays a h i sane q x
+      which (inr x) = new_rows_keyed (subst (Happens z r r' s choice l l') x.replaces h) i x.won q x.taken

@@ -1,0 +1,261 @@
+-- What each seat knows of the keys of its row stays so, and what comes to it is so: a cell to which a link leads, or that an entry names, has
+-- a key that the row may hold, and so has one that was gathered.
+use Rattle.std.proofs.Common.{ℕ, ◌≡◌, ◌⊎◌, inl, inr, ◌<◌, ◌++◌, All, Bool, true, false, nat_lt, if◌then◌else◌, List, [], ◌∷◌, Option, Some, None, refl, sym, ◌∙◌, ap, subst, length, slice_get}
+use Rattle.std.proofs.lemmas.List.Elements.{All-append, All-cons, All-nil}
+use Rattle.std.proofs.lemmas.Option.{same_Some}
+use Rattle.kw_words.specs.declared.layout.Name.{Name}
+use Rattle.kw_words.specs.declared.layout.Name.TheVariants as name
+use Rattle.kw_words.specs.declared.pend.Pend.TheVariants as pend
+use Rattle.kw_words.specs.Pend.{pend_of}
+use Rattle.kw_words.specs.Plain.{cell_of_link_word, key_of_word}
+use Rattle.kw_cells.specs.declared.cell.Cell.{Cell}
+use Rattle.kw_cells.specs.InOrder.{with_cell}
+use Rattle.kw_rows.specs.Ledger.{Ledger}
+use Rattle.kw_rows.specs.Rows as rows
+use Rattle.kw_rows.specs.Rows.{WasLinked}
+use Rattle.kw_world.specs.declared.activity.Activity.{Activity}
+use Rattle.kw_world.specs.declared.activity.Activity.TheVariants.{PutCount, PutKey, PutValue, InsFrom, InsKey, FreezeLook, TakeFrom, TakeKey, TakeVersion, Again, Leave, BalClock}
+use Rattle.kw_world.specs.declared.answer.Answer.TheVariants.{NoRows}
+use Rattle.kw_world.specs.declared.event.Choice.{Choice}
+use Rattle.kw_world.specs.declared.local.Local.{Local}
+use Rattle.kw_world.specs.declared.marks.Mark.{Mark}
+use Rattle.kw_world.specs.ListTransitions.{link_name}
+use Rattle.kw_world.specs.Marks.{mark_of}
+use Rattle.kw_world.specs.ReadTransitions.{cell_in_hand}
+use Rattle.kw_world.specs.Sane.{IsActivity, IsCellBelow, IsLocal, IsSane}
+use Rattle.kw_world.specs.Sizes.{Sizes}
+use Rattle.kw_world.specs.Step.{word}
+use Rattle.kw_world.specs.TakeTransitions.{keeping}
+use Rattle.kw_core.specs.Run.{Run}
+use Rattle.kw_core.specs.Stages.{IsAtRow, IsBalancing}
+use Rattle.kw_core.specs.Words.{Words}
+use Rattle.kw_core.proofs.Arrows.{Arrow, NextLook, looks, lists, NextRest, rests, answers, ends_scan, scans_on, meets_stamped, meets_neither, is_passed, helps, finds_stamped, finds_other, list_ends, key_above, rest_passed, gathers_rest, stores_key, stores_value, announces, loads_clock, stamps, is_stamped, stores_version, meets_cell, meets_none, key_before, key_same, key_after, version_before, version_after, stores_after, loses, freezes_count, meets_idle, meets_unstamped, remembers, remembers_last, meets_frozen, meets_frozen_last, freezes_entry, freezes_last, looks_again, meets_quiet, meets_quiet_last, helps_scan, meets_drawn, meets_drawn_last, draws_for, settles_scan, settles_last, finds_drawn, finds_drawn_last, finds_no_scan, finds_no_scan_last, take_leads, takes_left, takes_no_more, takes_key, takes_version, keeps_taken, takes_left_key, keeps_left, keeps_no_more, builds}
+use Rattle.kw_core.proofs.Building.{Building, IsBuilding, makes_normal, makes_last_normal, draws_number, retires_row}
+use Rattle.kw_core.proofs.BuiltNext.{IsAfterBuilding, built_keeps, built_next}
+use Rattle.kw_core.proofs.Happens.{Happens}
+use Rattle.kw_core.proofs.InRange.{least_holds, unmarked_in_range, with_cell_in_range}
+use Rattle.kw_shape.proofs.KeyedKeeps.{cell_keeps, key_keeps, keyed_stays, link_of_row, put_key_holds}
+use Rattle.kw_shape.proofs.LinkedRows.{fresh_linked}
+use Rattle.kw_shape.specs.Keyed.{HasGathered, HasHeldCell, HasKeyInHand, HasMarks, HasMetCell, HasOwnKey, HoldsCell, IsOfCell, Keyed, Keys}
+use Rattle.kw_shape.specs.RowsIn.{rows_in}
+use Rattle.kw_shape.specs.Shape.{Shape}
+
+-- A seat that knows of keys is at a row that was linked.
+
+own_row : (a : Activity) → HasOwnKey a → IsAtRow a
+own_row PutCount x = tt
+own_row _ x = assumption (x, tt)
+
+held_row : (a : Activity) → HasHeldCell a → IsAtRow a
+held_row PutCount x = tt
+held_row _ x = assumption (x, tt)
+
+marks_row : (a : Activity) → HasMarks a → IsBalancing a
+marks_row BalClock x = tt
+marks_row _ x = assumption (x, tt)
+
+met_row : (a : Activity) → HasMetCell a → IsBalancing a
+met_row BalClock x = tt
+met_row _ x = assumption (x, tt)
+
+key_row : (a : Activity) → HasKeyInHand a → IsBalancing a
+key_row BalClock x = tt
+key_row _ x = assumption (x, tt)
+
+gathered_row : (a : Activity) → HasGathered a → IsBalancing a
+gathered_row BalClock x = tt
+gathered_row _ x = assumption (x, tt)
+
+-- What follows where new rows are built: the cells that were gathered alone are known.
+
+after_own : (a : Activity) → IsAfterBuilding a → HasOwnKey a → ⊥
+after_own PutValue b x = b
+after_own _ b x = assumption (b, x)
+
+after_held : (a : Activity) → IsAfterBuilding a → HasHeldCell a → ⊥
+after_held InsKey b x = b
+after_held _ b x = assumption (b, x)
+
+after_marks : (a : Activity) → IsAfterBuilding a → HasMarks a → ⊥
+after_marks TakeFrom b x = b
+after_marks _ b x = assumption (b, x)
+
+after_met : (a : Activity) → IsAfterBuilding a → HasMetCell a → ⊥
+after_met TakeKey b x = b
+after_met _ b x = assumption (b, x)
+
+after_key : (a : Activity) → IsAfterBuilding a → HasKeyInHand a → ⊥
+after_key TakeVersion b x = b
+after_key _ b x = assumption (b, x)
+
+after_gathered : (a : Activity) → IsAfterBuilding a → HasGathered a → IsBuilding a
+after_gathered Again b x = absurd x
+after_gathered BalClock b x = absurd x
+after_gathered (Leave NoRows) b x = absurd x
+after_gathered _ b x = b
+
+-- and they were known before
+gathered_before : (z : Sizes) (v : Words) (choice : Choice) (l : Local) (a : Activity) (k : Local) → Building z v choice l a k → HasGathered k.activity → HasGathered a
+gathered_before z v choice l a k (makes_normal o) x = absurd x
+gathered_before z v choice l a k (makes_last_normal o) x = absurd x
+gathered_before z v choice l a k draws_number x = absurd x
+gathered_before z v choice l a k retires_row x = absurd x
+gathered_before z v choice l a k _ x = tt
+
+-- a held cell is one of the row's
+held_cell : {n : ℕ} (held : Option ℕ) (c : ℕ) → IsCellBelow n held → held ≡ Some c → c < n
+held_cell {n} (Some d) c o e = subst (λ x. x < n) (same_Some d c e) o
+held_cell {n} None c o e = let x : None ≡ Some c = e in absurd (cc)
+
+-- Where a part has no event of its own.
+
+module _ (v : Words) (g : Ledger) where
+  -- a reader knows of no keys
+  look_keys : (z : Sizes) (j : ℕ) (next : Activity) (k : Local) → NextLook z j next → Keys v g next k
+  look_keys z j next k (looks o) = record { own = λ x. absurd x; held = λ x. absurd x; marks = λ x. absurd x; met = λ x. absurd x; key = λ x. absurd x; gathered = λ x. absurd x }
+  look_keys z j next k (lists o) = record { own = λ x. absurd x; held = λ x. absurd x; marks = λ x. absurd x; met = λ x. absurd x; key = λ x. absurd x; gathered = λ x. absurd x }
+
+  cell_keys : (l : Local) (next : Local) → NextRest l next → Keys v g next.activity next
+  cell_keys l next (rests m o) = record { own = λ x. absurd x; held = λ x. absurd x; marks = λ x. absurd x; met = λ x. absurd x; key = λ x. absurd x; gathered = λ x. absurd x }
+  cell_keys l next (answers o n) = record { own = λ x. absurd x; held = λ x. absurd x; marks = λ x. absurd x; met = λ x. absurd x; key = λ x. absurd x; gathered = λ x. absurd x }
+  cell_keys l next (ends_scan o y n) = record { own = λ x. absurd x; held = λ x. absurd x; marks = λ x. absurd x; met = λ x. absurd x; key = λ x. absurd x; gathered = λ x. absurd x }
+  cell_keys l next (scans_on q o y n w) = record { own = λ x. absurd x; held = λ x. absurd x; marks = λ x. absurd x; met = λ x. absurd x; key = λ x. absurd x; gathered = λ x. absurd x }
+
+  -- one more cell is remembered
+  marks_more : (q : ℕ) (marks : List Mark) (c version : ℕ) → All (λ m. HoldsCell v g q m.cell) marks → HoldsCell v g q c → All (λ m. HoldsCell v g q m.cell) (marks ++ mark_of c version ∷ [])
+  marks_more q marks c version all x = All-append (λ m. HoldsCell v g q m.cell) marks (mark_of c version ∷ []) all (All-cons (λ m. HoldsCell v g q m.cell) (mark_of c version) [] x (All-nil (λ m. HoldsCell v g q m.cell)))
+
+  -- one more cell is gathered
+  kept_more : (z : Sizes) (l : Local) (value : Option ℕ) → rows.HoldsKey (rows_in v) g l.row l.place_key → All (λ c. rows.HoldsKey (rows_in v) g l.row c.key) l.rebalance.gathered → All (λ c. rows.HoldsKey (rows_in v) g l.row c.key) (keeping z value l).rebalance.gathered
+  kept_more z l value x all = which (nat_lt (length l.rebalance.gathered) z.cells)
+    where
+      which : (b : Bool) → All (λ c. rows.HoldsKey (rows_in v) g l.row c.key) (if b then with_cell (cell_in_hand value l) l.rebalance.gathered else l.rebalance.gathered)
+      which true = with_cell_in_range (λ c. rows.HoldsKey (rows_in v) g l.row c.key) (cell_in_hand value l) l.rebalance.gathered x all
+      which false = all
+
+  -- new rows are built
+  built_keys : (z : Sizes) (w : Words) (choice : Choice) (l : Local) (a : Activity) (next : Local) → IsBuilding a → Building z w choice l a next → Keys v g a l → Keys v g next.activity next
+  built_keys z w choice l a next p t k = record {
+    own = λ x. absurd (after_own next.activity after x);
+    held = λ x. absurd (after_held next.activity after x);
+    marks = λ x. absurd (after_marks next.activity after x);
+    met = λ x. absurd (after_met next.activity after x);
+    key = λ x. absurd (after_key next.activity after x);
+    gathered = λ x.
+        let y = built_keeps z w choice l a next t (after_gathered next.activity after x) in
+        subst (λ (cells : List Cell). All (λ c. rows.HoldsKey (rows_in v) g next.row c.key) cells) (sym y.gathered)
+        (subst (λ q. All (λ c. rows.HoldsKey (rows_in v) g q c.key) l.rebalance.gathered) (sym y.row) (k.gathered (gathered_before z w choice l a next t x)));
+  }
+    where
+      after : IsAfterBuilding next.activity
+      after = built_next z w choice l a next t
+
+module _ {z : Sizes} {r : Run} where
+  -- the row of a seat that is at one
+  row_linked : Shape z r → (t : ℕ) (k : Local) (a : Activity) → slice_get r.world.locals t ≡ Some k → k.activity ≡ a → IsAtRow a → WasLinked r.ledger.rows k.row
+  row_linked i t k a g e x = fresh_linked r.ledger.rows t k.row ((i.walks t k g).at (subst IsAtRow (sym e) x)).fresh
+
+  -- and of one that rebalances it
+  full_linked : Shape z r → (t : ℕ) (k : Local) (a : Activity) → slice_get r.world.locals t ≡ Some k → k.activity ≡ a → IsBalancing a → WasLinked r.ledger.rows k.row
+  full_linked i t k a g e x = fresh_linked r.ledger.rows t k.row ((i.balances t k g).fresh (subst IsBalancing (sym e) x))
+
+module _ {z : Sizes} {r r' : Run} {s : ℕ} {choice : Choice} {l : Local} where
+  -- what a seat knows of keys is so after the event
+  pub keys_stay : {l' : Local} (a : Activity) → Happens z r r' s choice l l' a → Shape z r → (t : ℕ) (k : Local) → slice_get r.world.locals t ≡ Some k → Keys (word z r'.world) r'.ledger.rows k.activity k
+  keys_stay a h i t k g = record {
+    own = λ x. cell_keeps a h i k.row k.cell (at (own_row k.activity x)) ranges.cell (keys.own x);
+    held = λ x c e. cell_keeps a h i k.row c (at (held_row k.activity x)) (held_cell k.held c ranges.held e) (keys.held x c e);
+    marks = λ x j d o. cell_keeps a h i k.row _ (full (marks_row k.activity x)) (ranges.rebalance.marks j d o).0 (keys.marks x j d o);
+    met = λ x. cell_keeps a h i k.row k.place (full (met_row k.activity x)) ranges.place (keys.met x);
+    key = λ x. key_keeps a h i k.row k.place_key (full (key_row k.activity x)) (keys.key x);
+    gathered = λ x j d o. key_keeps a h i k.row _ (full (gathered_row k.activity x)) (keys.gathered x j d o);
+  }
+    where
+      ranges : IsLocal z k
+      ranges = (i.sane.locals t k g).ranges
+
+      keys : Keys (word z r.world) r.ledger.rows k.activity k
+      keys = i.keys t k g
+
+      at : IsAtRow k.activity → WasLinked r.ledger.rows k.row
+      at x = row_linked i t k k.activity g refl x
+
+      full : IsBalancing k.activity → WasLinked r.ledger.rows k.row
+      full x = full_linked i t k k.activity g refl x
+
+  -- a cell to which the link leads that the seat loads, and one that an entry names that it loads
+  led : {l' : Local} (a : Activity) → Happens z r r' s choice l l' a → Shape z r → Keyed z (word z r'.world) r'.ledger.rows l.row → (c : ℕ) → ((n : Name) → word z r'.world n ≡ word z r.world n) → cell_of_link_word (word z r.world (link_name l.row l.link)) ≡ Some c → HoldsCell (word z r'.world) r'.ledger.rows l.row c
+  led a h i y c same e = y.linked l.link c (link_of_row z l.link (i.sane.locals s l h.knows).ranges.link) (ap cell_of_link_word (same (link_name l.row l.link)) ∙ e)
+
+  named : {l' : Local} (j : ℕ) → Happens z r r' s choice l l' (FreezeLook j) → Shape z r → Keyed z (word z r'.world) r'.ledger.rows l.row → (c version : ℕ) → ((n : Name) → word z r'.world n ≡ word z r.world n) → pend_of (word z r.world (name.Pend l.row j)) ≡ Some (pend.Stamped c version) → HoldsCell (word z r'.world) r'.ledger.rows l.row c
+  named j h i y c version same e = y.named j c (subst (IsActivity z) h.activity (i.sane.locals s l h.knows).ranges.activity) (subst (IsOfCell c) (sym (ap pend_of (same (name.Pend l.row j)) ∙ e)) refl)
+
+  -- by the arrow that the acting seat takes
+  keys_by : (a : Activity) (l' : Local) → Arrow z (word z r.world) s choice l a l' → Happens z r r' s choice l l' a → Shape z r → Keys (word z r'.world) r'.ledger.rows a l → (IsAtRow a ⊎ IsBalancing a → Keyed z (word z r'.world) r'.ledger.rows l.row) → Keys (word z r'.world) r'.ledger.rows l'.activity l'
+  keys_by a l' stores_value h i k y = record { own = λ x. k.own tt; held = λ x. absurd x; marks = λ x. absurd x; met = λ x. absurd x; key = λ x. absurd x; gathered = λ x. absurd x }
+  keys_by a l' (announces e) h i k y = record { own = λ x. k.own tt; held = λ x. absurd x; marks = λ x. absurd x; met = λ x. absurd x; key = λ x. absurd x; gathered = λ x. absurd x }
+  keys_by a l' loads_clock h i k y = record { own = λ x. k.own tt; held = λ x. absurd x; marks = λ x. absurd x; met = λ x. absurd x; key = λ x. absurd x; gathered = λ x. absurd x }
+  keys_by a l' (stamps e) h i k y = record { own = λ x. k.own tt; held = λ x. absurd x; marks = λ x. absurd x; met = λ x. absurd x; key = λ x. absurd x; gathered = λ x. absurd x }
+  keys_by a l' (is_stamped version e) h i k y = record { own = λ x. k.own tt; held = λ x. absurd x; marks = λ x. absurd x; met = λ x. absurd x; key = λ x. absurd x; gathered = λ x. absurd x }
+  keys_by a l' stores_version h i k y = record { own = λ x. k.own tt; held = λ x. absurd x; marks = λ x. absurd x; met = λ x. absurd x; key = λ x. absurd x; gathered = λ x. absurd x }
+  keys_by a l' (meets_cell c e) h i k y = record { own = λ x. k.own tt; held = λ x d f. subst (HoldsCell (word z r'.world) r'.ledger.rows l.row) (same_Some c d f) (led InsFrom h i (y (inl tt)) c (h.changed.loaded refl) e); marks = λ x. absurd x; met = λ x. absurd x; key = λ x. absurd x; gathered = λ x. absurd x }
+  keys_by a l' (meets_none e) h i k y = record { own = λ x. k.own tt; held = λ x d f. let g : None ≡ Some d = f in absurd (cc); marks = λ x. absurd x; met = λ x. absurd x; key = λ x. absurd x; gathered = λ x. absurd x }
+  keys_by a l' (key_before e) h i k y = record { own = λ x. k.own tt; held = λ x. absurd x; marks = λ x. absurd x; met = λ x. absurd x; key = λ x. absurd x; gathered = λ x. absurd x }
+  keys_by a l' (key_same e) h i k y = record { own = λ x. k.own tt; held = λ x. k.held tt; marks = λ x. absurd x; met = λ x. absurd x; key = λ x. absurd x; gathered = λ x. absurd x }
+  keys_by a l' (key_after e) h i k y = record { own = λ x. k.own tt; held = λ x. k.held tt; marks = λ x. absurd x; met = λ x. absurd x; key = λ x. absurd x; gathered = λ x. absurd x }
+  keys_by a l' (version_before e) h i k y = record { own = λ x. k.own tt; held = λ x. absurd x; marks = λ x. absurd x; met = λ x. absurd x; key = λ x. absurd x; gathered = λ x. absurd x }
+  keys_by a l' (version_after e) h i k y = record { own = λ x. k.own tt; held = λ x. k.held tt; marks = λ x. absurd x; met = λ x. absurd x; key = λ x. absurd x; gathered = λ x. absurd x }
+  keys_by a l' stores_after h i k y = record { own = λ x. k.own tt; held = λ x. absurd x; marks = λ x. absurd x; met = λ x. absurd x; key = λ x. absurd x; gathered = λ x. absurd x }
+  keys_by a l' (loses e) h i k y = record { own = λ x. k.own tt; held = λ x. absurd x; marks = λ x. absurd x; met = λ x. absurd x; key = λ x. absurd x; gathered = λ x. absurd x }
+  keys_by a l' freezes_count h i k y = record { own = λ x. absurd x; held = λ x. absurd x; marks = λ x. All-nil (λ m. HoldsCell (word z r'.world) r'.ledger.rows l.row m.cell); met = λ x. absurd x; key = λ x. absurd x; gathered = λ x. absurd x }
+  keys_by a l' (meets_idle j e) h i k y = record { own = λ x. absurd x; held = λ x. absurd x; marks = λ x. k.marks tt; met = λ x. absurd x; key = λ x. absurd x; gathered = λ x. absurd x }
+  keys_by a l' (meets_unstamped j c e) h i k y = record { own = λ x. absurd x; held = λ x. absurd x; marks = λ x. k.marks tt; met = λ x. absurd x; key = λ x. absurd x; gathered = λ x. absurd x }
+  keys_by a l' (remembers j c version e o) h i k y = record { own = λ x. absurd x; held = λ x. absurd x; marks = λ x. marks_more (word z r'.world) r'.ledger.rows l.row l.rebalance.marks c version (k.marks tt) (named j h i (y (inr tt)) c version (h.changed.loaded refl) e); met = λ x. absurd x; key = λ x. absurd x; gathered = λ x. absurd x }
+  keys_by a l' (remembers_last j c version e o) h i k y = record { own = λ x. absurd x; held = λ x. absurd x; marks = λ x. marks_more (word z r'.world) r'.ledger.rows l.row l.rebalance.marks c version (k.marks tt) (named j h i (y (inr tt)) c version (h.changed.loaded refl) e); met = λ x. absurd x; key = λ x. absurd x; gathered = λ x. absurd x }
+  keys_by a l' (meets_frozen j e o) h i k y = record { own = λ x. absurd x; held = λ x. absurd x; marks = λ x. k.marks tt; met = λ x. absurd x; key = λ x. absurd x; gathered = λ x. absurd x }
+  keys_by a l' (meets_frozen_last j e o) h i k y = record { own = λ x. absurd x; held = λ x. absurd x; marks = λ x. k.marks tt; met = λ x. absurd x; key = λ x. absurd x; gathered = λ x. absurd x }
+  keys_by a l' (freezes_entry j e o) h i k y = record { own = λ x. absurd x; held = λ x. absurd x; marks = λ x. k.marks tt; met = λ x. absurd x; key = λ x. absurd x; gathered = λ x. absurd x }
+  keys_by a l' (freezes_last j e o) h i k y = record { own = λ x. absurd x; held = λ x. absurd x; marks = λ x. k.marks tt; met = λ x. absurd x; key = λ x. absurd x; gathered = λ x. absurd x }
+  keys_by a l' (looks_again j e) h i k y = record { own = λ x. absurd x; held = λ x. absurd x; marks = λ x. k.marks tt; met = λ x. absurd x; key = λ x. absurd x; gathered = λ x. absurd x }
+  keys_by a l' (meets_quiet j e o) h i k y = record { own = λ x. absurd x; held = λ x. absurd x; marks = λ x. k.marks tt; met = λ x. absurd x; key = λ x. absurd x; gathered = λ x. absurd x }
+  keys_by a l' (helps_scan j clock e) h i k y = record { own = λ x. absurd x; held = λ x. absurd x; marks = λ x. k.marks tt; met = λ x. absurd x; key = λ x. absurd x; gathered = λ x. absurd x }
+  keys_by a l' (meets_drawn j version e o) h i k y = record { own = λ x. absurd x; held = λ x. absurd x; marks = λ x. k.marks tt; met = λ x. absurd x; key = λ x. absurd x; gathered = λ x. absurd x }
+  keys_by a l' (draws_for j) h i k y = record { own = λ x. absurd x; held = λ x. absurd x; marks = λ x. k.marks tt; met = λ x. absurd x; key = λ x. absurd x; gathered = λ x. absurd x }
+  keys_by a l' (settles_scan j e o) h i k y = record { own = λ x. absurd x; held = λ x. absurd x; marks = λ x. k.marks tt; met = λ x. absurd x; key = λ x. absurd x; gathered = λ x. absurd x }
+  keys_by a l' (finds_drawn j version e o) h i k y = record { own = λ x. absurd x; held = λ x. absurd x; marks = λ x. k.marks tt; met = λ x. absurd x; key = λ x. absurd x; gathered = λ x. absurd x }
+  keys_by a l' (finds_no_scan j e o) h i k y = record { own = λ x. absurd x; held = λ x. absurd x; marks = λ x. k.marks tt; met = λ x. absurd x; key = λ x. absurd x; gathered = λ x. absurd x }
+  keys_by a l' (meets_quiet_last j e o) h i k y = record { own = λ x. absurd x; held = λ x. absurd x; marks = λ x. k.marks tt; met = λ x. absurd x; key = λ x. absurd x; gathered = λ x. All-nil (λ c. rows.HoldsKey (rows_in (word z r'.world)) r'.ledger.rows l.row c.key) }
+  keys_by a l' (meets_drawn_last j version e o) h i k y = record { own = λ x. absurd x; held = λ x. absurd x; marks = λ x. k.marks tt; met = λ x. absurd x; key = λ x. absurd x; gathered = λ x. All-nil (λ c. rows.HoldsKey (rows_in (word z r'.world)) r'.ledger.rows l.row c.key) }
+  keys_by a l' (settles_last j e o) h i k y = record { own = λ x. absurd x; held = λ x. absurd x; marks = λ x. k.marks tt; met = λ x. absurd x; key = λ x. absurd x; gathered = λ x. All-nil (λ c. rows.HoldsKey (rows_in (word z r'.world)) r'.ledger.rows l.row c.key) }
+  keys_by a l' (finds_drawn_last j version e o) h i k y = record { own = λ x. absurd x; held = λ x. absurd x; marks = λ x. k.marks tt; met = λ x. absurd x; key = λ x. absurd x; gathered = λ x. All-nil (λ c. rows.HoldsKey (rows_in (word z r'.world)) r'.ledger.rows l.row c.key) }
+  keys_by a l' (finds_no_scan_last j e o) h i k y = record { own = λ x. absurd x; held = λ x. absurd x; marks = λ x. k.marks tt; met = λ x. absurd x; key = λ x. absurd x; gathered = λ x. All-nil (λ c. rows.HoldsKey (rows_in (word z r'.world)) r'.ledger.rows l.row c.key) }
+  keys_by a l' (take_leads c e) h i k y = record { own = λ x. absurd x; held = λ x. absurd x; marks = λ x. unmarked_in_range (λ m. HoldsCell (word z r'.world) r'.ledger.rows l.row m.cell) c l.rebalance.marks (k.marks tt); met = λ x. led TakeFrom h i (y (inr tt)) c (h.changed.loaded refl) e; key = λ x. absurd x; gathered = λ x. k.gathered tt }
+  keys_by a l' (takes_left m e n) h i k y = record { own = λ x. absurd x; held = λ x. absurd x; marks = λ x. unmarked_in_range (λ m. HoldsCell (word z r'.world) r'.ledger.rows l.row m.cell) m.cell l.rebalance.marks (k.marks tt); met = λ x. least_holds (λ m. HoldsCell (word z r'.world) r'.ledger.rows l.row m.cell) l.rebalance.marks m n (k.marks tt); key = λ x. absurd x; gathered = λ x. k.gathered tt }
+  keys_by a l' (takes_no_more e n) h i k y = record { own = λ x. absurd x; held = λ x. absurd x; marks = λ x. absurd x; met = λ x. absurd x; key = λ x. absurd x; gathered = λ x. k.gathered tt }
+  keys_by a l' takes_key h i k y = record { own = λ x. absurd x; held = λ x. absurd x; marks = λ x. k.marks tt; met = λ x. absurd x; key = λ x. subst (λ w. rows.HoldsKey (rows_in (word z r'.world)) r'.ledger.rows l.row (key_of_word w)) (h.changed.loaded refl (name.Key l.row l.place)) (k.met tt); gathered = λ x. k.gathered tt }
+  keys_by a l' takes_version h i k y = record { own = λ x. absurd x; held = λ x. absurd x; marks = λ x. k.marks tt; met = λ x. absurd x; key = λ x. k.key tt; gathered = λ x. k.gathered tt }
+  keys_by a l' keeps_taken h i k y = record { own = λ x. absurd x; held = λ x. absurd x; marks = λ x. k.marks tt; met = λ x. absurd x; key = λ x. absurd x; gathered = λ x. kept_more (word z r'.world) r'.ledger.rows z l _ (k.key tt) (k.gathered tt) }
+  keys_by a l' takes_left_key h i k y = record { own = λ x. absurd x; held = λ x. absurd x; marks = λ x. k.marks tt; met = λ x. absurd x; key = λ x. subst (λ w. rows.HoldsKey (rows_in (word z r'.world)) r'.ledger.rows l.row (key_of_word w)) (h.changed.loaded refl (name.Key l.row l.place)) (k.met tt); gathered = λ x. k.gathered tt }
+  keys_by a l' (keeps_left m n) h i k y = record { own = λ x. absurd x; held = λ x. absurd x; marks = λ x. unmarked_in_range (λ m. HoldsCell (word z r'.world) r'.ledger.rows l.row m.cell) m.cell l.rebalance.marks (k.marks tt); met = λ x. least_holds (λ m. HoldsCell (word z r'.world) r'.ledger.rows l.row m.cell) l.rebalance.marks m n (k.marks tt); key = λ x. absurd x; gathered = λ x. kept_more (word z r'.world) r'.ledger.rows z l _ (k.key tt) (k.gathered tt) }
+  keys_by a l' (keeps_no_more n) h i k y = record { own = λ x. absurd x; held = λ x. absurd x; marks = λ x. absurd x; met = λ x. absurd x; key = λ x. absurd x; gathered = λ x. kept_more (word z r'.world) r'.ledger.rows z l _ (k.key tt) (k.gathered tt) }
+  keys_by a l' (builds b next p o t) h i k y = built_keys (word z r'.world) r'.ledger.rows z (word z r.world) choice l b next p t k
+  keys_by a l' (meets_stamped j c version next e n) h i k y = look_keys (word z r'.world) r'.ledger.rows z _ next _ n
+  keys_by a l' (meets_neither j next e n) h i k y = look_keys (word z r'.world) r'.ledger.rows z _ next _ n
+  keys_by a l' (is_passed next e n) h i k y = look_keys (word z r'.world) r'.ledger.rows z _ next _ n
+  keys_by a l' (helps next e n) h i k y = look_keys (word z r'.world) r'.ledger.rows z _ next _ n
+  keys_by a l' (finds_stamped c version next e n) h i k y = look_keys (word z r'.world) r'.ledger.rows z _ next _ n
+  keys_by a l' (finds_other next e n) h i k y = look_keys (word z r'.world) r'.ledger.rows z _ next _ n
+  keys_by a l' (list_ends next e n) h i k y = cell_keys (word z r'.world) r'.ledger.rows _ next n
+  keys_by a l' (key_above next e n) h i k y = cell_keys (word z r'.world) r'.ledger.rows _ next n
+  keys_by a l' (rest_passed next e n) h i k y = cell_keys (word z r'.world) r'.ledger.rows _ next n
+  keys_by a l' (gathers_rest next n) h i k y = cell_keys (word z r'.world) r'.ledger.rows _ next n
+  keys_by a l' stores_key h i k y = record { own = λ x. put_key_holds h i (row_linked i s l PutKey h.knows h.activity tt); held = λ x. absurd x; marks = λ x. absurd x; met = λ x. absurd x; key = λ x. absurd x; gathered = λ x. absurd x }
+  keys_by a l' _ h i k y = record { own = λ x. absurd x; held = λ x. absurd x; marks = λ x. absurd x; met = λ x. absurd x; key = λ x. absurd x; gathered = λ x. absurd x }
+
+  -- what the acting seat knows
+  pub keys_own : {l' : Local} (a : Activity) → Happens z r r' s choice l l' a → Shape z r → IsSane z r'.world → Keys (word z r'.world) r'.ledger.rows l'.activity l'
+  keys_own {l'} a h i sane = keys_by a l' h.arrow h i (subst (λ b. Keys (word z r'.world) r'.ledger.rows b l) h.activity (keys_stay a h i s l h.knows)) keyed
+    where
+      keyed : IsAtRow a ⊎ IsBalancing a → Keyed z (word z r'.world) r'.ledger.rows l.row
+      keyed (inl x) = keyed_stays a h i sane l.row (row_linked i s l a h.knows h.activity x)
+      keyed (inr x) = keyed_stays a h i sane l.row (full_linked i s l a h.knows h.activity x)

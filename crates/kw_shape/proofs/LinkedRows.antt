@@ -1,0 +1,295 @@
+-- What an event leaves of the rows that were linked: they were so still, and no fate of theirs changes but that of a full row that is
+-- replaced, which is dead from now on. And which words of them an event may change that takes, writes or links new rows.
+--
+-- The rows on which such an event acts are free, or infants of the seat, or the full row, or the row before that one.
+use Rattle.std.proofs.Common.{ℕ, ◌≡◌, ◌≢◌, ◌⊎◌, inl, inr, ◌<◌, ◌≤◌, true, false, Option, Some, None, arith, refl, sym, ◌∙◌, ap, subst, length}
+use Rattle.std.proofs.lemmas.Bool.{cases_eq, cases_lt}
+use Rattle.kw_words.specs.declared.layout.Name.{Name}
+use Rattle.kw_words.specs.declared.layout.Name.TheVariants as name
+use Rattle.kw_words.specs.declared.state.State.TheVariants as state
+use Rattle.kw_words.specs.Layout.{IsWithin}
+use Rattle.kw_words.specs.Count.{count_of}
+use Rattle.kw_words.specs.Link.{link_of, link_word}
+use Rattle.kw_words.specs.Plain.{key_of_word}
+use Rattle.kw_words.specs.State.{state_word}
+use Rattle.kw_words.proofs.LinkWords.{link_of-link_word}
+use Rattle.kw_rows.specs.Events.{IsIn}
+use Rattle.kw_rows.specs.Ledger.{Dead, Fate, Free, IsDead, IsFresh, IsLive, Ledger, Live}
+use Rattle.kw_rows.specs.Rows.{WasLinked}
+use Rattle.kw_rows.proofs.Chains.{IsLink, leads_live}
+use Rattle.kw_rows.proofs.Lists.{in_or_not}
+use Rattle.kw_world.specs.declared.activity.Activity.{Activity}
+use Rattle.kw_world.specs.declared.activity.Activity.TheVariants.{PutAdd, FreezeCount, SeekFirst, Seek, TakeRow, GiveBack, WriteCount, WriteMin, WriteNext, WriteFirst, WritePend, WriteKey, WriteValue, WriteVersion, WriteAfter, Before, BeforeGuess, BeforeHead, BeforeLink, BeforeMin, Replace, Normalise, Number, Retire}
+use Rattle.kw_world.specs.declared.event.Choice.{Choice}
+use Rattle.kw_world.specs.declared.local.Local.{Local}
+use Rattle.kw_world.specs.ReplaceTransitions.{replaced_link}
+use Rattle.kw_world.specs.SeekTransitions.{infant}
+use Rattle.kw_world.specs.Sizes.{Sizes}
+use Rattle.kw_world.specs.Step.{word}
+use Rattle.kw_world.specs.Transition.{row_linked}
+use Rattle.kw_world.specs.WriteTransitions.{unmarked_link}
+use Rattle.kw_core.specs.Ledger as ledger
+use Rattle.kw_core.specs.Ledger.{fate_dead, fate_live}
+use Rattle.kw_core.specs.Run.{Run}
+use Rattle.kw_core.specs.Words.{Words, least_in}
+use Rattle.kw_core.proofs.Building.{IsBuilding}
+use Rattle.kw_core.proofs.Fates.{fate_of_full, fate_of_given, fate_of_new, fate_of_taken, fate_stays, none_replaced, none_taken}
+use Rattle.kw_core.proofs.Frame.{unwritten}
+use Rattle.kw_core.proofs.FreezeFrame.{CountStep, count_asked, count_frozen, count_frozen_now, count_more, count_same}
+use Rattle.kw_core.proofs.Happens.{Happens}
+use Rattle.kw_core.proofs.InfantFrames.{count_stays, row_in, row_stays}
+use Rattle.kw_shape.proofs.BuildEvents.{free_by_state, least_word, word_says}
+use Rattle.kw_shape.proofs.InfantsFit.{row_link}
+use Rattle.kw_shape.proofs.InfantsRely.{linked_not_infant, no_state, place_of_row}
+use Rattle.kw_shape.proofs.InfantsStay.{infant_at, is_state}
+use Rattle.kw_shape.proofs.ReplaceEvent.{exchanged_head}
+use Rattle.kw_shape.specs.Balances.{Balances}
+use Rattle.kw_shape.specs.Infants.{GivesBack, Writes, HasAtHand, Infants, IsInfantOf, IsNursed, Nursing, nursing_of}
+use Rattle.kw_shape.specs.RowsIn.{has_frozen, has_mark, rows_in}
+use Rattle.kw_shape.specs.Search.{Search}
+use Rattle.kw_shape.specs.Shape.{Shape}
+
+-- a row that was linked is not free
+pub linked_not_free : {A : Type 0} (g : Ledger) (q : ℕ) → WasLinked g q → (g.fates q).status ≡ Free → A
+linked_not_free g q (inl e) f = let x : Live ≡ Free = sym e ∙ f in absurd (cc)
+linked_not_free g q (inr e) f = let x : Dead ≡ Free = sym e ∙ f in absurd (cc)
+
+-- a row that a seat may name was linked
+pub fresh_linked : (g : Ledger) (t q : ℕ) → IsFresh g t q → WasLinked g q
+fresh_linked g t q (inl a) = inl a
+fresh_linked g t q (inr h) = inr h.dead
+
+-- a row that was linked is one of the table
+pub was_below : (z : Sizes) (r : Run) → Shape z r → (q : ℕ) → WasLinked r.ledger.rows q → q < r.world.rows
+was_below z r i q k = which (cases_lt q r.world.rows)
+  where
+    which : (q < r.world.rows) ⊎ (r.world.rows ≤ q) → q < r.world.rows
+    which (inl o) = o
+    which (inr o) = linked_not_free r.ledger.rows q k (i.beyond q o)
+
+-- what stays of a row that was linked: that it was, what has become of it if it is dead, the events that took and linked it, its range, and
+-- that it gives no more cells
+pub record StaysLinked (v v' : Words) (g g' : Ledger) (q : ℕ) : Type 0 where
+  pub linked : WasLinked g' q
+  pub dead : IsDead g q → g'.fates q ≡ g.fates q
+  pub taken : (g'.fates q).taken ≡ (g.fates q).taken
+  pub born : (g'.fates q).born ≡ (g.fates q).born
+  pub upper : (g'.fates q).upper ≡ (g.fates q).upper
+  pub clock : (g'.fates q).clock ≡ (g.fates q).clock
+  pub least : least_in v' q ≡ least_in v q
+  pub frozen : (rows_in v).frozen q ≡ true → (rows_in v').frozen q ≡ true
+
+-- the row was in the list, and is dead from this position on
+pub record GoesNow (g g' : Ledger) (s now q : ℕ) : Type 0 where
+  pub live : IsLive g q
+  pub fate : g'.fates q ≡ fate_dead s now (g.fates q)
+
+-- the row is one of those that the seat took, and is in the list from this position on
+pub record ComesNow (v : Words) (g g' : Ledger) (s now : ℕ) (l : Local) (a : Activity) (q : ℕ) : Type 0 where
+  pub replaces : a ≡ Replace
+  pub won : v (replaced_link l.rebalance.before) ≡ link_word (unmarked_link (Some l.row))
+  pub taken : IsIn l.rebalance.taken q
+  pub infant : IsInfantOf g s q
+  pub fate : g'.fates q ≡ fate_live v now q (g.fates q)
+
+-- a row whose fate is as it was
+linked_same : (g g' : Ledger) (q : ℕ) → g'.fates q ≡ g.fates q → WasLinked g' q → WasLinked g q
+linked_same g g' q e (inl x) = inl (sym (ap (λ (f : Fate). f.status) e) ∙ x)
+linked_same g g' q e (inr x) = inr (sym (ap (λ (f : Fate). f.status) e) ∙ x)
+
+-- a part of the fate that a dead row keeps
+fate_part : {A : Type 0} (g g' : Ledger) (s now q : ℕ) (f : Fate → A) → f (fate_dead s now (g.fates q)) ≡ f (g.fates q) → (g'.fates q ≡ g.fates q) ⊎ GoesNow g g' s now q → f (g'.fates q) ≡ f (g.fates q)
+fate_part g g' s now q f e (inl x) = ap f x
+fate_part g g' s now q f e (inr x) = ap f x.fate ∙ e
+
+-- a frozen count stays frozen
+frozen_on : (v v' : Words) (q : ℕ) → CountStep v v' q → (rows_in v).frozen q ≡ true → (rows_in v').frozen q ≡ true
+frozen_on v v' q (count_same e) x = ap (λ w. has_frozen (count_of w)) e ∙ x
+frozen_on v v' q (count_more c e f) x = ap has_frozen f ∙ sym (ap has_frozen e) ∙ x
+frozen_on v v' q (count_frozen c e f) x = ap has_frozen f
+
+-- the row at hand is one that the seat took and has
+hand_nursed : (n : Nursing) (l : Local) → HasAtHand n → IsNursed n l l.rebalance.at
+hand_nursed GivesBack l x = omega arith
+hand_nursed Writes l x = tt
+hand_nursed _ l x = absurd x
+
+module _ {z : Sizes} {r r' : Run} {s : ℕ} {choice : Choice} {l l' : Local} where
+  -- What the seat knows at its activity.
+
+  pub infants_at : (a : Activity) → Happens z r r' s choice l l' a → Shape z r → Infants z (word z r.world) r.ledger.rows s a l
+  infants_at a h i = subst (λ b. Infants z (word z r.world) r.ledger.rows s b l) h.activity (i.infants s l h.knows)
+
+  pub search_at : (a : Activity) → Happens z r r' s choice l l' a → Shape z r → Search (word z r.world) r.ledger.rows s a l
+  search_at a h i = subst (λ b. Search (word z r.world) r.ledger.rows s b l) h.activity (i.search s l h.knows)
+
+  -- what it knows of the row that it rebalances
+  pub balance_at : (a : Activity) → Happens z r r' s choice l l' a → Shape z r → Balances (word z r.world) r.ledger.rows s a l
+  balance_at a h i = subst (λ b. Balances (word z r.world) r.ledger.rows s b l) h.activity (i.balances s l h.knows)
+
+  -- its infant at hand
+  pub hand_infant : (a : Activity) → Happens z r r' s choice l l' a → Shape z r → HasAtHand (nursing_of a) → IsInfantOf r.ledger.rows s (infant l)
+  hand_infant a h i x = let y = infants_at a h i in y.owned l.rebalance.at (infant l) (hand_nursed (nursing_of a) l x) (infant_at l (y.hand x))
+
+  -- so a row that was linked is not at hand
+  pub not_hand : (a : Activity) → Happens z r r' s choice l l' a → Shape z r → HasAtHand (nursing_of a) → (q : ℕ) → WasLinked r.ledger.rows q → q ≢ infant l
+  not_hand a h i x q k e = linked_not_infant r.ledger.rows s q k (subst (IsInfantOf r.ledger.rows s) (sym e) (hand_infant a h i x))
+
+  -- nor is it one of those that the seat links
+  pub not_taken : Happens z r r' s choice l l' Replace → Shape z r → (q : ℕ) → WasLinked r.ledger.rows q → IsIn l.rebalance.taken q → ⊥
+  not_taken h i q k y = let p = place_of_row l.rebalance.taken q y in linked_not_infant r.ledger.rows s q k ((infants_at Replace h i).owned p.0 q tt p.1)
+
+  -- nor one that is free
+  not_sought : Happens z r r' s choice l l' TakeRow → Shape z r → word z r.world (name.State l.rebalance.sought) ≡ state_word state.Free → (q : ℕ) → WasLinked r.ledger.rows q → q ≢ l.rebalance.sought
+  not_sought h i e q k f = linked_not_free r.ledger.rows q k (free_by_state (rows_in (word z r.world)) r.ledger.rows q i.rows.states (word_says _ state.Free tt (ap (λ x. word z r.world (name.State x)) f ∙ e)))
+
+  -- Where the full row is replaced.
+
+  -- the link that is exchanged is found unmarked
+  pub found_open : Happens z r r' s choice l l' Replace → Shape z r → word z r.world (replaced_link l.rebalance.before) ≡ link_word (unmarked_link (Some l.row)) → link_of (word z r.world (replaced_link l.rebalance.before)) ≡ Some (unmarked_link (Some l.row))
+  found_open h i e = ap link_of e ∙ link_of-link_word (unmarked_link (Some l.row)) (row_link z r.world s l i.sane h.knows)
+
+  -- so it is that of the head, or of a row of the list
+  link_live : Happens z r r' s choice l l' Replace → Shape z r → (b : Option ℕ) → l.rebalance.before ≡ b → link_of (word z r.world (replaced_link b)) ≡ Some (unmarked_link (Some l.row)) → IsLink r.ledger.rows b
+  link_live h i None c f = tt
+  link_live h i (Some p) c f = which ((search_at Replace h i).fresh p tt c)
+    where
+      which : IsFresh r.ledger.rows s p → IsLive r.ledger.rows p
+      which (inl a) = a
+      which (inr d) = let x : true ≡ false = sym ((i.rows.marks p).buried d.dead).0 ∙ ap has_mark f in absurd (cc)
+
+  -- and the full row is one
+  pub full_live : Happens z r r' s choice l l' Replace → Shape z r → word z r.world (replaced_link l.rebalance.before) ≡ link_word (unmarked_link (Some l.row)) → IsLive r.ledger.rows l.row
+  full_live h i e =
+      let f = found_open h i e in
+      leads_live (rows_in (word z r.world)) r.ledger.rows i.rows.chain l.rebalance.before l.row (link_live h i l.rebalance.before refl f) (exchanged_head (word z r.world) l.rebalance.before ∙ ap row_linked f)
+
+  -- The fate of a row that was linked stays, unless the row is replaced now.
+
+  pub linked_fate : (a : Activity) → Happens z r r' s choice l l' a → Shape z r → (q : ℕ) → WasLinked r.ledger.rows q → (r'.ledger.rows.fates q ≡ r.ledger.rows.fates q) ⊎ GoesNow r.ledger.rows r'.ledger.rows s (length r.history.log) q
+  linked_fate TakeRow h i q k = which (cases_eq (word z r.world (name.State l.rebalance.sought)) (state_word state.Free))
+    where
+      which : (word z r.world (name.State l.rebalance.sought) ≡ state_word state.Free) ⊎ (word z r.world (name.State l.rebalance.sought) ≡ state_word state.Free → ⊥) →
+          (r'.ledger.rows.fates q ≡ r.ledger.rows.fates q) ⊎ GoesNow r.ledger.rows r'.ledger.rows s (length r.history.log) q
+      which (inl e) = inl (fate_stays TakeRow h q (not_sought h i e q k))
+      which (inr d) = inl (ap (λ (g : ledger.Ledger). g.rows.fates q) (none_taken h d))
+  linked_fate GiveBack h i q k = inl (fate_stays GiveBack h q (not_hand GiveBack h i tt q k))
+  linked_fate Replace h i q k = which (cases_eq (word z r.world (replaced_link l.rebalance.before)) (link_word (unmarked_link (Some l.row))))
+    where
+      acts : (q ≡ l.row → ⊥) → (q ≡ l.row) ⊎ IsIn l.rebalance.taken q → ⊥
+      acts d (inl c) = d c
+      acts d (inr c) = not_taken h i q k c
+
+      here : word z r.world (replaced_link l.rebalance.before) ≡ link_word (unmarked_link (Some l.row)) → (q ≡ l.row) ⊎ (q ≡ l.row → ⊥) →
+          (r'.ledger.rows.fates q ≡ r.ledger.rows.fates q) ⊎ GoesNow r.ledger.rows r'.ledger.rows s (length r.history.log) q
+      here e (inl c) = inr (subst (λ x. GoesNow r.ledger.rows r'.ledger.rows s (length r.history.log) x) (sym c) (record { live = full_live h i e; fate = fate_of_full h e }))
+      here e (inr d) = inl (fate_stays Replace h q (acts d))
+
+      which : (word z r.world (replaced_link l.rebalance.before) ≡ link_word (unmarked_link (Some l.row))) ⊎ (word z r.world (replaced_link l.rebalance.before) ≡ link_word (unmarked_link (Some l.row)) → ⊥) →
+          (r'.ledger.rows.fates q ≡ r.ledger.rows.fates q) ⊎ GoesNow r.ledger.rows r'.ledger.rows s (length r.history.log) q
+      which (inl e) = here e (cases_eq q l.row)
+      which (inr d) = inl (ap (λ (g : ledger.Ledger). g.rows.fates q) (none_replaced h d))
+  linked_fate a h i q k = inl (fate_stays a h q (λ c. c))
+
+  -- its least key stays
+  pub linked_least : (a : Activity) → Happens z r r' s choice l l' a → Shape z r → (q : ℕ) → WasLinked r.ledger.rows q → least_in (word z r'.world) q ≡ least_in (word z r.world) q
+  linked_least WriteMin h i q k = ap key_of_word (least_word WriteMin h i.sane q (not_hand WriteMin h i tt q k))
+  linked_least a h i q k = ap key_of_word (least_word a h i.sane q (λ c. c))
+
+  -- what becomes of its count: nobody writes it anew
+  pub linked_count : (a : Activity) → Happens z r r' s choice l l' a → Shape z r → (q : ℕ) → WasLinked r.ledger.rows q → CountStep (word z r.world) (word z r'.world) q
+  linked_count PutAdd h i q k = let o = was_below z r i q k in count_asked h q o (i.sane.each (name.Count q) o)
+  linked_count FreezeCount h i q k = let o = was_below z r i q k in count_frozen_now h q o (i.sane.each (name.Count q) o)
+  linked_count WriteCount h i q k = count_same (count_stays WriteCount h q (was_below z r i q k) (not_hand WriteCount h i tt q k))
+  linked_count a h i q k = count_same (count_stays a h q (was_below z r i q k) (λ c. c))
+
+  -- all at once
+  pub linked_keeps : (a : Activity) → Happens z r r' s choice l l' a → Shape z r → (q : ℕ) → WasLinked r.ledger.rows q → StaysLinked (word z r.world) (word z r'.world) r.ledger.rows r'.ledger.rows q
+  linked_keeps a h i q k = record {
+    linked = linked fate k;
+    dead = λ d. dead fate d;
+    taken = fate_part r.ledger.rows r'.ledger.rows s (length r.history.log) q (λ (f : Fate). f.taken) refl fate;
+    born = fate_part r.ledger.rows r'.ledger.rows s (length r.history.log) q (λ (f : Fate). f.born) refl fate;
+    upper = fate_part r.ledger.rows r'.ledger.rows s (length r.history.log) q (λ (f : Fate). f.upper) refl fate;
+    clock = fate_part r.ledger.rows r'.ledger.rows s (length r.history.log) q (λ (f : Fate). f.clock) refl fate;
+    least = linked_least a h i q k;
+    frozen = frozen_on (word z r.world) (word z r'.world) q (linked_count a h i q k);
+  }
+    where
+      fate : (r'.ledger.rows.fates q ≡ r.ledger.rows.fates q) ⊎ GoesNow r.ledger.rows r'.ledger.rows s (length r.history.log) q
+      fate = linked_fate a h i q k
+
+      linked : (r'.ledger.rows.fates q ≡ r.ledger.rows.fates q) ⊎ GoesNow r.ledger.rows r'.ledger.rows s (length r.history.log) q → WasLinked r.ledger.rows q → WasLinked r'.ledger.rows q
+      linked (inl e) (inl x) = inl (ap (λ (f : Fate). f.status) e ∙ x)
+      linked (inl e) (inr x) = inr (ap (λ (f : Fate). f.status) e ∙ x)
+      linked (inr g) x = inr (ap (λ (f : Fate). f.status) g.fate)
+
+      dead : (r'.ledger.rows.fates q ≡ r.ledger.rows.fates q) ⊎ GoesNow r.ledger.rows r'.ledger.rows s (length r.history.log) q → IsDead r.ledger.rows q → r'.ledger.rows.fates q ≡ r.ledger.rows.fates q
+      dead (inl e) d = e
+      dead (inr g) d = let x : Live ≡ Dead = sym g.live ∙ d in absurd (cc)
+
+  -- A row that was linked after the event was so before, or is one of those that are linked now.
+
+  pub linked_before : (a : Activity) → Happens z r r' s choice l l' a → Shape z r → (q : ℕ) → WasLinked r'.ledger.rows q → WasLinked r.ledger.rows q ⊎ ComesNow (word z r.world) r.ledger.rows r'.ledger.rows s (length r.history.log) l a q
+  linked_before TakeRow h i q k = which (cases_eq (word z r.world (name.State l.rebalance.sought)) (state_word state.Free)) (cases_eq q l.rebalance.sought)
+    where
+      which : (word z r.world (name.State l.rebalance.sought) ≡ state_word state.Free) ⊎ (word z r.world (name.State l.rebalance.sought) ≡ state_word state.Free → ⊥) → (q ≡ l.rebalance.sought) ⊎ (q ≡ l.rebalance.sought → ⊥) →
+          WasLinked r.ledger.rows q ⊎ ComesNow (word z r.world) r.ledger.rows r'.ledger.rows s (length r.history.log) l TakeRow q
+      which (inl e) (inl c) = linked_not_infant r'.ledger.rows s q k (subst (IsInfantOf r'.ledger.rows s) (sym c) (record { status = ap (λ (f : Fate). f.status) (fate_of_taken h e); owner = ap (λ (f : Fate). f.owner) (fate_of_taken h e) }))
+      which (inl e) (inr d) = inl (linked_same r.ledger.rows r'.ledger.rows q (fate_stays TakeRow h q d) k)
+      which (inr d) c = inl (linked_same r.ledger.rows r'.ledger.rows q (ap (λ (g : ledger.Ledger). g.rows.fates q) (none_taken h d)) k)
+  linked_before GiveBack h i q k = which (cases_eq q (infant l))
+    where
+      which : (q ≡ infant l) ⊎ (q ≡ infant l → ⊥) → WasLinked r.ledger.rows q ⊎ ComesNow (word z r.world) r.ledger.rows r'.ledger.rows s (length r.history.log) l GiveBack q
+      which (inl c) = linked_not_free r'.ledger.rows q k (ap (λ x. (r'.ledger.rows.fates x).status) c ∙ ap (λ (f : Fate). f.status) (fate_of_given h))
+      which (inr d) = inl (linked_same r.ledger.rows r'.ledger.rows q (fate_stays GiveBack h q d) k)
+  linked_before Replace h i q k = which (cases_eq (word z r.world (replaced_link l.rebalance.before)) (link_word (unmarked_link (Some l.row))))
+    where
+      full : WasLinked r.ledger.rows l.row
+      full = fresh_linked r.ledger.rows s l.row ((balance_at Replace h i).fresh tt)
+
+      acts : (q ≡ l.row → ⊥) → (IsIn l.rebalance.taken q → ⊥) → (q ≡ l.row) ⊎ IsIn l.rebalance.taken q → ⊥
+      acts d n (inl c) = d c
+      acts d n (inr c) = n c
+
+      here : word z r.world (replaced_link l.rebalance.before) ≡ link_word (unmarked_link (Some l.row)) → (q ≡ l.row) ⊎ (q ≡ l.row → ⊥) → IsIn l.rebalance.taken q ⊎ (IsIn l.rebalance.taken q → ⊥) →
+          WasLinked r.ledger.rows q ⊎ ComesNow (word z r.world) r.ledger.rows r'.ledger.rows s (length r.history.log) l Replace q
+      here e (inl c) y = inl (subst (WasLinked r.ledger.rows) (sym c) full)
+      here e (inr d) (inl y) = let p = place_of_row l.rebalance.taken q y in inr (record { replaces = refl; won = e; taken = y; infant = (infants_at Replace h i).owned p.0 q tt p.1; fate = fate_of_new h e q y d })
+      here e (inr d) (inr n) = inl (linked_same r.ledger.rows r'.ledger.rows q (fate_stays Replace h q (acts d n)) k)
+
+      which : (word z r.world (replaced_link l.rebalance.before) ≡ link_word (unmarked_link (Some l.row))) ⊎ (word z r.world (replaced_link l.rebalance.before) ≡ link_word (unmarked_link (Some l.row)) → ⊥) →
+          WasLinked r.ledger.rows q ⊎ ComesNow (word z r.world) r.ledger.rows r'.ledger.rows s (length r.history.log) l Replace q
+      which (inl e) = here e (cases_eq q l.row) (in_or_not l.rebalance.taken q)
+      which (inr d) = inl (linked_same r.ledger.rows r'.ledger.rows q (ap (λ (g : ledger.Ledger). g.rows.fates q) (none_replaced h d)) k)
+  linked_before a h i q k = inl (linked_same r.ledger.rows r'.ledger.rows q (fate_stays a h q (λ c. c)) k)
+
+  -- The words.
+
+  -- an event that takes, writes or links new rows, or retires the full one, writes no word of a row that was linked but a state, and the
+  -- link of the row before
+  pub built_leaves : (a : Activity) → IsBuilding a → Happens z r r' s choice l l' a → Shape z r → (n : Name) (q : ℕ) → WasLinked r.ledger.rows q → row_in n ≡ Some q → IsWithin z.seats z.cells r.world.rows n → is_state n ≡ false → (a ≡ Replace → l.rebalance.before ≡ Some q → ⊥) →
+      word z r'.world n ≡ word z r.world n
+  built_leaves TakeRow b h i n q k e o f c = unwritten TakeRow h n o (no_state l.rebalance.sought n f)
+  built_leaves GiveBack b h i n q k e o f c = unwritten GiveBack h n o (no_state (infant l) n f)
+  built_leaves Normalise b h i n q k e o f c = unwritten Normalise h n o (no_state (infant l) n f)
+  built_leaves Retire b h i n q k e o f c = unwritten Retire h n o (no_state l.row n f)
+  built_leaves Replace b h i n q k e o f c = row_stays Replace h n q e o (c refl)
+  built_leaves WriteCount b h i n q k e o f c = row_stays WriteCount h n q e o (not_hand WriteCount h i tt q k)
+  built_leaves WriteMin b h i n q k e o f c = row_stays WriteMin h n q e o (not_hand WriteMin h i tt q k)
+  built_leaves WriteNext b h i n q k e o f c = row_stays WriteNext h n q e o (not_hand WriteNext h i tt q k)
+  built_leaves WriteFirst b h i n q k e o f c = row_stays WriteFirst h n q e o (not_hand WriteFirst h i tt q k)
+  built_leaves (WritePend j) b h i n q k e o f c = row_stays (WritePend j) h n q e o (not_hand (WritePend j) h i tt q k)
+  built_leaves (WriteKey j) b h i n q k e o f c = row_stays (WriteKey j) h n q e o (not_hand (WriteKey j) h i tt q k)
+  built_leaves (WriteValue j) b h i n q k e o f c = row_stays (WriteValue j) h n q e o (not_hand (WriteValue j) h i tt q k)
+  built_leaves (WriteVersion j) b h i n q k e o f c = row_stays (WriteVersion j) h n q e o (not_hand (WriteVersion j) h i tt q k)
+  built_leaves (WriteAfter j) b h i n q k e o f c = row_stays (WriteAfter j) h n q e o (not_hand (WriteAfter j) h i tt q k)
+  built_leaves SeekFirst b h i n q k e o f c = row_stays SeekFirst h n q e o (λ x. x)
+  built_leaves Seek b h i n q k e o f c = row_stays Seek h n q e o (λ x. x)
+  built_leaves Before b h i n q k e o f c = row_stays Before h n q e o (λ x. x)
+  built_leaves BeforeGuess b h i n q k e o f c = row_stays BeforeGuess h n q e o (λ x. x)
+  built_leaves BeforeHead b h i n q k e o f c = row_stays BeforeHead h n q e o (λ x. x)
+  built_leaves BeforeLink b h i n q k e o f c = row_stays BeforeLink h n q e o (λ x. x)
+  built_leaves BeforeMin b h i n q k e o f c = row_stays BeforeMin h n q e o (λ x. x)
+  built_leaves Number b h i n q k e o f c = row_stays Number h n q e o (λ x. x)
+  built_leaves _ b h i n q k e o f c = absurd b

@@ -1,0 +1,109 @@
+-- Every event keeps what each seat knows of its infants, and of the row before its full one.
+use Rattle.std.proofs.Common.{ℕ, zero, suc, ◌≡◌, ◌≢◌, ◌⊎◌, inl, inr, List, [], Some, None, refl, sym, ◌∙◌, ap, subst, slice_get}
+use Rattle.kw_rows.specs.Ledger.{Fate, IsDead, Ledger}
+use Rattle.kw_rows.specs.Rows.{WasLinked}
+use Rattle.kw_world.specs.declared.activity.Activity.{Activity}
+use Rattle.kw_world.specs.declared.activity.Activity.TheVariants.{LookHelp, PutAdd, PutKey, PutValue, Announce, Stamp, PutVersion, InsSet, Insert, PutClear, BalNormal, Engage, MarkLink, Decide, FreezeCount, Freeze, SeekFirst, Replace, Retire}
+use Rattle.kw_world.specs.declared.event.Choice.{Choice}
+use Rattle.kw_world.specs.declared.local.Local.{Local}
+use Rattle.kw_world.specs.Sizes.{Sizes}
+use Rattle.kw_world.specs.Step.{word}
+use Rattle.kw_core.specs.Run.{Run}
+use Rattle.kw_core.specs.Stages.{IsAtRow, IsPassing}
+use Rattle.kw_core.proofs.Arrows.{Arrow}
+use Rattle.kw_core.proofs.Happens.{Happens}
+use Rattle.kw_core.proofs.InfantFrames.{OwnRow, RowBefore, target_of}
+use Rattle.kw_shape.proofs.AfterBuilding.{built_balancing, built_pass, built_passes}
+use Rattle.kw_shape.proofs.Comings.{Comes, comes, goes_on, seeks, stays_out, unbuilt_nursing, unbuilt_search}
+use Rattle.kw_shape.proofs.InfantsFit.{row_link, taken_below}
+use Rattle.kw_shape.proofs.InfantsKeep.{Own, nowhere, seeking}
+use Rattle.kw_shape.proofs.InfantsOwn.{infants_own}
+use Rattle.kw_shape.proofs.InfantsRely.{rely_infants}
+use Rattle.kw_shape.proofs.InfantsStay.{infants_stable, search_stable}
+use Rattle.kw_shape.proofs.LinkedRows.{balance_at, fresh_linked, infants_at, linked_keeps, search_at}
+use Rattle.kw_shape.proofs.OwnRows.{own_rely}
+use Rattle.kw_shape.proofs.RelyRows.{is_passing}
+use Rattle.kw_shape.proofs.RowsKeep.{others_kept, rely_rows}
+use Rattle.kw_shape.proofs.SearchKeep.{search_by}
+use Rattle.kw_shape.proofs.WonKeep.{head_open}
+use Rattle.kw_shape.specs.Infants.{Infants}
+use Rattle.kw_shape.specs.Search.{Search}
+use Rattle.kw_shape.specs.Shape.{Shape, Walks}
+
+-- a seat that has taken no row owns none
+none_taken : (g : Ledger) (t : ℕ) (taken : List ℕ) → taken ≡ [] → Own g t taken
+none_taken g t taken e = record { owned = λ i q f. none i q (subst (λ xs. slice_get xs i ≡ Some q) e f); apart = λ i j q f h. none i q (subst (λ xs. slice_get xs i ≡ Some q) e f) }
+  where
+    none : {A : Type 0} (i q : ℕ) → slice_get [] i ≡ Some q → A
+    none zero q f = let x : None ≡ Some q = f in absurd (cc)
+    none (suc i) q f = let x : None ≡ Some q = f in absurd (cc)
+
+module _ {z : Sizes} {r r' : Run} {s : ℕ} {choice : Choice} {l l' : Local} where
+  -- Its infants.
+
+  -- the acting seat
+  pub infants_go : (a : Activity) → Arrow z (word z r.world) s choice l a l' → Happens z r r' s choice l l' a → Shape z r → Infants z (word z r'.world) r'.ledger.rows s l'.activity l'
+  infants_go a b h i = which (comes z (word z r.world) s choice l a l' b)
+    where
+      which : Comes z (word z r.world) choice l a l' → Infants z (word z r'.world) r'.ledger.rows s l'.activity l'
+      which (stays_out n) = nowhere z (word z r'.world) r'.ledger.rows s l'.activity l' (unbuilt_nursing l'.activity n)
+      which (seeks e t) = subst (λ c. Infants z (word z r'.world) r'.ledger.rows s c l') (sym e) (seeking z (word z r'.world) r'.ledger.rows s SeekFirst l' refl (none_taken r'.ledger.rows s l'.rebalance.taken t))
+      which (goes_on o t) = infants_own a l' t h i.rows.states (row_link z r.world s l i.sane h.knows) (taken_below z r.world s l i.sane h.knows) (infants_at a h i)
+
+  -- the row on which a seat acts was linked
+  at_linked : (a : Activity) → Happens z r r' s choice l l' a → Shape z r → IsAtRow a → WasLinked r.ledger.rows l.row
+  at_linked a h i x = fresh_linked r.ledger.rows s l.row ((subst (λ b. Walks (word z r.world) r.ledger.rows s b l) h.activity (i.walks s l h.knows)).at x).fresh
+
+  own_linked : (a : Activity) → Happens z r r' s choice l l' a → Shape z r → target_of a ≡ OwnRow → WasLinked r.ledger.rows l.row
+  own_linked LookHelp h i e = at_linked LookHelp h i tt
+  own_linked PutAdd h i e = at_linked PutAdd h i tt
+  own_linked PutKey h i e = at_linked PutKey h i tt
+  own_linked PutValue h i e = at_linked PutValue h i tt
+  own_linked Announce h i e = at_linked Announce h i tt
+  own_linked Stamp h i e = at_linked Stamp h i tt
+  own_linked PutVersion h i e = at_linked PutVersion h i tt
+  own_linked InsSet h i e = at_linked InsSet h i tt
+  own_linked Insert h i e = at_linked Insert h i tt
+  own_linked PutClear h i e = at_linked PutClear h i tt
+  own_linked (BalNormal seat) h i e = fresh_linked r.ledger.rows s l.row ((balance_at (BalNormal seat) h i).fresh tt)
+  own_linked Engage h i e = fresh_linked r.ledger.rows s l.row ((balance_at Engage h i).fresh tt)
+  own_linked (MarkLink count) h i e = fresh_linked r.ledger.rows s l.row ((balance_at (MarkLink count) h i).fresh tt)
+  own_linked (Decide count) h i e = fresh_linked r.ledger.rows s l.row ((balance_at (Decide count) h i).fresh tt)
+  own_linked FreezeCount h i e = fresh_linked r.ledger.rows s l.row ((balance_at FreezeCount h i).fresh tt)
+  own_linked (Freeze j) h i e = fresh_linked r.ledger.rows s l.row ((balance_at (Freeze j) h i).fresh tt)
+  own_linked Retire h i e = fresh_linked r.ledger.rows s l.row ((balance_at Retire h i).fresh tt)
+  own_linked a h i e = absurd (cc)
+
+  -- so was the one before its full row
+  before_linked : (a : Activity) → Happens z r r' s choice l l' a → Shape z r → target_of a ≡ RowBefore → WasLinked r.ledger.rows l.row × ((p : ℕ) → l.rebalance.before ≡ Some p → WasLinked r.ledger.rows p)
+  before_linked Replace h i e = (fresh_linked r.ledger.rows s l.row ((balance_at Replace h i).fresh tt), λ p f. fresh_linked r.ledger.rows s p ((search_at Replace h i).fresh p tt f))
+  before_linked a h i e = absurd (cc)
+
+  -- another seat
+  pub infants_other : (a : Activity) → Happens z r r' s choice l l' a → Shape z r → (t : ℕ) (k : Local) → t ≢ s → slice_get r.world.locals t ≡ Some k → Infants z (word z r'.world) r'.ledger.rows t k.activity k
+  infants_other a h i t k d g = infants_stable z r.world.rows (word z r.world) (word z r'.world) r.ledger.rows r'.ledger.rows t k.activity k (rely_infants a h t d i.rows.states (infants_at a h i) (own_linked a h i) (before_linked a h i)) (taken_below z r.world t k i.sane g) (i.infants t k g)
+
+  -- The row before its full one.
+
+  dead_stays : (a : Activity) → Happens z r r' s choice l l' a → Shape z r → (q : ℕ) → IsDead r.ledger.rows q → IsDead r'.ledger.rows q
+  dead_stays a h i q d = ap (λ (f : Fate). f.status) ((linked_keeps a h i q (inr d)).dead d) ∙ d
+
+  -- the acting seat
+  pub search_go : (a : Activity) → Arrow z (word z r.world) s choice l a l' → Happens z r r' s choice l l' a → Shape z r → Search (word z r'.world) r'.ledger.rows s l'.activity l'
+  search_go a b h i = which (comes z (word z r.world) s choice l a l' b)
+    where
+      which : Comes z (word z r.world) choice l a l' → Search (word z r'.world) r'.ledger.rows s l'.activity l'
+      which (stays_out n) = unbuilt_search (word z r'.world) r'.ledger.rows s l'.activity l' n
+      which (seeks e t) = subst (λ c. Search (word z r'.world) r'.ledger.rows s c l') (sym e) (record { some = λ x. absurd x; fresh = λ p x. absurd x; least = λ p x. absurd x; left = λ p x. absurd x; met = λ x. absurd x })
+      which (goes_on o t) =
+          let y = balance_at a h i in
+          let was = search_by (word z r.world) r.ledger.rows s _ i.rows l (y.fresh (built_balancing a o)) (y.lower (built_balancing a o)) z choice a l' t (head_open z r i l.row) (search_at a h i) in
+          search_stable _ _ r.ledger.rows r'.ledger.rows s l'.activity l' (own_rely z r r' s choice l a l' h i (built_passes a o).0 (built_pass a o)) (dead_stays a h i l'.row) was
+
+  -- another seat
+  pub search_other : (a : Activity) → Happens z r r' s choice l l' a → Shape z r → (t : ℕ) (k : Local) → t ≢ s → slice_get r.world.locals t ≡ Some k → Search (word z r'.world) r'.ledger.rows t k.activity k
+  search_other a h i t k d g = which (is_passing k.activity)
+    where
+      which : IsPassing k.activity ⊎ (IsPassing k.activity → ⊥) → Search (word z r'.world) r'.ledger.rows t k.activity k
+      which (inl x) = let p = (i.passes t k g).in_pass x in search_stable _ _ r.ledger.rows r'.ledger.rows t k.activity k (rely_rows a h i t p.since p.passes (others_kept a h t d ∙ p.passes)) (dead_stays a h i k.row) (i.search t k g)
+      which (inr n) = unbuilt_search (word z r'.world) r'.ledger.rows t k.activity k (λ x. n (built_passes k.activity x).0)

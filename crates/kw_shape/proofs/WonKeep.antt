@@ -1,0 +1,277 @@
+-- What a seat knows once it has replaced its full row, and where it moves when it finds the row before its full one marked.
+use Rattle.std.proofs.Common.{ℕ, zero, suc, ◌≡◌, ◌≢◌, inl, inr, ◌+◌, false, true, List, [], ◌∷◌, Option, Some, None, arith, refl, sym, ◌∙◌, ap, subst, length, slice_get}
+use Rattle.std.proofs.lemmas.Option.{same_Some}
+use Rattle.kw_words.specs.declared.layout.Name.TheVariants as name
+use Rattle.kw_words.specs.declared.link.Link.{Link}
+use Rattle.kw_words.specs.Link.{link_of, link_word}
+use Rattle.kw_words.proofs.LinkWords.{link_word_of}
+use Rattle.kw_rows.specs.Events.{IsIn}
+use Rattle.kw_rows.specs.Ledger.{Fate, IsDead, IsFresh, Ledger}
+use Rattle.kw_rows.specs.Rows.{WasLinked}
+use Rattle.kw_rows.specs.States.{IsNumbered}
+use Rattle.kw_world.specs.declared.activity.Activity.{Activity}
+use Rattle.kw_world.specs.declared.activity.Activity.TheVariants.{BalClock, Normalise, Number, Replace, Retire}
+use Rattle.kw_world.specs.declared.event.Choice.{Choice}
+use Rattle.kw_world.specs.declared.local.Local.{Local}
+use Rattle.kw_world.specs.declared.rebalance.Afterwards.{Afterwards}
+use Rattle.kw_world.specs.declared.rebalance.Afterwards.TheVariants.{TryAgain, Refuse, MoveLeft}
+use Rattle.kw_world.specs.ReplaceTransitions.{replaced_link}
+use Rattle.kw_world.specs.Sane.{IsHead}
+use Rattle.kw_world.specs.Sizes.{Sizes}
+use Rattle.kw_world.specs.Step.{word}
+use Rattle.kw_world.specs.Transition.{row_or_first}
+use Rattle.kw_world.specs.WriteTransitions.{unmarked_link}
+use Rattle.kw_core.specs.Run.{Run}
+use Rattle.kw_core.specs.Stages.{IsPassing}
+use Rattle.kw_core.specs.Words.{Words, least_in}
+use Rattle.kw_core.proofs.Arrows.{Arrow}
+use Rattle.kw_core.proofs.Building.{Building, first_is_taken, sought_is_taken, takes_row, loses_row, gives_last_back, writes_first, writes_entry, writes_after, begins_before, takes_head_before, leads_on_marked, leads_nowhere, walks_past, replaces_row, is_marked_before, is_replaced, makes_normal, makes_last_normal, draws_number, marked_link}
+use Rattle.kw_core.proofs.Fates.{fate_of_full, fate_of_new, number_of_drawn}
+use Rattle.kw_core.proofs.Happens.{Happens}
+use Rattle.kw_core.proofs.NextBuilt.{GivenBack, is_refused_rows, moves_left, tries_again, NextBack, gives_back, has_none, NextSeek, asks, has_asked, NextTaken, has_enough, wants_more, NextNewCell, empties, fills, has_cells, NextNewEntry, has_entries, writes_idle, NextNewRow, has_written, writes_row, NextBefore, is_behind, is_first}
+use Rattle.kw_shape.proofs.Comings.{Comes, comes, goes_on, seeks, stays_out, won_builds}
+use Rattle.kw_shape.proofs.InfantsRely.{linked_not_infant}
+use Rattle.kw_shape.proofs.LinkedRows.{balance_at, fresh_linked, infants_at, linked_keeps}
+use Rattle.kw_shape.proofs.OwnRows.{own_rely}
+use Rattle.kw_shape.proofs.PassesKeep.{old_number}
+use Rattle.kw_shape.proofs.RowsKeep.{others_kept, rely_rows, won_at}
+use Rattle.kw_shape.specs.Infants.{Infants}
+use Rattle.kw_shape.specs.RowsIn.{has_mark}
+use Rattle.kw_shape.specs.Search.{Search}
+use Rattle.kw_shape.specs.Shape.{Shape}
+use Rattle.kw_shape.specs.Won.{HasWon, IsNormalising, IsRetiring, Won}
+
+-- the seat begins to rebalance a row
+abbrev IsClock : Activity → Type 0
+IsClock BalClock = Unit {0}
+IsClock _ = ⊥
+
+-- the seat neither moves to another row nor has replaced its own
+abbrev IsPlain : Activity → Type 0
+IsPlain a = (IsClock a → ⊥) × (HasWon a → ⊥)
+
+-- Where a part of the building has no event of its own, a seat that is not to move does neither.
+
+given_plain : (c : Afterwards) (k next : Local) → (c ≡ MoveLeft → ⊥) → GivenBack k c next → IsPlain next.activity
+given_plain c k next n tries_again = (λ x. x, λ x. x)
+given_plain c k next n is_refused_rows = (λ x. x, λ x. x)
+given_plain c k next n moves_left = absurd (n refl)
+
+back_plain : (c : Afterwards) (k next : Local) → (c ≡ MoveLeft → ⊥) → NextBack c k next → IsPlain next.activity
+back_plain c k next n (gives_back o) = (λ x. x, λ x. x)
+back_plain c k next n (has_none m o y) = given_plain c k next n y
+
+seek_plain : (rows : ℕ) (k next : Local) → NextSeek rows k next → IsPlain next.activity
+seek_plain rows k next (asks o) = (λ x. x, λ x. x)
+seek_plain rows k next (has_asked m o y) = back_plain Refuse k next (λ e. cc) y
+
+taken_plain : (rows : ℕ) (k next : Local) → NextTaken rows k next → IsPlain next.activity
+taken_plain rows k next (wants_more m o y) = seek_plain rows k next y
+taken_plain rows k next (has_enough o) = (λ x. x, λ x. x)
+
+row_plain : (k next : Local) → NextNewRow k next → IsPlain next.activity
+row_plain k next (writes_row o) = (λ x. x, λ x. x)
+row_plain k next (has_written o) = (λ x. x, λ x. x)
+
+cell_plain : (z : Sizes) (j : ℕ) (k next : Local) → NextNewCell z j k next → IsPlain next.activity
+cell_plain z j k next (fills o p) = (λ x. x, λ x. x)
+cell_plain z j k next (empties o p) = (λ x. x, λ x. x)
+cell_plain z j k next (has_cells m o y) = row_plain k next y
+
+entry_plain : (z : Sizes) (i : ℕ) (k next : Local) → NextNewEntry z i k next → IsPlain next.activity
+entry_plain z i k next (writes_idle o) = (λ x. x, λ x. x)
+entry_plain z i k next (has_entries m o y) = cell_plain z 0 k next y
+
+before_plain : (q : ℕ) (k next : Local) → NextBefore q k next → IsPlain next.activity
+before_plain q k next (is_first e) = (λ x. x, λ x. x)
+before_plain q k next (is_behind d) = (λ x. x, λ x. x)
+
+-- a seat that has given all rows back to move has not replaced its row
+given_unwon : (c : Afterwards) (k next : Local) → GivenBack k c next → HasWon next.activity → ⊥
+given_unwon c k next tries_again x = x
+given_unwon c k next is_refused_rows x = x
+given_unwon c k next moves_left x = x
+
+back_unwon : (c : Afterwards) (k next : Local) → NextBack c k next → HasWon next.activity → ⊥
+back_unwon c k next (gives_back o) x = x
+back_unwon c k next (has_none m o y) x = given_unwon c k next y x
+
+-- The row to which a seat moves.
+
+-- it may name the row, and knows its least key
+pub record Moves (v : Words) (g : Ledger) (t : ℕ) (k : Local) : Type 0 where
+  pub fresh : IsFresh g t k.row
+  pub lower : k.lower ≡ least_in v k.row
+
+module _ (v : Words) (g : Ledger) (t : ℕ) (l : Local) where
+  -- it is the one before the full row
+  arrives : (p : ℕ) → l.rebalance.before ≡ Some p → IsFresh g t p → l.rebalance.least ≡ least_in v p → (next : Local) → GivenBack l MoveLeft next → Moves v g t next
+  arrives p e f m next moves_left = record { fresh = subst (λ b. IsFresh g t (row_or_first b)) (sym e) f; lower = m ∙ ap (λ b. least_in v (row_or_first b)) (sym e) }
+
+  back_moves : (p : ℕ) → l.rebalance.before ≡ Some p → IsFresh g t p → l.rebalance.least ≡ least_in v p → (next : Local) → NextBack MoveLeft l next → IsClock next.activity → Moves v g t next
+  back_moves p e f m next (gives_back o) x = absurd x
+  back_moves p e f m next (has_none k o y) x = arrives p e f m next y
+
+  given_moves : (c : Afterwards) → l.rebalance.afterwards ≡ c → (next : Local) → GivenBack l c next → IsClock next.activity → (c ≡ MoveLeft → Moves v g t next) → Moves v g t next
+  given_moves c e next tries_again x f = absurd x
+  given_moves c e next is_refused_rows x f = absurd x
+  given_moves c e next moves_left x f = f refl
+
+  -- a mark in the link of the head is met nowhere
+  marked_moves : (b : Option ℕ) → l.rebalance.before ≡ b → link_of (v (replaced_link b)) ≡ Some (marked_link (Some l.row)) → (link_of (v name.Head) ≡ Some (marked_link (Some l.row)) → ⊥) → Search v g t Replace l → (next : Local) → NextBack MoveLeft l next → IsClock next.activity → Moves v g t next
+  marked_moves (Some p) e k head s next y x = back_moves p e (s.fresh p tt e) (s.least p tt e) next y x
+  marked_moves None e k head s next y x = absurd (head k)
+
+  pub moves_by : (z : Sizes) (choice : Choice) (a : Activity) (k : Local) → Building z v choice l a k → (link_of (v name.Head) ≡ Some (marked_link (Some l.row)) → ⊥) → Search v g t a l → k.activity ≡ BalClock → Moves v g t k
+  moves_by z choice a k b head s e = by b s (subst IsClock (sym e) tt)
+    where
+      by : {c : Activity} {m : Local} → Building z v choice l c m → Search v g t c l → IsClock m.activity → Moves v g t m
+      by (first_is_taken q rows next f n y) s x = absurd ((seek_plain rows _ next y).0 x)
+      by (sought_is_taken rows next n y) s x = absurd ((seek_plain rows _ next y).0 x)
+      by (takes_row rows next f y) s x = absurd ((taken_plain rows _ next y).0 x)
+      by (loses_row rows next d y) s x = absurd ((seek_plain rows _ next y).0 x)
+      by (gives_last_back next o y) s x = given_moves l.rebalance.afterwards refl next y x (λ f. let p = s.some f in arrives p.0 p.1 (s.fresh p.0 f p.1) (s.least p.0 f p.1) next (subst (λ c. GivenBack l c next) f y))
+      by (writes_first next y) s x = absurd ((entry_plain z 0 l next y).0 x)
+      by (writes_entry j next y) s x = absurd ((entry_plain z (j + 1) l next y).0 x)
+      by (writes_after j next y) s x = absurd ((cell_plain z (j + 1) l next y).0 x)
+      by (begins_before next y) s x = absurd ((before_plain _ l next y).0 x)
+      by (takes_head_before next y) s x = absurd ((before_plain _ l next y).0 x)
+      by (leads_on_marked next f y) s x = let p = s.some tt in back_moves p.0 p.1 (s.fresh p.0 tt p.1) (s.least p.0 tt p.1) next y x
+      by (leads_nowhere next f y) s x = absurd ((back_plain TryAgain l next (λ c. cc) y).0 x)
+      by (walks_past next o y) s x = absurd ((back_plain TryAgain l next (λ c. cc) y).0 x)
+      by (is_marked_before next f y) s x = marked_moves l.rebalance.before refl f head s next y x
+      by (is_replaced next d y) s x = absurd ((back_plain TryAgain l next (λ c. cc) y).0 x)
+      by _ s x = absurd x
+
+-- the link of the head is not marked
+unmarked_head : (rows q : ℕ) (x : Option Link) → IsHead rows x → x ≡ Some (marked_link (Some q)) → ⊥
+unmarked_head rows q (Some link) h e = let c : true ≡ false = sym (ap has_mark e) ∙ h.1 in cc
+unmarked_head rows q None h e = h
+
+pub head_open : (z : Sizes) (r : Run) → Shape z r → (q : ℕ) → link_of (word z r.world name.Head) ≡ Some (marked_link (Some q)) → ⊥
+head_open z r i q e = unmarked_head r.world.rows q _ (i.sane.led name.Head tt) e
+
+-- What a seat knows of the row that it has replaced.
+
+normal_won : (a : Activity) → IsNormalising a → HasWon a
+normal_won Normalise x = tt
+normal_won _ x = absurd x
+
+retire_won : (a : Activity) → IsRetiring a → HasWon a
+retire_won Retire x = tt
+retire_won _ x = absurd x
+
+won_passes : (a : Activity) → HasWon a → IsPassing a
+won_passes Normalise x = tt
+won_passes Number x = tt
+won_passes Retire x = tt
+won_passes _ x = absurd x
+
+-- elsewhere nothing
+pub unwon : (g : Ledger) (t : ℕ) (a : Activity) (k : Local) → (HasWon a → ⊥) → Won g t a k
+unwon g t a k n = record { hand = λ x. absurd (n (normal_won a x)); fresh = λ x. absurd (n (normal_won a x)); dead = λ x. absurd (n x); owner = λ x. absurd (n x); number = λ x. absurd (n (retire_won a x)) }
+
+-- a row that stands at some place of a list is in it
+pub in_list : (xs : List ℕ) (i q : ℕ) → slice_get xs i ≡ Some q → IsIn xs q
+in_list [] zero q e = let x : None ≡ Some q = e in absurd (cc)
+in_list [] (suc i) q e = let x : None ≡ Some q = e in absurd (cc)
+in_list (x ∷ xs) zero q e = inl (sym (same_Some x q e))
+in_list (x ∷ xs) (suc i) q e = inr (in_list xs i q e)
+
+module _ {z : Sizes} {r r' : Run} {s : ℕ} {choice : Choice} {l l' : Local} where
+  -- a dead row is as it was
+  dead_fate : (a : Activity) → Happens z r r' s choice l l' a → Shape z r → (q : ℕ) → IsDead r.ledger.rows q → r'.ledger.rows.fates q ≡ r.ledger.rows.fates q
+  dead_fate a h i q d = (linked_keeps a h i q (inr d)).dead d
+
+  still_dead : (a : Activity) → Happens z r r' s choice l l' a → Shape z r → (q : ℕ) → IsDead r.ledger.rows q → IsDead r'.ledger.rows q
+  still_dead a h i q d = ap (λ (f : Fate). f.status) (dead_fate a h i q d) ∙ d
+
+  still_owner : (a : Activity) → Happens z r r' s choice l l' a → Shape z r → (t q : ℕ) → IsDead r.ledger.rows q → (r.ledger.rows.fates q).owner ≡ t → (r'.ledger.rows.fates q).owner ≡ t
+  still_owner a h i t q d o = ap (λ (f : Fate). f.owner) (dead_fate a h i q d) ∙ o
+
+  -- a number that was drawn after it went is so still
+  still_numbered : (a : Activity) → Happens z r r' s choice l l' a → Shape z r → (q m : ℕ) → IsDead r.ledger.rows q → IsNumbered r.ledger.rows q m → IsNumbered r'.ledger.rows q m
+  still_numbered a h i q m d n = record { at = n.at; drawn = old_number a h m (i.numbers.below m n.at n.drawn) ∙ n.drawn; after = omega (arith, n.after, ap (λ (f : Fate). f.gone) (dead_fate a h i q d)) }
+
+  -- the seat that replaces its row knows the new ones, and that its own is dead
+  wins : Happens z r r' s choice l l' Replace → Shape z r → link_of (word z r.world (replaced_link l.rebalance.before)) ≡ Some (unmarked_link (Some l.row)) → (k : Local) → k.rebalance.taken ≡ l.rebalance.taken → k.rebalance.at ≡ 0 → k.row ≡ l.row → Won r'.ledger.rows s Normalise k
+  wins h i e k taken at row = record {
+    hand = λ x. omega (arith, at, ap length taken, (infants.enough tt).0);
+    fresh = λ x j q f. fresh j q (subst (λ ys. slice_get ys j ≡ Some q) taken f);
+    dead = λ x. ap (λ q. (r'.ledger.rows.fates q).status) row ∙ ap (λ (f : Fate). f.status) (fate_of_full h won);
+    owner = λ x. ap (λ q. (r'.ledger.rows.fates q).owner) row ∙ ap (λ (f : Fate). f.owner) (fate_of_full h won);
+    number = λ x. absurd x;
+  }
+    where
+      infants : Infants z (word z r.world) r.ledger.rows s Replace l
+      infants = infants_at Replace h i
+
+      won : word z r.world (replaced_link l.rebalance.before) ≡ link_word (unmarked_link (Some l.row))
+      won = sym (link_word_of (word z r.world (replaced_link l.rebalance.before)) (unmarked_link (Some l.row)) e)
+
+      full : WasLinked r.ledger.rows l.row
+      full = fresh_linked r.ledger.rows s l.row ((balance_at Replace h i).fresh tt)
+
+      fresh : (j q : ℕ) → slice_get l.rebalance.taken j ≡ Some q → IsFresh r'.ledger.rows s q
+      fresh j q f = inl (ap (λ (f : Fate). f.status) (fate_of_new h won q (in_list l.rebalance.taken j q f) (λ c. linked_not_infant r.ledger.rows s q (subst (WasLinked r.ledger.rows) (sym c) full) (infants.owned j q tt f))))
+
+  -- one that makes its new rows normal may name them still
+  still_fresh : Happens z r r' s choice l l' Normalise → Shape z r → (q : ℕ) → IsFresh r.ledger.rows s q → IsFresh r'.ledger.rows s q
+  still_fresh h i q f = (own_rely z r r' s choice l Normalise l' h i tt (λ x. x)).fresh q f
+
+  -- by the event that the seat makes
+  won_built : (a : Activity) (k : Local) → Building z (word z r.world) choice l a k → Happens z r r' s choice l l' a → Shape z r → Won r'.ledger.rows s k.activity k
+  won_built a k (first_is_taken q rows next f n y) h i = unwon r'.ledger.rows s _ next ((seek_plain rows _ next y).1)
+  won_built a k (sought_is_taken rows next n y) h i = unwon r'.ledger.rows s _ next ((seek_plain rows _ next y).1)
+  won_built a k (takes_row rows next f y) h i = unwon r'.ledger.rows s _ next ((taken_plain rows _ next y).1)
+  won_built a k (loses_row rows next d y) h i = unwon r'.ledger.rows s _ next ((seek_plain rows _ next y).1)
+  won_built a k (gives_last_back next o y) h i = unwon r'.ledger.rows s _ next (given_unwon l.rebalance.afterwards l next y)
+  won_built a k (writes_first next y) h i = unwon r'.ledger.rows s _ next ((entry_plain z 0 l next y).1)
+  won_built a k (writes_entry j next y) h i = unwon r'.ledger.rows s _ next ((entry_plain z (j + 1) l next y).1)
+  won_built a k (writes_after j next y) h i = unwon r'.ledger.rows s _ next ((cell_plain z (j + 1) l next y).1)
+  won_built a k (begins_before next y) h i = unwon r'.ledger.rows s _ next ((before_plain _ l next y).1)
+  won_built a k (takes_head_before next y) h i = unwon r'.ledger.rows s _ next ((before_plain _ l next y).1)
+  won_built a k (leads_on_marked next f y) h i = unwon r'.ledger.rows s _ next (back_unwon MoveLeft l next y)
+  won_built a k (leads_nowhere next f y) h i = unwon r'.ledger.rows s _ next (back_unwon TryAgain l next y)
+  won_built a k (walks_past next o y) h i = unwon r'.ledger.rows s _ next (back_unwon TryAgain l next y)
+  won_built a k (is_marked_before next f y) h i = unwon r'.ledger.rows s _ next (back_unwon MoveLeft l next y)
+  won_built a k (is_replaced next d y) h i = unwon r'.ledger.rows s _ next (back_unwon TryAgain l next y)
+  won_built a k (replaces_row e) h i = wins h i e _ refl refl refl
+  won_built a k (makes_normal o) h i =
+      let w = won_at Normalise h i in
+      record { hand = λ x. o; fresh = λ x j q f. still_fresh h i q (w.fresh tt j q f); dead = λ x. still_dead Normalise h i l.row (w.dead tt); owner = λ x. still_owner Normalise h i s l.row (w.dead tt) (w.owner tt); number = λ x. absurd x }
+  won_built a k (makes_last_normal o) h i =
+      let w = won_at Normalise h i in
+      record { hand = λ x. absurd x; fresh = λ x. absurd x; dead = λ x. still_dead Normalise h i l.row (w.dead tt); owner = λ x. still_owner Normalise h i s l.row (w.dead tt) (w.owner tt); number = λ x. absurd x }
+  won_built a k draws_number h i =
+      let w = won_at Number h i in
+      record {
+        hand = λ x. absurd x;
+        fresh = λ x. absurd x;
+        dead = λ x. still_dead Number h i l.row (w.dead tt);
+        owner = λ x. still_owner Number h i s l.row (w.dead tt) (w.owner tt);
+        number = λ x. record { at = length r.history.log; drawn = number_of_drawn h; after = omega (arith, i.rows.past.gone l.row (w.dead tt), ap (λ (f : Fate). f.gone) (dead_fate Number h i l.row (w.dead tt))) };
+      }
+  won_built a k _ h i = unwon r'.ledger.rows s _ _ (λ x. x)
+
+  -- so the acting seat knows what it should
+  pub won_own : (a : Activity) → Arrow z (word z r.world) s choice l a l' → Happens z r r' s choice l l' a → Shape z r → Won r'.ledger.rows s l'.activity l'
+  won_own a b h i = which (comes z (word z r.world) s choice l a l' b)
+    where
+      which : Comes z (word z r.world) choice l a l' → Won r'.ledger.rows s l'.activity l'
+      which (stays_out n) = unwon r'.ledger.rows s l'.activity l' (λ x. n (won_builds l'.activity x))
+      which (seeks e t) = unwon r'.ledger.rows s l'.activity l' (λ x. subst HasWon e x)
+      which (goes_on o t) = won_built a l' t h i
+
+  -- and so does every other one
+  pub won_other : (a : Activity) → Happens z r r' s choice l l' a → Shape z r → (t : ℕ) (k : Local) → t ≢ s → slice_get r.world.locals t ≡ Some k → Won r'.ledger.rows t k.activity k
+  won_other a h i t k d g = record {
+    hand = w.hand;
+    fresh = λ x j q f. let p = (i.passes t k g).in_pass (won_passes k.activity (normal_won k.activity x)) in (rely_rows a h i t p.since p.passes (others_kept a h t d ∙ p.passes)).fresh q (w.fresh x j q f);
+    dead = λ x. still_dead a h i k.row (w.dead x);
+    owner = λ x. still_owner a h i t k.row (w.dead x) (w.owner x);
+    number = λ x. still_numbered a h i k.row k.rebalance.number (w.dead (retire_won k.activity x)) (w.number x);
+  }
+    where
+      w : Won r.ledger.rows t k.activity k
+      w = i.won t k g

@@ -1,0 +1,28 @@
+-- What a seat knows that has replaced its full row, until it has retired that row.
+use Rattle.std.specs.Prelude.{ℕ, ◌≡◌, ◌<◌, Some, length, slice_get}
+use Rattle.kw_rows.specs.Ledger.{Ledger, IsDead, IsFresh}
+use Rattle.kw_rows.specs.States.{IsNumbered}
+use Rattle.kw_world.specs.declared.activity.Activity.{Activity}
+use Rattle.kw_world.specs.declared.activity.Activity.TheVariants.{Normalise, Number, Retire}
+use Rattle.kw_world.specs.declared.local.Local.{Local}
+
+abbrev pub IsNormalising : Activity → Type 0
+IsNormalising Normalise = Unit {0}
+IsNormalising _ = ⊥
+
+abbrev pub IsRetiring : Activity → Type 0
+IsRetiring Retire = Unit {0}
+IsRetiring _ = ⊥
+
+abbrev pub HasWon : Activity → Type 0
+HasWon Normalise = Unit {0}
+HasWon Number = Unit {0}
+HasWon Retire = Unit {0}
+HasWon _ = ⊥
+
+pub record Won (g : Ledger) (t : ℕ) (a : Activity) (l : Local) : Type 0 where
+  pub hand : IsNormalising a → l.rebalance.at < length l.rebalance.taken
+  pub fresh : IsNormalising a → (i q : ℕ) → slice_get l.rebalance.taken i ≡ Some q → IsFresh g t q
+  pub dead : HasWon a → IsDead g l.row
+  pub owner : HasWon a → (g.fates l.row).owner ≡ t
+  pub number : IsRetiring a → IsNumbered g l.row l.rebalance.number
