@@ -1,22 +1,20 @@
 -- The events of a reader at its row: what each asks, and what follows for the seat and for code, which keeps no pairs.
-use Rattle.std.proofs.Common.{ℕ, ◌≡◌, Bool, true, false, nat_lt, nat_le, if◌then◌else◌, Option, Some, None, refl, sym, ◌∙◌, ap, subst}
+use Rattle.std.proofs.Common.{ℕ, ◌≡◌, ◌<◌, Bool, true, false, nat_lt, nat_le, if◌then◌else◌, Option, Some, None, [], refl, sym, ◌∙◌, ap, subst}
+use Rattle.std.proofs.lemmas.Bool.{lt-ltb}
 use Rattle.kw_words.specs.declared.kind.Kind.TheVariants as kind
 use Rattle.kw_words.specs.declared.layout.Name.{Name}
-use Rattle.kw_words.specs.Plain.{key_of_word, value_of_word, cell_of_link_word}
 use Rattle.kw_model.specs.declared.call.Call.{Call}
 use Rattle.kw_model.specs.declared.call.Call.TheVariants.{Put, Del, Get, Scan}
 use Rattle.kw_world.specs.declared.activity.Activity.{Activity}
 use Rattle.kw_world.specs.declared.activity.Activity.TheVariants.{ListFrom, ListKey, ListVer, ListVal, RestKey, RestVal}
 use Rattle.kw_world.specs.declared.event.Choice.TheVariants.{Go}
 use Rattle.kw_world.specs.declared.local.Local.{Local}
-use Rattle.kw_world.specs.declared.marks.Mark.{Mark}
 use Rattle.kw_world.specs.declared.operation.Action.TheVariants.{Load}
-use Rattle.kw_world.specs.Calls.{first_key, last_key, is_in_range}
+use Rattle.kw_world.specs.Calls.{first_key, last_key, is_scan}
 use Rattle.kw_world.specs.ListTransitions.{link_name}
-use Rattle.kw_world.specs.Marks.{least_mark}
-use Rattle.kw_world.specs.ReadTransitions.{gathering, list_key, list_met, list_past, rest_of, rest_key, row_read, scan_on, to_rest, with_pairs}
-use Rattle.kw_world.specs.Sizes.{Sizes, product}
-use Rattle.kw_world.specs.Step.{next_of, transition_of}
+use Rattle.kw_world.specs.ReadTransitions.{gathering, get_answered, list_key, list_past, row_read, to_rest}
+use Rattle.kw_world.specs.Sizes.{product}
+use Rattle.kw_world.specs.Step.{next_of}
 use Rattle.kw_world.specs.Table.{transition}
 use Rattle.kw_world.specs.Transition.{Outcome, to}
 use Rattle.kw_world.proofs.Transitions.{transition_of-next}
@@ -25,10 +23,10 @@ use Rattle.kw_table.specs.declared.pass.Pass.{Pass}
 use Rattle.kw_table.specs.declared.shared.Shared.{Shared}
 use Rattle.kw_table.specs.Passes.{view, operation, Asks, Makes}
 use Rattle.kw_table.specs.Views.{local_in}
-use Rattle.kw_follow.specs.Following.{Follows, carried, as_carried}
+use Rattle.kw_follow.specs.Following.{CarriesOn, Follows, carried}
 use Rattle.kw_follow.proofs.Growing.{IsStaying}
 use Rattle.kw_follow.proofs.OneEvent.{follows_from, same_activity}
-use Rattle.kw_follow.proofs.PutEvents.{asks_at}
+use Rattle.kw_follow.proofs.PutEvents.{asks_at, next_at}
 
 -- Where a reader is.
 
@@ -45,76 +43,61 @@ taking_stays _ m = absurd m
 pub asks_list_link : (s : Shared) (p : Pass) (l : Local) (n : Name) → Follows s p l → l.activity ≡ ListFrom → n ≡ link_name l.row l.link → Asks s p Go (operation kind.LoadAfter n Load)
 asks_list_link s p l n f is name = subst (λ (m : Name). Asks s p Go (operation kind.LoadAfter m Load)) (sym name) (asks_at s p l ListFrom f is tt)
 
--- What code has after an event, where the seat has this after it: it carries the same.
-
--- it has no pairs, and counts one call
-abbrev pub Carried : Outcome → Outcome → Type 0
-Carried o p = carried p.local ≡ carried o.local
-
-either : (b : Bool) (o p o' p' : Outcome) → Carried o p → Carried o' p' → Carried (if b then o else o') (if b then p else p')
-either true o p o' p' g h = g
-either false o p o' p' g h = h
-
-scans_on : (next : Option ℕ) (upto : ℕ) (l : Local) → Carried (scan_on next upto (with_pairs upto l)) (scan_on next upto (with_pairs upto (carried l)))
-scans_on None upto l = refl
-scans_on (Some r) upto l = either (nat_lt upto l.upper) _ _ _ _ refl refl
-
-ends : (call : Option Call) (l : Local) → Carried (row_read call l) (row_read call (carried l))
-ends (Some (Put key value)) l = refl
-ends (Some (Del key)) l = refl
-ends (Some (Get key)) l = refl
-ends (Some (Scan from upto)) l = scans_on l.next upto l
-ends None l = refl
-
-rests : (m : Option Mark) (l : Local) → Carried (rest_of m l) (rest_of m (carried l))
-rests (Some m) l = refl
-rests None l = ends l.call l
-
-to_rests : (l : Local) → Carried (to_rest l) (to_rest (carried l))
-to_rests l = rests (least_mark l.remembered) l
-
-links : (z : Sizes) (cell : Option ℕ) (l : Local) → Carried (list_met z cell l) (list_met z cell (carried l))
-links z (Some cell) l = refl
-links z None l = to_rests l
-
-keys : (key : ℕ) (l : Local) → Carried (list_key key l) (list_key key (carried l))
-keys key l = either (nat_lt key (first_key l.call)) (list_past l) (list_past (carried l)) _ _ refl
-    (either (nat_le key (last_key l.call)) (to ListVer (record l { place_key = key })) (to ListVer (record (carried l) { place_key = key })) (to_rest l) (to_rest (carried l)) refl (to_rests l))
-
-rest_keys : (key : ℕ) (l : Local) → Carried (rest_key key l) (rest_key key (carried l))
-rest_keys key l = either (is_in_range l.call key) (to RestVal (record l { place_key = key })) (to RestVal (record (carried l) { place_key = key })) (to_rest l) (to_rest (carried l)) refl (to_rests l)
-
--- so it is at every activity of a walk along the list
-taking_carries : (z : Sizes) (a : Activity) (l : Local) (rows told : ℕ) → IsTaking a → Carried ((transition z a 0 Go l).next rows told) ((transition z a 0 Go (carried l)).next rows told)
-taking_carries z ListFrom l rows told m = links z (cell_of_link_word told) l
-taking_carries z ListKey l rows told m = keys (key_of_word told) l
-taking_carries z ListVer l rows told m = refl
-taking_carries z ListVal l rows told m = refl
-taking_carries z RestKey l rows told m = rest_keys (key_of_word told) l
-taking_carries z RestVal l rows told m = to_rests (gathering z (value_of_word told) l)
-taking_carries z _ l rows told m = absurd m
-
 -- One event of a pass, and of code that follows it.
 
-module _ (s : Shared) (p q : Pass) (l m : Local) (told : ℕ) (f : Follows s p l) (makes : Makes s p Go told q) (taking : IsTaking l.activity) where
-  -- the seat goes on by the table
-  pub seat_reads : local_in (view q) ≡ (next_of product (view p).opening.rows Go (local_in (view p)) told).local
-  seat_reads = makes.step.local ∙ ap (λ (x : Outcome). x.local) (transition_of-next product (view p).opening.rows (view p).number Go (local_in (view p)) told)
+-- the seat goes on by the table
+pub seat_reads : (s : Shared) (p q : Pass) (told : ℕ) → Makes s p Go told q → local_in (view q) ≡ (next_of product (view p).opening.rows Go (local_in (view p)) told).local
+seat_reads s p q told makes = makes.step.local ∙ ap (λ (x : Outcome). x.local) (transition_of-next product (view p).opening.rows (view p).number Go (local_in (view p)) told)
 
-  carries_in : (k : Local) → IsTaking k.activity → Carried (next_of product (view p).opening.rows Go k told) (next_of product (view p).opening.rows Go (carried k) told)
-  unfolding transition_of
-  carries_in k at = taking_carries product k.activity k (view p).opening.rows told at
+-- a local that has what code has in place of its calls and pairs carries itself
+carries_itself : (m : Local) → m.number ≡ 1 → m.pairs ≡ [] → m ≡ carried m
+carries_itself m begun added = ap (λ n. record m { number = n }) begun ∙ ap (λ ps. record m { number = 1; pairs = ps }) added
 
-  -- code has what it then carries
-  code_reads : (rows : ℕ) → rows ≡ (view p).opening.rows → m ≡ as_carried l (next_of product rows Go l told) → m ≡ carried (local_in (view q))
-  code_reads rows is line =
-      let k : Local = local_in (view p) in
-      let at : IsTaking k.activity = subst IsTaking (sym (same_activity s p l f)) taking in
-      line
-      ∙ (ap (λ n. as_carried l (next_of product n Go l told)) is
-      ∙ (ap (λ (x : Local). as_carried x (next_of product (view p).opening.rows Go x told)) f.carries
-      ∙ (carries_in k at
-      ∙ ap carried (sym seat_reads))))
+-- code that carries on by the line of its activity follows the pass after the event
+pub read_follows : (s : Shared) (p q : Pass) (l m : Local) (told : ℕ) (a : Activity) → Follows s p l → Makes s p Go told q → l.activity ≡ a → CarriesOn (λ k. (transition product a 0 Go k).next (view p).opening.rows told) l m → Follows s q m
+read_follows s p q l m told a f makes is on =
+    let k : Local = local_in (view p) in
+    let rows : ℕ = (view p).opening.rows in
+    let seat : record l { number = k.number; pairs = k.pairs } ≡ k = ap (λ (x : Local). record x { number = k.number; pairs = k.pairs }) f.carries in
+    let own : m ≡ carried m = carries_itself m (on.number ∙ ap (λ (x : Local). x.number) f.carries) (on.pairs ∙ ap (λ (x : Local). x.pairs) f.carries) in
+    follows_from s q m makes.of_table
+    (own
+    ∙ (on.carries k.number k.pairs
+    ∙ (ap (λ (x : Local). carried ((transition product a 0 Go x).next rows told).local) seat
+    ∙ (ap (λ (x : Outcome). carried x.local) (next_at rows a k told (same_activity s p l f ∙ is))
+    ∙ ap carried (sym (seat_reads s p q told makes))))))
 
-  pub read_follows : (rows : ℕ) → rows ≡ (view p).opening.rows → m ≡ as_carried l (next_of product rows Go l told) → Follows s q m
-  read_follows rows is line = follows_from s q m makes.of_table (code_reads rows is line)
+-- What carries on.
+
+-- a cell is gathered first
+pub gathered_on : (next : Local → Outcome) (value : Option ℕ) (l k m : Local) → k ≡ gathering product value l → CarriesOn next k m → CarriesOn (λ x. next (gathering product value x)) l m
+gathered_on next value l k m is on =
+    let h : CarriesOn next (gathering product value l) m = subst (λ (x : Local). CarriesOn next x m) is on in
+    record { carries = h.carries; number = h.number; pairs = h.pairs }
+
+-- a cell below the range is passed
+pub passed_on : (key : ℕ) (l m : Local) → key < first_key l.call → CarriesOn list_past l m → CarriesOn (list_key key) l m
+passed_on key l m below on =
+    let lower : nat_lt key (first_key l.call) ≡ true = lt-ltb key (first_key l.call) below in
+    record {
+      carries = λ begun added. on.carries begun added ∙ ap (λ (b : Bool). carried (if b then list_past (record l { number = begun; pairs = added }) else if nat_le key (last_key l.call) then to ListVer (record l { number = begun; pairs = added; place_key = key }) else to_rest (record l { number = begun; pairs = added })).local) (sym lower);
+      number = on.number;
+      pairs = on.pairs;
+    }
+
+-- a call other than a scan has its answer at the end of its row
+read_by : (call : Option Call) (l : Local) → is_scan call ≡ false → get_answered (first_key call) l ≡ row_read call l
+read_by (Some (Put key value)) l other = refl
+read_by (Some (Del key)) l other = refl
+read_by (Some (Get key)) l other = refl
+read_by (Some (Scan from upto)) l other = let x : true ≡ false = other in absurd (cc)
+read_by None l other = refl
+
+pub answered_on : (l m : Local) (key : ℕ) → is_scan l.call ≡ false → key ≡ first_key l.call → CarriesOn (get_answered key) l m → CarriesOn (λ k. row_read k.call k) l m
+answered_on l m key other is on =
+    let h : CarriesOn (get_answered (first_key l.call)) l m = subst (λ (n : ℕ). CarriesOn (get_answered n) l m) is on in
+    record {
+      carries = λ begun added. h.carries begun added ∙ ap (λ (o : Outcome). carried o.local) (read_by l.call (record l { number = begun; pairs = added }) other);
+      number = h.number;
+      pairs = h.pairs;
+    }

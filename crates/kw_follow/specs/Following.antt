@@ -21,10 +21,12 @@ known l = record l { number = 0; pairs = [] }
 abbrev pub carried : Local → Local
 carried l = record l { number = 1; pairs = [] }
 
--- what code that had the first local has after an event from which this follows in the core: the same, but for the number of calls and
--- the pairs, which stay
-abbrev pub as_carried : Local → Outcome → Local
-as_carried l o = record o.local { number = l.number; pairs = l.pairs }
+-- code goes from one local to another as each seat does by this that it may follow there, however many calls that seat has begun and whichever
+-- pairs it has: it carries what the seat then knows, and what it has in place of those two stays
+pub record CarriesOn (next : Local → Outcome) (l m : Local) : Type 0 where
+  pub carries : (begun : ℕ) (added : List (ℕ × ℕ)) → carried m ≡ carried (next (record l { number = begun; pairs = added })).local
+  pub number : m.number ≡ l.number
+  pub pairs : m.pairs ≡ l.pairs
 
 -- the pairs that the pass's seat has added
 abbrev pub held : Pass → List (ℕ × ℕ)

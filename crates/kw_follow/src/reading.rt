@@ -13,7 +13,7 @@ ghost use Rattle.kw_world.specs.Step.{next_of};
 ghost use Rattle.kw_table.specs.Passes.{view, Makes};
 ghost use Rattle.kw_table.specs.Views.{local_in};
 ghost use Rattle.kw_follow.specs.Calling.{KeepsCalls};
-ghost use Rattle.kw_follow.specs.Following.{Follows, GoesTo, as_carried};
+ghost use Rattle.kw_follow.specs.Following.{CarriesOn, Follows, GoesTo};
 ghost use Rattle.kw_follow.specs.OwnEvents.{MetAs};
 
 use kw_cells::in_order::first_fit;
@@ -36,8 +36,7 @@ fn load_next(shared: &Shared, pass: &mut Pass, local: &mut Local) -> u64
     requires follows { Follows shared.now pass.old local.old }
     requires activity { local.old.activity ≡ Activity.ListFrom }
     ensures makes { Makes shared.now pass.old Choice.Go result pass.new }
-    ensures line { local.new ≡ as_carried local.old (next_of product shared.now.opening.rows Choice.Go
-        local.old result) }
+    ensures follows { Follows shared.now pass.new local.new }
 {
     let link = link_name(local.row, local.link);
     let told = load_after(shared, pass, Choice::Go, link);
@@ -51,8 +50,7 @@ fn load_listed_key(shared: &Shared, pass: &mut Pass, local: &mut Local) -> u64
     requires follows { Follows shared.now pass.old local.old }
     requires activity { local.old.activity ≡ Activity.ListKey }
     ensures makes { Makes shared.now pass.old Choice.Go result pass.new }
-    ensures line { local.new ≡ as_carried local.old (next_of product shared.now.opening.rows Choice.Go
-        local.old result) }
+    ensures follows { Follows shared.now pass.new local.new }
 {
     let key = Name::Key(local.row, local.place);
     let told = load_key(shared, pass, Choice::Go, key);
@@ -66,8 +64,7 @@ fn load_listed_version(shared: &Shared, pass: &mut Pass, local: &mut Local) -> u
     requires follows { Follows shared.now pass.old local.old }
     requires activity { local.old.activity ≡ Activity.ListVer }
     ensures makes { Makes shared.now pass.old Choice.Go result pass.new }
-    ensures line { local.new ≡ as_carried local.old (next_of product shared.now.opening.rows Choice.Go
-        local.old result) }
+    ensures follows { Follows shared.now pass.new local.new }
 {
     let version = Name::Version(local.row, local.place);
     let told = load_version(shared, pass, Choice::Go, version);
@@ -81,8 +78,7 @@ fn load_listed_value(shared: &Shared, pass: &mut Pass, local: &mut Local) -> u64
     requires follows { Follows shared.now pass.old local.old }
     requires activity { local.old.activity ≡ Activity.ListVal }
     ensures makes { Makes shared.now pass.old Choice.Go result pass.new }
-    ensures line { local.new ≡ as_carried local.old (next_of product shared.now.opening.rows Choice.Go
-        local.old result) }
+    ensures follows { Follows shared.now pass.new local.new }
 {
     let value = Name::Value(local.row, local.place);
     let told = load_value(shared, pass, Choice::Go, value);
@@ -96,8 +92,7 @@ fn load_rest_key(shared: &Shared, pass: &mut Pass, local: &mut Local) -> u64
     requires follows { Follows shared.now pass.old local.old }
     requires activity { local.old.activity ≡ Activity.RestKey }
     ensures makes { Makes shared.now pass.old Choice.Go result pass.new }
-    ensures line { local.new ≡ as_carried local.old (next_of product shared.now.opening.rows Choice.Go
-        local.old result) }
+    ensures follows { Follows shared.now pass.new local.new }
 {
     let key = Name::Key(local.row, local.place);
     let told = load_key(shared, pass, Choice::Go, key);
@@ -111,8 +106,7 @@ fn load_rest_value(shared: &Shared, pass: &mut Pass, local: &mut Local) -> u64
     requires follows { Follows shared.now pass.old local.old }
     requires activity { local.old.activity ≡ Activity.RestVal }
     ensures makes { Makes shared.now pass.old Choice.Go result pass.new }
-    ensures line { local.new ≡ as_carried local.old (next_of product shared.now.opening.rows Choice.Go
-        local.old result) }
+    ensures follows { Follows shared.now pass.new local.new }
 {
     let value = Name::Value(local.row, local.place);
     let told = load_value(shared, pass, Choice::Go, value);
@@ -126,8 +120,7 @@ fn read_event(shared: &Shared, pass: &mut Pass, local: &mut Local) -> u64
     requires follows { Follows shared.now pass.old local.old }
     requires reading { IsTaking local.old.activity }
     ensures makes { Makes shared.now pass.old Choice.Go result pass.new }
-    ensures line { local.new ≡ as_carried local.old (next_of product shared.now.opening.rows Choice.Go
-        local.old result) }
+    ensures follows { Follows shared.now pass.new local.new }
 {
     match local.activity {
         Activity::ListFrom => load_next(shared, pass, local),
@@ -165,7 +158,7 @@ pub fn go_read(shared: &Shared, pass: &mut Pass, local: &mut Local) -> u64
 #[inline(always)]
 fn met_link(local: &mut Local, found: u64)
     requires { local.old.walked ≤ CELLS }
-    ensures { local.new ≡ as_carried local.old (list_met product (cell_of_link_word found) local.old) }
+    ensures { CarriesOn (list_met product (cell_of_link_word found)) local.old local.new }
 {
     match unpack_cell_link(found) {
         Some(cell) => {
@@ -179,7 +172,7 @@ fn met_link(local: &mut Local, found: u64)
 // It was told the key of the cell that it met.
 #[inline(always)]
 fn met_key(local: &mut Local, found: u64)
-    ensures { local.new ≡ as_carried local.old (list_key (key_of_word found) local.old) }
+    ensures { CarriesOn (list_key (key_of_word found)) local.old local.new }
 {
     let key = unpack_key(found);
     if key < first_key(local.call) {
@@ -195,7 +188,7 @@ fn met_key(local: &mut Local, found: u64)
 // It was told the version of that cell.
 #[inline(always)]
 fn met_version(local: &mut Local, found: u64)
-    ensures { local.new ≡ as_carried local.old (list_version (version_of_word found) local.old) }
+    ensures { CarriesOn (list_version (version_of_word found)) local.old local.new }
 {
     hold_version(local, found);
     local.activity = Activity::ListVal;
@@ -204,8 +197,7 @@ fn met_version(local: &mut Local, found: u64)
 // It was told the value of that cell.
 #[inline(always)]
 fn met_value(local: &mut Local, found: u64)
-    ensures { local.new ≡ as_carried local.old
-        (list_past (gathering product (value_of_word found) local.old)) }
+    ensures { CarriesOn (λ l. list_past (gathering product (value_of_word found) l)) local.old local.new }
 {
     gather(local, found);
     go_on_past(local);
@@ -214,7 +206,7 @@ fn met_value(local: &mut Local, found: u64)
 // The walk passes the cell that it met.
 #[inline(always)]
 fn go_on_past(local: &mut Local)
-    ensures { local.new ≡ as_carried local.old (list_past local.old) }
+    ensures { CarriesOn list_past local.old local.new }
 {
     pass_cell(local);
     local.activity = Activity::ListFrom;
@@ -222,7 +214,7 @@ fn go_on_past(local: &mut Local)
 
 // It was told the key of a remembered cell.
 fn left_key(local: &mut Local, found: u64)
-    ensures { local.new ≡ as_carried local.old (rest_key (key_of_word found) local.old) }
+    ensures { CarriesOn (rest_key (key_of_word found)) local.old local.new }
 {
     let key = unpack_key(found);
     if is_in_range(local.call, key) {
@@ -235,8 +227,7 @@ fn left_key(local: &mut Local, found: u64)
 
 // It was told the value of that cell.
 fn left_value(local: &mut Local, found: u64)
-    ensures { local.new ≡ as_carried local.old
-        (to_rest (gathering product (value_of_word found) local.old)) }
+    ensures { CarriesOn (λ l. to_rest (gathering product (value_of_word found) l)) local.old local.new }
 {
     gather(local, found);
     go_to_rest(local);
@@ -244,7 +235,7 @@ fn left_value(local: &mut Local, found: u64)
 
 // It goes on to a remembered cell that it did not meet, or the row is read.
 fn go_to_rest(local: &mut Local)
-    ensures { local.new ≡ as_carried local.old (to_rest local.old) }
+    ensures { CarriesOn to_rest local.old local.new }
 {
     if take_remembered(local) {
         local.activity = Activity::RestKey;
@@ -255,7 +246,7 @@ fn go_to_rest(local: &mut Local)
 
 // The row has been read to its end.
 fn end_row(local: &mut Local)
-    ensures { local.new ≡ as_carried local.old (row_read local.old.call local.old) }
+    ensures { CarriesOn (λ l. row_read l.call l) local.old local.new }
 {
     match local.call {
         Some(Call::Scan(_, upto)) => go_on(local, upto),
@@ -268,7 +259,7 @@ fn end_row(local: &mut Local)
 
 // A get has its answer: what the newest cell of its key shows.
 fn answer(local: &mut Local, key: u32)
-    ensures { local.new ≡ as_carried local.old (get_answered key local.old) }
+    ensures { CarriesOn (get_answered key) local.old local.new }
 {
     let shown = match first_fit(local.gathered.as_slice(), key, NEWEST) {
         Some(cell) => cell.value,
@@ -280,7 +271,7 @@ fn answer(local: &mut Local, key: u32)
 
 // A scan goes on with the next row, or is at its end, where there is none or its keys are all above the range.
 fn go_on(local: &mut Local, upto: u32)
-    ensures { local.new ≡ as_carried local.old (row_scanned upto local.old) }
+    ensures { CarriesOn (row_scanned upto) local.old local.new }
 {
     local.has_read = true;
     match local.next {

@@ -1,16 +1,12 @@
-use Rattle.std.proofs.Common.{ap, sym, subst}
-use Rattle.kw_world.specs.declared.opening.Opening.{Opening}
+use Rattle.std.proofs.Common.{sym, subst}
 use Rattle.kw_core.specs.Stages.{IsTaking}
 use Rattle.kw_follow.proofs.Growing.{keeps}
 use Rattle.kw_follow.proofs.OneEvent.{makes_met, same_activity}
-use Rattle.kw_follow.proofs.ReadEvents.{read_follows, seat_reads, taking_stays}
+use Rattle.kw_follow.proofs.ReadEvents.{seat_reads, taking_stays}
 use Rattle.kw_follow.proofs.reading.go_read.Goals as goal
 
-pub returns-clause-follows : goal.returns-clause-follows
-returns-clause-follows c = read_follows _ _ _ _ _ _ c.requires.follows c.read_event.ensures.makes c.requires.reading _ (ap (λ (o : Opening). o.rows) (sym c.requires.follows.of_table.1)) c.read_event.ensures.line
-
 pub returns-clause-seat : goal.returns-clause-seat
-returns-clause-seat c = seat_reads _ _ _ _ c.args.local.now _ c.requires.follows c.read_event.ensures.makes c.requires.reading
+returns-clause-seat c = seat_reads _ _ _ _ c.read_event.ensures.makes
 
 pub returns-clause-met : goal.returns-clause-met
 returns-clause-met c = makes_met c.requires.follows c.read_event.ensures.makes
