@@ -1,7 +1,8 @@
 -- The arrows of the table: from an activity, with the words that are there, to what the seat knows next.
 --
--- There is one constructor for each arrow, from activities to which a seat may come. It carries what the event found, so that a law by cases on the arrow splits no test of
--- the table again; where a law does not matter for most arrows, one catch-all serves them. The words are a function of names.
+-- There is one constructor for each arrow, from activities to which a seat may come. It carries what the event found, so that a law by
+-- cases on the arrow splits no test of the table again; where a law does not matter for most arrows, one catch-all serves them. The words
+-- are a function of names.
 -- What follows where the end of the looks, or of a row's cells, has no event of its own is an arrow of its own type, `NextLook` and
 -- `NextRest`. In a rebalance there are two arrows in its place, so that each says outright what the seat knows next.
 use Rattle.std.proofs.Common.{ℕ, ◌≡◌, ◌≢◌, ◌⊎◌, inl, inr, ◌+◌, ◌<◌, ◌≤◌, ◌==◌, Option, Some, None, Bool, true, false, nat_lt, nat_le, [], arith, refl, sym, ◌∙◌, ap, subst, if◌then◌else◌, unwrap_or}
@@ -28,12 +29,12 @@ use Rattle.kw_world.specs.declared.answer.Answer.{Answer}
 use Rattle.kw_world.specs.declared.answer.Answer.TheVariants.{Done, Pairs, NoRows, Spent, Stopped}
 use Rattle.kw_world.specs.Answers.{answer_found}
 use Rattle.kw_world.specs.declared.activity.Activity.{Activity}
-use Rattle.kw_world.specs.declared.activity.Activity.TheVariants.{Idle, Enter, ScanClock, ScanWait, ScanDraw, ScanSettle, Start, Head, GuessMin, Walk, WalkMin, Look, LookKey, LookClock, LookHelp, ListFrom, ListKey, ListVer, ListVal, RestKey, RestVal, ClearScan, PutCount, PutAdd, PutKey, PutValue, Announce, PutClock, Stamp, PutVersion, InsFrom, InsKey, InsVer, InsSet, Insert, PutClear, Leave, Again, AgainEpoch, BalClock, BalEpoch, BalState, BalNormal, Engage, MarkLink, Decide, FreezeCount, FreezeLook, Freeze, ScanLook, HelpDraw, HelpSettle, TakeFrom, TakeKey, TakeVersion, TakeValue, TakeRestKey, TakeRestValue, SeekFirst, Seek, TakeRow, GiveBack, WriteCount, WriteMin, WriteNext, WriteFirst, WritePend, WriteKey, WriteValue, WriteVersion, WriteAfter, Before, BeforeGuess, BeforeHead, BeforeLink, BeforeMin, Replace, Normalise, Number, Retire}
+use Rattle.kw_world.specs.declared.activity.Activity.TheVariants.{Idle, Enter, ScanClock, ScanWait, ScanDraw, ScanSettle, Start, Head, GuessMin, Walk, WalkMin, Look, LookKey, LookClock, LookHelp, ListFrom, ListKey, ListVer, ListVal, RestKey, RestVal, ClearScan, PutCount, PutAdd, PutKey, PutValue, Announce, PutClock, Stamp, PutVersion, InsFrom, InsKey, InsVer, InsSet, Insert, PutClear, Leave, Again, AgainEpoch, BalClock, BalEpoch, BalState, BalNormal, Engage, MarkLink, Decide, FreezeCount, FreezeLook, Freeze, ScanLook, HelpDraw, HelpSettle, TakeFrom, TakeKey, TakeVersion, TakeValue, TakeRestKey, TakeRestValue, SeekFirst, Seek, SeekPass, Reclaim, TakeRow, GiveBack, WriteCount, WriteMin, WriteNext, WriteFirst, WritePend, WriteKey, WriteValue, WriteVersion, WriteAfter, Before, BeforeGuess, BeforeHead, BeforeLink, BeforeMin, Replace, Normalise, Number, Retire}
 use Rattle.kw_world.specs.declared.local.Local.{Local}
 use Rattle.kw_world.specs.declared.limits.TheConstants.{NEWEST}
 use Rattle.kw_world.specs.declared.event.Choice.{Choice}
 use Rattle.kw_world.specs.declared.event.Choice.TheVariants.{Begin, Go, Guess, Stop}
-use Rattle.kw_world.specs.Sizes.{Form, Refused, Alone, IsRebalancing, Sizes}
+use Rattle.kw_world.specs.Sizes.{Form, Refused, Alone, Reused, IsRebalancing, Sizes}
 use Rattle.kw_world.specs.Local.{resting}
 use Rattle.kw_world.specs.Calls.{first_key, last_key, is_in_range, is_scan, is_range_empty}
 use Rattle.kw_world.specs.Transition.{Outcome, to, leave, row_linked, row_or_first}
@@ -292,13 +293,14 @@ next_rest l = met (least_mark l.remembered) refl
     met (Some m) e = rests m e
     met None e = read_arrow l l.call e refl
 
--- what follows at a full row, in either form
+-- what follows at a full row, in each form
 full_arrow : (z : Sizes) (v : Words) (s : ℕ) (choice : Choice) (l : Local) (a : Activity) → (z.form ≡ Refused → Arrow z v s choice l a (leave NoRows l).local) → (IsRebalancing z.form → Arrow z v s choice l a (to_rebalance l).local) → Arrow z v s choice l a (full z l).local
 full_arrow z v s choice l a refuses rebalances = by z.form refl
   where
     by : (f : Form) → z.form ≡ f → Arrow z v s choice l a (full_in f l).local
     by Refused e = refuses e
     by Alone e = rebalances (subst IsRebalancing (sym e) tt)
+    by Reused e = rebalances (subst IsRebalancing (sym e) tt)
 
 -- the next entry, or the scans
 next_entry : (z : Sizes) (j : ℕ) (l : Local) (P : Local → Type 0) → (j < z.seats → P (record l { activity = FreezeLook j })) → (z.seats ≤ j → P (to_scans l).local) → P (to_freeze_look z j l).local
@@ -615,6 +617,8 @@ module _ (z : Sizes) (rows : ℕ) (v : Words) (s : ℕ) (choice : Choice) (l : L
   arrow TakeRestValue o b m = next_left z (keeping z (value_of_word (v (name.Value l.row l.place))) l) (Arrow z v s choice l TakeRestValue) keeps_left keeps_no_more
   arrow SeekFirst o b m = builds SeekFirst _ tt o (building z rows v s choice l SeekFirst tt)
   arrow Seek o b m = builds Seek _ tt o (building z rows v s choice l Seek tt)
+  arrow (SeekPass i) o b m = builds (SeekPass i) _ tt o (building z rows v s choice l (SeekPass i) tt)
+  arrow Reclaim o b m = builds Reclaim _ tt o (building z rows v s choice l Reclaim tt)
   arrow TakeRow o b m = builds TakeRow _ tt o (building z rows v s choice l TakeRow tt)
   arrow GiveBack o b m = builds GiveBack _ tt o (building z rows v s choice l GiveBack tt)
   arrow WriteCount o b m = builds WriteCount _ tt o (building z rows v s choice l WriteCount tt)

@@ -1,37 +1,41 @@
 -- The ways that the events of a rebalance may go by which new rows are taken, written, linked in place of the full row and made normal, and
 -- the full row is retired, or by which what was taken is given back.
 --
--- As in `Arrow` there is one constructor for each way, and it carries what the event found: whether a row was free, whether a guess served,
--- what a link leads to, and whether that is marked. What has no event of its own has a type in `NextBuilt`.
-use Rattle.std.proofs.Common.{ℕ, ◌≡◌, ◌≢◌, ◌⊎◌, inl, inr, ◌+◌, ◌<◌, ◌≤◌, ◌==◌, Option, Some, None, Bool, true, false, nat_lt, length, arith, refl, sym, ◌∙◌, ap, if◌then◌else◌}
+-- As in `Arrow` there is one constructor for each way, and it carries what the event found: whether a row was free or retired, which epoch a
+-- seat announces, whether a guess served, what a link leads to, and whether that is marked. What has no event of its own has a type in
+-- `NextBuilt`.
+use Rattle.std.proofs.Common.{ℕ, ◌≡◌, ◌≢◌, ◌⊎◌, inl, inr, ◌+◌, ◌<◌, ◌≤◌, ◌==◌, Option, Some, None, Bool, true, false, nat_lt, nat_le, length, arith, refl, sym, ◌∙◌, ap, subst, if◌then◌else◌}
 use Rattle.std.proofs.lemmas.Bool.Decides.{nat_tests}
 use Rattle.kw_words.specs.declared.layout.Name.TheVariants as name
 use Rattle.kw_words.specs.declared.link.Link.{Link}
 use Rattle.kw_words.specs.declared.state.State.{State}
 use Rattle.kw_words.specs.declared.state.State.TheVariants.{Free, Infant, Normal, Leader, Follower, Retired}
 use Rattle.kw_words.specs.Link.{link_of}
+use Rattle.kw_words.specs.Plain.{pass_of_word}
 use Rattle.kw_words.specs.State.{state_of, state_word}
 use Rattle.kw_world.specs.declared.activity.Activity.{Activity}
-use Rattle.kw_world.specs.declared.activity.Activity.TheVariants.{SeekFirst, Seek, TakeRow, GiveBack, WriteCount, WriteMin, WriteNext, WriteFirst, WritePend, WriteKey, WriteValue, WriteVersion, WriteAfter, Before, BeforeGuess, BeforeHead, BeforeLink, BeforeMin, Replace, Normalise, Number, Retire}
+use Rattle.kw_world.specs.declared.activity.Activity.TheVariants.{SeekFirst, Seek, SeekPass, Reclaim, TakeRow, GiveBack, WriteCount, WriteMin, WriteNext, WriteFirst, WritePend, WriteKey, WriteValue, WriteVersion, WriteAfter, Before, BeforeGuess, BeforeHead, BeforeLink, BeforeMin, Replace, Normalise, Number, Retire}
 use Rattle.kw_world.specs.declared.event.Choice.{Choice}
 use Rattle.kw_world.specs.declared.event.Choice.TheVariants.{Begin, Go, Guess, Stop}
 use Rattle.kw_world.specs.declared.local.Local.{Local}
 use Rattle.kw_world.specs.declared.rebalance.Afterwards.TheVariants.{TryAgain, MoveLeft}
 use Rattle.kw_world.specs.EngageTransitions.{again}
 use Rattle.kw_world.specs.ReplaceTransitions.{at_before, before_transition, guess_before, link_before, replaced, replaced_link, row_before, row_replaced}
-use Rattle.kw_world.specs.SeekTransitions.{at_infant, give_back, given_back, has_more, seek_first_transition, seek_met, seeking, take_row, with_row}
-use Rattle.kw_world.specs.Sizes.{Sizes}
+use Rattle.kw_world.specs.SeekTransitions.{at_infant, give_back, given_back, has_more, numbered, pass_met, retired_at, seek_first_transition, seek_met, seeking, take_row, to_pass, to_seek, with_row}
+use Rattle.kw_world.specs.Sizes.{Sizes, Form, Refused, Alone, Reused, IsRebalancing, IsReusing}
 use Rattle.kw_world.specs.Step.{followed}
 use Rattle.kw_world.specs.Table.{transition}
 use Rattle.kw_world.specs.Transition.{Outcome, row_linked, row_or_first, to}
 use Rattle.kw_world.specs.WriteTransitions.{unmarked_link}
 use Rattle.kw_core.specs.Words.{Words, least_in, next_in}
-use Rattle.kw_core.proofs.NextBuilt.{GivenBack, NextBack, NextBefore, NextNewCell, NextNewEntry, NextSeek, NextTaken, next_back, next_before, next_given, next_new_cell, next_new_entry, next_seek, next_taken}
+use Rattle.kw_core.proofs.NextBuilt.{GivenBack, NextBack, NextBefore, NextNewCell, NextNewEntry, NextPass, NextSeek, NextTaken, next_back, next_before, next_given, next_new_cell, next_new_entry, next_pass, next_seek, next_taken}
 
 -- the activity is one of these
 abbrev pub IsBuilding : Activity → Type 0
 IsBuilding SeekFirst = Unit {0}
 IsBuilding Seek = Unit {0}
+IsBuilding (SeekPass i) = Unit {0}
+IsBuilding Reclaim = Unit {0}
 IsBuilding TakeRow = Unit {0}
 IsBuilding GiveBack = Unit {0}
 IsBuilding WriteCount = Unit {0}
@@ -58,6 +62,15 @@ IsBuilding _ = ⊥
 abbrev pub marked_link : Option ℕ → Link
 marked_link q = record { row = q; marked = true }
 
+-- no epoch is announced, or one above the number
+abbrev pub IsYoung : ℕ → Option ℕ → Type 0
+IsYoung m (Some epoch) = m < epoch
+IsYoung m None = Unit {0}
+
+-- rows are used again in this form, if it rebalances any
+abbrev pub MayReuse : Form → Type 0
+MayReuse f = IsRebalancing f → IsReusing f
+
 -- from such an activity to what the seat knows next
 pub data Building (z : Sizes) (v : Words) (choice : Choice) (l : Local) : Activity → Local → Type 0 where
   -- free rows are sought and taken. A search begins at the row that the seat guesses, or else where it stands
@@ -65,6 +78,13 @@ pub data Building (z : Sizes) (v : Words) (choice : Choice) (l : Local) : Activi
   first_is_taken : (q rows : ℕ) (next : Local) → (choice ≡ Guess q) ⊎ (q ≡ l.rebalance.sought) → state_of (v (name.State q)) ≢ Some Free → NextSeek rows (seeking q l) next → Building z v choice l SeekFirst next
   sought_is_free : state_of (v (name.State l.rebalance.sought)) ≡ Some Free → Building z v choice l Seek (record l { activity = TakeRow })
   sought_is_taken : (rows : ℕ) (next : Local) → state_of (v (name.State l.rebalance.sought)) ≢ Some Free → NextSeek rows l next → Building z v choice l Seek next
+  -- a retired one may be used again: the passes of all seats are looked at, and then it is freed, or was not as it was found. It is tried then
+  first_is_retired : (q m : ℕ) → (choice ≡ Guess q) ⊎ (q ≡ l.rebalance.sought) → state_of (v (name.State q)) ≡ Some (Retired m) → MayReuse z.form → Building z v choice l SeekFirst (record (numbered m (seeking q l)) { activity = SeekPass 0 })
+  sought_is_retired : (m : ℕ) → state_of (v (name.State l.rebalance.sought)) ≡ Some (Retired m) → MayReuse z.form → Building z v choice l Seek (record (numbered m l) { activity = SeekPass 0 })
+  pass_is_old : (i epoch rows : ℕ) (next : Local) → pass_of_word (v (name.Pass i)) ≡ Some epoch → epoch ≤ l.rebalance.number → NextSeek rows l next → Building z v choice l (SeekPass i) next
+  pass_is_young : (i : ℕ) (next : Local) → IsYoung l.rebalance.number (pass_of_word (v (name.Pass i))) → NextPass z (i + 1) l next → Building z v choice l (SeekPass i) next
+  frees_row : Building z v choice l Reclaim (record l { activity = TakeRow })
+  -- it is taken, or given back
   takes_row : (rows : ℕ) (next : Local) → v (name.State l.rebalance.sought) ≡ state_word Free → NextTaken rows (with_row l) next → Building z v choice l TakeRow next
   loses_row : (rows : ℕ) (next : Local) → v (name.State l.rebalance.sought) ≢ state_word Free → NextSeek rows l next → Building z v choice l TakeRow next
   gives_one_back : l.rebalance.at + 1 < length l.rebalance.taken → Building z v choice l GiveBack (record (at_infant (l.rebalance.at + 1) l) { activity = GiveBack })
@@ -118,25 +138,44 @@ not_below x y e = grind (arith, nat_tests)
 -- The table goes one of these ways.
 
 module _ (z : Sizes) (rows : ℕ) (v : Words) (s : ℕ) (choice : Choice) (l : Local) where
+  -- a retired row q is found: the passes are looked at, or it is passed over
+  retired_arrow : (q m : ℕ) (a : Activity) (f : Form) (k : Local) → state_of (v (name.State q)) ≡ Some (Retired m) → (MayReuse f → Building z v choice l a (record (numbered m k) { activity = SeekPass 0 })) →
+      ((next : Local) → state_of (v (name.State q)) ≢ Some Free → NextSeek rows k next → Building z v choice l a next) → Building z v choice l a (retired_at f rows m k).local
+  retired_arrow q m a Refused k e retired taken = retired (λ x. absurd x)
+  retired_arrow q m a Alone k e retired taken = taken _ (λ c. let y : Some (Retired m) ≡ Some Free = sym e ∙ c in cc) (next_seek rows k)
+  retired_arrow q m a Reused k e retired taken = retired (λ x. tt)
+
   -- a search at the row q, whose state is met
   seek_arrow : (q : ℕ) (a : Activity) (x : Option State) (k : Local) → state_of (v (name.State q)) ≡ x → (state_of (v (name.State q)) ≡ Some Free → Building z v choice l a (record k { activity = TakeRow })) →
-      ((next : Local) → state_of (v (name.State q)) ≢ Some Free → NextSeek rows k next → Building z v choice l a next) → Building z v choice l a (seek_met rows x k).local
-  seek_arrow q a (Some Free) k e free taken = free e
-  seek_arrow q a (Some (Infant seat)) k e free taken = taken _ (λ c. let y : Some (Infant seat) ≡ Some Free = sym e ∙ c in cc) (next_seek rows k)
-  seek_arrow q a (Some Normal) k e free taken = taken _ (λ c. let y : Some Normal ≡ Some Free = sym e ∙ c in cc) (next_seek rows k)
-  seek_arrow q a (Some (Leader count)) k e free taken = taken _ (λ c. let y : Some (Leader count) ≡ Some Free = sym e ∙ c in cc) (next_seek rows k)
-  seek_arrow q a (Some (Follower leader)) k e free taken = taken _ (λ c. let y : Some (Follower leader) ≡ Some Free = sym e ∙ c in cc) (next_seek rows k)
-  seek_arrow q a (Some (Retired number)) k e free taken = taken _ (λ c. let y : Some (Retired number) ≡ Some Free = sym e ∙ c in cc) (next_seek rows k)
-  seek_arrow q a None k e free taken = taken _ (λ c. let y : None ≡ Some Free = sym e ∙ c in cc) (next_seek rows k)
+      ((m : ℕ) → state_of (v (name.State q)) ≡ Some (Retired m) → MayReuse z.form → Building z v choice l a (record (numbered m k) { activity = SeekPass 0 })) →
+      ((next : Local) → state_of (v (name.State q)) ≢ Some Free → NextSeek rows k next → Building z v choice l a next) → Building z v choice l a (seek_met z.form rows x k).local
+  seek_arrow q a (Some Free) k e free retired taken = free e
+  seek_arrow q a (Some (Infant seat)) k e free retired taken = taken _ (λ c. let y : Some (Infant seat) ≡ Some Free = sym e ∙ c in cc) (next_seek rows k)
+  seek_arrow q a (Some Normal) k e free retired taken = taken _ (λ c. let y : Some Normal ≡ Some Free = sym e ∙ c in cc) (next_seek rows k)
+  seek_arrow q a (Some (Leader count)) k e free retired taken = taken _ (λ c. let y : Some (Leader count) ≡ Some Free = sym e ∙ c in cc) (next_seek rows k)
+  seek_arrow q a (Some (Follower leader)) k e free retired taken = taken _ (λ c. let y : Some (Follower leader) ≡ Some Free = sym e ∙ c in cc) (next_seek rows k)
+  seek_arrow q a (Some (Retired number)) k e free retired taken = retired_arrow q number a z.form k e (retired number e) taken
+  seek_arrow q a None k e free retired taken = taken _ (λ c. let y : None ≡ Some Free = sym e ∙ c in cc) (next_seek rows k)
 
-  first_arrow : (q : ℕ) → (choice ≡ Guess q) ⊎ (q ≡ l.rebalance.sought) → Building z v choice l SeekFirst (seek_met rows (state_of (v (name.State q))) (seeking q l)).local
-  first_arrow q c = seek_arrow q SeekFirst (state_of (v (name.State q))) (seeking q l) refl (first_is_free q c) (λ next n k. first_is_taken q rows next c n k)
+  first_arrow : (q : ℕ) → (choice ≡ Guess q) ⊎ (q ≡ l.rebalance.sought) → Building z v choice l SeekFirst (seek_met z.form rows (state_of (v (name.State q))) (seeking q l)).local
+  first_arrow q c = seek_arrow q SeekFirst (state_of (v (name.State q))) (seeking q l) refl (first_is_free q c) (λ m e f. first_is_retired q m c e f) (λ next n k. first_is_taken q rows next c n k)
 
-  seek_first_arrow : (c : Choice) → choice ≡ c → Building z v choice l SeekFirst (followed rows (seek_first_transition c l) (v (seek_first_transition c l).operation.name)).local
+  seek_first_arrow : (c : Choice) → choice ≡ c → Building z v choice l SeekFirst (followed rows (seek_first_transition z.form c l) (v (seek_first_transition z.form c l).operation.name)).local
   seek_first_arrow (Begin call) e = first_arrow l.rebalance.sought (inr refl)
   seek_first_arrow Go e = first_arrow l.rebalance.sought (inr refl)
   seek_first_arrow (Guess r) e = first_arrow r (inl e)
   seek_first_arrow Stop e = first_arrow l.rebalance.sought (inr refl)
+
+  -- what a pass is found to be
+  pass_arrow : (i : ℕ) (x : Option ℕ) → pass_of_word (v (name.Pass i)) ≡ x → Building z v choice l (SeekPass i) (pass_met z i rows x l).local
+  pass_arrow i (Some epoch) e = met (nat_le epoch l.rebalance.number) refl
+    where
+      met : (b : Bool) → nat_le epoch l.rebalance.number ≡ b → Building z v choice l (SeekPass i) (let x : Outcome = if b then to_seek rows l else to_pass z (i + 1) l in x).local
+      met true f = pass_is_old i epoch rows _ e (grind (arith, nat_tests)) (next_seek rows l)
+      met false f =
+          let o : l.rebalance.number < epoch = grind (arith, nat_tests) in
+          pass_is_young i _ (subst (IsYoung l.rebalance.number) (sym e) o) (next_pass z (i + 1) l)
+  pass_arrow i None e = pass_is_young i _ (subst (IsYoung l.rebalance.number) (sym e) tt) (next_pass z (i + 1) l)
 
   guess_before_arrow : (r : ℕ) (x : Option State) → choice ≡ Guess r → state_of (v (name.State r)) ≡ x → Building z v choice l Before (guess_before r x l).local
   guess_before_arrow r (Some Free) c e = guess_before_fails
@@ -186,7 +225,9 @@ module _ (z : Sizes) (rows : ℕ) (v : Words) (s : ℕ) (choice : Choice) (l : L
   -- so each event of these does
   pub building : (a : Activity) → IsBuilding a → Building z v choice l a (followed rows (transition z a s choice l) (v (transition z a s choice l).operation.name)).local
   building SeekFirst o = seek_first_arrow choice refl
-  building Seek o = seek_arrow l.rebalance.sought Seek (state_of (v (name.State l.rebalance.sought))) l refl sought_is_free (λ next n k. sought_is_taken rows next n k)
+  building Seek o = seek_arrow l.rebalance.sought Seek (state_of (v (name.State l.rebalance.sought))) l refl sought_is_free sought_is_retired (λ next n k. sought_is_taken rows next n k)
+  building (SeekPass i) o = pass_arrow i (pass_of_word (v (name.Pass i))) refl
+  building Reclaim o = frees_row
   building TakeRow o = met (v (name.State l.rebalance.sought) == state_word Free) refl
     where
       met : (b : Bool) → (v (name.State l.rebalance.sought) == state_word Free) ≡ b → Building z v choice l TakeRow (take_row rows b l).local

@@ -13,8 +13,8 @@ use Rattle.kw_world.specs.declared.rebalance.Afterwards.{Afterwards}
 use Rattle.kw_world.specs.SeekTransitions.{seeking, with_row}
 use Rattle.kw_world.specs.Sizes.{Sizes}
 use Rattle.kw_core.specs.Words.{Words}
-use Rattle.kw_core.proofs.NextBuilt.{GivenBack, tries_again, is_refused_rows, moves_left, NextBack, gives_back, has_none, NextSeek, asks, has_asked, NextTaken, wants_more, has_enough, NextNewRow, writes_row, has_written, NextNewCell, fills, empties, has_cells, NextNewEntry, writes_idle, has_entries, NextBefore, is_first, is_behind}
-use Rattle.kw_core.proofs.Building.{Building, IsBuilding, first_is_free, first_is_taken, sought_is_free, sought_is_taken, takes_row, loses_row, gives_one_back, gives_last_back, writes_count, writes_least, writes_link, writes_first, writes_entry, writes_key, writes_value, writes_version, writes_after, begins_before, guesses_before, guess_before_fails, before_serves, before_is_above, takes_head_before, leads_to_full, leads_on_marked, leads_to_other, leads_nowhere, walks_before, walks_past, replaces_row, is_marked_before, is_replaced, makes_normal, makes_last_normal, draws_number, retires_row}
+use Rattle.kw_core.proofs.NextBuilt.{GivenBack, tries_again, is_refused_rows, moves_left, NextBack, gives_back, has_none, NextSeek, asks, has_asked, NextPass, looks_on, has_looked, NextTaken, wants_more, has_enough, NextNewRow, writes_row, has_written, NextNewCell, fills, empties, has_cells, NextNewEntry, writes_idle, has_entries, NextBefore, is_first, is_behind}
+use Rattle.kw_core.proofs.Building.{Building, IsBuilding, first_is_free, first_is_taken, sought_is_free, sought_is_taken, first_is_retired, sought_is_retired, pass_is_old, pass_is_young, frees_row, takes_row, loses_row, gives_one_back, gives_last_back, writes_count, writes_least, writes_link, writes_first, writes_entry, writes_key, writes_value, writes_version, writes_after, begins_before, guesses_before, guess_before_fails, before_serves, before_is_above, takes_head_before, leads_to_full, leads_on_marked, leads_to_other, leads_nowhere, walks_before, walks_past, replaces_row, is_marked_before, is_replaced, makes_normal, makes_last_normal, draws_number, retires_row}
 
 -- such an event follows, or the put tries again, is refused for want of rows, or rebalances another row
 abbrev pub IsAfterBuilding : Activity → Type 0
@@ -96,6 +96,10 @@ seek_follows : (rows : ℕ) (l k : Local) → NextSeek rows l k → Follows (cal
 seek_follows rows l k (asks o) = record { call = refl; plan = λ o. refl; next = tt }
 seek_follows rows l k (has_asked next o n) = back_follows _ l next n
 
+pass_follows : (z : Sizes) (i : ℕ) (l k : Local) → NextPass z i l k → Follows (called l) (planned l) k
+pass_follows z i l k (looks_on o) = record { call = refl; plan = λ o. refl; next = tt }
+pass_follows z i l k (has_looked o) = record { call = refl; plan = λ o. refl; next = tt }
+
 taken_follows : (rows : ℕ) (l k : Local) → NextTaken rows l k → Follows (called l) (planned l) k
 taken_follows rows l k (wants_more next o n) = seek_follows rows l next n
 taken_follows rows l k (has_enough o) = record { call = refl; plan = λ o. refl; next = tt }
@@ -123,6 +127,11 @@ module _ (z : Sizes) (v : Words) (choice : Choice) (l : Local) where
   follows a k (first_is_taken q rows next c d n) = seek_follows rows (seeking q l) next n
   follows a k (sought_is_free e) = record { call = refl; plan = λ o. refl; next = tt }
   follows a k (sought_is_taken rows next d n) = seek_follows rows l next n
+  follows a k (first_is_retired q m c e f) = record { call = refl; plan = λ o. refl; next = tt }
+  follows a k (sought_is_retired m e f) = record { call = refl; plan = λ o. refl; next = tt }
+  follows a k (pass_is_old i epoch rows next e o n) = seek_follows rows l next n
+  follows a k (pass_is_young i next y n) = pass_follows z _ l next n
+  follows a k frees_row = record { call = refl; plan = λ o. refl; next = tt }
   follows a k (takes_row rows next e n) = taken_follows rows (with_row l) next n
   follows a k (loses_row rows next d n) = seek_follows rows l next n
   follows a k (gives_one_back o) = record { call = refl; plan = λ o. refl; next = tt }

@@ -9,7 +9,7 @@ use Rattle.kw_words.specs.State.{state_word}
 use Rattle.kw_rows.specs.Events.{IsIn, SamePasses}
 use Rattle.kw_rows.specs.Ledger as kw_rows
 use Rattle.kw_world.specs.declared.activity.Activity.{Activity}
-use Rattle.kw_world.specs.declared.activity.Activity.TheVariants.{Enter, ScanWait, Leave, Again, TakeRow, GiveBack, Replace, Number}
+use Rattle.kw_world.specs.declared.activity.Activity.TheVariants.{Enter, ScanWait, Leave, Again, Reclaim, TakeRow, GiveBack, Replace, Number}
 use Rattle.kw_world.specs.declared.event.Choice.{Choice}
 use Rattle.kw_world.specs.declared.local.Local.{Local}
 use Rattle.kw_world.specs.ReplaceTransitions.{replaced_link}
@@ -39,6 +39,7 @@ is_out (x ∷ xs) q n = not_chosen q x true (is_among xs q) (λ e. n (inl e)) �
 
 -- the event may change the fate of row q
 abbrev pub ChangesFate : Activity → Local → ℕ → Type 0
+ChangesFate Reclaim l q = q ≡ l.rebalance.sought
 ChangesFate TakeRow l q = q ≡ l.rebalance.sought
 ChangesFate GiveBack l q = q ≡ infant l
 ChangesFate Replace l q = (q ≡ l.row) ⊎ IsIn l.rebalance.taken q
@@ -64,7 +65,7 @@ replaced_fate v s now l g q d n = not_chosen q l.row _ _ d ∙ ap (λ b. let x :
 module _ {z : Sizes} {r r' : Run} {s : ℕ} {choice : Choice} {l l' : Local} where
   -- What stays.
 
-  -- the fate of a row stays, unless the row is taken, given back, linked or unlinked
+  -- the fate of a row stays, unless the row is freed, taken, given back, linked or unlinked
   pub fate_stays : (a : Activity) → Happens z r r' s choice l l' a → (q : ℕ) → (ChangesFate a l q → ⊥) → r'.ledger.rows.fates q ≡ r.ledger.rows.fates q
   fate_stays a h q n = ap (λ (g : Ledger). g.rows.fates q) h.ledger ∙ same a n
     where
@@ -73,6 +74,7 @@ module _ {z : Sizes} {r r' : Run} {s : ℕ} {choice : Choice} {l l' : Local} whe
       same ScanWait f = refl
       same (Leave answer) f = refl
       same Again f = refl
+      same Reclaim f = either (word z r.world (name.State l.rebalance.sought)) (state_word (state.Retired l.rebalance.number)) (λ (g : Ledger). g.rows.fates q) (record r.ledger { rows = with_fate r.ledger.rows l.rebalance.sought (fate_free (r.ledger.rows.fates l.rebalance.sought)) }) r.ledger (r.ledger.rows.fates q) (not_chosen q l.rebalance.sought (fate_free (r.ledger.rows.fates l.rebalance.sought)) (r.ledger.rows.fates q) f) refl
       same TakeRow f = either (word z r.world (name.State l.rebalance.sought)) (state_word state.Free) (λ (g : Ledger). g.rows.fates q) (record r.ledger { rows = with_fate r.ledger.rows l.rebalance.sought (fate_taken s (length r.history.log) (r.ledger.rows.fates l.rebalance.sought)) }) r.ledger (r.ledger.rows.fates q) (not_chosen q l.rebalance.sought (fate_taken s (length r.history.log) (r.ledger.rows.fates l.rebalance.sought)) (r.ledger.rows.fates q) f) refl
       same GiveBack f = not_chosen q (infant l) (fate_free (r.ledger.rows.fates (infant l))) (r.ledger.rows.fates q) f
       same Replace f = either (word z r.world (replaced_link l.rebalance.before)) (link_word (unmarked_link (Some l.row))) (λ (g : Ledger). g.rows.fates q) (record r.ledger { rows = with_replaced (word z r.world) s (length r.history.log) l r.ledger.rows }) r.ledger (r.ledger.rows.fates q) (replaced_fate (word z r.world) s (length r.history.log) l r.ledger.rows q (λ e. f (inl e)) (λ i. f (inr i))) refl
@@ -88,6 +90,7 @@ module _ {z : Sizes} {r r' : Run} {s : ℕ} {choice : Choice} {l l' : Local} whe
       same ScanWait f = refl
       same (Leave answer) f = refl
       same Again f = refl
+      same Reclaim f = either (word z r.world (name.State l.rebalance.sought)) (state_word (state.Retired l.rebalance.number)) (λ (g : Ledger). g.rows.numbered m) (record r.ledger { rows = with_fate r.ledger.rows l.rebalance.sought (fate_free (r.ledger.rows.fates l.rebalance.sought)) }) r.ledger (r.ledger.rows.numbered m) refl refl
       same TakeRow f = either (word z r.world (name.State l.rebalance.sought)) (state_word state.Free) (λ (g : Ledger). g.rows.numbered m) (record r.ledger { rows = with_fate r.ledger.rows l.rebalance.sought (fate_taken s (length r.history.log) (r.ledger.rows.fates l.rebalance.sought)) }) r.ledger (r.ledger.rows.numbered m) refl refl
       same GiveBack f = refl
       same Replace f = either (word z r.world (replaced_link l.rebalance.before)) (link_word (unmarked_link (Some l.row))) (λ (g : Ledger). g.rows.numbered m) (record r.ledger { rows = with_replaced (word z r.world) s (length r.history.log) l r.ledger.rows }) r.ledger (r.ledger.rows.numbered m) refl refl
@@ -103,6 +106,7 @@ module _ {z : Sizes} {r r' : Run} {s : ℕ} {choice : Choice} {l l' : Local} whe
       same ScanWait f = refl
       same (Leave answer) f = not_chosen t s None (r.ledger.rows.passes t) (f tt)
       same Again f = not_chosen t s None (r.ledger.rows.passes t) (f tt)
+      same Reclaim f = either (word z r.world (name.State l.rebalance.sought)) (state_word (state.Retired l.rebalance.number)) (λ (g : Ledger). g.rows.passes t) (record r.ledger { rows = with_fate r.ledger.rows l.rebalance.sought (fate_free (r.ledger.rows.fates l.rebalance.sought)) }) r.ledger (r.ledger.rows.passes t) refl refl
       same TakeRow f = either (word z r.world (name.State l.rebalance.sought)) (state_word state.Free) (λ (g : Ledger). g.rows.passes t) (record r.ledger { rows = with_fate r.ledger.rows l.rebalance.sought (fate_taken s (length r.history.log) (r.ledger.rows.fates l.rebalance.sought)) }) r.ledger (r.ledger.rows.passes t) refl refl
       same GiveBack f = refl
       same Replace f = either (word z r.world (replaced_link l.rebalance.before)) (link_word (unmarked_link (Some l.row))) (λ (g : Ledger). g.rows.passes t) (record r.ledger { rows = with_replaced (word z r.world) s (length r.history.log) l r.ledger.rows }) r.ledger (r.ledger.rows.passes t) refl refl
@@ -121,6 +125,14 @@ module _ {z : Sizes} {r r' : Run} {s : ℕ} {choice : Choice} {l l' : Local} whe
   -- where it was not, nothing comes of it
   pub none_taken : Happens z r r' s choice l l' TakeRow → word z r.world (name.State l.rebalance.sought) ≢ state_word state.Free → r'.ledger ≡ r.ledger
   none_taken h d = h.ledger ∙ not_chosen _ _ _ r.ledger d
+
+  -- a row that was retired with the number that the seat knows is free, and all else that is recorded of it stays
+  pub fate_of_freed : Happens z r r' s choice l l' Reclaim → word z r.world (name.State l.rebalance.sought) ≡ state_word (state.Retired l.rebalance.number) → r'.ledger.rows.fates l.rebalance.sought ≡ fate_free (r.ledger.rows.fates l.rebalance.sought)
+  fate_of_freed h e = ap (λ (g : Ledger). g.rows.fates l.rebalance.sought) (h.ledger ∙ chosen _ _ _ r.ledger e) ∙ chosen l.rebalance.sought l.rebalance.sought _ (r.ledger.rows.fates l.rebalance.sought) refl
+
+  -- where it was not, nothing comes of it
+  pub none_freed : Happens z r r' s choice l l' Reclaim → word z r.world (name.State l.rebalance.sought) ≢ state_word (state.Retired l.rebalance.number) → r'.ledger ≡ r.ledger
+  none_freed h d = h.ledger ∙ not_chosen _ _ _ r.ledger d
 
   -- a row that is given back is free
   pub fate_of_given : Happens z r r' s choice l l' GiveBack → r'.ledger.rows.fates (infant l) ≡ fate_free (r.ledger.rows.fates (infant l))

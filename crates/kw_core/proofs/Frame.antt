@@ -11,7 +11,7 @@ use Rattle.kw_words.specs.Layout.{IsWithin}
 use Rattle.kw_words.specs.Count.{count_of}
 use Rattle.kw_words.proofs.CountWords.{count_of_next}
 use Rattle.kw_world.specs.declared.activity.Activity.{Activity}
-use Rattle.kw_world.specs.declared.activity.Activity.TheVariants.{Enter, ScanWait, ScanDraw, ScanSettle, Start, Walk, LookHelp, ClearScan, PutAdd, PutKey, PutValue, Announce, Stamp, PutVersion, InsSet, Insert, PutClear, Leave, Again, BalNormal, Engage, MarkLink, Decide, FreezeCount, Freeze, HelpDraw, HelpSettle, SeekFirst, TakeRow, GiveBack, WriteCount, WriteMin, WriteNext, WriteFirst, WritePend, WriteKey, WriteValue, WriteVersion, WriteAfter, Before, Replace, Normalise, Number, Retire}
+use Rattle.kw_world.specs.declared.activity.Activity.TheVariants.{Enter, ScanWait, ScanDraw, ScanSettle, Start, Walk, LookHelp, ClearScan, PutAdd, PutKey, PutValue, Announce, Stamp, PutVersion, InsSet, Insert, PutClear, Leave, Again, BalNormal, Engage, MarkLink, Decide, FreezeCount, Freeze, HelpDraw, HelpSettle, SeekFirst, Reclaim, TakeRow, GiveBack, WriteCount, WriteMin, WriteNext, WriteFirst, WritePend, WriteKey, WriteValue, WriteVersion, WriteAfter, Before, Replace, Normalise, Number, Retire}
 use Rattle.kw_world.specs.declared.local.Local.{Local}
 use Rattle.kw_world.specs.declared.event.Choice.{Choice}
 use Rattle.kw_world.specs.declared.operation.Action.{Action}
@@ -66,6 +66,7 @@ writes FreezeCount s b l = Some (name.Count l.row)
 writes (Freeze i) s b l = Some (name.Pend l.row i)
 writes (HelpDraw i) s b l = Some name.Clock
 writes (HelpSettle i) s b l = Some (name.Scan i)
+writes Reclaim s b l = Some (name.State l.rebalance.sought)
 writes TakeRow s b l = Some (name.State l.rebalance.sought)
 writes GiveBack s b l = Some (name.State (infant l))
 writes WriteCount s b l = Some (name.Count (infant l))
@@ -104,7 +105,7 @@ written_is z Walk s choice l = walks (is_stopped choice l)
     walks false = refl
 written_is z SeekFirst s choice l = seeks choice
   where
-    seeks : (c : Choice) → written_by (seek_first_transition c l).operation.action (seek_first_transition c l).operation.name ≡ None
+    seeks : (c : Choice) → written_by (seek_first_transition z.form c l).operation.action (seek_first_transition z.form c l).operation.name ≡ None
     seeks (Begin call) = refl
     seeks Go = refl
     seeks (Guess q) = refl

@@ -19,7 +19,7 @@ use Rattle.kw_words.specs.State.{state_word}
 use Rattle.kw_words.proofs.LinkWords.{link_of-link_word, link_word_of}
 use Rattle.kw_cells.specs.Cells.{value_in}
 use Rattle.kw_world.specs.declared.activity.Activity.{Activity}
-use Rattle.kw_world.specs.declared.activity.Activity.TheVariants.{Enter, ScanWait, ScanDraw, ScanSettle, Walk, LookHelp, ClearScan, PutAdd, PutKey, PutValue, Announce, Stamp, PutVersion, InsSet, Insert, PutClear, Leave, Again, BalNormal, Engage, MarkLink, Decide, FreezeCount, Freeze, HelpDraw, HelpSettle, TakeRow, GiveBack, WriteCount, WriteMin, WriteNext, WriteFirst, WritePend, WriteKey, WriteValue, WriteVersion, WriteAfter, Replace, Normalise, Number, Retire}
+use Rattle.kw_world.specs.declared.activity.Activity.TheVariants.{Enter, ScanWait, ScanDraw, ScanSettle, Walk, LookHelp, ClearScan, PutAdd, PutKey, PutValue, Announce, Stamp, PutVersion, InsSet, Insert, PutClear, Leave, Again, BalNormal, Engage, MarkLink, Decide, FreezeCount, Freeze, HelpDraw, HelpSettle, Reclaim, TakeRow, GiveBack, WriteCount, WriteMin, WriteNext, WriteFirst, WritePend, WriteKey, WriteValue, WriteVersion, WriteAfter, Replace, Normalise, Number, Retire}
 use Rattle.kw_world.specs.declared.event.Choice.{Choice}
 use Rattle.kw_world.specs.declared.local.Local.{Local}
 use Rattle.kw_world.specs.ListTransitions.{link_name}
@@ -52,6 +52,7 @@ abbrev pub ChangesState : Activity → ℕ → Local → ℕ → Type 0
 ChangesState (BalNormal seat) s l q = q ≡ l.row
 ChangesState Engage s l q = q ≡ l.row
 ChangesState (Decide count) s l q = q ≡ l.row
+ChangesState Reclaim s l q = q ≡ l.rebalance.sought
 ChangesState TakeRow s l q = q ≡ l.rebalance.sought
 ChangesState GiveBack s l q = q ≡ infant l
 ChangesState Normalise s l q = q ≡ infant l
@@ -176,6 +177,7 @@ not_state : (a : Activity) (s : ℕ) (b : Bool) (l : Local) (q : ℕ) → (Chang
 not_state (BalNormal seat) s b l q f e = f (same_state l.row q e)
 not_state Engage s b l q f e = f (same_state l.row q e)
 not_state (Decide count) s b l q f e = f (same_state l.row q e)
+not_state Reclaim s b l q f e = f (same_state l.rebalance.sought q e)
 not_state TakeRow s b l q f e = f (same_state l.rebalance.sought q e)
 not_state GiveBack s b l q f e = f (same_state (infant l) q e)
 not_state Normalise s b l q f e = f (same_state (infant l) q e)
@@ -355,6 +357,7 @@ target_of (WriteValue j) = NewRow
 target_of (WriteVersion j) = NewRow
 target_of (WriteAfter j) = NewRow
 target_of Normalise = NewRow
+target_of Reclaim = SoughtRow
 target_of TakeRow = SoughtRow
 target_of Replace = RowBefore
 target_of _ = NoRow
@@ -427,6 +430,7 @@ targets (WriteValue j) s b l n q f e = of_row (name.Value (infant l) j) n (infan
 targets (WriteVersion j) s b l n q f e = of_row (name.Version (infant l) j) n (infant l) q refl f e
 targets (WriteAfter j) s b l n q f e = of_row (name.After (infant l) j) n (infant l) q refl f e
 targets Normalise s b l n q f e = of_row (name.State (infant l)) n (infant l) q refl f e
+targets Reclaim s b l n q f e = of_row (name.State l.rebalance.sought) n l.rebalance.sought q refl f e
 targets TakeRow s b l n q f e = of_row (name.State l.rebalance.sought) n l.rebalance.sought q refl f e
 targets Replace s b l n q f e = before_of_row l.rebalance.before n q f e
 targets Enter s b l n q f e = of_none (name.Pass s) n q refl f e
@@ -457,6 +461,13 @@ module _ {z : Sizes} {r r' : Run} {s : ℕ} {choice : Choice} {l l' : Local} whe
   row_stays a h n q e i f = unwritten a h n i (λ x. f (targets a s (is_stopped choice l) l n q e x))
 
   -- What is left in the word that is written.
+
+  -- a row that was retired with the number that the seat knows is free, and any other state stays
+  pub freed : Happens z r r' s choice l l' Reclaim → word z r.world (name.State l.rebalance.sought) ≡ state_word (Retired l.rebalance.number) → word z r'.world (name.State l.rebalance.sought) ≡ state_word Free
+  freed h e = exchanged _ _ _ _ h.changed.same e
+
+  pub not_freed : Happens z r r' s choice l l' Reclaim → word z r.world (name.State l.rebalance.sought) ≢ state_word (Retired l.rebalance.number) → word z r'.world (name.State l.rebalance.sought) ≡ word z r.world (name.State l.rebalance.sought)
+  not_freed h d = not_exchanged _ _ _ _ h.changed.same d
 
   -- a row that was free is the seat's, and another one is not
   pub taken_won : Happens z r r' s choice l l' TakeRow → word z r.world (name.State l.rebalance.sought) ≡ state_word Free → word z r'.world (name.State l.rebalance.sought) ≡ state_word (Infant s)

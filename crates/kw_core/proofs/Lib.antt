@@ -11,6 +11,7 @@ pub mod Runs
 pub mod NextBuilt
 pub mod Building
 pub mod BuiltNext
+pub mod BuiltReached
 pub mod Arrows
 pub mod Happens
 pub mod Frame

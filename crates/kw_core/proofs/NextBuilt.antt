@@ -1,19 +1,19 @@
 -- What follows the events by which a rebalance takes, writes and links new rows, where a part of it has no event of its own.
 --
 -- There is a type for each such part, with a constructor for each way that it may go, and a lemma that the table goes one of these ways:
--- the next row is asked, or all were; taken rows are given back, or none was taken; enough rows are taken, or one more is sought; the next
+-- the next row is asked, or all were; the next pass is looked at, or all were; taken rows are given back, or none was taken; enough rows are taken, or one more is sought; the next
 -- entry, the next cell, the next row is written, or all are; and the walk to the row before the full one begins behind the first row, or the
 -- full row is the first.
 use Rattle.std.proofs.Common.{ℕ, ◌≡◌, ◌≢◌, ◌+◌, ◌<◌, ◌≤◌, ◌==◌, Bool, true, false, Some, None, nat_lt, length, arith, refl, if◌then◌else◌}
 use Rattle.std.proofs.lemmas.Bool.Decides.{nat_tests}
-use Rattle.kw_world.specs.declared.activity.Activity.TheVariants.{Seek, GiveBack, WriteCount, WritePend, WriteKey, WriteVersion, Before, BeforeLink, Replace}
+use Rattle.kw_world.specs.declared.activity.Activity.TheVariants.{Seek, SeekPass, Reclaim, GiveBack, WriteCount, WritePend, WriteKey, WriteVersion, Before, BeforeLink, Replace}
 use Rattle.kw_world.specs.declared.answer.Answer.TheVariants.{NoRows}
 use Rattle.kw_world.specs.declared.local.Local.{Local}
 use Rattle.kw_world.specs.declared.rebalance.Afterwards.{Afterwards}
 use Rattle.kw_world.specs.declared.rebalance.Afterwards.TheVariants.{TryAgain, Refuse, MoveLeft}
 use Rattle.kw_world.specs.EngageTransitions.{again, refuse, to_rebalance}
 use Rattle.kw_world.specs.ReplaceTransitions.{at_before, first_before}
-use Rattle.kw_world.specs.SeekTransitions.{at_infant, has_more, moved_left, given_back, give_back, row_behind, to_seek, row_taken}
+use Rattle.kw_world.specs.SeekTransitions.{at_infant, has_more, moved_left, given_back, give_back, row_behind, to_seek, to_pass, row_taken}
 use Rattle.kw_world.specs.Sizes.{Sizes}
 use Rattle.kw_world.specs.Transition.{Outcome, to}
 use Rattle.kw_world.specs.WriteTransitions.{infant_cells, row_written, to_write_cell, to_write_entry}
@@ -33,6 +33,11 @@ pub data NextBack (a : Afterwards) (l : Local) : Local → Type 0 where
 pub data NextSeek (rows : ℕ) (l : Local) : Local → Type 0 where
   asks : l.rebalance.asked < rows → NextSeek rows l (record l { rebalance = record l.rebalance { sought = row_behind rows l.rebalance.sought; asked = l.rebalance.asked + 1 }; activity = Seek })
   has_asked : (next : Local) → rows ≤ l.rebalance.asked → NextBack Refuse l next → NextSeek rows l next
+
+-- the pass of this seat is looked at, or all passes were
+pub data NextPass (z : Sizes) (i : ℕ) (l : Local) : Local → Type 0 where
+  looks_on : i < z.seats → NextPass z i l (record l { activity = SeekPass i })
+  has_looked : z.seats ≤ i → NextPass z i l (record l { activity = Reclaim })
 
 -- one more row is sought, or there is one for each start, and the first of them is written
 pub data NextTaken (rows : ℕ) (l : Local) : Local → Type 0 where
@@ -83,6 +88,13 @@ next_seek rows l = met (nat_lt l.rebalance.asked rows) refl
     met : (b : Bool) → nat_lt l.rebalance.asked rows ≡ b → NextSeek rows l (let x : Outcome = if b then to Seek (record l { rebalance = record l.rebalance { sought = row_behind rows l.rebalance.sought; asked = l.rebalance.asked + 1 } }) else give_back Refuse l in x).local
     met true e = asks (grind (arith, nat_tests))
     met false e = has_asked _ (grind (arith, nat_tests)) (next_back Refuse l)
+
+pub next_pass : (z : Sizes) (i : ℕ) (l : Local) → NextPass z i l (to_pass z i l).local
+next_pass z i l = met (nat_lt i z.seats) refl
+  where
+    met : (b : Bool) → nat_lt i z.seats ≡ b → NextPass z i l (let x : Outcome = if b then to (SeekPass i) l else to Reclaim l in x).local
+    met true e = looks_on (grind (arith, nat_tests))
+    met false e = has_looked (grind (arith, nat_tests))
 
 pub next_taken : (rows : ℕ) (l : Local) → NextTaken rows l (row_taken rows l).local
 next_taken rows l = met (nat_lt (length l.rebalance.taken) (length l.rebalance.starts)) refl

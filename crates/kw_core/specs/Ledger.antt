@@ -11,7 +11,7 @@ use Rattle.kw_words.specs.Link.{link_word}
 use Rattle.kw_words.specs.State.{state_word}
 use Rattle.kw_rows.specs.Ledger as kw_rows
 use Rattle.kw_world.specs.declared.activity.Activity.{Activity}
-use Rattle.kw_world.specs.declared.activity.Activity.TheVariants.{Enter, ScanWait, Leave, Again, TakeRow, GiveBack, Replace, Number}
+use Rattle.kw_world.specs.declared.activity.Activity.TheVariants.{Enter, ScanWait, Leave, Again, Reclaim, TakeRow, GiveBack, Replace, Number}
 use Rattle.kw_world.specs.declared.local.Local.{Local}
 use Rattle.kw_world.specs.declared.opening.Opening.{Opening}
 use Rattle.kw_world.specs.SeekTransitions.{infant}
@@ -56,7 +56,7 @@ with_fate g x f = record g { fates = λ q. if q == x then f else g.fates q }
 abbrev pub fate_taken : ℕ → ℕ → kw_rows.Fate → kw_rows.Fate
 fate_taken s now f = record f { status = kw_rows.Infant; taken = now + 1; owner = s }
 
--- it is given back
+-- it is free again, given back or used again
 abbrev pub fate_free : kw_rows.Fate → kw_rows.Fate
 fate_free f = record f { status = kw_rows.Free }
 
@@ -88,7 +88,8 @@ with_number g m now = record g { numbered = λ n. if n == m then Some now else g
 
 -- the ledger after the event of an activity, of the seat s that knew l and found this word among these, at the position `now`: a seat
 -- that stores its pass is in it from there on, one that clears it, to leave or to try again, is in none, and a scan that stores that it waits does so from there
--- on. A seat that finds a row free takes it; it gives a row back; where it finds the unmarked link to its full row, that row is unlinked
+-- on. A seat that finds a row free takes it; it gives a row back; where it finds a row retired with the number that it knows, that row
+-- is free from then on, and all else that is recorded of it stays until it is taken again; where it finds the unmarked link to its full row, that row is unlinked
 -- and the taken ones are linked; and the epoch that it finds where it adds to it is the number that it draws
 abbrev pub ledger_after : Sizes → Activity → ℕ → Local → ℕ → Words → ℕ → Ledger → Ledger
 ledger_after z Enter s l found v now g = record g { rows = with_pass g.rows s (Some now) }
@@ -96,6 +97,7 @@ ledger_after z ScanWait s l found v now g = record g { waits = with_wait g.waits
 ledger_after z (Leave answer) s l found v now g = record g { rows = with_pass g.rows s None }
 ledger_after z Again s l found v now g = record g { rows = with_pass g.rows s None }
 ledger_after z TakeRow s l found v now g = if found == state_word state.Free then record g { rows = with_fate g.rows l.rebalance.sought (fate_taken s now (g.rows.fates l.rebalance.sought)) } else g
+ledger_after z Reclaim s l found v now g = if found == state_word (state.Retired l.rebalance.number) then record g { rows = with_fate g.rows l.rebalance.sought (fate_free (g.rows.fates l.rebalance.sought)) } else g
 ledger_after z GiveBack s l found v now g = record g { rows = with_fate g.rows (infant l) (fate_free (g.rows.fates (infant l))) }
 ledger_after z Replace s l found v now g = if found == link_word (unmarked_link (Some l.row)) then record g { rows = with_replaced v s now l g.rows } else g
 ledger_after z Number s l found v now g = record g { rows = with_number g.rows found now }

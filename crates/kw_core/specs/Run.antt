@@ -2,9 +2,9 @@
 -- events.
 --
 -- Beside the record stands, for each seat, what it did last and where the version in its scan's word was drawn, for each cell, to which
--- attempt it was given, the ledger of rows, and which cells are listed. The fold goes by the activity of the acting seat: `change_of` says what its event adds to the record, `seat_after`
--- what it adds to the seat's own log, `origins_after` to which attempt a cell is given, `ledger_after` what becomes of the ledger, and
--- `listed_after` which cells are listed.
+-- attempt it was given, the ledger of rows, and which cells are listed. The fold goes by the activity of the acting seat: `change_of` says
+-- what its event adds to the record, `seat_after` what it adds to the seat's own log, `origins_after` to which attempt a cell is given,
+-- `ledger_after` what becomes of the ledger, and `listed_after` which cells are listed.
 use Rattle.std.specs.Prelude.{ℕ, ◌+◌, ◌==◌, Bool, true, false, ◌&&◌, if◌then◌else◌, Option, Some, None, unwrap_or, List, [], ◌∷◌, length, insert, slice_get}
 use Rattle.kw_words.specs.declared.layout.Name.TheVariants.{Clock}
 use Rattle.kw_words.specs.declared.kind.Kind.{Kind}

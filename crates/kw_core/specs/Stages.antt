@@ -6,10 +6,10 @@ use Rattle.kw_model.specs.declared.call.Call.{Call}
 use Rattle.kw_model.specs.declared.call.Call.TheVariants.{Put, Del, Get, Scan}
 use Rattle.kw_world.specs.declared.answer.Answer.TheVariants.{Done, Pairs}
 use Rattle.kw_world.specs.declared.activity.Activity.{Activity}
-use Rattle.kw_world.specs.Sizes.{Sizes, IsRebalancing}
+use Rattle.kw_world.specs.Sizes.{Sizes, IsRebalancing, IsReusing}
 use Rattle.kw_core.specs.declared.stage.Stage.{Stage}
 use Rattle.kw_core.specs.declared.stage.Stage.TheVariants.{Resting, Entering, Drawing, Walking, Looking, Taking, Clearing, Putting, Rebalancing, Retrying, Leaving}
-use Rattle.kw_world.specs.declared.activity.Activity.TheVariants.{Idle, Enter, ScanClock, ScanWait, ScanDraw, ScanSettle, Start, Head, GuessMin, Walk, WalkMin, Look, LookKey, LookClock, LookHelp, ListFrom, ListKey, ListVer, ListVal, RestKey, RestVal, ClearScan, PutCount, PutAdd, PutKey, PutValue, Announce, PutClock, Stamp, PutVersion, InsFrom, InsKey, InsVer, InsSet, Insert, PutClear, Leave, Again, AgainEpoch, BalClock, BalEpoch, BalState, BalNormal, Engage, MarkLink, Decide, FreezeCount, FreezeLook, Freeze, ScanLook, HelpDraw, HelpSettle, TakeFrom, TakeKey, TakeVersion, TakeValue, TakeRestKey, TakeRestValue, SeekFirst, Seek, TakeRow, GiveBack, WriteCount, WriteMin, WriteNext, WriteFirst, WritePend, WriteKey, WriteValue, WriteVersion, WriteAfter, Before, BeforeGuess, BeforeHead, BeforeLink, BeforeMin, Replace, Normalise, Number, Retire}
+use Rattle.kw_world.specs.declared.activity.Activity.TheVariants.{Idle, Enter, ScanClock, ScanWait, ScanDraw, ScanSettle, Start, Head, GuessMin, Walk, WalkMin, Look, LookKey, LookClock, LookHelp, ListFrom, ListKey, ListVer, ListVal, RestKey, RestVal, ClearScan, PutCount, PutAdd, PutKey, PutValue, Announce, PutClock, Stamp, PutVersion, InsFrom, InsKey, InsVer, InsSet, Insert, PutClear, Leave, Again, AgainEpoch, BalClock, BalEpoch, BalState, BalNormal, Engage, MarkLink, Decide, FreezeCount, FreezeLook, Freeze, ScanLook, HelpDraw, HelpSettle, TakeFrom, TakeKey, TakeVersion, TakeValue, TakeRestKey, TakeRestValue, SeekFirst, Seek, SeekPass, Reclaim, TakeRow, GiveBack, WriteCount, WriteMin, WriteNext, WriteFirst, WritePend, WriteKey, WriteValue, WriteVersion, WriteAfter, Before, BeforeGuess, BeforeHead, BeforeLink, BeforeMin, Replace, Normalise, Number, Retire}
 
 -- Calls.
 
@@ -85,6 +85,8 @@ stage_of TakeRestKey = Rebalancing
 stage_of TakeRestValue = Rebalancing
 stage_of SeekFirst = Rebalancing
 stage_of Seek = Rebalancing
+stage_of (SeekPass i) = Rebalancing
+stage_of Reclaim = Rebalancing
 stage_of TakeRow = Rebalancing
 stage_of GiveBack = Rebalancing
 stage_of WriteCount = Rebalancing
@@ -122,7 +124,8 @@ is_putting_stage _ = false
 abbrev pub is_putting : Activity → Bool
 is_putting a = is_putting_stage (stage_of a)
 
--- a seat may come to this activity in a table of these sizes and this form: it rebalances no row where a full one refuses its puts
+-- a seat may come to this activity in a table of these sizes and this form: it rebalances no row where a full one refuses its puts, and
+-- frees no retired one where rows are not used again
 abbrev pub IsReached : Sizes → Activity → Type 0
 IsReached z Again = IsRebalancing z.form
 IsReached z AgainEpoch = IsRebalancing z.form
@@ -147,6 +150,8 @@ IsReached z TakeRestKey = IsRebalancing z.form
 IsReached z TakeRestValue = IsRebalancing z.form
 IsReached z SeekFirst = IsRebalancing z.form
 IsReached z Seek = IsRebalancing z.form
+IsReached z (SeekPass i) = IsReusing z.form
+IsReached z Reclaim = IsReusing z.form
 IsReached z TakeRow = IsRebalancing z.form
 IsReached z GiveBack = IsRebalancing z.form
 IsReached z WriteCount = IsRebalancing z.form

@@ -103,6 +103,8 @@ impl Stage {
             | Activity::TakeRestValue
             | Activity::SeekFirst
             | Activity::Seek
+            | Activity::SeekPass(_)
+            | Activity::Reclaim
             | Activity::TakeRow
             | Activity::GiveBack
             | Activity::WriteCount

@@ -19,7 +19,7 @@ use Rattle.kw_model.specs.declared.call.Call.{Call}
 use Rattle.kw_model.specs.declared.call.Call.TheVariants.{Put, Del, Get, Scan}
 use Rattle.kw_world.specs.declared.answer.Answer.{Answer}
 use Rattle.kw_world.specs.declared.activity.Activity.{Activity}
-use Rattle.kw_world.specs.declared.activity.Activity.TheVariants.{Idle, Enter, ScanClock, ScanWait, ScanDraw, ScanSettle, Start, Head, GuessMin, Walk, WalkMin, Look, LookKey, LookClock, LookHelp, ListFrom, ListKey, ListVer, ListVal, RestKey, RestVal, ClearScan, PutCount, PutAdd, PutKey, PutValue, Announce, PutClock, Stamp, PutVersion, InsFrom, InsKey, InsVer, InsSet, Insert, PutClear, Leave, Again, AgainEpoch, BalClock, BalEpoch, BalState, BalNormal, Engage, MarkLink, Decide, FreezeCount, FreezeLook, Freeze, ScanLook, HelpDraw, HelpSettle, TakeFrom, TakeKey, TakeVersion, TakeValue, TakeRestKey, TakeRestValue, SeekFirst, Seek, TakeRow, GiveBack, WriteCount, WriteMin, WriteNext, WriteFirst, WritePend, WriteKey, WriteValue, WriteVersion, WriteAfter, Before, BeforeGuess, BeforeHead, BeforeLink, BeforeMin, Replace, Normalise, Number, Retire}
+use Rattle.kw_world.specs.declared.activity.Activity.TheVariants.{Idle, Enter, ScanClock, ScanWait, ScanDraw, ScanSettle, Start, Head, GuessMin, Walk, WalkMin, Look, LookKey, LookClock, LookHelp, ListFrom, ListKey, ListVer, ListVal, RestKey, RestVal, ClearScan, PutCount, PutAdd, PutKey, PutValue, Announce, PutClock, Stamp, PutVersion, InsFrom, InsKey, InsVer, InsSet, Insert, PutClear, Leave, Again, AgainEpoch, BalClock, BalEpoch, BalState, BalNormal, Engage, MarkLink, Decide, FreezeCount, FreezeLook, Freeze, ScanLook, HelpDraw, HelpSettle, TakeFrom, TakeKey, TakeVersion, TakeValue, TakeRestKey, TakeRestValue, SeekFirst, Seek, SeekPass, Reclaim, TakeRow, GiveBack, WriteCount, WriteMin, WriteNext, WriteFirst, WritePend, WriteKey, WriteValue, WriteVersion, WriteAfter, Before, BeforeGuess, BeforeHead, BeforeLink, BeforeMin, Replace, Normalise, Number, Retire}
 use Rattle.kw_world.specs.declared.event.Choice.{Choice}
 use Rattle.kw_world.specs.declared.event.Choice.TheVariants.{Begin, Go, Guess, Stop}
 use Rattle.kw_world.specs.declared.local.Local.{Local}
@@ -32,7 +32,7 @@ use Rattle.kw_world.specs.ScanTransitions.{entered, answer_or_stopped, settled, 
 use Rattle.kw_world.specs.WalkTransitions.{arrive, guess_met, is_stop, is_stopped, link_met, start_transition, walk_min, walk_transition}
 use Rattle.kw_world.specs.SeekTransitions.{seek_first_transition}
 use Rattle.kw_world.specs.ReplaceTransitions.{before_transition}
-use Rattle.kw_world.specs.Sizes.{Form, Refused, Alone, Sizes}
+use Rattle.kw_world.specs.Sizes.{Form, Refused, Alone, Reused, Sizes}
 use Rattle.kw_world.specs.Table.{transition}
 use Rattle.kw_follow.specs.Following.{carried}
 use Rattle.kw_follow.proofs.Carries.{Carries, either}
@@ -114,6 +114,7 @@ module _ (c : Choice) where
   fulls : (f : Form) (l : Local) → Carries c l.pairs (full_in f l) (full_in f (carried l))
   fulls Refused l = record { local = refl; done = refl; held = λ g. refl }
   fulls Alone l = record { local = refl; done = refl; held = λ g. refl }
+  fulls Reused l = record { local = refl; done = refl; held = λ g. refl }
 
   stamps : (z : Sizes) (e : Option Pend) (l : Local) → Carries c l.pairs (stamp_met z e l) (stamp_met z e (carried l))
   stamps z (Some pend.Idle) l = fulls z.form l
@@ -216,6 +217,8 @@ carries z TakeRestKey s c l rows told u = rebalance_carries c z TakeRestKey s l 
 carries z TakeRestValue s c l rows told u = rebalance_carries c z TakeRestValue s l rows told tt
 carries z SeekFirst s c l rows told u = rebalance_carries c z SeekFirst s l rows told tt
 carries z Seek s c l rows told u = rebalance_carries c z Seek s l rows told tt
+carries z (SeekPass i) s c l rows told u = rebalance_carries c z (SeekPass i) s l rows told tt
+carries z Reclaim s c l rows told u = rebalance_carries c z Reclaim s l rows told tt
 carries z TakeRow s c l rows told u = rebalance_carries c z TakeRow s l rows told tt
 carries z GiveBack s c l rows told u = rebalance_carries c z GiveBack s l rows told tt
 carries z WriteCount s c l rows told u = rebalance_carries c z WriteCount s l rows told tt
@@ -253,7 +256,7 @@ operates z Walk s c l = walking (is_stopped c l)
     walking false = refl
 operates z SeekFirst s c l = seeking c
   where
-    seeking : (x : Choice) → (seek_first_transition x (carried l)).operation ≡ (seek_first_transition x l).operation
+    seeking : (x : Choice) → (seek_first_transition z.form x (carried l)).operation ≡ (seek_first_transition z.form x l).operation
     seeking (Begin call) = refl
     seeking Go = refl
     seeking (Guess r) = refl

@@ -10,11 +10,11 @@ use Rattle.kw_words.specs.declared.link.Link.{Link}
 use Rattle.kw_words.specs.declared.sizes.TheConstants.{SPENT}
 use Rattle.kw_words.specs.Link.{link_of}
 use Rattle.kw_words.specs.Pend.{pend_of, pend_word}
-use Rattle.kw_words.specs.Plain.{key_of_word, value_of_word, cell_of_link_word}
+use Rattle.kw_words.specs.Plain.{key_of_word, value_of_word, pass_of_word, cell_of_link_word}
 use Rattle.kw_words.specs.Scan.{scan_of}
 use Rattle.kw_words.specs.State.{state_of, state_word}
 use Rattle.kw_world.specs.declared.activity.Activity.{Activity}
-use Rattle.kw_world.specs.declared.activity.Activity.TheVariants.{Again, AgainEpoch, BalClock, BalEpoch, BalState, BalNormal, Engage, MarkLink, Decide, FreezeCount, FreezeLook, Freeze, ScanLook, HelpDraw, HelpSettle, TakeFrom, TakeKey, TakeVersion, TakeValue, TakeRestKey, TakeRestValue, SeekFirst, Seek, TakeRow, GiveBack, WriteCount, WriteMin, WriteNext, WriteFirst, WritePend, WriteKey, WriteValue, WriteVersion, WriteAfter, Before, BeforeGuess, BeforeHead, BeforeLink, BeforeMin, Replace, Normalise, Number, Retire}
+use Rattle.kw_world.specs.declared.activity.Activity.TheVariants.{Again, AgainEpoch, BalClock, BalEpoch, BalState, BalNormal, Engage, MarkLink, Decide, FreezeCount, FreezeLook, Freeze, ScanLook, HelpDraw, HelpSettle, TakeFrom, TakeKey, TakeVersion, TakeValue, TakeRestKey, TakeRestValue, SeekFirst, Seek, SeekPass, Reclaim, TakeRow, GiveBack, WriteCount, WriteMin, WriteNext, WriteFirst, WritePend, WriteKey, WriteValue, WriteVersion, WriteAfter, Before, BeforeGuess, BeforeHead, BeforeLink, BeforeMin, Replace, Normalise, Number, Retire}
 use Rattle.kw_world.specs.declared.event.Choice.{Choice}
 use Rattle.kw_world.specs.declared.event.Choice.TheVariants.{Begin, Go, Guess, Stop}
 use Rattle.kw_world.specs.declared.local.Local.{Local}
@@ -22,13 +22,13 @@ use Rattle.kw_world.specs.declared.marks.Mark.{Mark}
 use Rattle.kw_world.specs.declared.rebalance.Afterwards.{Afterwards}
 use Rattle.kw_world.specs.declared.rebalance.Afterwards.TheVariants.{TryAgain, Refuse, MoveLeft}
 use Rattle.kw_world.specs.Marks.{least_mark}
-use Rattle.kw_world.specs.Sizes.{Sizes}
+use Rattle.kw_world.specs.Sizes.{Sizes, Form, Refused, Alone, Reused}
 use Rattle.kw_world.specs.Table.{transition}
 use Rattle.kw_world.specs.Transition.{row_linked, row_or_first}
 use Rattle.kw_world.specs.EngageTransitions.{is_alone, state_met, engaged, link_marked, decided}
 use Rattle.kw_world.specs.FreezeTransitions.{to_freeze_look, marking, freeze_met, entry_tried, to_scan_look, needing, scan_met, scan_helped}
 use Rattle.kw_world.specs.TakeTransitions.{left_of, take_met, keeping}
-use Rattle.kw_world.specs.SeekTransitions.{given_back, give_back, gave_back, has_more, to_seek, seek_met, seeking, seek_first_transition, with_row, take_row}
+use Rattle.kw_world.specs.SeekTransitions.{given_back, give_back, gave_back, has_more, to_seek, to_pass, retired_at, seek_met, pass_met, seeking, seek_first_transition, with_row, take_row}
 use Rattle.kw_world.specs.WriteTransitions.{infant_cells, row_written, to_write_cell, to_write_entry}
 use Rattle.kw_world.specs.ReplaceTransitions.{first_before, guess_before, before_transition, row_before, link_before, row_replaced, replaced}
 use Rattle.kw_follow.specs.Following.{carried}
@@ -59,6 +59,8 @@ IsRebalancing TakeRestKey = Unit {0}
 IsRebalancing TakeRestValue = Unit {0}
 IsRebalancing SeekFirst = Unit {0}
 IsRebalancing Seek = Unit {0}
+IsRebalancing (SeekPass i) = Unit {0}
+IsRebalancing Reclaim = Unit {0}
 IsRebalancing TakeRow = Unit {0}
 IsRebalancing GiveBack = Unit {0}
 IsRebalancing WriteCount = Unit {0}
@@ -162,20 +164,32 @@ module _ (c : Choice) where
   seeks : (rows : ℕ) (l : Local) → Carries c l.pairs (to_seek rows l) (to_seek rows (carried l))
   seeks rows l = either c (nat_lt l.rebalance.asked rows) l.pairs _ _ _ _ (record { local = refl; done = refl; held = λ g. refl }) (give_back_carries Refuse l)
 
-  seek_carries : (rows : ℕ) (state : Option State) (l : Local) → Carries c l.pairs (seek_met rows state l) (seek_met rows state (carried l))
-  seek_carries rows (Some Free) l = record { local = refl; done = refl; held = λ g. refl }
-  seek_carries rows (Some (Infant seat)) l = seeks rows l
-  seek_carries rows (Some Normal) l = seeks rows l
-  seek_carries rows (Some (Leader count)) l = seeks rows l
-  seek_carries rows (Some (Follower leader)) l = seeks rows l
-  seek_carries rows (Some (Retired number)) l = seeks rows l
-  seek_carries rows None l = seeks rows l
+  passes_carry : (z : Sizes) (i : ℕ) (l : Local) → Carries c l.pairs (to_pass z i l) (to_pass z i (carried l))
+  passes_carry z i l = either c (nat_lt i z.seats) l.pairs _ _ _ _ (record { local = refl; done = refl; held = λ g. refl }) (record { local = refl; done = refl; held = λ g. refl })
 
-  seek_first_carries : (choice : Choice) (l : Local) (rows told : ℕ) → Carries c l.pairs ((seek_first_transition choice l).next rows told) ((seek_first_transition choice (carried l)).next rows told)
-  seek_first_carries (Begin call) l rows told = seek_carries rows (state_of told) (seeking l.rebalance.sought l)
-  seek_first_carries Go l rows told = seek_carries rows (state_of told) (seeking l.rebalance.sought l)
-  seek_first_carries (Guess r) l rows told = seek_carries rows (state_of told) (seeking r l)
-  seek_first_carries Stop l rows told = seek_carries rows (state_of told) (seeking l.rebalance.sought l)
+  pass_carries : (z : Sizes) (i rows : ℕ) (epoch : Option ℕ) (l : Local) → Carries c l.pairs (pass_met z i rows epoch l) (pass_met z i rows epoch (carried l))
+  pass_carries z i rows (Some epoch) l = either c (nat_le epoch l.rebalance.number) l.pairs _ _ _ _ (seeks rows l) (passes_carry z (i + 1) l)
+  pass_carries z i rows None l = passes_carry z (i + 1) l
+
+  retired_carries : (f : Form) (rows number : ℕ) (l : Local) → Carries c l.pairs (retired_at f rows number l) (retired_at f rows number (carried l))
+  retired_carries Refused rows number l = record { local = refl; done = refl; held = λ g. refl }
+  retired_carries Alone rows number l = seeks rows l
+  retired_carries Reused rows number l = record { local = refl; done = refl; held = λ g. refl }
+
+  seek_carries : (f : Form) (rows : ℕ) (state : Option State) (l : Local) → Carries c l.pairs (seek_met f rows state l) (seek_met f rows state (carried l))
+  seek_carries f rows (Some Free) l = record { local = refl; done = refl; held = λ g. refl }
+  seek_carries f rows (Some (Infant seat)) l = seeks rows l
+  seek_carries f rows (Some Normal) l = seeks rows l
+  seek_carries f rows (Some (Leader count)) l = seeks rows l
+  seek_carries f rows (Some (Follower leader)) l = seeks rows l
+  seek_carries f rows (Some (Retired number)) l = retired_carries f rows number l
+  seek_carries f rows None l = seeks rows l
+
+  seek_first_carries : (f : Form) (choice : Choice) (l : Local) (rows told : ℕ) → Carries c l.pairs ((seek_first_transition f choice l).next rows told) ((seek_first_transition f choice (carried l)).next rows told)
+  seek_first_carries f (Begin call) l rows told = seek_carries f rows (state_of told) (seeking l.rebalance.sought l)
+  seek_first_carries f Go l rows told = seek_carries f rows (state_of told) (seeking l.rebalance.sought l)
+  seek_first_carries f (Guess r) l rows told = seek_carries f rows (state_of told) (seeking r l)
+  seek_first_carries f Stop l rows told = seek_carries f rows (state_of told) (seeking l.rebalance.sought l)
 
   take_row_carries : (rows : ℕ) (b : Bool) (l : Local) → Carries c l.pairs (take_row rows b l) (take_row rows b (carried l))
   take_row_carries rows true l = either c (nat_lt (length (with_row l).rebalance.taken) (length l.rebalance.starts)) l.pairs _ _ _ _ (seeks rows (with_row l)) (record { local = refl; done = refl; held = λ g. refl })
@@ -247,8 +261,10 @@ module _ (c : Choice) where
   rebalance_carries z TakeValue s l rows told u = record { local = refl; done = refl; held = λ g. refl }
   rebalance_carries z TakeRestKey s l rows told u = record { local = refl; done = refl; held = λ g. refl }
   rebalance_carries z TakeRestValue s l rows told u = left_carries z (least_mark l.rebalance.marks) (keeping z (value_of_word told) l)
-  rebalance_carries z SeekFirst s l rows told u = seek_first_carries c l rows told
-  rebalance_carries z Seek s l rows told u = seek_carries rows (state_of told) (seeking l.rebalance.sought l)
+  rebalance_carries z SeekFirst s l rows told u = seek_first_carries z.form c l rows told
+  rebalance_carries z Seek s l rows told u = seek_carries z.form rows (state_of told) (seeking l.rebalance.sought l)
+  rebalance_carries z (SeekPass i) s l rows told u = pass_carries z i rows (pass_of_word told) l
+  rebalance_carries z Reclaim s l rows told u = record { local = refl; done = refl; held = λ g. refl }
   rebalance_carries z TakeRow s l rows told u = take_row_carries rows (told == state_word Free) l
   rebalance_carries z GiveBack s l rows told u = gave_back_carries l
   rebalance_carries z WriteCount s l rows told u = record { local = refl; done = refl; held = λ g. refl }

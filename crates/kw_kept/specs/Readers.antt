@@ -20,8 +20,8 @@ pub record GoesOn (puts puts' : Puts) (in_row in_row' stamped stamped' : ℕ →
   pub row_was : (p : ℕ) → in_row' p → stamped p → in_row p
 
 -- the sets of which a reader of a row knows: the puts of the row, those of which it has gathered a cell, all stamped puts, those that were
--- stamped before it looked, or before the row was unlinked; the attempts that were made in the row, those that were announced before its first
--- event, and those that lost their cell
+-- stamped before it looked, or before the row was unlinked; the attempts that were made in the row since it was linked, those that were
+-- announced before its first event, and those that lost their cell
 pub record Sets : Type 1 where
   pub in_row : ℕ → Type 0
   pub gathered : ℕ → Type 0

@@ -1,5 +1,5 @@
 -- What the events of a call so far say of a seat that is about to be refused, or searches for rows, and that each event of the seat keeps it.
-use Rattle.std.proofs.Common.{ℕ, ◌≡◌, ◌≢◌, ◌⊎◌, inl, inr, ◌+◌, ◌<◌, ◌≤◌, ◌==◌, Bool, true, false, nat_lt, if◌then◌else◌, Option, Some, None, List, [], ◌∷◌, ◌++◌, arith, refl, sym, ◌∙◌, ap, subst, length, slice_get, length-append}
+use Rattle.std.proofs.Common.{ℕ, ◌≡◌, ◌≢◌, ◌⊎◌, inl, inr, ◌+◌, ◌<◌, ◌≤◌, ◌==◌, Bool, true, false, nat_le, nat_lt, if◌then◌else◌, Option, Some, None, List, [], ◌∷◌, ◌++◌, arith, refl, sym, ◌∙◌, ap, subst, length, slice_get, length-append}
 use Rattle.std.proofs.lemmas.Bool.Decides.{nat_tests}
 use Rattle.std.proofs.lemmas.Option.{same_Some}
 use Rattle.kw_words.specs.declared.kind.Kind.TheVariants as kind
@@ -11,13 +11,15 @@ use Rattle.kw_words.specs.declared.state.State.{State}
 use Rattle.kw_words.specs.declared.state.State.TheVariants.{Free, Infant, Normal, Leader, Follower, Retired}
 use Rattle.kw_words.specs.Count.{count_of}
 use Rattle.kw_words.specs.Pend.{pend_of, pend_word}
+use Rattle.kw_words.specs.Plain.{IsCounted, number_word, pass_of_word}
 use Rattle.kw_words.specs.State.{state_of, state_word}
 use Rattle.kw_words.proofs.PendWords.{pend_word_of}
+use Rattle.kw_words.proofs.PlainWords.{IsCounted-number_of_word, number_word-number_of_word}
 use Rattle.kw_words.proofs.StateWords.{state_of-Free}
 use Rattle.kw_model.specs.declared.call.Call.{Call}
 use Rattle.kw_model.specs.declared.call.Call.TheVariants.{Put, Del, Get, Scan}
 use Rattle.kw_world.specs.declared.activity.Activity.{Activity}
-use Rattle.kw_world.specs.declared.activity.Activity.TheVariants.{Leave, ClearScan, ScanClock, PutCount, PutAdd, Announce, Stamp, BalClock, BalEpoch, SeekFirst, Seek, TakeRow, GiveBack, WriteCount}
+use Rattle.kw_world.specs.declared.activity.Activity.TheVariants.{Leave, ClearScan, ScanClock, PutCount, PutAdd, Announce, Stamp, BalClock, BalEpoch, SeekFirst, Seek, SeekPass, Reclaim, TakeRow, GiveBack, WriteCount}
 use Rattle.kw_world.specs.declared.answer.Answer.{Answer}
 use Rattle.kw_world.specs.declared.answer.Answer.TheVariants.{Pairs, NoRows, Spent}
 use Rattle.kw_world.specs.declared.event.Choice.{Choice}
@@ -32,8 +34,8 @@ use Rattle.kw_world.specs.declared.rebalance.Afterwards.TheVariants.{TryAgain, R
 use Rattle.kw_world.specs.Answers.{answer_found}
 use Rattle.kw_world.specs.PutTransitions.{has_room}
 use Rattle.kw_world.specs.ScanTransitions.{answer_or_stopped}
-use Rattle.kw_world.specs.SeekTransitions.{at_infant, has_more, row_behind, given_back, give_back, to_seek, seek_met, seeking, seek_first_transition, with_row, take_row}
-use Rattle.kw_world.specs.Sizes.{Refused, IsRebalancing, Sizes}
+use Rattle.kw_world.specs.SeekTransitions.{at_infant, has_more, row_behind, given_back, give_back, numbered, pass_met, retired_at, to_pass, to_seek, seek_met, seeking, seek_first_transition, with_row, take_row}
+use Rattle.kw_world.specs.Sizes.{Form, Refused, Alone, Reused, IsRebalancing, IsReusing, Sizes}
 use Rattle.kw_world.specs.Table.{transition}
 use Rattle.kw_world.specs.Transition.{Transition, Outcome, to}
 use Rattle.kw_world.specs.WalkTransitions.{offered}
@@ -43,20 +45,23 @@ use Rattle.kw_world.specs.Step.{word, followed, transition_at}
 use Rattle.kw_world.proofs.Steps.{transition_of-transition}
 use Rattle.kw_core.specs.Events.{event, world}
 use Rattle.kw_core.specs.Run.{Run}
-use Rattle.kw_core.specs.Stages.{IsReached}
+use Rattle.kw_core.specs.Stages.{IsBusy, IsReached}
 use Rattle.kw_core.specs.Words.{Words}
 use Rattle.kw_core.proofs.Arrows.{Arrow, NextLook, looks, lists, NextRest, rests, answers, ends_scan, scans_on, IsNotOwn, is_spent, meets_stamped, meets_neither, is_passed, helps, finds_stamped, finds_other, list_ends, key_above, rest_passed, gathers_rest, clears_scan, finds_none, takes_none, is_refused, is_not_own, clock_is_spent, epoch_is_spent, takes_no_more, keeps_no_more, builds}
-use Rattle.kw_core.proofs.Building.{Building, first_is_free, first_is_taken, sought_is_free, sought_is_taken, takes_row, loses_row, gives_one_back, gives_last_back, writes_first, writes_entry, writes_after, begins_before, takes_head_before, leads_on_marked, leads_nowhere, walks_past, is_marked_before, is_replaced}
+use Rattle.kw_core.proofs.Building.{Building, first_is_free, first_is_taken, first_is_retired, sought_is_free, sought_is_taken, sought_is_retired, pass_is_old, pass_is_young, frees_row, takes_row, loses_row, gives_one_back, gives_last_back, writes_first, writes_entry, writes_after, begins_before, takes_head_before, leads_on_marked, leads_nowhere, walks_past, is_marked_before, is_replaced}
 use Rattle.kw_core.proofs.NextBuilt.{tries_again, moves_left, NextBack, gives_back, has_none, NextNewRow, writes_row, has_written, NextNewCell, fills, empties, has_cells, NextNewEntry, writes_idle, has_entries, NextBefore, is_first, is_behind}
+use Rattle.kw_core.proofs.BuiltReached.{reusing_rebalances}
 use Rattle.kw_core.proofs.Happens.{Happens, found_at}
 use Rattle.kw_reads.specs.Inv.{Inv}
 use Rattle.kw_rows.specs.Events.{IsIn}
+use Rattle.kw_shape.specs.RowsIn.{state_met}
+use Rattle.kw_shape.proofs.SoughtKeep.{retakes}
 use Rattle.kw_shape.specs.Shape.{IsKind, IsPutCall, IsScanCall, IsPairs}
-use Rattle.kw_laws.specs.Causes.{IsAsking, IsSpentBy, IsAskingRow, IsTrying, FoundTaken, TookRow, asking, taking}
+use Rattle.kw_laws.specs.Causes.{IsAsking, IsSpentBy, IsAskingRow, IsTrying, MayBeNamed, MetPass, FoundTaken, TookRow, asking, asking_pass, reclaiming, taking}
 use Rattle.kw_laws.specs.Mirror.{Occurs, Acts}
 use Rattle.kw_laws.specs.Unfrozen.{RebalancesNone, HasCellOfOwn, IsUnfrozen}
 use Rattle.kw_laws.proofs.CausesLast.{WhyNoRows, IsSearching, trying_searches, spent_lasts, why_lasts}
-use Rattle.kw_laws.proofs.CausesSearch.{none_passed, in_front, in_last, in_was, some_start, IsBeforeSearch, Searching, searching_lasts, asked_all, next_row}
+use Rattle.kw_laws.proofs.CausesSearch.{none_passed, in_front, in_last, in_was, some_start, IsBeforeSearch, Searching, searching_begun, searching_lasts, searching_number, AsksPasses, asks_lasts, asks_taken, asked_all, next_row}
 use Rattle.kw_laws.proofs.Occurs.{occurs_now, occurs_was, occurs_within}
 
 -- what the events of the call, which began at this position, say of its seat
@@ -66,6 +71,8 @@ Since (Leave NoRows) z o es s first call l = WhyNoRows z o es s first (length es
 Since GiveBack z o es s first call l = l.rebalance.afterwards ≡ Refuse → WhyNoRows z o es s first (length es)
 Since SeekFirst z o es s first call l = IsBeforeSearch l.rebalance
 Since Seek z o es s first call l = Searching z o es s first l.rebalance
+Since (SeekPass i) z o es s first call l = (w : Searching z o es s first l.rebalance) × AsksPasses z o es s w.begun l.rebalance.sought l.rebalance.number
+Since Reclaim z o es s first call l = Searching z o es s first l.rebalance
 Since TakeRow z o es s first call l = Searching z o es s first l.rebalance
 Since _ z o es s first call l = Unit {0}
 
@@ -83,12 +90,19 @@ since_lasts z o es e s first call l a w idle p = by a p
     search : Searching z o es s first l.rebalance → Searching z o (es ++ e ∷ []) s first l.rebalance
     search = searching_lasts z o es e s first l.rebalance w (λ u found op f g c. idle u found SeekFirst op tt f g c) (λ q u found b op n f g d c. idle u found b op (trying_searches s q b op d) f g c)
 
+    passes : (t : Searching z o es s first l.rebalance) → AsksPasses z o es s t.begun l.rebalance.sought l.rebalance.number → AsksPasses z o (es ++ e ∷ []) s (search t).begun l.rebalance.sought l.rebalance.number
+    passes t q =
+        let same : (search t).begun ≡ t.begun = searching_begun z o es e s first l.rebalance w (λ u found op f g c. idle u found SeekFirst op tt f g c) (λ d u found b op n f g x c. idle u found b op (trying_searches s d b op x) f g c) t in
+        subst (λ x. AsksPasses z o (es ++ e ∷ []) s x l.rebalance.sought l.rebalance.number) (sym same) (asks_lasts z o es e s t.begun l.rebalance.sought l.rebalance.number (λ u found b op f g d c. idle u found b op (trying_searches s l.rebalance.sought b op d) f g c) q)
+
     by : (b : Activity) → Since b z o es s first call l → Since b z o (es ++ e ∷ []) s first call l
     by (Leave Spent) q = spent_lasts z o es e s (length es) (length (es ++ e ∷ [])) w call first q
     by (Leave NoRows) q = rows q
     by GiveBack q = λ x. rows (q x)
     by SeekFirst q = q
     by Seek q = search q
+    by (SeekPass i) q = (search q.0, passes q.0 q.1)
+    by Reclaim q = search q
     by TakeRow q = search q
     by _ q = tt
 
@@ -128,6 +142,8 @@ not_free w x e n f = n (sym e ∙ ap state_of f ∙ state_of-Free)
 abbrev IsOffSearch : Activity → Type 0
 IsOffSearch SeekFirst = ⊥
 IsOffSearch Seek = ⊥
+IsOffSearch (SeekPass i) = ⊥
+IsOffSearch Reclaim = ⊥
 IsOffSearch TakeRow = ⊥
 IsOffSearch GiveBack = ⊥
 IsOffSearch _ = Unit {0}
@@ -251,8 +267,13 @@ module _ (z : Sizes) (o : Opening) (es : List Event) (e : Event) (r r' : Run) (l
   built : (b : Activity) (k : Local) → Building z v choice l b k → IsOffSearch b → Then k
   built b k (first_is_free q c f) x = absurd x
   built b k (first_is_taken q n next c f t) x = absurd x
+  built b k (first_is_retired q m c f y) x = absurd x
   built b k (sought_is_free f) x = absurd x
   built b k (sought_is_taken n next f t) x = absurd x
+  built b k (sought_is_retired m f y) x = absurd x
+  built b k (pass_is_old j epoch n next f w t) x = absurd x
+  built b k (pass_is_young j next f t) x = absurd x
+  built b k frees_row x = absurd x
   built b k (takes_row n next f t) x = absurd x
   built b k (loses_row n next f t) x = absurd x
   built b k (gives_one_back w) x = absurd x
@@ -313,8 +334,16 @@ module _ (z : Sizes) (o : Opening) (es : List Event) (e : Event) (r r' : Run) (l
   abbrev IsTakenNow : ℕ → Type 0
   IsTakenNow q = (begun : ℕ) → begun ≤ length es → FoundTaken z o (es ++ e ∷ []) e.seat begun (length (es ++ e ∷ [])) q
 
-  taken_here : (b : Activity) (op : Operation) (q : ℕ) → a ≡ b → (transition z b e.seat (offered r.world.rows e.choice) l).operation ≡ op → IsTrying e.seat q b op → op.name ≡ name.State q → word z r.world (name.State q) ≢ state_word Free → IsTakenNow q
-  taken_here b op q is f tries n free begun w = record { at = length es; after = w; before = longer; activity = b; op = op; tries = tries; found = word z r.world (name.State q); acts = acts_here b op (word z r.world (name.State q)) is f (ap (word z r.world) n); taken = free; final = λ u x c y g d t k. omega (arith, g, d, length-append es (e ∷ [])) }
+  -- where rows are used again, one that is found in this state, and is retired, may be named in a pass that is on
+  abbrev IsPassedNow : Option State → Type 0
+  IsPassedNow x = IsReusing z.form → (number : ℕ) → x ≡ Some (Retired number) → MayBeNamed z o (es ++ e ∷ []) e.seat (length es) (length (es ++ e ∷ [])) number l
+
+  taken_here : (b : Activity) (op : Operation) (q : ℕ) → a ≡ b → (transition z b e.seat (offered r.world.rows e.choice) l).operation ≡ op → IsTrying e.seat q b op → op.name ≡ name.State q → word z r.world (name.State q) ≢ state_word Free → IsPassedNow (state_of (word z r.world (name.State q))) → IsTakenNow q
+  taken_here b op q is f tries n free passed begun w = record { at = length es; after = w; before = longer; activity = b; op = op; tries = tries; found = word z r.world (name.State q); acts = acts_here b op (word z r.world (name.State q)) is f (ap (word z r.world) n); taken = free; passed = passed; final = λ u x c y g d t k. omega (arith, g, d, length-append es (e ∷ [])) }
+
+  -- the row that it asks for is found retired, and the passes are looked at
+  asks_here : (b : Activity) (q number : ℕ) → a ≡ b → (transition z b e.seat (offered r.world.rows e.choice) l).operation ≡ asking q → IsTrying e.seat q b (asking q) → state_of (word z r.world (name.State q)) ≡ Some (Retired number) → (begun : ℕ) → begun ≤ length es → AsksPasses z o (es ++ e ∷ []) e.seat begun q number
+  asks_here b q number is f tries retired begun w = record { at = length es; after = w; before = longer; activity = b; tries = tries; found = word z r.world (name.State q); retired = retired; acts = acts_here b (asking q) (word z r.world (name.State q)) is f refl; final = λ u x c y g d t k. omega (arith, g, d, length-append es (e ∷ [])) }
 
   -- rows that are given back for want of others
   gives_up : (k : Local) → WhyNoRows z o (es ++ e ∷ []) e.seat first (length (es ++ e ∷ [])) → Then (give_back Refuse k).local
@@ -325,29 +354,34 @@ module _ (z : Sizes) (o : Opening) (es : List Event) (e : Event) (r r' : Run) (l
       met false = p
 
   -- the next row is asked, or all were
-  goes_on : (k : Local) → IsRebalancing z.form → Searching z o (es ++ e ∷ []) e.seat first k.rebalance → IsIn k.rebalance.taken k.rebalance.sought ⊎ IsTakenNow k.rebalance.sought → Then (to_seek o.rows k).local
-  goes_on k c p asks = met (nat_lt k.rebalance.asked o.rows) refl
+  goes_on : (k : Local) → IsRebalancing z.form → (p : Searching z o (es ++ e ∷ []) e.seat first k.rebalance) → IsIn k.rebalance.taken k.rebalance.sought ⊎ FoundTaken z o (es ++ e ∷ []) e.seat p.begun (length (es ++ e ∷ [])) k.rebalance.sought → Then (to_seek o.rows k).local
+  goes_on k c p here = met (nat_lt k.rebalance.asked o.rows) refl
     where
-      here : IsIn k.rebalance.taken k.rebalance.sought ⊎ FoundTaken z o (es ++ e ∷ []) e.seat p.begun (length (es ++ e ∷ [])) k.rebalance.sought
-      here = which asks
-        where
-          which : IsIn k.rebalance.taken k.rebalance.sought ⊎ IsTakenNow k.rebalance.sought → IsIn k.rebalance.taken k.rebalance.sought ⊎ FoundTaken z o (es ++ e ∷ []) e.seat p.begun (length (es ++ e ∷ [])) k.rebalance.sought
-          which (inl x) = inl x
-          which (inr x) = inr (x p.begun (omega (arith, p.before, length-append es (e ∷ []))))
-
       met : (b : Bool) → nat_lt k.rebalance.asked o.rows ≡ b → Then (let x : Outcome = if b then to Seek (record k { rebalance = record k.rebalance { sought = row_behind o.rows k.rebalance.sought; asked = k.rebalance.asked + 1 } }) else give_back Refuse k in x).local
       met true y = let more : k.rebalance.asked < o.rows = grind (arith, nat_tests) in next_row z o (es ++ e ∷ []) e.seat first k.rebalance more p here
       met false y = let all : o.rows ≤ k.rebalance.asked = grind (arith, nat_tests) in gives_up k (inr (c, asked_all z o (es ++ e ∷ []) e.seat first k.rebalance all p here))
 
+  -- the row was found taken now
+  goes_past : (k : Local) → IsRebalancing z.form → Searching z o (es ++ e ∷ []) e.seat first k.rebalance → IsTakenNow k.rebalance.sought → Then (to_seek o.rows k).local
+  goes_past k c p t = goes_on k c p (inr (t p.begun (omega (arith, p.before, length-append es (e ∷ [])))))
+
   -- a row whose state is met
-  meets : (k : Local) (x : Option State) → IsRebalancing z.form → Searching z o (es ++ e ∷ []) e.seat first k.rebalance → (x ≢ Some Free → IsTakenNow k.rebalance.sought) → Then (seek_met o.rows x k).local
-  meets k (Some Free) c p t = p
-  meets k (Some (Infant seat)) c p t = goes_on k c p (inr (t (λ f. let y : Some (Infant seat) ≡ Some Free = f in cc)))
-  meets k (Some Normal) c p t = goes_on k c p (inr (t (λ f. let y : Some Normal ≡ Some Free = f in cc)))
-  meets k (Some (Leader count)) c p t = goes_on k c p (inr (t (λ f. let y : Some (Leader count) ≡ Some Free = f in cc)))
-  meets k (Some (Follower leader)) c p t = goes_on k c p (inr (t (λ f. let y : Some (Follower leader) ≡ Some Free = f in cc)))
-  meets k (Some (Retired number)) c p t = goes_on k c p (inr (t (λ f. let y : Some (Retired number) ≡ Some Free = f in cc)))
-  meets k None c p t = goes_on k c p (inr (t (λ f. let y : None ≡ Some Free = f in cc)))
+  meets : (k : Local) (x : Option State) → IsRebalancing z.form → Searching z o (es ++ e ∷ []) e.seat first k.rebalance → (x ≢ Some Free → IsPassedNow x → IsTakenNow k.rebalance.sought) → ((number : ℕ) → x ≡ Some (Retired number) → (begun : ℕ) → begun ≤ length es → AsksPasses z o (es ++ e ∷ []) e.seat begun k.rebalance.sought number) → Then (seek_met z.form o.rows x k).local
+  meets k (Some Free) c p t asks = p
+  meets k (Some (Infant seat)) c p t asks = goes_past k c p (t (λ f. let y : Some (Infant seat) ≡ Some Free = f in cc) (λ u n f. let y : Some (Infant seat) ≡ Some (Retired n) = f in absurd (cc)))
+  meets k (Some Normal) c p t asks = goes_past k c p (t (λ f. let y : Some Normal ≡ Some Free = f in cc) (λ u n f. let y : Some Normal ≡ Some (Retired n) = f in absurd (cc)))
+  meets k (Some (Leader count)) c p t asks = goes_past k c p (t (λ f. let y : Some (Leader count) ≡ Some Free = f in cc) (λ u n f. let y : Some (Leader count) ≡ Some (Retired n) = f in absurd (cc)))
+  meets k (Some (Follower leader)) c p t asks = goes_past k c p (t (λ f. let y : Some (Follower leader) ≡ Some Free = f in cc) (λ u n f. let y : Some (Follower leader) ≡ Some (Retired n) = f in absurd (cc)))
+  meets k (Some (Retired number)) c p t asks = retired z.form refl
+    where
+      looks_at : Then (record (numbered number k) { activity = SeekPass 0 })
+      looks_at = (searching_number z o (es ++ e ∷ []) e.seat first number k.rebalance p, asks number refl p.begun (omega (arith, p.before, length-append es (e ∷ []))))
+
+      retired : (f : Form) → z.form ≡ f → Then (retired_at f o.rows number k).local
+      retired Refused y = looks_at
+      retired Reused y = looks_at
+      retired Alone y = goes_past k c p (t (λ f. let y : Some (Retired number) ≡ Some Free = f in cc) (λ u n f. absurd (subst IsReusing y u)))
+  meets k None c p t asks = goes_past k c p (t (λ f. let y : None ≡ Some Free = f in cc) (λ u n f. let y : None ≡ Some (Retired n) = f in absurd (cc)))
 
   -- what the seat knows next, by its line
   next_is : (b : Activity) → a ≡ b → l' ≡ (followed o.rows (transition z b e.seat (offered r.world.rows e.choice) l) (found_at z (word z r.world) b e.seat (offered r.world.rows e.choice) l)).local
@@ -378,10 +412,10 @@ module _ (z : Sizes) (o : Opening) (es : List Event) (e : Event) (r r' : Run) (l
     passed = λ d x y. none_passed q d y;
   }
 
-  first_row : (q : ℕ) → a ≡ SeekFirst → q < o.rows → (transition z SeekFirst e.seat (offered r.world.rows e.choice) l).operation ≡ asking q → l' ≡ (seek_met o.rows (state_of (word z r.world (name.State q))) (seeking q l)).local → IsBeforeSearch l.rebalance → Then l'
+  first_row : (q : ℕ) → a ≡ SeekFirst → q < o.rows → (transition z SeekFirst e.seat (offered r.world.rows e.choice) l).operation ≡ asking q → l' ≡ (seek_met z.form o.rows (state_of (word z r.world (name.State q))) (seeking q l)).local → IsBeforeSearch l.rebalance → Then l'
   first_row q is w f n p =
       let c : IsRebalancing z.form = rebalancing SeekFirst is in
-      then_so _ n (meets (seeking q l) (state_of (word z r.world (name.State q))) c (begins_search q is w f p) (λ x. taken_here SeekFirst (asking q) q is f refl refl (not_free _ _ refl x)))
+      then_so _ n (meets (seeking q l) (state_of (word z r.world (name.State q))) c (begins_search q is w f p) (λ x. taken_here SeekFirst (asking q) q is f refl refl (not_free _ _ refl x)) (λ number x. asks_here SeekFirst q number is f refl x))
 
   at_first : a ≡ SeekFirst → IsBeforeSearch l.rebalance → Then l'
   at_first is p = chosen (offered r.world.rows e.choice) refl h.offers
@@ -389,11 +423,11 @@ module _ (z : Sizes) (o : Opening) (es : List Event) (e : Event) (r r' : Run) (l
       some_rows : l.rebalance.sought < o.rows
       some_rows = omega (arith, p.sought, rows, i.shape.sane.sized.some_rows)
 
-      line : (d : Choice) → offered r.world.rows e.choice ≡ d → (transition z SeekFirst e.seat (offered r.world.rows e.choice) l).operation ≡ (seek_first_transition d l).operation
-      line d c = ap (λ x. (seek_first_transition x l).operation) c
+      line : (d : Choice) → offered r.world.rows e.choice ≡ d → (transition z SeekFirst e.seat (offered r.world.rows e.choice) l).operation ≡ (seek_first_transition z.form d l).operation
+      line d c = ap (λ x. (seek_first_transition z.form x l).operation) c
 
-      next : (d : Choice) → offered r.world.rows e.choice ≡ d → l' ≡ (followed o.rows (seek_first_transition d l) (word z r.world (seek_first_transition d l).operation.name)).local
-      next d c = next_is SeekFirst is ∙ ap (λ x. (followed o.rows (seek_first_transition x l) (word z r.world (seek_first_transition x l).operation.name)).local) c
+      next : (d : Choice) → offered r.world.rows e.choice ≡ d → l' ≡ (followed o.rows (seek_first_transition z.form d l) (word z r.world (seek_first_transition z.form d l).operation.name)).local
+      next d c = next_is SeekFirst is ∙ ap (λ x. (followed o.rows (seek_first_transition z.form x l) (word z r.world (seek_first_transition z.form x l).operation.name)).local) c
 
       chosen : (d : Choice) → offered r.world.rows e.choice ≡ d → IsOffered r.world.rows (offered r.world.rows e.choice) → Then l'
       chosen (Begin x) c y = first_row l.rebalance.sought is some_rows (line (Begin x) c) (next (Begin x) c) p
@@ -408,6 +442,10 @@ module _ (z : Sizes) (o : Opening) (es : List Event) (e : Event) (r r' : Run) (l
       searching_lasts z o es e e.seat first l.rebalance w (λ u found d x y t. n (sym is ∙ (acts_same u found SeekFirst d x y t).0)) (λ q u found c d g x y k t.
       let s = acts_same u found c d x y t in
       other q g (subst (λ m. IsTrying e.seat q m op) (sym s.0 ∙ is) (subst (λ m. IsTrying e.seat q c m) (sym s.1 ∙ operates_here b op is f) k))) p
+
+  still_begun : (b : Activity) (op : Operation) (is : a ≡ b) (f : (transition z b e.seat (offered r.world.rows e.choice) l).operation ≡ op) (n : b ≢ SeekFirst) (other : (q : ℕ) → q ≢ l.rebalance.sought → IsTrying e.seat q b op → ⊥) (p : Searching z o es e.seat first l.rebalance) → (still b op is f n other p).begun ≡ p.begun
+  unfolding still
+  still_begun b op is f n other p = searching_begun z o es e e.seat first l.rebalance _ _ _ p
 
   -- no other row is asked for
   asks_one : (q row : ℕ) → q ≢ row → asking row ≡ asking q → ⊥
@@ -427,7 +465,64 @@ module _ (z : Sizes) (o : Opening) (es : List Event) (e : Event) (r r' : Run) (l
   at_seek is p =
       let c : IsRebalancing z.form = rebalancing Seek is in
       then_so _ (next_is Seek is) (meets (seeking l.rebalance.sought l) (state_of (word z r.world (name.State l.rebalance.sought))) c (still_asking is p)
-      (λ x. taken_here Seek (asking l.rebalance.sought) l.rebalance.sought is refl refl refl (not_free _ _ refl x)))
+      (λ x. taken_here Seek (asking l.rebalance.sought) l.rebalance.sought is refl refl refl (not_free _ _ refl x)) (λ number x. asks_here Seek l.rebalance.sought number is refl refl x))
+
+  -- The passes.
+
+  -- a pass that is not younger than the number is met, and the row was found taken
+  meets_pass : (j epoch : ℕ) → a ≡ SeekPass j → pass_of_word (word z r.world (name.Pass j)) ≡ Some epoch → (at : ℕ) → at < length es → (number : ℕ) → epoch ≤ number → MetPass z o (es ++ e ∷ []) e.seat at (length (es ++ e ∷ [])) number
+  meets_pass j epoch is f at w number old = record {
+    at = length es;
+    after = w;
+    before = longer;
+    seat = j;
+    epoch = epoch;
+    acts = acts_here (SeekPass j) (asking_pass j) epoch is refl (sym (number_word-number_of_word (word z r.world (name.Pass j))) ∙ ap number_word f);
+    some = subst IsCounted f (IsCounted-number_of_word (word z r.world (name.Pass j)));
+    old = old;
+  }
+
+  at_pass : (j : ℕ) → a ≡ SeekPass j → (w : Searching z o es e.seat first l.rebalance) → AsksPasses z o es e.seat w.begun l.rebalance.sought l.rebalance.number → Then l'
+  at_pass j is w q = then_so _ (next_is (SeekPass j) is) (passed (pass_of_word (word z r.world (name.Pass j))) refl)
+    where
+      c : IsRebalancing z.form
+      c = reusing_rebalances z.form (rebalancing (SeekPass j) is)
+
+      tries_none : (d : ℕ) → d ≢ l.rebalance.sought → IsTrying e.seat d (SeekPass j) (asking_pass j) → ⊥
+      tries_none d n f = f
+
+      search : Searching z o (es ++ e ∷ []) e.seat first l.rebalance
+      search = still (SeekPass j) (asking_pass j) is refl (λ x. cc) tries_none w
+
+      idle : (u found : ℕ) (b : Activity) (op : Operation) → length es ≤ u → u < length (es ++ e ∷ []) → IsTrying e.seat l.rebalance.sought b op → Acts z o (es ++ e ∷ []) u e.seat b op found → ⊥
+      idle u found b op f g d t = subst (λ x. IsTrying e.seat l.rebalance.sought x op) (sym (acts_same u found b op f g t).0 ∙ is) d
+
+      begun : search.begun ≡ w.begun
+      begun = still_begun (SeekPass j) (asking_pass j) is refl (λ x. cc) tries_none w
+
+      asks : AsksPasses z o (es ++ e ∷ []) e.seat search.begun l.rebalance.sought l.rebalance.number
+      asks = subst (λ x. AsksPasses z o (es ++ e ∷ []) e.seat x l.rebalance.sought l.rebalance.number) (sym begun) (asks_lasts z o es e e.seat w.begun l.rebalance.sought l.rebalance.number idle q)
+
+      looks_on : (b : Bool) → Then (let x : Outcome = if b then to (SeekPass (j + 1)) l else to Reclaim l in x).local
+      looks_on true = (search, asks)
+      looks_on false = search
+
+      found : MetPass z o (es ++ e ∷ []) e.seat q.at (length (es ++ e ∷ [])) l.rebalance.number → FoundTaken z o (es ++ e ∷ []) e.seat search.begun (length (es ++ e ∷ [])) l.rebalance.sought
+      found m = subst (λ x. FoundTaken z o (es ++ e ∷ []) e.seat x (length (es ++ e ∷ [])) l.rebalance.sought) (sym begun) (asks_taken z o es e e.seat w.begun l.rebalance.sought l.rebalance.number idle q m)
+
+      met : (epoch : ℕ) → pass_of_word (word z r.world (name.Pass j)) ≡ Some epoch → (b : Bool) → nat_le epoch l.rebalance.number ≡ b → Then (let x : Outcome = if b then to_seek o.rows l else to_pass z (j + 1) l in x).local
+      met epoch f true y = let old : epoch ≤ l.rebalance.number = grind (arith, nat_tests) in goes_on l c search (inr (found (meets_pass j epoch is f q.at q.before l.rebalance.number old)))
+      met epoch f false y = looks_on (nat_lt (j + 1) z.seats)
+
+      passed : (x : Option ℕ) → pass_of_word (word z r.world (name.Pass j)) ≡ x → Then (pass_met z j o.rows x l).local
+      passed (Some epoch) f = met epoch f (nat_le epoch l.rebalance.number) refl
+      passed None f = looks_on (nat_lt (j + 1) z.seats)
+
+  at_reclaim : a ≡ Reclaim → Searching z o es e.seat first l.rebalance → Then l'
+  at_reclaim is p = then_so _ (next_is Reclaim is) (still Reclaim (reclaiming l.rebalance.sought l.rebalance.number) is refl (λ x. cc) (λ q n f. reclaims_one q n f) p)
+    where
+      reclaims_one : (q : ℕ) → q ≢ l.rebalance.sought → (number : ℕ) × (reclaiming l.rebalance.sought l.rebalance.number ≡ reclaiming q number) → ⊥
+      reclaims_one q n f = n (let x : name.State l.rebalance.sought ≡ name.State q = ap (λ (op : Operation). op.name) f.1 in cc)
 
   -- a row that the seat takes
   with_taken : (p : Searching z o es e.seat first l.rebalance) → a ≡ TakeRow → word z r.world (name.State l.rebalance.sought) ≡ state_word Free → length (with_row l).rebalance.taken < length l.rebalance.starts → Searching z o (es ++ e ∷ []) e.seat first (with_row l).rebalance
@@ -468,6 +563,10 @@ module _ (z : Sizes) (o : Opening) (es : List Event) (e : Event) (r r' : Run) (l
       c : IsRebalancing z.form
       c = rebalancing TakeRow is
 
+      -- a row that is found retired there went in the pass of the seat
+      retaken : IsPassedNow (state_of (word z r.world (name.State l.rebalance.sought)))
+      retaken u n f = inl (((i.shape.passes e.seat l h.knows).epoch (subst IsBusy (sym (h.activity ∙ is)) tt)).0, retakes z r i.shape e.seat n l h.knows (h.activity ∙ is) (ap state_met f))
+
       more : word z r.world (name.State l.rebalance.sought) ≡ state_word Free → (b : Bool) → nat_lt (length (with_row l).rebalance.taken) (length l.rebalance.starts) ≡ b →
           Then (let x : Outcome = if b then to_seek o.rows (with_row l) else to WriteCount (at_infant 0 (with_row l)) in x).local
       more won true y = let w : length (with_row l).rebalance.taken < length l.rebalance.starts = grind (arith, nat_tests) in goes_on (with_row l) c (with_taken p is won w) (inl (in_last l.rebalance.taken l.rebalance.sought))
@@ -477,7 +576,7 @@ module _ (z : Sizes) (o : Opening) (es : List Event) (e : Event) (r r' : Run) (l
       met true y = let won : word z r.world (name.State l.rebalance.sought) ≡ state_word Free = grind (arith, nat_tests) in more won (nat_lt (length (with_row l).rebalance.taken) (length l.rebalance.starts)) refl
       met false y =
           let lost : word z r.world (name.State l.rebalance.sought) ≢ state_word Free = grind (arith, nat_tests) in
-          goes_on l c (still_taking is p) (inr (taken_here TakeRow (taking e.seat l.rebalance.sought) l.rebalance.sought is refl refl refl lost))
+          goes_past l c (still_taking is p) (taken_here TakeRow (taking e.seat l.rebalance.sought) l.rebalance.sought is refl refl refl lost retaken)
 
   at_give_back : a ≡ GiveBack → (l.rebalance.afterwards ≡ Refuse → WhyNoRows z o es e.seat first (length es)) → Then l'
   at_give_back is p = then_so _ (next_is GiveBack is) (met (has_more l))
@@ -505,6 +604,8 @@ module _ (z : Sizes) (o : Opening) (es : List Event) (e : Event) (r r' : Run) (l
       by : (b : Activity) → a ≡ b → Since b z o es e.seat first call l → Then l'
       by SeekFirst is q = at_first is q
       by Seek is q = at_seek is q
+      by (SeekPass j) is q = at_pass j is q.0 q.1
+      by Reclaim is q = at_reclaim is q
       by TakeRow is q = at_take is q
       by GiveBack is q = at_give_back is q
       by b is q = by_arrow b l' is (subst (λ c. Arrow z (word z r.world) e.seat (offered r.world.rows e.choice) l c l') is h.arrow) tt

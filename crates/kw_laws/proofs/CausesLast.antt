@@ -3,14 +3,14 @@ use Rattle.std.proofs.Common.{ℕ, ◌≡◌, ◌⊎◌, inl, inr, ◌<◌, ◌�
 use Rattle.std.proofs.lemmas.Bool.{cases_lt}
 use Rattle.kw_model.specs.declared.call.Call.{Call}
 use Rattle.kw_world.specs.declared.activity.Activity.{Activity}
-use Rattle.kw_world.specs.declared.activity.Activity.TheVariants.{SeekFirst, Seek, TakeRow}
+use Rattle.kw_world.specs.declared.activity.Activity.TheVariants.{SeekFirst, Seek, Reclaim, TakeRow}
 use Rattle.kw_world.specs.declared.event.Event.{Event}
 use Rattle.kw_world.specs.declared.opening.Opening.{Opening}
 use Rattle.kw_world.specs.declared.operation.Operation.{Operation}
 use Rattle.kw_world.specs.Sizes.{Refused, IsRebalancing, Sizes}
 use Rattle.kw_core.specs.Events.{event, world}
 use Rattle.kw_rows.specs.Events.{IsIn}
-use Rattle.kw_laws.specs.Causes.{IsSpentBy, FoundNoRoom, IsTrying, NotTried, FoundTaken, TookRow, NoSearch, AskedAll}
+use Rattle.kw_laws.specs.Causes.{IsSpentBy, FoundNoRoom, IsTrying, NotTried, MayBeNamed, FoundTaken, TookRow, NoSearch, AskedAll}
 use Rattle.kw_laws.specs.Mirror.{Occurs, Acts}
 use Rattle.kw_laws.proofs.Occurs.{occurs_lasts, occurs_was}
 
@@ -22,6 +22,7 @@ WhyNoRows z o es s first last = ((z.form ≡ Refused) × FoundNoRoom z o es s fi
 abbrev pub IsSearching : Activity → Type 0
 IsSearching SeekFirst = Unit {0}
 IsSearching Seek = Unit {0}
+IsSearching Reclaim = Unit {0}
 IsSearching TakeRow = Unit {0}
 IsSearching _ = ⊥
 
@@ -29,6 +30,7 @@ IsSearching _ = ⊥
 pub trying_searches : (s q : ℕ) (a : Activity) (op : Operation) → IsTrying s q a op → IsSearching a
 trying_searches s q SeekFirst op t = tt
 trying_searches s q Seek op t = tt
+trying_searches s q Reclaim op t = tt
 trying_searches s q TakeRow op t = tt
 trying_searches s q _ op t = absurd t
 
@@ -57,6 +59,14 @@ module _ (z : Sizes) (o : Opening) (es : List Event) (e : Event) (s last last' :
   took_lasts first q t = record { at = t.at; after = t.after; before = omega (arith, w, t.before); acts = acts_on z o es e t.at s _ _ _ t.acts }
 
   -- where the seat asks no more for the row between them
+  pub not_tried_lasts : last ≤ length es → (at q : ℕ) → ((u found : ℕ) (a : Activity) (op : Operation) → last ≤ u → u < last' → IsTrying s q a op → Acts z o (es ++ e ∷ []) u s a op found → ⊥) → NotTried z o es s at last q → NotTried z o (es ++ e ∷ []) s at last' q
+  not_tried_lasts inside at q untried n u found a op f g d c = where_at (cases_lt u last) (acts_was z o es e u s a op found c)
+    where
+      where_at : (u < last) ⊎ (last ≤ u) → Acts z o es u s a op found ⊎ (u ≡ length es) → ⊥
+      where_at (inr x) y = untried u found a op x g d c
+      where_at (inl x) (inl y) = n u found a op f x d y
+      where_at (inl x) (inr y) = omega (arith, x, y, inside)
+
   pub taken_lasts : last ≤ length es → (first q : ℕ) → ((u found : ℕ) (a : Activity) (op : Operation) → last ≤ u → u < last' → IsTrying s q a op → Acts z o (es ++ e ∷ []) u s a op found → ⊥) → FoundTaken z o es s first last q → FoundTaken z o (es ++ e ∷ []) s first last' q
   taken_lasts inside first q untried t = record {
     at = t.at;
@@ -68,16 +78,13 @@ module _ (z : Sizes) (o : Opening) (es : List Event) (e : Event) (s last last' :
     found = t.found;
     acts = acts_on z o es e t.at s t.activity t.op t.found t.acts;
     taken = t.taken;
-    final = final;
+    passed = λ u n f. named n (t.passed u n f);
+    final = not_tried_lasts inside t.at q untried t.final;
   }
     where
-      final : NotTried z o (es ++ e ∷ []) s t.at last' q
-      final u found a op f g d c = where_at (cases_lt u last) (acts_was z o es e u s a op found c)
-        where
-          where_at : (u < last) ⊎ (last ≤ u) → Acts z o es u s a op found ⊎ (u ≡ length es) → ⊥
-          where_at (inr x) y = untried u found a op x g d c
-          where_at (inl x) (inl y) = t.final u found a op f x d y
-          where_at (inl x) (inr y) = omega (arith, x, y, inside)
+      named : (n : ℕ) → MayBeNamed z o es s t.at last n t.acts.local → MayBeNamed z o (es ++ e ∷ []) s t.at last' n t.acts.local
+      named n (inl x) = inl x
+      named n (inr x) = inr (record { at = x.at; after = x.after; before = omega (arith, w, x.before); seat = x.seat; epoch = x.epoch; acts = acts_on z o es e x.at s _ _ x.epoch x.acts; some = x.some; old = x.old })
 
   -- where it begins no search between them
   pub search_lasts : last ≤ length es → (first : ℕ) → ((u found : ℕ) (op : Operation) → last ≤ u → u < last' → Acts z o (es ++ e ∷ []) u s SeekFirst op found → ⊥) → NoSearch z o es s first last → NoSearch z o (es ++ e ∷ []) s first last'

@@ -1,7 +1,10 @@
 -- A search of the table, as it goes round: which rows it has asked, and what it found at each.
-use Rattle.std.proofs.Common.{ℕ, zero, suc, ◌≡◌, ◌≢◌, ◌⊎◌, inl, inr, ◌+◌, ◌<◌, ◌≤◌, Bool, true, false, nat_lt, if◌then◌else◌, List, [], ◌∷◌, ◌++◌, arith, refl, sym, ap, subst, length}
+use Rattle.std.proofs.Common.{ℕ, zero, suc, ◌≡◌, ◌≢◌, ◌⊎◌, inl, inr, ◌+◌, ◌<◌, ◌≤◌, Bool, true, false, nat_lt, if◌then◌else◌, Some, List, [], ◌∷◌, ◌++◌, arith, refl, sym, ◌∙◌, ap, subst, length, length-append}
 use Rattle.std.proofs.lemmas.Bool.{cases_lt}
 use Rattle.std.proofs.lemmas.Bool.Decides.{nat_tests}
+use Rattle.kw_words.specs.declared.state.State.TheVariants as state
+use Rattle.kw_words.specs.State.{state_of, state_word}
+use Rattle.kw_words.proofs.StateWords.{state_of-Free}
 use Rattle.kw_cells.specs.declared.cell.Cell.{Cell}
 use Rattle.kw_cells.specs.Cuts.{starts_from, starts_of}
 use Rattle.kw_world.specs.declared.activity.Activity.{Activity}
@@ -13,9 +16,9 @@ use Rattle.kw_world.specs.declared.rebalance.Rebalance.{Rebalance}
 use Rattle.kw_world.specs.SeekTransitions.{row_behind}
 use Rattle.kw_world.specs.Sizes.{Sizes}
 use Rattle.kw_rows.specs.Events.{IsIn}
-use Rattle.kw_laws.specs.Causes.{IsTrying, FoundTaken, TookRow, NoSearch, AskedAll, asking}
+use Rattle.kw_laws.specs.Causes.{IsTrying, NotTried, MetPass, FoundTaken, TookRow, NoSearch, AskedAll, asking}
 use Rattle.kw_laws.specs.Mirror.{Acts}
-use Rattle.kw_laws.proofs.CausesLast.{acts_on, taken_lasts, took_lasts, search_lasts}
+use Rattle.kw_laws.proofs.CausesLast.{acts_on, not_tried_lasts, taken_lasts, took_lasts, search_lasts}
 
 -- Round the table.
 
@@ -168,6 +171,64 @@ searching_lasts z o es e s first b longer quiet untried t = record {
     either : (q : ℕ) → q ≢ b.sought → IsIn b.taken q ⊎ FoundTaken z o es s t.begun (length es) q → IsIn b.taken q ⊎ FoundTaken z o (es ++ e ∷ []) s t.begun (length (es ++ e ∷ [])) q
     either q n (inl x) = inl x
     either q n (inr x) = inr (taken_lasts z o es e s (length es) (length (es ++ e ∷ [])) longer inside t.begun q (λ u found a op f g d c. untried q u found a op n f g d c) x)
+
+-- it began where it did
+pub searching_begun : (z : Sizes) (o : Opening) (es : List Event) (e : Event) (s first : ℕ) (b : Rebalance) (w : length es ≤ length (es ++ e ∷ [])) (quiet : (u found : ℕ) (op : Operation) → length es ≤ u → u < length (es ++ e ∷ []) → Acts z o (es ++ e ∷ []) u s SeekFirst op found → ⊥) →
+    (untried : (q u found : ℕ) (a : Activity) (op : Operation) → q ≢ b.sought → length es ≤ u → u < length (es ++ e ∷ []) → IsTrying s q a op → Acts z o (es ++ e ∷ []) u s a op found → ⊥) → (t : Searching z o es s first b) → (searching_lasts z o es e s first b w quiet untried t).begun ≡ t.begun
+unfolding searching_lasts
+searching_begun z o es e s first b w quiet untried t = refl
+
+-- the number of a retired row that is asked for says nothing of the search
+abbrev pub searching_number : (z : Sizes) (o : Opening) (es : List Event) (s first number : ℕ) (b : Rebalance) → Searching z o es s first b → Searching z o es s first (record b { number = number })
+searching_number z o es s first number b t = record { begun = t.begun; after = t.after; before = t.before; row = t.row; found = t.found; begins = t.begins; starts = t.starts; within = t.within; sought = t.sought; turn = t.turn; alone = t.alone; took = t.took; fewer = t.fewer; passed = t.passed }
+
+-- The passes.
+
+-- the seat found the row that it asks for retired with this number, since its search began, and has asked for it no more: it looks at the passes
+pub record AsksPasses (z : Sizes) (o : Opening) (es : List Event) (s begun row number : ℕ) : Type 0 where
+  pub at : ℕ
+  pub after : begun ≤ at
+  pub before : at < length es
+  pub activity : Activity
+  pub tries : IsTrying s row activity (asking row)
+  pub found : ℕ
+  pub retired : state_of found ≡ Some (state.Retired number)
+  pub acts : Acts z o es at s activity (asking row) found
+  pub final : NotTried z o es s at (length es) row
+
+-- one more event, by which the seat does not ask for the row
+module _ (z : Sizes) (o : Opening) (es : List Event) (e : Event) (s begun row number : ℕ) (untried : (u found : ℕ) (a : Activity) (op : Operation) → length es ≤ u → u < length (es ++ e ∷ []) → IsTrying s row a op → Acts z o (es ++ e ∷ []) u s a op found → ⊥) (t : AsksPasses z o es s begun row number) where
+  longer : length es ≤ length (es ++ e ∷ [])
+  longer = omega (arith, length-append es (e ∷ []))
+
+  final : NotTried z o (es ++ e ∷ []) s t.at (length (es ++ e ∷ [])) row
+  final = let inside : length es ≤ length es = omega arith in not_tried_lasts z o es e s (length es) (length (es ++ e ∷ [])) longer inside t.at row untried t.final
+
+  -- the passes are looked at still
+  pub asks_lasts : AsksPasses z o (es ++ e ∷ []) s begun row number
+  asks_lasts = record { at = t.at; after = t.after; before = omega (arith, t.before, longer); activity = t.activity; tries = t.tries; found = t.found; retired = t.retired; acts = acts_on z o es e t.at s _ _ t.found t.acts; final = final }
+
+  -- or a pass is met that is not younger than the number: so the row was found taken
+  pub asks_taken : MetPass z o (es ++ e ∷ []) s t.at (length (es ++ e ∷ [])) number → FoundTaken z o (es ++ e ∷ []) s begun (length (es ++ e ∷ [])) row
+  asks_taken m = record {
+    at = t.at;
+    after = t.after;
+    before = omega (arith, t.before, longer);
+    activity = t.activity;
+    op = asking row;
+    tries = t.tries;
+    found = t.found;
+    acts = acts_on z o es e t.at s _ _ t.found t.acts;
+    taken = not_free;
+    passed = λ u n f. inr (subst (MetPass z o (es ++ e ∷ []) s t.at (length (es ++ e ∷ []))) (same_number n f) m);
+    final = final;
+  }
+    where
+      not_free : t.found ≢ state_word state.Free
+      not_free f = let x : Some (state.Retired number) ≡ Some state.Free = sym t.retired ∙ ap state_of f ∙ state_of-Free in cc
+
+      same_number : (n : ℕ) → state_of t.found ≡ Some (state.Retired n) → number ≡ n
+      same_number n f = let x : Some (state.Retired number) ≡ Some (state.Retired n) = sym t.retired ∙ f in cc
 
 -- of a search that has asked all rows, the one that is sought too
 pub asked_all : (z : Sizes) (o : Opening) (es : List Event) (s first : ℕ) (b : Rebalance) → o.rows ≤ b.asked → (t : Searching z o es s first b) → IsIn b.taken b.sought ⊎ FoundTaken z o es s t.begun (length es) b.sought → AskedAll z o es s o.rows first (length es)

@@ -1,5 +1,5 @@
 -- The laws, from what every event keeps.
-use Rattle.std.proofs.Common.{ℕ, zero, suc, ◌≡◌, ◌⊎◌, inl, inr, ◌+◌, ◌<◌, ◌≤◌, true, false, Some, List, [], ◌∷◌, get_or, arith, refl, sym, ◌∙◌, subst, slice_get, length}
+use Rattle.std.proofs.Common.{ℕ, zero, suc, ◌≡◌, ◌⊎◌, inl, inr, ◌+◌, ◌<◌, ◌≤◌, true, false, Some, List, [], ◌∷◌, get_or, arith, refl, sym, ◌∙◌, ap, subst, slice_get, length}
 use Rattle.std.specs.Prelude.{Contains}
 use Rattle.kw_words.specs.declared.layout.Name.TheVariants as name
 use Rattle.kw_words.specs.declared.scan.ScanWord.TheVariants.{Waiting, Drawn}
@@ -22,7 +22,7 @@ use Rattle.kw_core.specs.Run.{Origins, Run, history}
 use Rattle.kw_core.specs.Words.{least_in}
 use Rattle.kw_rows.specs.Ledger.{IsFresh}
 use Rattle.kw_rows.proofs.Named.{above_least, held_by}
-use Rattle.kw_shape.specs.RowsIn.{rows_in}
+use Rattle.kw_shape.specs.RowsIn.{rows_in, state_met}
 use Rattle.kw_shape.specs.Shape.{Walks}
 use Rattle.kw_shape.proofs.RowsStay.{fresh_linked, holds_wanted}
 use Rattle.kw_core.specs.Stages.{IsAtRow, IsAtListed, IsKeeping, IsWaiting, IsInserting, IsUnlisted, IsMeeting}
@@ -38,13 +38,15 @@ use Rattle.kw_reads.specs.Readers.{IsDue, ReadsList, IsCopyOf, AreCopies}
 use Rattle.kw_reads.proofs.WalksKeep.{has_met}
 use Rattle.kw_reads.specs.Replies.{RisesBelow}
 use Rattle.kw_reads.specs.Inv.{Inv}
-use Rattle.kw_laws.specs.Unfrozen.{RebalancesNone, IsUnfrozen}
+use Rattle.kw_laws.specs.Unfrozen.{RebalancesNone, ReusesNone, IsUnfrozen}
 use Rattle.kw_laws.specs.Laws.{IsWaitingOrDrawn, IsGathered, KeepsLaws}
 use Rattle.kw_core.proofs.Attempts.{in_range}
 use Rattle.kw_reads.proofs.Keeps.{inv_holds}
 use Rattle.kw_shape.proofs.Walking.{past}
 use Rattle.kw_shape.proofs.RowsStay.{next_known}
+use Rattle.kw_shape.proofs.SoughtKeep.{retakes}
 use Rattle.kw_laws.proofs.Unfrozen.{finds_own, finds_idle, unfrozen_holds, uncopied_holds}
+use Rattle.kw_laws.proofs.HereHolds.{AllHere, here_holds}
 use Rattle.kw_laws.proofs.Uncopied.{AreUncopied}
 use Rattle.kw_core.specs.Stages.{HasDrawn, IsPublished}
 use Rattle.kw_reads.specs.Replies.{IsCovered}
@@ -104,14 +106,15 @@ reader_less z row l c s e w =
     omega (arith, walked_most z.cells row (Some c) (l.walked + 1) (walk_goes_on z.cells row l.link l.walked c (s.below c next.listed) next.listed next.behind w))
 
 -- the laws of a run in which all of it holds
-laws_from : (z : Sizes) (r : Run) → Inv z r → (RebalancesNone z → IsUnfrozen z r.world) → (RebalancesNone z → AreUncopied r) → KeepsLaws z r
-laws_from z r i u own = record {
+laws_from : (z : Sizes) (r : Run) → Inv z r → (RebalancesNone z → IsUnfrozen z r.world) → (RebalancesNone z → AreUncopied r) → (ReusesNone z → AllHere r) → KeepsLaws z r
+laws_from z r i u own here = record {
   sane = i.shape.sane;
   rows = i.shape.rows;
   beyond = i.shape.beyond;
   still = i.shape.still;
   passes = i.shape.passes;
   numbers = i.shape.numbers;
+  retakes = λ t l g a n e. retakes z r i.shape t n l g a (ap state_met e);
   links = λ q n. i.shape.rows.closed.rises q n;
   walks = i.shape.walks;
   after = λ n t l g y. next_known z r i.shape n t l ((i.shape.walks t l g).at y);
@@ -136,7 +139,8 @@ laws_from z r i u own = record {
   reader_meets = λ t l g m. reader_behind z _ l.activity l m (i.readers.walks t l g);
   reads_on = λ t l g a c e. reader_less z _ l c (i.lists.leads l.row (fresh_linked r.ledger.rows t l.row ((i.shape.walks t l g).at (subst IsAtRow (sym a) tt)).fresh)) (link_is (word z r.world) l.row l.link ∙ e) (subst (λ q. ReadsList z.cells (list_in (word z r.world) r.listed l.row) q l) a (i.readers.walks t l g));
   stamped = λ p h. let a = i.history.laws.attempted p (in_range r.history p h) in record { announced = a.load h; load = a.at h; found = i.history.laws.loaded p h };
-  given = λ p w. (i.puts.given p w).origin;
+  here = here;
+  given = λ p w n. (i.puts.given p w n).origin;
   seen = seen;
   kept = i.contents.kept;
   live = λ t l g y. ((i.shape.walks t l g).at y).fresh;
@@ -165,4 +169,4 @@ laws_from z r i u own = record {
 pub laws_hold : (z : Sizes) (o : Opening) → IsOpening z o → (es : List Event) → is_valid z o es ≡ true → KeepsLaws z (history z o es)
 laws_hold z o i es v =
     let all = inv_holds z o i es v in
-    laws_from z (history z o es) all (λ n. unfrozen_holds z n o i es v) (λ n. uncopied_holds z n o i es v)
+    laws_from z (history z o es) all (λ n. unfrozen_holds z n o i es v) (λ n. uncopied_holds z n o i es v) (λ n. here_holds z n o i es v)

@@ -4,6 +4,7 @@ pub mod CanRecord
 pub mod Records
 pub mod EndedCalls
 pub mod Uncopied
+pub mod HereHolds
 pub mod Unfrozen
 pub mod LawProofs
 pub mod Worlds
@@ -27,3 +28,8 @@ pub mod CausesLast
 pub mod CausesSearch
 pub mod CausesArrows
 pub mod CausesHold
+pub mod Acting
+pub mod NamedRows
+pub mod PassesOver
+pub mod PassesAlong
+pub mod ReachHolds

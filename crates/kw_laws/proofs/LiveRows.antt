@@ -20,10 +20,9 @@ use Rattle.kw_core.specs.Events.{event, is_valid, may_step, world}
 use Rattle.kw_core.specs.History.{History}
 use Rattle.kw_core.specs.Run.{Run, goes_on, history, logged, noted_by, start}
 use Rattle.kw_core.proofs.Events.{may_come, world-nil, world-snoc}
-use Rattle.kw_core.proofs.Happens.{Happens, each_seat, happens}
+use Rattle.kw_core.proofs.Happens.{Happens, each_seat, happens, knows_next, knows_other}
 use Rattle.kw_core.proofs.Runs.{goes_on-moved, goes_on-world}
 use Rattle.kw_rows.specs.Ledger.{Dead, Fate, Free, IsDead, Live}
-use Rattle.kw_rows.specs.Rows.{WasLinked}
 use Rattle.kw_shape.proofs.FollowRows.{live_met}
 use Rattle.kw_shape.specs.MetRows.{IsMet}
 use Rattle.kw_shape.specs.Shape.{Walks}
@@ -34,10 +33,10 @@ use Rattle.kw_reads.proofs.Opens.{inv_start}
 use Rattle.kw_laws.specs.Live.{AreLive, WasMet}
 use Rattle.kw_laws.specs.Mirror.{Occurs}
 use Rattle.kw_laws.proofs.Along.{holds_along}
-use Rattle.kw_shape.proofs.LinkedRows.{ComesNow, GoesNow, linked_before, linked_fate}
+use Rattle.kw_shape.proofs.LinkedRows.{GoesNow, dead_before}
 use Rattle.kw_reads.proofs.Later.{at_row_has, later_by}
 use Rattle.kw_reads.proofs.Floors.{IsOnWay, row_from}
-use Rattle.kw_reads.proofs.LaterKeeps.{later_if, later_lasts}
+use Rattle.kw_reads.proofs.LaterKeeps.{later_if, later_lasts, named_linked}
 use Rattle.kw_laws.proofs.Occurs.{occurs_now, occurs_was, occurs_within}
 
 -- a row that went at this position of the list was met where it went
@@ -84,19 +83,15 @@ module _ (z : Sizes) (o : Opening) (es : List Event) (e : Event) (r r' : Run) (l
 
   -- a dead row was so before, or goes now
   died_keeps : (q : ℕ) → IsDead r'.ledger.rows q → DiedMet z o (es ++ e ∷ []) q (r'.ledger.rows.fates q).gone
-  died_keeps q d = was (linked_before a h k.inv.shape q (inr d))
+  died_keeps q d = which (dead_before a h k.inv.shape q d)
     where
-      dead : (r'.ledger.rows.fates q ≡ r.ledger.rows.fates q) ⊎ GoesNow r.ledger.rows r'.ledger.rows e.seat (length r.history.log) q → DiedMet z o (es ++ e ∷ []) q (r'.ledger.rows.fates q).gone
-      dead (inl f) = subst (λ (x : Fate). DiedMet z o (es ++ e ∷ []) q x.gone) (sym f) (met_lasts z o es e q (r.ledger.rows.fates q).gone (k.died q (ap (λ (x : Fate). x.status) (sym f) ∙ d)))
-      dead (inr n) = met_now q (r'.ledger.rows.fates q).gone (ap (λ (x : Fate). x.gone) n.fate) (live_met (word z r.world) r.ledger.rows k.inv.shape.rows.chain q n.live)
-
-      was : WasLinked r.ledger.rows q ⊎ ComesNow (word z r.world) r.ledger.rows r'.ledger.rows e.seat (length r.history.log) l a q → DiedMet z o (es ++ e ∷ []) q (r'.ledger.rows.fates q).gone
-      was (inl x) = dead (linked_fate a h k.inv.shape q x)
-      was (inr n) = let x : Live ≡ Dead = ap (λ (f : Fate). f.status) (sym n.fate) ∙ d in absurd (cc)
+      which : IsDead r.ledger.rows q × (r'.ledger.rows.fates q ≡ r.ledger.rows.fates q) ⊎ GoesNow r.ledger.rows r'.ledger.rows e.seat (length r.history.log) q → DiedMet z o (es ++ e ∷ []) q (r'.ledger.rows.fates q).gone
+      which (inl f) = subst (λ (x : Fate). DiedMet z o (es ++ e ∷ []) q x.gone) (sym f.1) (met_lasts z o es e q (r.ledger.rows.fates q).gone (k.died q f.0))
+      which (inr n) = met_now q (r'.ledger.rows.fates q).gone (ap (λ (x : Fate). x.gone) n.fate) (live_met (word z r.world) r.ledger.rows k.inv.shape.rows.chain q n.live)
 
   -- the rows that the walk of a seat names after it
-  later_on : (t u : ℕ) (m : Local) → slice_get r'.world.locals t ≡ Some m → IsOff z o (es ++ e ∷ []) u t → IsLater r'.ledger.rows u m.activity m
-  later_on t u m g w = each_seat h (λ v n. IsOff z o (es ++ e ∷ []) u v → IsLater r'.ledger.rows u n.activity n) own others t m g w
+  later_on : Inv z r' → (t u : ℕ) (m : Local) → slice_get r'.world.locals t ≡ Some m → IsOff z o (es ++ e ∷ []) u t → IsLater r'.ledger.rows u m.activity m
+  later_on i' t u m g w = each_seat h (λ v n. IsOff z o (es ++ e ∷ []) u v → IsLater r'.ledger.rows u n.activity n) own others t m g w
     where
       -- a seat was not on its way before the event, or it is the one that acts, and is not so now
       was : (v : ℕ) → IsOff z o (es ++ e ∷ []) u v → IsOff z o es u v ⊎ ((e.seat ≡ v) × (v ≡ e.seat → IsOnWay a → ⊥))
@@ -121,14 +116,14 @@ module _ (z : Sizes) (o : Opening) (es : List Event) (e : Event) (r r' : Run) (l
       own x = which (was e.seat x)
         where
           which : IsOff z o es u e.seat ⊎ ((e.seat ≡ e.seat) × (e.seat ≡ e.seat → IsOnWay a → ⊥)) → IsLater r'.ledger.rows u l'.activity l'
-          which (inl y) = later_lasts a h k.inv u l'.activity l' (old e.seat y) (later_by z (word z r.world) r.ledger.rows e.seat (offered r.world.rows e.choice) l a l' u h.arrow k.inv.shape.rows walks (subst (λ c. IsLater r.ledger.rows u c l) h.activity (k.later e.seat u l h.knows y)))
+          which (inl y) = later_lasts a h k.inv u l'.activity l' (old e.seat y) (named_linked (word z r'.world) r'.ledger.rows e.seat l'.activity l' (i'.shape.walks e.seat l' (knows_next h))) (later_by z (word z r.world) r.ledger.rows e.seat (offered r.world.rows e.choice) l a l' u h.arrow k.inv.shape.rows walks (subst (λ c. IsLater r.ledger.rows u c l) h.activity (k.later e.seat u l h.knows y)))
           which (inr y) = later_if z r' u l'.activity l' (λ b. absurd (y.1 refl (row_from z (word z r.world) e.seat (offered r.world.rows e.choice) l a l' h.arrow b).0))
 
       others : (v : ℕ) (n : Local) → v ≢ e.seat → slice_get r.world.locals v ≡ Some n → IsOff z o (es ++ e ∷ []) u v → IsLater r'.ledger.rows u n.activity n
       others v n d f x = which (was v x)
         where
           which : IsOff z o es u v ⊎ ((e.seat ≡ v) × (v ≡ e.seat → IsOnWay a → ⊥)) → IsLater r'.ledger.rows u n.activity n
-          which (inl y) = later_lasts a h k.inv u n.activity n (old v y) (k.later v u n f y)
+          which (inl y) = later_lasts a h k.inv u n.activity n (old v y) (named_linked (word z r'.world) r'.ledger.rows v n.activity n (i'.shape.walks v n (knows_other h v d ∙ f))) (k.later v u n f y)
           which (inr y) = absurd (d (sym y.0))
 
   -- all of it after the event
@@ -138,7 +133,7 @@ module _ (z : Sizes) (o : Opening) (es : List Event) (e : Event) (r r' : Run) (l
     world = w;
     now = let x = ap (λ (y : History). length y.log) h.history in omega (arith, x, length-append r.history.log (logged e.seat (transition z a e.seat (offered r.world.rows e.choice) l).operation.kind (word z r.world name.Clock) ∷ []), length-append es (e ∷ []), k.now);
     died = died_keeps;
-    later = later_on;
+    later = later_on i;
   }
 
 -- one event that may come

@@ -94,7 +94,7 @@ module _ (z : Sizes) (o : Opening) (es : List Event) (e : Event) (r r' : Run) (l
       let t = entry_owner i.puts l.row l.looked l.met known.below.row known.ranges.looked pending in
       let q : OwnsAttempt (word z r.world) r.history l.looked t.local.activity t.local (r.seats l.looked) = i.puts.owns l.looked t.local t.knows (published_puts t.local.activity t.published) in
       let row : (attempt r.history (r.seats l.looked).own).row ≡ l.row = q.row ∙ t.row in
-      let same : (r.seats l.looked).own ≡ p = same_Some _ p (sym (i.puts.given (r.seats l.looked).own q.within).origin ∙ ap (λ x. r.origin x (attempt r.history (r.seats l.looked).own).cell) row ∙ ap (r.origin l.row) t.cell ∙ origin) in
+      let same : (r.seats l.looked).own ≡ p = same_Some _ p (sym (i.puts.given (r.seats l.looked).own q.within (i.puts.present l.looked t.local t.knows (published_puts t.local.activity t.published))).origin ∙ ap (λ x. r.origin x (attempt r.history (r.seats l.looked).own).cell) row ∙ ap (r.origin l.row) t.cell ∙ origin) in
       let at = λ (P : ℕ → Type 0) (x : P (r.seats l.looked).own). subst P same x in
       subst StampedSo (sym f) (λ x. inr (e.seat, by_helper p (at (λ y. (attempt r.history y).row ≡ l.row) row) (at (λ y. (attempt r.history y).cell ≡ l.met) t.cell) (at (λ y. (attempt r.history y).seat ≡ l.looked) q.seat) is pending))
     where

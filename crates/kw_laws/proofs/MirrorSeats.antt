@@ -219,7 +219,7 @@ loaded_over z s choice l found next g o h settled ScanSettle = inl (settled_same
 loaded_over z s choice l found next g o h settled BalClock = inr refl
 loaded_over z s choice l found next g o h settled SeekFirst = inl (refl, seeks choice)
   where
-    seeks : (c : Choice) → (seek_first_transition c l).operation.kind ≢ kind.LoadClock
+    seeks : (c : Choice) → (seek_first_transition z.form c l).operation.kind ≢ kind.LoadClock
     seeks (Begin call) e = cc
     seeks Go e = cc
     seeks (Guess q) e = cc

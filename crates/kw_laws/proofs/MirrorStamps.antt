@@ -6,7 +6,7 @@ use Rattle.kw_words.specs.declared.pend.Pend.TheVariants as pend
 use Rattle.kw_words.specs.Pend.{pend_word}
 use Rattle.kw_world.specs.declared.activity.Activity.{Activity}
 use Rattle.kw_core.proofs.Frame.{no_link}
-use Rattle.kw_world.specs.declared.activity.Activity.TheVariants.{ScanSettle, Start, Walk, LookHelp, Announce, Stamp, Insert, BalNormal, Engage, Decide, Freeze, HelpSettle, TakeRow, SeekFirst, Before, Replace, Normalise}
+use Rattle.kw_world.specs.declared.activity.Activity.TheVariants.{ScanSettle, Start, Walk, LookHelp, Announce, Stamp, Insert, BalNormal, Engage, Decide, Freeze, HelpSettle, Reclaim, TakeRow, SeekFirst, Before, Replace, Normalise}
 use Rattle.kw_world.specs.declared.local.Local.{Local}
 use Rattle.kw_world.specs.declared.event.Choice.{Choice}
 use Rattle.kw_world.specs.declared.event.Choice.TheVariants.{Begin, Go, Guess, Stop}
@@ -92,10 +92,11 @@ stamp_line z v s choice l Engage q t c u n x f = let y : name.State l.row ≡ na
 stamp_line z v s choice l (Decide count) q t c u n x f = let y : name.State l.row ≡ name.Pend q t = n in absurd (cc)
 stamp_line z v s choice l (Freeze i) q t c u n x f = absurd (stamped_apart c u (same_stored _ _ _ _ x))
 stamp_line z v s choice l (HelpSettle i) q t c u n x f = let y : name.Scan i ≡ name.Pend q t = n in absurd (cc)
+stamp_line z v s choice l Reclaim q t c u n x f = let y : name.State l.rebalance.sought ≡ name.Pend q t = n in absurd (cc)
 stamp_line z v s choice l TakeRow q t c u n x f = let y : name.State l.rebalance.sought ≡ name.Pend q t = n in absurd (cc)
 stamp_line z v s choice l SeekFirst q t c u n x f = absurd (seeks choice x)
   where
-    seeks : (d : Choice) → (seek_first_transition d l).operation.action ≡ Exchange (pend_word (pend.Pending c)) (pend_word (pend.Stamped c u)) → ⊥
+    seeks : (d : Choice) → (seek_first_transition z.form d l).operation.action ≡ Exchange (pend_word (pend.Pending c)) (pend_word (pend.Stamped c u)) → ⊥
     seeks (Begin call) y = cc
     seeks Go y = cc
     seeks (Guess d) y = cc
@@ -136,10 +137,11 @@ announce_line z v s choice l Engage q t c n x f = let y : name.State l.row ≡ n
 announce_line z v s choice l (Decide count) q t c n x f = let y : name.State l.row ≡ name.Pend q t = n in absurd (cc)
 announce_line z v s choice l (Freeze i) q t c n x f = absurd (frozen_apart c (same_stored _ _ _ _ x))
 announce_line z v s choice l (HelpSettle i) q t c n x f = let y : name.Scan i ≡ name.Pend q t = n in absurd (cc)
+announce_line z v s choice l Reclaim q t c n x f = let y : name.State l.rebalance.sought ≡ name.Pend q t = n in absurd (cc)
 announce_line z v s choice l TakeRow q t c n x f = let y : name.State l.rebalance.sought ≡ name.Pend q t = n in absurd (cc)
 announce_line z v s choice l SeekFirst q t c n x f = absurd (seeks choice x)
   where
-    seeks : (d : Choice) → (seek_first_transition d l).operation.action ≡ Exchange (pend_word pend.Idle) (pend_word (pend.Pending c)) → ⊥
+    seeks : (d : Choice) → (seek_first_transition z.form d l).operation.action ≡ Exchange (pend_word pend.Idle) (pend_word (pend.Pending c)) → ⊥
     seeks (Begin call) y = cc
     seeks Go y = cc
     seeks (Guess d) y = cc

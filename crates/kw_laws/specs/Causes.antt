@@ -3,25 +3,26 @@
 -- A scan loads the clock before it waits, and a put or a delete loads the clock and the epoch before it rebalances a row: each is refused as
 -- spent where it finds one of them at its bound. For want of rows a put or a delete is refused, where a full row refuses its puts, as its
 -- row has given all its cells, and, where a full row is replaced, as it has asked each row of the table in one search, and was left without
--- as many as it needs.
+-- as many as it needs. Where rows are used again, a row that was retired is such a one only if a pass was on in which it may be named.
 use Rattle.std.specs.Prelude.{ℕ, ◌≡◌, ◌≢◌, ◌⊎◌, ◌<◌, ◌≤◌, Some, List, length}
 use Rattle.kw_words.specs.declared.kind.Kind.TheVariants as kind
 use Rattle.kw_words.specs.declared.layout.Name.TheVariants as name
 use Rattle.kw_words.specs.declared.sizes.TheConstants.{SPENT}
 use Rattle.kw_words.specs.declared.state.State.TheVariants as state
 use Rattle.kw_words.specs.Count.{count_of}
-use Rattle.kw_words.specs.State.{state_word}
+use Rattle.kw_words.specs.State.{state_of, state_word}
 use Rattle.kw_model.specs.declared.call.Call.{Call}
 use Rattle.kw_model.specs.declared.call.Call.TheVariants.{Put, Del, Scan}
 use Rattle.kw_model.specs.declared.call.Reply.TheVariants.{NoRows, Spent}
 use Rattle.kw_world.specs.declared.activity.Activity.{Activity}
-use Rattle.kw_world.specs.declared.activity.Activity.TheVariants.{ScanClock, PutCount, PutAdd, BalClock, BalEpoch, SeekFirst, Seek, TakeRow}
+use Rattle.kw_world.specs.declared.activity.Activity.TheVariants.{ScanClock, PutCount, PutAdd, BalClock, BalEpoch, SeekFirst, Seek, SeekPass, Reclaim, TakeRow}
 use Rattle.kw_world.specs.declared.event.Event.{Event}
+use Rattle.kw_world.specs.declared.local.Local.{Local}
 use Rattle.kw_world.specs.declared.opening.Opening.{Opening}
 use Rattle.kw_world.specs.declared.operation.Action.TheVariants.{Load, Add, Exchange}
 use Rattle.kw_world.specs.declared.operation.Operation.{Operation}
 use Rattle.kw_world.specs.PutTransitions.{given_of}
-use Rattle.kw_world.specs.Sizes.{Refused, IsRebalancing, Sizes}
+use Rattle.kw_world.specs.Sizes.{Refused, IsRebalancing, IsReusing, Sizes}
 use Rattle.kw_core.specs.History.{History, called}
 use Rattle.kw_core.specs.declared.history.End.{End}
 use Rattle.kw_rows.specs.Events.{IsIn}
@@ -77,6 +78,14 @@ pub record FoundNoRoom (z : Sizes) (o : Opening) (es : List Event) (s first last
 abbrev pub asking : ℕ → Operation
 asking row = operation kind.LoadState (name.State row) Load
 
+-- the load by which a search asks for the pass of a seat
+abbrev pub asking_pass : ℕ → Operation
+asking_pass seat = operation kind.LoadPass (name.Pass seat) Load
+
+-- the exchange by which a row that is retired with this number is given free
+abbrev pub reclaiming : ℕ → ℕ → Operation
+reclaiming row number = operation kind.Reclaim (name.State row) (Exchange (state_word (state.Retired number)) (state_word state.Free))
+
 -- the exchange by which the seat takes a free row
 abbrev pub taking : ℕ → ℕ → Operation
 taking s row = operation kind.TakeRow (name.State row) (Exchange (state_word state.Free) (state_word (state.Infant s)))
@@ -85,6 +94,7 @@ taking s row = operation kind.TakeRow (name.State row) (Exchange (state_word sta
 abbrev pub IsTrying : ℕ → ℕ → Activity → Operation → Type 0
 IsTrying s row SeekFirst op = op ≡ asking row
 IsTrying s row Seek op = op ≡ asking row
+IsTrying s row Reclaim op = (number : ℕ) × (op ≡ reclaiming row number)
 IsTrying s row TakeRow op = op ≡ taking s row
 IsTrying s row _ op = ⊥
 
@@ -92,8 +102,24 @@ IsTrying s row _ op = ⊥
 abbrev pub NotTried : Sizes → Opening → List Event → ℕ → ℕ → ℕ → ℕ → Type 0
 NotTried z o es s first last row = (u found : ℕ) (a : Activity) (op : Operation) → first < u → u < last → IsTrying s row a op → Acts z o es u s a op found → ⊥
 
--- from the first position on and before the last the seat asked for the row, or tried to take it, and did not find it free; and it asked for
--- the row no more
+-- after the first position and before the last the search met the pass of a seat with an epoch that is not above this number
+pub record MetPass (z : Sizes) (o : Opening) (es : List Event) (s first last number : ℕ) : Type 0 where
+  pub at : ℕ
+  pub after : first < at
+  pub before : at < last
+  pub seat : ℕ
+  pub epoch : ℕ
+  pub acts : Acts z o es at s (SeekPass seat) (asking_pass seat) epoch
+  pub some : 1 ≤ epoch
+  pub old : epoch ≤ number
+
+-- a row that was found retired with this number, by a seat that knew l, may be named in a pass that is on: that of the seat itself, or one that the
+-- search met after it
+abbrev pub MayBeNamed : Sizes → Opening → List Event → ℕ → ℕ → ℕ → ℕ → Local → Type 0
+MayBeNamed z o es s at last number l = (1 ≤ l.epoch) × (l.epoch ≤ number) ⊎ MetPass z o es s at last number
+
+-- from the first position on and before the last the seat asked for the row, or tried to take it, and did not find it free; where rows are used again, it
+-- found it retired only if the row may be named in a pass that is on; and it asked for the row no more
 pub record FoundTaken (z : Sizes) (o : Opening) (es : List Event) (s first last row : ℕ) : Type 0 where
   pub at : ℕ
   pub after : first ≤ at
@@ -104,6 +130,7 @@ pub record FoundTaken (z : Sizes) (o : Opening) (es : List Event) (s first last 
   pub found : ℕ
   pub acts : Acts z o es at s activity op found
   pub taken : found ≢ state_word state.Free
+  pub passed : IsReusing z.form → (number : ℕ) → state_of found ≡ Some (state.Retired number) → MayBeNamed z o es s at last number acts.local
   pub final : NotTried z o es s at last row
 
 -- from the first position on and before the last the seat took the row

@@ -7,10 +7,12 @@ use Rattle.kw_words.specs.declared.scan.ScanWord.{ScanWord}
 use Rattle.kw_words.specs.declared.scan.ScanWord.TheVariants.{Quiet, Waiting, Drawn}
 use Rattle.kw_words.specs.Pend.{pend_of}
 use Rattle.kw_words.specs.Plain.{cell_of_link_word}
+use Rattle.kw_words.specs.declared.state.State.TheVariants as state
 use Rattle.kw_words.specs.Scan.{scan_of}
+use Rattle.kw_words.specs.State.{state_of}
 use Rattle.kw_cells.specs.declared.cell.Cell as kw_cell
 use Rattle.kw_model.specs.Map.{IsRising}
-use Rattle.kw_world.specs.declared.activity.Activity.TheVariants.{WalkMin, ListFrom, Announce, Stamp, InsFrom, ScanSettle, ClearScan}
+use Rattle.kw_world.specs.declared.activity.Activity.TheVariants.{WalkMin, ListFrom, Announce, Stamp, InsFrom, ScanSettle, ClearScan, TakeRow}
 use Rattle.kw_world.specs.declared.local.Local.{Local}
 use Rattle.kw_world.specs.ListTransitions.{link_name}
 use Rattle.kw_world.specs.Sizes.{Sizes}
@@ -22,6 +24,7 @@ use Rattle.kw_core.specs.HistoryLaws.{HistoryLaws, IsPut}
 use Rattle.kw_core.specs.Run.{Run}
 use Rattle.kw_core.specs.Stages.{IsAtRow, IsCovering, IsEarly, IsKeeping, IsAtListed, IsInserting, IsMeeting}
 use Rattle.kw_lists.specs.Rows.{IsBehind}
+use Rattle.kw_puts.specs.Here.{IsHere}
 use Rattle.kw_puts.specs.Lists.{list_in}
 use Rattle.kw_core.specs.Words.{next_in, least_in}
 use Rattle.kw_rows.specs.Ledger.{Free, IsFresh, IsHeld}
@@ -35,7 +38,7 @@ use Rattle.kw_reads.specs.Contents.{Needed, puts_of, rows_of}
 use Rattle.kw_reads.specs.Readers.{IsDue, IsCopyOf}
 use Rattle.kw_reads.specs.Replies.{RisesBelow, Covers}
 use Rattle.kw_world.specs.declared.answer.Answer.TheVariants.{Pairs}
-use Rattle.kw_laws.specs.Unfrozen.{IsUnfrozen, RebalancesNone}
+use Rattle.kw_laws.specs.Unfrozen.{IsUnfrozen, RebalancesNone, ReusesNone}
 
 -- the entry is idle or frozen
 abbrev pub IsIdleOrFrozen : Option Pend → Type 0
@@ -100,6 +103,8 @@ pub record KeepsLaws (z : Sizes) (r : Run) : Type 0 where
   -- a seat is in a pass as long as its word says so, of an epoch that is not above the present one; numbers are drawn in order
   pub passes : (t : ℕ) (l : Local) → slice_get r.world.locals t ≡ Some l → Passes (word z r.world) r.ledger.rows t l.activity l
   pub numbers : Numbers (word z r.world) r.ledger.rows
+  -- a row that a seat tries to take, and that is retired, was retired in its pass: its number is not below the epoch of the pass
+  pub retakes : (t : ℕ) (l : Local) → slice_get r.world.locals t ≡ Some l → l.activity ≡ TakeRow → (n : ℕ) → state_of (word z r.world (name.State l.rebalance.sought)) ≡ Some (state.Retired n) → l.epoch ≤ n
   -- a row that is met along the link of one that a seat may name has a greater minimum than that one
   pub links : (q n : ℕ) → IsHeld r.ledger.rows q → next_in (word z r.world) q ≡ Some n → least_in (word z r.world) q < least_in (word z r.world) n
   -- each seat is where its call has it: on its walk at a row that is in the list, or was so in its pass, whose minimum it knows, and at
@@ -144,8 +149,10 @@ pub record KeepsLaws (z : Sizes) (r : Run) : Type 0 where
   pub reads_on : (t : ℕ) (l : Local) → slice_get r.world.locals t ≡ Some l → l.activity ≡ ListFrom → (c : ℕ) → cell_of_link_word (word z r.world (link_name l.row l.link)) ≡ Some c → l.walked < z.cells
   -- each stamped put loaded its clock between its announcement and its stamp
   pub stamped : (p : ℕ) → IsPut r.history p → IsStampedInOrder r.history p
-  -- each attempt's cell stands for it
-  pub given : (p : ℕ) → p < length r.history.attempts → r.origin (attempt r.history p).row (attempt r.history p).cell ≡ Some p
+  -- in a table of a form in which no row is used again the row of each attempt was not
+  pub here : ReusesNone z → (p : ℕ) → p < length r.history.attempts → IsHere r.ledger.rows r.history p
+  -- the cell of each attempt whose row was not used again stands for it
+  pub given : (p : ℕ) → p < length r.history.attempts → IsHere r.ledger.rows r.history p → r.origin (attempt r.history p).row (attempt r.history p).cell ≡ Some p
   -- of a row that a seat has read, each attempt for which a cell of the row stands, its own cell or a copy, and which was announced before the
   -- seat looked, and whose key it reads, is lost, or stamped and gathered
   pub seen : (t : ℕ) (l : Local) → slice_get r.world.locals t ≡ Some l → IsKeeping l.activity → (q : ℕ) → (r.seats t).read ≡ Some q → (c p : ℕ) → IsDue r.history r.origin q l.call (r.seats t).looked c p → IsGathered r q l p

@@ -5,5 +5,6 @@ pub mod Example
 pub mod Mirror
 pub mod SeatCalls
 pub mod Live
+pub mod Reach
 pub mod MirrorReads
 pub mod Causes

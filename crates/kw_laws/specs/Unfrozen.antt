@@ -11,7 +11,7 @@ use Rattle.kw_words.specs.Count.{count_of}
 use Rattle.kw_words.specs.Pend.{pend_of}
 use Rattle.kw_world.specs.declared.activity.Activity.TheVariants.{Announce, Stamp}
 use Rattle.kw_world.specs.declared.local.Local.{Local}
-use Rattle.kw_world.specs.Sizes.{Sizes, IsRebalancing}
+use Rattle.kw_world.specs.Sizes.{Sizes, IsRebalancing, IsReusing}
 use Rattle.kw_world.specs.WorldView.{WorldView}
 use Rattle.kw_world.specs.PutTransitions.{has_room}
 use Rattle.kw_world.specs.Step.{word}
@@ -20,6 +20,10 @@ use Rattle.kw_core.specs.Words.{given_in}
 -- in a table of this form no seat rebalances a row
 abbrev pub RebalancesNone : Sizes → Type 0
 RebalancesNone z = IsRebalancing z.form → ⊥
+
+-- and in one of this form no row is used again
+abbrev pub ReusesNone : Sizes → Type 0
+ReusesNone z = IsReusing z.form → ⊥
 
 -- the count is one, and not frozen
 abbrev pub IsUnfrozenCount : Option Count → Type 0

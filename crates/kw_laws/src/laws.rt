@@ -20,6 +20,7 @@ ghost use Rattle.kw_laws.specs.Laws.{KeepsLaws};
 ghost use Rattle.kw_laws.specs.Live.{AreLive};
 ghost use Rattle.kw_laws.specs.Mirror.{Mirrors};
 ghost use Rattle.kw_laws.specs.MirrorReads.{GetsRead, MirrorsReads};
+ghost use Rattle.kw_laws.specs.Reach.{KeepsRows};
 ghost use Rattle.kw_laws.specs.SeatCalls.{calls_seen, seen_after, KeepsTurns, AreApart, AreStill};
 
 /// The empty history keeps the laws, and each event keeps them that may happen as it does.
@@ -55,10 +56,20 @@ pub fn mirror_laws()
 /// Each call of the record of a valid list from an opening that was refused has its cause among the events of its seat after its first
 /// one and before its last. As spent it is refused where its seat found the clock or the epoch at its bound. For want of rows it is
 /// refused, where a full row refuses its puts, as its row had given all its cells, and, where a full row is replaced, as one search asked
-/// for each row of the table, and found too few that were free.
+/// for each row of the table, and found too few that were free. Where rows are used again, a retired row was passed over only if a pass
+/// was on in which it may be named.
 pub fn cause_laws()
     ensures causes { (z : Sizes) (o : Opening) (events : List Event) → IsOpening z o →
         is_valid z o events ≡ true → HaveCauses z o events (history z o events).history }
+{}
+
+/// No row is used again while a seat may read it. When a retired row is given free, each pass that is on was announced after the
+/// number of the row was drawn, and no seat in a pass has reached the row. Each row that a seat has reached in a pass that is on is
+/// not free, is not taken by another seat that has not linked it, and where it is retired its number is not below the epoch of the
+/// pass. No event touches a word, other than the state, of a row that its seat cannot reach.
+pub fn reach_laws()
+    ensures rows { (z : Sizes) (o : Opening) (events : List Event) → IsOpening z o →
+        is_valid z o events ≡ true → KeepsRows z o events }
 {}
 
 /// The calls of one seat in a valid list from an opening. No event makes no call, and events of other seats leave the

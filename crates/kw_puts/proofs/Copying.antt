@@ -14,7 +14,7 @@ use Rattle.kw_lists.specs.Words.{row_in}
 use Rattle.kw_rows.specs.Ledger.{Ledger}
 use Rattle.kw_rows.specs.Rows.{WasLinked}
 use Rattle.kw_world.specs.declared.activity.Activity.{Activity}
-use Rattle.kw_world.specs.declared.activity.Activity.TheVariants.{Again, BalClock, Before, BeforeGuess, BeforeHead, BeforeLink, BeforeMin, GiveBack, Insert, Leave, Normalise, Number, PutAdd, Replace, Retire, Seek, TakeRow, WriteAfter, WriteCount, WriteFirst, WriteKey, WriteMin, WriteNext, WritePend, WriteValue, WriteVersion}
+use Rattle.kw_world.specs.declared.activity.Activity.TheVariants.{Again, BalClock, Before, BeforeGuess, BeforeHead, BeforeLink, BeforeMin, GiveBack, Insert, Leave, Normalise, Number, PutAdd, Reclaim, Replace, Retire, Seek, SeekPass, TakeRow, WriteAfter, WriteCount, WriteFirst, WriteKey, WriteMin, WriteNext, WritePend, WriteValue, WriteVersion}
 use Rattle.kw_world.specs.declared.event.Choice.{Choice}
 use Rattle.kw_world.specs.declared.local.Local.{Local}
 use Rattle.kw_world.specs.declared.rebalance.Afterwards.{Afterwards}
@@ -33,11 +33,11 @@ use Rattle.kw_core.specs.Step.{Step}
 use Rattle.kw_core.specs.Words.{Words}
 use Rattle.kw_core.proofs.Attempts.{in_range}
 use Rattle.kw_core.proofs.Arrows.{builds, Arrow, NextLook, looks, lists, NextRest, rests, answers, ends_scan, scans_on, meets_stamped, meets_neither, is_passed, helps, finds_stamped, finds_other, list_ends, key_above, rest_passed, gathers_rest}
-use Rattle.kw_core.proofs.Building.{Building, first_is_free, first_is_taken, sought_is_free, sought_is_taken, takes_row, loses_row, gives_one_back, gives_last_back, writes_link, begins_before, guesses_before, guess_before_fails, before_serves, before_is_above, takes_head_before, leads_to_full, leads_on_marked, leads_to_other, leads_nowhere, walks_before, walks_past, replaces_row, is_marked_before, is_replaced, makes_normal, makes_last_normal, draws_number, retires_row}
+use Rattle.kw_core.proofs.Building.{Building, first_is_free, first_is_taken, sought_is_free, sought_is_taken, first_is_retired, sought_is_retired, pass_is_old, pass_is_young, frees_row, takes_row, loses_row, gives_one_back, gives_last_back, writes_link, begins_before, guesses_before, guess_before_fails, before_serves, before_is_above, takes_head_before, leads_to_full, leads_on_marked, leads_to_other, leads_nowhere, walks_before, walks_past, replaces_row, is_marked_before, is_replaced, makes_normal, makes_last_normal, draws_number, retires_row}
 use Rattle.kw_core.proofs.Building as built
 use Rattle.kw_core.proofs.Copies.{ChangesListed, ChangesOrigin, copy_listed, listed_stays, none_listed_yet, origin_copied, origin_stays, rest_unlisted}
 use Rattle.kw_core.proofs.Happens.{Happens, each_seat, log_entry}
-use Rattle.kw_core.proofs.NextBuilt.{GivenBack, is_refused_rows, moves_left, tries_again, NextBack, gives_back, has_none, NextBefore, is_behind, is_first, NextSeek, asks, has_asked, NextTaken, has_enough, wants_more, NextNewCell, empties, fills, has_cells, NextNewEntry, has_entries, writes_idle, NextNewRow, has_written, writes_row}
+use Rattle.kw_core.proofs.NextBuilt.{GivenBack, is_refused_rows, moves_left, tries_again, NextBack, gives_back, has_none, NextBefore, is_behind, is_first, NextSeek, asks, has_asked, NextPass, has_looked, looks_on, NextTaken, has_enough, wants_more, NextNewCell, empties, fills, has_cells, NextNewEntry, has_entries, writes_idle, NextNewRow, has_written, writes_row}
 use Rattle.kw_core.proofs.Steps.{old_stays}
 use Rattle.kw_shape.specs.Infants.{HasCount, HasVersion, HasAfter, HasAtHand, Infants, IsInfantOf, IsNursed, IsWhole, IsWriting, Links, Nursing, Writes, nursing_of}
 use Rattle.kw_shape.specs.Shape.{Shape}
@@ -226,6 +226,10 @@ module _ (z : Sizes) (h : History) (o : Origins) (f : Listed) where
   copies_seek rows k next (asks u) = copies_nowhere Seek _ (λ i w. w) (λ w. w)
   copies_seek rows k next (has_asked m u y) = copies_back _ k next y
 
+  copies_pass : (i : ℕ) (k next : Local) → NextPass z i k next → Copying z h o f next.activity next
+  copies_pass i k next (looks_on u) = copies_nowhere (SeekPass i) _ (λ i w. w) (λ w. w)
+  copies_pass i k next (has_looked u) = copies_nowhere Reclaim _ (λ i w. w) (λ w. w)
+
   copies_taken : (rows : ℕ) (k next : Local) → NextTaken rows k next → Copying z h o f next.activity next
   copies_taken rows k next (wants_more m u y) = copies_seek rows k next y
   copies_taken rows k next (has_enough u) = record { whole = λ i q w g. absurd (omega (arith, w)); words = λ w. copied_none z h o f _ _ }
@@ -316,6 +320,11 @@ module _ {z : Sizes} {r r' : Run} {s : ℕ} {choice : Choice} {l : Local} {e : L
   copies_own a k (first_is_taken q rows next c m y) h n p w x = copies_seek z r'.history r'.origin r'.listed rows _ next y
   copies_own a k (sought_is_free y) h n p w x = copies_nowhere z r'.history r'.origin r'.listed TakeRow _ (λ i w. w) (λ w. w)
   copies_own a k (sought_is_taken rows next m y) h n p w x = copies_seek z r'.history r'.origin r'.listed rows _ next y
+  copies_own a k (first_is_retired q m c y o) h n p w x = copies_nowhere z r'.history r'.origin r'.listed (SeekPass 0) _ (λ i w. w) (λ w. w)
+  copies_own a k (sought_is_retired m y o) h n p w x = copies_nowhere z r'.history r'.origin r'.listed (SeekPass 0) _ (λ i w. w) (λ w. w)
+  copies_own a k (pass_is_old i epoch rows next m o y) h n p w x = copies_seek z r'.history r'.origin r'.listed rows _ next y
+  copies_own a k (pass_is_young i next m y) h n p w x = copies_pass z r'.history r'.origin r'.listed (i + 1) _ next y
+  copies_own a k frees_row h n p w x = copies_nowhere z r'.history r'.origin r'.listed TakeRow _ (λ i w. w) (λ w. w)
   copies_own a k (takes_row rows next c y) h n p w x = copies_taken z r'.history r'.origin r'.listed rows _ next y
   copies_own a k (loses_row rows next d y) h n p w x = copies_seek z r'.history r'.origin r'.listed rows _ next y
   copies_own a k (gives_one_back o) h n p w x = copies_nowhere z r'.history r'.origin r'.listed GiveBack _ (λ i w. w) (λ w. w)

@@ -13,7 +13,7 @@ use Rattle.kw_rows.specs.Ledger.{Dead, Fate, Free, Infant, IsDead, Ledger, Live}
 use Rattle.kw_rows.specs.Rows.{WasLinked}
 use Rattle.kw_rows.proofs.Lists.{in_or_not}
 use Rattle.kw_world.specs.declared.activity.Activity.{Activity}
-use Rattle.kw_world.specs.declared.activity.Activity.TheVariants.{GiveBack, Replace, TakeRow}
+use Rattle.kw_world.specs.declared.activity.Activity.TheVariants.{GiveBack, Replace, Reclaim, TakeRow}
 use Rattle.kw_world.specs.declared.event.Choice.{Choice}
 use Rattle.kw_world.specs.declared.local.Local.{Local}
 use Rattle.kw_world.specs.ReplaceTransitions.{replaced_link}
@@ -28,17 +28,18 @@ use Rattle.kw_core.specs.History.{attempt}
 use Rattle.kw_core.specs.Run.{Run}
 use Rattle.kw_core.specs.Stages.{IsFresh, IsPublished, IsPutting}
 use Rattle.kw_core.specs.Step.{AttemptStep, Step, as_it_was, is_added, is_announced, is_lost, is_stamped}
-use Rattle.kw_core.proofs.Fates.{fate_of_full, fate_of_given, fate_of_new, fate_of_taken, fate_stays, none_replaced, none_taken}
+use Rattle.kw_core.proofs.Fates.{fate_of_freed, fate_of_full, fate_of_given, fate_of_new, fate_of_taken, fate_stays, none_freed, none_replaced, none_taken}
 use Rattle.kw_core.proofs.Happens.{Happens, log_entry}
 use Rattle.kw_core.proofs.Steps.{now_grows}
 use Rattle.kw_shape.proofs.LinkedRows.{ComesNow, balance_at, fresh_linked, linked_before, linked_keeps}
 use Rattle.kw_puts.specs.Below.{Below}
 use Rattle.kw_puts.specs.Freezes.{Freezes, IsFrozen, IsSettled}
-use Rattle.kw_puts.specs.Puts.{IsCurrent, IsOld, IsOver, OwnsAttempt, entry_of}
+use Rattle.kw_puts.specs.Puts.{IsCurrent, IsHere, IsOld, IsOver, OwnsAttempt, entry_of}
 use Rattle.kw_puts.proofs.Freezes.{settled_stays}
 use Rattle.kw_puts.proofs.FrozenRows.{not_pending}
 use Rattle.kw_puts.proofs.OwnAttempts.{entry_pending}
 use Rattle.kw_puts.proofs.RelyEntry.{fresh_published}
+use Rattle.kw_puts.proofs.HereStays.{here_was}
 use Rattle.kw_puts.proofs.Owners.{true_false}
 
 -- the row is the full one that the event replaces: it is dead from this position on
@@ -54,6 +55,13 @@ dead_same g g' q e d = ap (λ (f : Fate). f.status) (sym e) ∙ d
 module _ {z : Sizes} {r r' : Run} {s : ℕ} {choice : Choice} {l l' : Local} where
   -- a dead row was dead, or is the one that is replaced now
   pub dead_was : (a : Activity) → Happens z r r' s choice l l' a → (q : ℕ) → IsDead r'.ledger.rows q → IsDead r.ledger.rows q ⊎ Buried r.ledger.rows r'.ledger.rows s (length r.history.log) l a q
+  dead_was Reclaim h q d = which (cases_eq (word z r.world (name.State l.rebalance.sought)) (state_word (state.Retired l.rebalance.number))) (cases_eq q l.rebalance.sought)
+    where
+      which : (word z r.world (name.State l.rebalance.sought) ≡ state_word (state.Retired l.rebalance.number)) ⊎ (word z r.world (name.State l.rebalance.sought) ≡ state_word (state.Retired l.rebalance.number) → ⊥) → (q ≡ l.rebalance.sought) ⊎ (q ≡ l.rebalance.sought → ⊥) →
+          IsDead r.ledger.rows q ⊎ Buried r.ledger.rows r'.ledger.rows s (length r.history.log) l Reclaim q
+      which (inl e) (inl c) = let x : Free ≡ Dead = ap (λ (f : Fate). f.status) (sym (fate_of_freed h e)) ∙ ap (λ x. (r'.ledger.rows.fates x).status) (sym c) ∙ d in absurd (cc)
+      which (inl e) (inr n) = inl (dead_same r.ledger.rows r'.ledger.rows q (fate_stays Reclaim h q n) d)
+      which (inr n) c = inl (dead_same r.ledger.rows r'.ledger.rows q (ap (λ (g : ledger.Ledger). g.rows.fates q) (none_freed h n)) d)
   dead_was TakeRow h q d = which (cases_eq (word z r.world (name.State l.rebalance.sought)) (state_word state.Free)) (cases_eq q l.rebalance.sought)
     where
       which : (word z r.world (name.State l.rebalance.sought) ≡ state_word state.Free) ⊎ (word z r.world (name.State l.rebalance.sought) ≡ state_word state.Free → ⊥) → (q ≡ l.rebalance.sought) ⊎ (q ≡ l.rebalance.sought → ⊥) →
@@ -150,30 +158,30 @@ module _ (z : Sizes) (r r' : Run) (s : ℕ) (choice : Choice) (l : Local) (a : A
       over y (inl e) = true_false e kept
       over y (inr e) = true_false announced e
 
-      which : IsCurrent (slice_get r.world.locals) r.seats r.history p ⊎ IsOld (word z r.world) r.history p ⊎ IsOver r.history p → ⊥
+      which : IsCurrent (slice_get r.world.locals) r.seats r.history p ⊎ IsOld (word z r.world) r.ledger.rows r.history p ⊎ IsOver r.history p → ⊥
       which (inl k) = current k (fresh_published k.local.activity)
       which (inr (inl y)) = true_false y.stamped unstamped
       which (inr (inr y)) = over y y.over
 
-  -- a stamped attempt of a dead row was stamped before the row was replaced
-  pub gone_keeps : (p : ℕ) → p < length r'.history.attempts → IsDead r'.ledger.rows (attempt r'.history p).row → (attempt r'.history p).is_stamped ≡ true → (attempt r'.history p).at < (r'.ledger.rows.fates (attempt r'.history p).row).gone
-  gone_keeps p w d e = by (st.attempts p w)
+  -- a stamped attempt of a dead row that was not used again was stamped before the row was replaced
+  pub gone_keeps : (p : ℕ) → p < length r'.history.attempts → IsHere r'.ledger.rows r'.history p → IsDead r'.ledger.rows (attempt r'.history p).row → (attempt r'.history p).is_stamped ≡ true → (attempt r'.history p).at < (r'.ledger.rows.fates (attempt r'.history p).row).gone
+  gone_keeps p w m d e = by (st.attempts p w)
     where
       before : (q n : ℕ) → q ≡ (attempt r.history p).row → n ≡ (attempt r.history p).at → p < length r.history.attempts → (attempt r.history p).is_stamped ≡ true → IsDead r'.ledger.rows q → n < (r'.ledger.rows.fates q).gone
       before q n f g u x y = which (dead_was a h q y)
         where
           which : IsDead r.ledger.rows q ⊎ Buried r.ledger.rows r'.ledger.rows s (length r.history.log) l a q → n < (r'.ledger.rows.fates q).gone
           which (inl k) =
-              let same = (linked_keeps a h i.shape q (inr k)).dead k in
-              let was : (attempt r.history p).at < (r.ledger.rows.fates q).gone = subst (λ m. (attempt r.history p).at < (r.ledger.rows.fates m).gone) (sym f) (i.puts.gone p u (subst (IsDead r.ledger.rows) f k) x) in
-              omega (arith, was, g, ap (λ (m : Fate). m.gone) same)
-          which (inr k) = omega (arith, g, i.history.past.at p u x, ap (λ (m : Fate). m.gone) k.fate)
+              let same = (linked_keeps a h i.shape q (inr k)).dead k (inr y) in
+              let was : (attempt r.history p).at < (r.ledger.rows.fates q).gone = subst (λ j. (attempt r.history p).at < (r.ledger.rows.fates j).gone) (sym f) (i.puts.gone p u (here_was a h i st p u m) (subst (IsDead r.ledger.rows) f k) x) in
+              omega (arith, was, g, ap (λ (j : Fate). j.gone) same)
+          which (inr k) = omega (arith, g, i.history.past.at p u x, ap (λ (j : Fate). j.gone) k.fate)
 
       by : AttemptStep r.history r'.history p → (attempt r'.history p).at < (r'.ledger.rows.fates (attempt r'.history p).row).gone
       by (as_it_was u x) = before (attempt r'.history p).row (attempt r'.history p).at (ap (λ (y : Attempt). y.row) x) (ap (λ (y : Attempt). y.at) x) u (sym (ap (λ (y : Attempt). y.is_stamped) x) ∙ e) d
-      by (is_added y x u c m k n f g) = true_false e (ap (λ (b : Attempt). b.is_stamped) u ∙ g)
-      by (is_announced u m x) = before (attempt r'.history p).row (attempt r'.history p).at (ap (λ (y : Attempt). y.row) x) (ap (λ (y : Attempt). y.at) x) u (sym (ap (λ (y : Attempt). y.is_stamped) x) ∙ e) d
-      by (is_lost u m x) = true_false e (ap (λ (y : Attempt). y.is_stamped) x ∙ m)
-      by (is_stamped version load u m n f c g y x k) =
+      by (is_added y x u c j k n f g) = true_false e (ap (λ (b : Attempt). b.is_stamped) u ∙ g)
+      by (is_announced u n x) = before (attempt r'.history p).row (attempt r'.history p).at (ap (λ (y : Attempt). y.row) x) (ap (λ (y : Attempt). y.at) x) u (sym (ap (λ (y : Attempt). y.is_stamped) x) ∙ e) d
+      by (is_lost u n x) = true_false e (ap (λ (y : Attempt). y.is_stamped) x ∙ n)
+      by (is_stamped version load u b n f c g y x k) =
           let full = was_full (attempt r.history p).row (subst (IsDead r'.ledger.rows) (ap (λ (y : Attempt). y.row) x) d) in
-          absurd (not_settled p u m n f (full.settled (attempt r.history p).seat (i.puts.given p u).seat))
+          absurd (not_settled p u b n f (full.settled (attempt r.history p).seat (i.puts.placed p u).seat))

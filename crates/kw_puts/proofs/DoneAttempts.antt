@@ -34,6 +34,7 @@ use Rattle.kw_puts.proofs.RelyEntry.{attempt_left}
 use Rattle.kw_puts.proofs.RelyProof.{goes_on_by, rely_version}
 use Rattle.kw_puts.proofs.NewAttempts.{IsNew, attempt_was, over_stays}
 use Rattle.kw_puts.proofs.OwnAttempts.{acting_own, positive, lost_entry, lost_frozen}
+use Rattle.kw_puts.proofs.HereStays.{here_was}
 
 -- Attempts that are done.
 
@@ -128,17 +129,21 @@ module _ (z : Sizes) (r r' : Run) (s : ℕ) (choice : Choice) (l : Local) (a : A
       }
 
   -- an attempt that is done stays done
-  old_stays : (p : ℕ) → p < length r.history.attempts → IsOld (word z r.world) r.history p → IsOld (word z r'.world) r'.history p
+  old_stays : (p : ℕ) → p < length r.history.attempts → IsOld (word z r.world) r.ledger.rows r.history p → IsOld (word z r'.world) r'.ledger.rows r'.history p
   old_stays p w o =
       let goes = goes_on_by z r r' s choice l a l' h i st in
       let same = goes.attempts p w in
       let g = (goes.grows.old p w).stamped o.stamped in
-      let c = i.puts.given p w in
-      let n : word z r.world (name.Version (attempt r.history p).row (attempt r.history p).cell) ≢ 0 = λ e. omega (arith, e, o.version, positive z r i p o.stamped) in
-      record { stamped = g.0; version = rw (same.row, same.cell) (rely_version z r r' s choice l a l' h i (attempt r.history p).row (attempt r.history p).cell c.linked c.cell n ∙ o.version ∙ sym g.1) }
+      record {
+        stamped = g.0;
+        version = λ y.
+            let x = here_was a h i st p w y in
+            let n : word z r.world (name.Version (attempt r.history p).row (attempt r.history p).cell) ≢ 0 = λ e. omega (arith, e, o.version x, positive z r i p o.stamped) in
+            rw (same.row, same.cell) (rely_version z r r' s choice l a l' h i (attempt r.history p).row (attempt r.history p).cell x.linked (i.puts.placed p w).cell n ∙ o.version x ∙ sym g.1);
+      }
 
   -- the attempt of a seat that clears its entry is done
-  clears_old : a ≡ PutClear → IsOld (word z r'.world) r'.history (r.seats s).own
+  clears_old : a ≡ PutClear → IsOld (word z r'.world) r'.ledger.rows r'.history (r.seats s).own
   clears_old e =
       let clearing = subst (λ x. Happens z r r' s choice l l' x) e h in
       let own = acting_own z r r' s choice l PutClear l' clearing i tt in
@@ -147,7 +152,7 @@ module _ (z : Sizes) (r r' : Run) (s : ℕ) (choice : Choice) (l : Local) (a : A
       let same = goes.attempts (r.seats s).own own.within in
       let g = (goes.grows.old (r.seats s).own own.within).stamped (own.stamped (subst IsStamped (sym clearing.activity) tt)) in
       let stored = version_stays PutClear clearing l.row l.cell known.below.row known.ranges.cell (λ x. x) ∙ own.stored (subst IsStored (sym clearing.activity) tt) in
-      record { stamped = g.0; version = rw (same.row, same.cell) (rw (own.row, own.cell) stored ∙ sym g.1) }
+      record { stamped = g.0; version = λ x. rw (same.row, same.cell) (rw (own.row, own.cell) stored ∙ sym g.1) }
 
   -- the own attempt of a seat that puts stays current, or its seat has cleared its entry, or it never gets a version: what holds of it then
   own_current : (P : ℕ → Type 0) → (a ≡ PutClear → P (r.seats s).own) → (IsOver r'.history (r.seats s).own → P (r.seats s).own) → (p : ℕ) → p < length r.history.attempts → (attempt r.history p).seat ≡ s → p ≡ (r.seats s).own → IsPutting a → IsCurrent (slice_get r'.world.locals) r'.seats r'.history p ⊎ P p
@@ -186,17 +191,17 @@ module _ (z : Sizes) (r r' : Run) (s : ℕ) (choice : Choice) (l : Local) (a : A
           own_current P cleared (over (r.seats s).own) p w (ap (λ q. (attempt r.history q).seat) x.1 ∙ own.seat) x.1 m
 
 -- an attempt is current, or stamped and stored, or it never gets a version
-pub old_keeps : (z : Sizes) (r r' : Run) (s : ℕ) (choice : Choice) (l : Local) (a : Activity) (l' : Local) → Arrow z (word z r.world) s choice l a l' → Happens z r r' s choice l l' a → Below z r → Step r.history r'.history (log_entry z r a s choice l) → (p : ℕ) → p < length r'.history.attempts → IsCurrent (slice_get r'.world.locals) r'.seats r'.history p ⊎ IsOld (word z r'.world) r'.history p ⊎ IsOver r'.history p
+pub old_keeps : (z : Sizes) (r r' : Run) (s : ℕ) (choice : Choice) (l : Local) (a : Activity) (l' : Local) → Arrow z (word z r.world) s choice l a l' → Happens z r r' s choice l l' a → Below z r → Step r.history r'.history (log_entry z r a s choice l) → (p : ℕ) → p < length r'.history.attempts → IsCurrent (slice_get r'.world.locals) r'.seats r'.history p ⊎ IsOld (word z r'.world) r'.ledger.rows r'.history p ⊎ IsOver r'.history p
 old_keeps z r r' s choice l a l' b h i st p o = which (attempt_was a h p o)
   where
-    cleared : a ≡ PutClear → IsOld (word z r'.world) r'.history (r.seats s).own ⊎ IsOver r'.history (r.seats s).own
+    cleared : a ≡ PutClear → IsOld (word z r'.world) r'.ledger.rows r'.history (r.seats s).own ⊎ IsOver r'.history (r.seats s).own
     cleared e = inl (clears_old z r r' s choice l a l' h i st e)
 
-    was : p < length r.history.attempts → IsCurrent (slice_get r.world.locals) r.seats r.history p ⊎ IsOld (word z r.world) r.history p ⊎ IsOver r.history p → IsCurrent (slice_get r'.world.locals) r'.seats r'.history p ⊎ IsOld (word z r'.world) r'.history p ⊎ IsOver r'.history p
-    was w (inl k) = current_goes z r r' s choice l a l' h i st (λ q. IsOld (word z r'.world) r'.history q ⊎ IsOver r'.history q) cleared (λ x. inr x) p w k
+    was : p < length r.history.attempts → IsCurrent (slice_get r.world.locals) r.seats r.history p ⊎ IsOld (word z r.world) r.ledger.rows r.history p ⊎ IsOver r.history p → IsCurrent (slice_get r'.world.locals) r'.seats r'.history p ⊎ IsOld (word z r'.world) r'.ledger.rows r'.history p ⊎ IsOver r'.history p
+    was w (inl k) = current_goes z r r' s choice l a l' h i st (λ q. IsOld (word z r'.world) r'.ledger.rows r'.history q ⊎ IsOver r'.history q) cleared (λ x. inr x) p w k
     was w (inr (inl k)) = inr (inl (old_stays z r r' s choice l a l' h i st p w k))
-    was w (inr (inr k)) = over_goes z r r' s choice l a l' h i st (λ q. IsOld (word z r'.world) r'.history q ⊎ IsOver r'.history q) cleared (λ q x. inr x) p w k
+    was w (inr (inr k)) = over_goes z r r' s choice l a l' h i st (λ q. IsOld (word z r'.world) r'.ledger.rows r'.history q ⊎ IsOver r'.history q) cleared (λ q x. inr x) p w k
 
-    which : (p < length r.history.attempts) ⊎ IsNew z r r' s l a p → IsCurrent (slice_get r'.world.locals) r'.seats r'.history p ⊎ IsOld (word z r'.world) r'.history p ⊎ IsOver r'.history p
+    which : (p < length r.history.attempts) ⊎ IsNew z r r' s l a p → IsCurrent (slice_get r'.world.locals) r'.seats r'.history p ⊎ IsOld (word z r'.world) r'.ledger.rows r'.history p ⊎ IsOver r'.history p
     which (inl w) = was w (i.puts.old p w)
     which (inr n) = inl (new_current z r r' s choice l a l' h i st p n)

@@ -35,7 +35,7 @@ use Rattle.kw_core.proofs.FreezeFrame.{entry_frozen, entry_left}
 use Rattle.kw_core.proofs.InfantFrames.{ChangesEntry, entry_stays, entry_written}
 use Rattle.kw_rows.specs.Rows.{WasLinked}
 use Rattle.kw_shape.proofs.LinkedWords.{linked_frozen_entry}
-use Rattle.kw_puts.proofs.Owners.{IsPendingOf, entry_owner, full_linked, published_puts, puts_linked, row_linked, was_or_not}
+use Rattle.kw_puts.proofs.Owners.{IsPendingOf, entry_owner, full_linked, own_origin, published_puts, puts_linked, row_linked, was_or_not}
 use Rattle.kw_puts.proofs.Rely.{SameAttempt, GoesOn}
 use Rattle.kw_puts.proofs.RelyProof.{goes_on_by}
 use Rattle.kw_puts.proofs.DoneAttempts.{building_puts}
@@ -260,7 +260,7 @@ built_meets _ n p = absurd p
 pending_met : (z : Sizes) (r r' : Run) (s : ℕ) (choice : Choice) (l : Local) (j c : ℕ) → word z r.world (name.Pend l.row j) ≡ pend_word (pend.Pending c) → Happens z r r' s choice l (record l { looked = j; met = c; activity = LookKey }) (Look j) → Below z r → Step r.history r'.history (log_entry z r (Look j) s choice l) → Helps r'.history r'.origin LookKey (record l { looked = j; met = c; activity = LookKey }) (r'.seats s)
 pending_met z r r' s choice l j c e h i st = record {
   put = (r.seats j).own;
-  origin = goes.origin l.row c (r.seats j).own linked (subst (λ x. r.origin x c ≡ Some (r.seats j).own) (own.row ∙ w.row) (subst (λ x. r.origin (attempt r.history (r.seats j).own).row x ≡ Some (r.seats j).own) w.cell (i.puts.given (r.seats j).own own.within).origin));
+  origin = goes.origin l.row c (r.seats j).own linked (rw (w.row, sym own.cell ∙ w.cell) at (own_origin i.puts j w.local w.knows (published_puts w.local.activity w.published)));
   seat = same.seat ∙ own.seat;
   announced = ((goes.grows.old (r.seats j).own own.within).announced (own.announced w.published)).0;
   key = λ x. absurd x;

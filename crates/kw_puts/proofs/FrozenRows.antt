@@ -66,7 +66,7 @@ announced_pending z r i p w a n k = which (i.puts.old p w)
     over (inl y) = true_false y k
     over (inr y) = true_false a y
 
-    which : IsCurrent (slice_get r.world.locals) r.seats r.history p ⊎ IsOld (word z r.world) r.history p ⊎ IsOver r.history p → word z r.world (name.Pend (attempt r.history p).row (attempt r.history p).seat) ≡ pend_word (pend.Pending (attempt r.history p).cell)
+    which : IsCurrent (slice_get r.world.locals) r.seats r.history p ⊎ IsOld (word z r.world) r.ledger.rows r.history p ⊎ IsOver r.history p → word z r.world (name.Pend (attempt r.history p).row (attempt r.history p).seat) ≡ pend_word (pend.Pending (attempt r.history p).cell)
     which (inl c) = current c (fresh_published c.local.activity)
     which (inr (inl y)) = true_false y.stamped n
     which (inr (inr y)) = over y.over
@@ -94,6 +94,6 @@ module _ (z : Sizes) (r r' : Run) (s : ℕ) (choice : Choice) (l : Local) (a : A
     stamped = λ c p w o x. which p x (i.puts.places.owner q c p k w o);
   }
     where
-      which : {c : ℕ} (p : ℕ) → (attempt r'.history p).is_stamped ≡ true → HasCell r.history q c p ⊎ IsCopyAt (word z r.world) r.ledger.rows r.history q c p → (attempt r.history p).is_stamped ≡ true
-      which p x (inl y) = stamped_was st p y.within (subst (λ m. IsSettled (word z r.world) (slice_get r.world.locals) m (attempt r.history p).seat) (sym y.row) (d (attempt r.history p).seat (i.puts.given p y.within).seat)) x
+      which : {c : ℕ} (p : ℕ) → (attempt r'.history p).is_stamped ≡ true → HasCell r.ledger.rows r.history q c p ⊎ IsCopyAt (word z r.world) r.ledger.rows r.history q c p → (attempt r.history p).is_stamped ≡ true
+      which p x (inl y) = stamped_was st p y.within (subst (λ m. IsSettled (word z r.world) (slice_get r.world.locals) m (attempt r.history p).seat) (sym y.row) (d (attempt r.history p).seat (i.puts.placed p y.within).seat)) x
       which p x (inr y) = y.stamped

@@ -7,7 +7,7 @@ use Rattle.kw_lists.proofs.Leaving.{on_left}
 use Rattle.kw_lists.proofs.Same.{stands_same, behind_same}
 use Rattle.kw_lists.proofs.Walking.{passed_stays}
 use Rattle.kw_world.specs.declared.activity.Activity.{Activity}
-use Rattle.kw_world.specs.declared.activity.Activity.TheVariants.{TakeFrom, TakeKey, TakeVersion, TakeValue, TakeRestKey, TakeRestValue, SeekFirst, Seek, TakeRow, GiveBack, WriteCount, WriteMin, WriteNext, WriteFirst, WritePend, WriteKey, WriteValue, WriteVersion, WriteAfter, Before, BeforeGuess, BeforeHead, BeforeLink, BeforeMin, Replace}
+use Rattle.kw_world.specs.declared.activity.Activity.TheVariants.{TakeFrom, TakeKey, TakeVersion, TakeValue, TakeRestKey, TakeRestValue, SeekFirst, Seek, SeekPass, Reclaim, TakeRow, GiveBack, WriteCount, WriteMin, WriteNext, WriteFirst, WritePend, WriteKey, WriteValue, WriteVersion, WriteAfter, Before, BeforeGuess, BeforeHead, BeforeLink, BeforeMin, Replace}
 use Rattle.kw_world.specs.declared.local.Local.{Local}
 use Rattle.kw_world.specs.declared.event.Choice.{Choice}
 use Rattle.kw_world.specs.Marks.{is_marked}
@@ -144,6 +144,8 @@ gathering_passed z _ x = absurd x
 pub planned_passed : (z : Sizes) (a : Activity) → HasPlanned (nursing_of a) → HasPassedAll z a
 planned_passed z SeekFirst x = record { balances = tt; frozen = tt; all = refl }
 planned_passed z Seek x = record { balances = tt; frozen = tt; all = refl }
+planned_passed z (SeekPass i) x = record { balances = tt; frozen = tt; all = refl }
+planned_passed z Reclaim x = record { balances = tt; frozen = tt; all = refl }
 planned_passed z TakeRow x = record { balances = tt; frozen = tt; all = refl }
 planned_passed z GiveBack x = record { balances = tt; frozen = tt; all = refl }
 planned_passed z WriteCount x = record { balances = tt; frozen = tt; all = refl }

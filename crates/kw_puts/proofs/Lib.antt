@@ -8,6 +8,7 @@ pub mod RelyProof
 pub mod StablePuts
 pub mod NewAttempts
 pub mod OwnAttempts
+pub mod HereStays
 pub mod AttemptCells
 pub mod DoneAttempts
 pub mod Entries

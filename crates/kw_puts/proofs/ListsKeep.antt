@@ -14,10 +14,11 @@ use Rattle.kw_core.specs.History.{attempt}
 use Rattle.kw_core.specs.Run.{Run, start}
 use Rattle.kw_core.specs.Listed.{none_listed}
 use Rattle.kw_words.specs.Plain.{cell_of_link_word}
-use Rattle.kw_core.specs.Stages.{IsStamped, IsStored, IsPutClear, IsInserting}
+use Rattle.kw_core.specs.Stages.{IsPutting, IsStamped, IsStored, IsPutClear, IsInserting}
 use Rattle.kw_core.specs.Step.{Step}
 use Rattle.kw_core.proofs.Happens.{Happens, log_entry, each_seat}
 use Rattle.kw_shape.proofs.ShapeOpens.{each_rests, opens, shape_starts}
+use Rattle.kw_puts.specs.Here.{IsHere}
 use Rattle.kw_puts.specs.Puts.{IsCurrent, IsOver, Puts}
 use Rattle.kw_puts.proofs.CellsOf.{cell_key}
 use Rattle.kw_rows.specs.Rows.{WasLinked}
@@ -25,8 +26,8 @@ use Rattle.kw_shape.proofs.LinkedRows.{fresh_linked, was_below}
 use Rattle.kw_core.proofs.Attempts.{in_range}
 use Rattle.kw_puts.proofs.AttemptCells.{copy_was}
 use Rattle.kw_puts.proofs.Relinked.{ListAt, new_list}
-use Rattle.kw_shape.proofs.LinkedRows.{linked_keeps}
-use Rattle.kw_puts.proofs.Owners.{puts_linked, was_or_not}
+use Rattle.kw_puts.proofs.HereStays.{here_was}
+use Rattle.kw_puts.proofs.Owners.{own_origin, puts_linked, was_or_not}
 use Rattle.kw_puts.specs.Lists.{list_in, IsListedCell, IsOwnListed, Inserts, WalksList, Lists}
 use Rattle.kw_puts.specs.Below.{Below}
 use Rattle.kw_puts.proofs.Rely.{GoesOn, Rely}
@@ -43,8 +44,8 @@ module _ (z : Sizes) (r r' : Run) (s : ℕ) (choice : Choice) (l : Local) (a : A
   goes = goes_on_by z r r' s choice l a l' h i st
 
   -- a cell of a row that is or was linked which is that of a stamped attempt, or a copy, with this version in it after the event
-  stamped_cell : (q c put : ℕ) → WasLinked r.ledger.rows q → c < z.cells → r.origin q c ≡ Some put → (attempt r.history put).is_stamped ≡ true → word z r'.world (name.Version q c) ≡ (attempt r.history put).version → IsListedCell (word z r'.world) r'.history r'.origin q c
-  stamped_cell q c put k o origin stamped version =
+  stamped_cell : (q c put : ℕ) → WasLinked r.ledger.rows q → WasLinked r'.ledger.rows q → c < z.cells → r.origin q c ≡ Some put → (attempt r.history put).is_stamped ≡ true → word z r'.world (name.Version q c) ≡ (attempt r.history put).version → IsListedCell (word z r'.world) r'.history r'.origin q c
+  stamped_cell q c put k k' o origin stamped version =
       let within = in_range r.history put stamped in
       let g = (goes.grows.old put within).stamped stamped in
       let then = goes.origin q c put k origin in
@@ -53,63 +54,67 @@ module _ (z : Sizes) (r r' : Run) (s : ℕ) (choice : Choice) (l : Local) (a : A
         put = put;
         origin = then;
         stamped = g.0;
-        key = cell_key p q c put (p.places.owner q c put (linked_keeps a h i.shape q k).linked o then) announced.0;
+        key = cell_key p q c put (p.places.owner q c put k' o then) announced.0;
         version = version ∙ sym g.1;
       }
 
   -- a listed cell of a row that was linked before stays that of its attempt, and so is the one that is listed now
-  cells_keep : (q c : ℕ) → WasLinked r.ledger.rows q → r'.listed q c ≡ true → IsListedCell (word z r'.world) r'.history r'.origin q c
-  cells_keep q c k t = which (listed_was z r r' s choice l a l' h i q c k t)
+  cells_keep : (q c : ℕ) → WasLinked r.ledger.rows q → WasLinked r'.ledger.rows q → r'.listed q c ≡ true → IsListedCell (word z r'.world) r'.history r'.origin q c
+  cells_keep q c k k' t = which (listed_was z r r' s choice l a l' h i q c k t)
     where
       which : (r.listed q c ≡ true) ⊎ (a ≡ Insert) × (q ≡ l.row) × (c ≡ l.cell) → IsListedCell (word z r'.world) r'.history r'.origin q c
       which (inl x) =
           let cell = i.lists.cells q c k x in
           let inside : c < z.cells = (i.lists.leads q k).below c x in
-          stamped_cell q c cell.put k inside cell.origin cell.stamped ((listed_words z r r' s choice l a l' h i q c k inside (λ u e f. not_listed z r r' s choice l a l' h i u q c x e f)).version ∙ cell.version)
+          stamped_cell q c cell.put k k' inside cell.origin cell.stamped ((listed_words z r r' s choice l a l' h i q c k inside (λ u e f. not_listed z r r' s choice l a l' h i u q c x e f)).version ∙ cell.version)
       which (inr x) =
           let inserting = subst (λ b. Happens z r r' s choice l l' b) x.0 h in
           let own = acting_own z r r' s choice l Insert l' inserting i tt in
           let known = i.shape.sane.locals s l h.knows in
           let here : WasLinked r.ledger.rows l.row = subst (WasLinked r.ledger.rows) x.1 k in
-          let origin : r.origin l.row l.cell ≡ Some (r.seats s).own = rw (own.row, own.cell) at (i.puts.given (r.seats s).own own.within).origin in
+          let then : WasLinked r'.ledger.rows l.row = subst (WasLinked r'.ledger.rows) x.1 k' in
+          let origin = own_origin i.puts s l h.knows (subst IsPutting (sym inserting.activity) tt) in
           let stored = (insert_words z r r' s choice l l' inserting i l.row l.cell here known.ranges.cell).version ∙ own.stored (subst IsStored (sym inserting.activity) tt) in
-          rw (x.1, x.2) (stamped_cell l.row l.cell (r.seats s).own here known.ranges.cell origin (own.stamped (subst IsStamped (sym inserting.activity) tt)) stored)
+          rw (x.1, x.2) (stamped_cell l.row l.cell (r.seats s).own here then known.ranges.cell origin (own.stamped (subst IsStamped (sym inserting.activity) tt)) stored)
 
   -- a copy is listed
-  copied_keep : (q c put : ℕ) → WasLinked r.ledger.rows q → c < z.cells → r'.origin q c ≡ Some put → (attempt r'.history put).row ≢ q → r'.listed q c ≡ true
+  copied_keep : (q c put : ℕ) → WasLinked r.ledger.rows q → c < z.cells → r'.origin q c ≡ Some put → (attempt r'.history put).add < (r'.ledger.rows.fates q).born → r'.listed q c ≡ true
   copied_keep q c put k o e d =
       let was = copy_was z r r' s choice l a l' h i st q k c put o e d in
       listed_stays z r r' s choice l a l' h i q c k (i.lists.copied q c put k o was.0 was.2)
 
-  -- an attempt is current, or its cell is listed, or it never gets a version
-  old_listed : (p : ℕ) → p < length r'.history.attempts → IsCurrent (slice_get r'.world.locals) r'.seats r'.history p ⊎ (r'.listed (attempt r'.history p).row (attempt r'.history p).cell ≡ true) ⊎ IsOver r'.history p
+  -- an attempt is current, or its cell is listed unless its row was used again, or it never gets a version
+  old_listed : (p : ℕ) → p < length r'.history.attempts → IsCurrent (slice_get r'.world.locals) r'.seats r'.history p ⊎ (IsHere r'.ledger.rows r'.history p → r'.listed (attempt r'.history p).row (attempt r'.history p).cell ≡ true) ⊎ IsOver r'.history p
   old_listed p o = which (attempt_was a h p o)
     where
-      stays : (p : ℕ) → p < length r.history.attempts → r.listed (attempt r.history p).row (attempt r.history p).cell ≡ true → r'.listed (attempt r'.history p).row (attempt r'.history p).cell ≡ true
-      stays p w x = let same = goes.attempts p w in rw (same.row, same.cell) (listed_stays z r r' s choice l a l' h i (attempt r.history p).row (attempt r.history p).cell (i.puts.given p w).linked x)
+      stays : (p : ℕ) → p < length r.history.attempts → (IsHere r.ledger.rows r.history p → r.listed (attempt r.history p).row (attempt r.history p).cell ≡ true) → IsHere r'.ledger.rows r'.history p → r'.listed (attempt r'.history p).row (attempt r'.history p).cell ≡ true
+      stays p w x y =
+          let same = goes.attempts p w in
+          let was = here_was a h i st p w y in
+          rw (same.row, same.cell) (listed_stays z r r' s choice l a l' h i (attempt r.history p).row (attempt r.history p).cell was.linked (x was))
 
-      cleared : a ≡ PutClear → (r'.listed (attempt r'.history (r.seats s).own).row (attempt r'.history (r.seats s).own).cell ≡ true) ⊎ IsOver r'.history (r.seats s).own
+      cleared : a ≡ PutClear → (IsHere r'.ledger.rows r'.history (r.seats s).own → r'.listed (attempt r'.history (r.seats s).own).row (attempt r'.history (r.seats s).own).cell ≡ true) ⊎ IsOver r'.history (r.seats s).own
       cleared e =
           let clearing = subst (λ b. Happens z r r' s choice l l' b) e h in
           let own = acting_own z r r' s choice l PutClear l' clearing i tt in
-          inl (stays (r.seats s).own own.within (rw (own.row, own.cell) ((i.lists.own s l h.knows).listed (subst IsPutClear (sym clearing.activity) tt))))
+          inl (stays (r.seats s).own own.within (λ y. rw (own.row, own.cell) ((i.lists.own s l h.knows).listed (subst IsPutClear (sym clearing.activity) tt))))
 
-      was : p < length r.history.attempts → IsCurrent (slice_get r.world.locals) r.seats r.history p ⊎ (r.listed (attempt r.history p).row (attempt r.history p).cell ≡ true) ⊎ IsOver r.history p → IsCurrent (slice_get r'.world.locals) r'.seats r'.history p ⊎ (r'.listed (attempt r'.history p).row (attempt r'.history p).cell ≡ true) ⊎ IsOver r'.history p
-      was w (inl k) = current_goes z r r' s choice l a l' h i st (λ p. (r'.listed (attempt r'.history p).row (attempt r'.history p).cell ≡ true) ⊎ IsOver r'.history p) cleared (λ x. inr x) p w k
+      was : p < length r.history.attempts → IsCurrent (slice_get r.world.locals) r.seats r.history p ⊎ (IsHere r.ledger.rows r.history p → r.listed (attempt r.history p).row (attempt r.history p).cell ≡ true) ⊎ IsOver r.history p → IsCurrent (slice_get r'.world.locals) r'.seats r'.history p ⊎ (IsHere r'.ledger.rows r'.history p → r'.listed (attempt r'.history p).row (attempt r'.history p).cell ≡ true) ⊎ IsOver r'.history p
+      was w (inl k) = current_goes z r r' s choice l a l' h i st (λ p. (IsHere r'.ledger.rows r'.history p → r'.listed (attempt r'.history p).row (attempt r'.history p).cell ≡ true) ⊎ IsOver r'.history p) cleared (λ x. inr x) p w k
       was w (inr (inl x)) = inr (inl (stays p w x))
-      was w (inr (inr x)) = over_goes z r r' s choice l a l' h i st (λ p. (r'.listed (attempt r'.history p).row (attempt r'.history p).cell ≡ true) ⊎ IsOver r'.history p) cleared (λ q x. inr x) p w x
+      was w (inr (inr x)) = over_goes z r r' s choice l a l' h i st (λ p. (IsHere r'.ledger.rows r'.history p → r'.listed (attempt r'.history p).row (attempt r'.history p).cell ≡ true) ⊎ IsOver r'.history p) cleared (λ q x. inr x) p w x
 
-      which : (p < length r.history.attempts) ⊎ IsNew z r r' s l a p → IsCurrent (slice_get r'.world.locals) r'.seats r'.history p ⊎ (r'.listed (attempt r'.history p).row (attempt r'.history p).cell ≡ true) ⊎ IsOver r'.history p
+      which : (p < length r.history.attempts) ⊎ IsNew z r r' s l a p → IsCurrent (slice_get r'.world.locals) r'.seats r'.history p ⊎ (IsHere r'.ledger.rows r'.history p → r'.listed (attempt r'.history p).row (attempt r'.history p).cell ≡ true) ⊎ IsOver r'.history p
       which (inl w) = was w (i.lists.old p w)
       which (inr n) = inl (new_current z r r' s choice l a l' h i st p n)
 
   -- the list of each row that is or was linked: of one that was before the event, and of one that the event links
-  list_at : (q : ℕ) → WasLinked r'.ledger.rows q → ListAt z (word z r'.world) r'.history r'.origin r'.listed q
+  list_at : (q : ℕ) → WasLinked r'.ledger.rows q → ListAt z (word z r'.world) r'.ledger.rows r'.history r'.origin r'.listed q
   list_at q k = which (was_or_not r.ledger.rows q)
     where
-      which : WasLinked r.ledger.rows q ⊎ (WasLinked r.ledger.rows q → ⊥) → ListAt z (word z r'.world) r'.history r'.origin r'.listed q
+      which : WasLinked r.ledger.rows q ⊎ (WasLinked r.ledger.rows q → ⊥) → ListAt z (word z r'.world) r'.ledger.rows r'.history r'.origin r'.listed q
       which (inl w) = record {
-        cells = λ c t. cells_keep q c w t;
+        cells = λ c t. cells_keep q c w k t;
         leads = stays_sound z.cells _ _ (list_step z r r' s choice l a l' h i q w) (i.lists.leads q w);
         copied = λ c put o e d. copied_keep q c put w o e d;
       }

@@ -39,9 +39,10 @@ use Rattle.kw_core.proofs.Arrows.{freezes_count, meets_idle, meets_unstamped, re
 use Rattle.kw_core.proofs.Arrows.{take_leads, takes_left, takes_no_more, takes_key, takes_version, keeps_taken, takes_left_key, keeps_left, keeps_no_more}
 use Rattle.kw_core.proofs.Happens.{Happens, log_entry}
 use Rattle.kw_puts.specs.Freezes.{IsToFreeze, IsUnsettled, HasFrozen, IsMarkOf, IsBeforeTaking, Remembers}
-use Rattle.kw_puts.specs.Puts.{OwnsAttempt, HasCell, Helps, IsCurrent, IsOver, IsPublishedAt, entry_of}
+use Rattle.kw_puts.specs.Puts.{OwnsAttempt, HasCell, Helps, IsCurrent, IsHere, IsMadeIn, IsOver, IsPublishedAt, entry_of}
 use Rattle.kw_puts.specs.Below.{Below}
-use Rattle.kw_puts.proofs.Owners.{true_false, pending_cell, published_puts}
+use Rattle.kw_shape.proofs.LinkedRows.{linked_keeps}
+use Rattle.kw_puts.proofs.Owners.{true_false, made_here, own_origin, pending_cell, published_puts}
 use Rattle.kw_puts.proofs.Rely.{GoesOn}
 use Rattle.kw_puts.proofs.RelyEntry.{attempt_left, fresh_published}
 use Rattle.kw_puts.proofs.RelyProof.{goes_on_by}
@@ -65,31 +66,32 @@ marks_last h h' o o' w g q k marks m = All-weaker (IsMarkOf h o q) (IsMarkOf h' 
 module _ (z : Sizes) (r : Run) (i : Below z r) where
   -- the word of a stamped attempt reads so
   reads_stamped : (p : ℕ) → p < length r.history.attempts → (attempt r.history p).is_stamped ≡ true → pend_of (pend_word (pend.Stamped (attempt r.history p).cell (attempt r.history p).version)) ≡ Some (pend.Stamped (attempt r.history p).cell (attempt r.history p).version)
-  reads_stamped p w x = pend_of-Stamped _ _ (omega (arith, (i.puts.given p w).cell, i.shape.sane.sized.few_cells)) (positive z r i p x) (below_end z r i p x)
+  reads_stamped p w x = pend_of-Stamped _ _ (omega (arith, (i.puts.placed p w).cell, i.shape.sane.sized.few_cells)) (positive z r i p x) (below_end z r i p x)
 
   -- the cell of a stamped entry is that of an attempt that is stamped with the entry's version
   pub stamped_mark : (q j c version : ℕ) → q < r.world.rows → j < z.seats → pend_of (word z r.world (name.Pend q j)) ≡ Some (pend.Stamped c version) → IsMarkOf r.history r.origin q (mark_of c version)
   stamped_mark q j c version w o e = which (i.puts.entry q j w o)
     where
-      from : (p : ℕ) → p < length r.history.attempts → (attempt r.history p).row ≡ q → word z r.world (name.Pend q j) ≡ entry_of (attempt r.history p) → (b d : Bool) → (attempt r.history p).is_lost ≡ b → (attempt r.history p).is_stamped ≡ d → IsMarkOf r.history r.origin q (mark_of c version)
+      from : (p : ℕ) → p < length r.history.attempts → r.origin q (attempt r.history p).cell ≡ Some p → word z r.world (name.Pend q j) ≡ entry_of (attempt r.history p) → (b d : Bool) → (attempt r.history p).is_lost ≡ b → (attempt r.history p).is_stamped ≡ d → IsMarkOf r.history r.origin q (mark_of c version)
       from p u f x true d y n = let k : Some pend.Frozen ≡ Some (pend.Stamped c version) = sym (ap pend_of (x ∙ entry_lost (attempt r.history p) y) ∙ pend_of-Frozen) ∙ e in absurd (cc)
       from p u f x false true y n =
           let k : Some (pend.Stamped (attempt r.history p).cell (attempt r.history p).version) ≡ Some (pend.Stamped c version) = sym (ap pend_of (x ∙ entry_stamped (attempt r.history p) y n) ∙ reads_stamped p u n) ∙ e in
           let cell : (attempt r.history p).cell ≡ c = cc in
-          record { put = p; origin = rw (cell, f) at (i.puts.given p u).origin; stamped = n; version = cc }
-      from p u f x false false y n = let k : Some (pend.Pending (attempt r.history p).cell) ≡ Some (pend.Stamped c version) = sym (ap pend_of (x ∙ entry_pending (attempt r.history p) y n) ∙ pend_of-Pending (attempt r.history p).cell (omega (arith, (i.puts.given p u).cell, i.shape.sane.sized.few_cells))) ∙ e in absurd (cc)
+          record { put = p; origin = rw cell at f; stamped = n; version = cc }
+      from p u f x false false y n = let k : Some (pend.Pending (attempt r.history p).cell) ≡ Some (pend.Stamped c version) = sym (ap pend_of (x ∙ entry_pending (attempt r.history p) y n) ∙ pend_of-Pending (attempt r.history p).cell (omega (arith, (i.puts.placed p u).cell, i.shape.sane.sized.few_cells))) ∙ e in absurd (cc)
 
       which : (word z r.world (name.Pend q j) ≡ pend_word pend.Idle) ⊎ (word z r.world (name.Pend q j) ≡ pend_word pend.Frozen) ⊎ IsPublishedAt (slice_get r.world.locals) q j → IsMarkOf r.history r.origin q (mark_of c version)
       which (inl x) = let y : Some pend.Idle ≡ Some (pend.Stamped c version) = sym (ap pend_of x ∙ pend_of-Idle) ∙ e in absurd (cc)
       which (inr (inl x)) = let y : Some pend.Frozen ≡ Some (pend.Stamped c version) = sym (ap pend_of x ∙ pend_of-Frozen) ∙ e in absurd (cc)
       which (inr (inr x)) =
           let own = i.puts.owns j x.local x.knows (published_puts x.local.activity x.published) in
-          from (r.seats j).own own.within (own.row ∙ x.row) (subst (λ y. word z r.world (name.Pend y j) ≡ entry_of (attempt r.history (r.seats j).own)) x.row (own.entry x.published)) _ _ refl refl
+          let puts = published_puts x.local.activity x.published in
+          from (r.seats j).own own.within (rw (x.row, sym own.cell) at (own_origin i.puts j x.local x.knows puts)) (subst (λ y. word z r.world (name.Pend y j) ≡ entry_of (attempt r.history (r.seats j).own)) x.row (own.entry x.published)) _ _ refl refl
 
-  -- the entry of its seat says that an attempt is stamped, or its cell is listed
-  pub stamped_or_listed : (p : ℕ) → p < length r.history.attempts → (attempt r.history p).is_stamped ≡ true →
+  -- the entry of its seat says that an attempt whose row was not used again is stamped, or its cell is listed
+  pub stamped_or_listed : (p : ℕ) → p < length r.history.attempts → IsHere r.ledger.rows r.history p → (attempt r.history p).is_stamped ≡ true →
       (word z r.world (name.Pend (attempt r.history p).row (attempt r.history p).seat) ≡ pend_word (pend.Stamped (attempt r.history p).cell (attempt r.history p).version)) ⊎ (r.listed (attempt r.history p).row (attempt r.history p).cell ≡ true)
-  stamped_or_listed p w x = which (i.lists.old p w)
+  stamped_or_listed p w here x = which (i.lists.old p w)
     where
       current : (k : IsCurrent (slice_get r.world.locals) r.seats r.history p) → IsFresh k.local.activity ⊎ IsPublished k.local.activity ⊎ (IsPutting k.local.activity → ⊥) → word z r.world (name.Pend (attempt r.history p).row (attempt r.history p).seat) ≡ pend_word (pend.Stamped (attempt r.history p).cell (attempt r.history p).version)
       current k b = by b
@@ -108,9 +110,9 @@ module _ (z : Sizes) (r : Run) (i : Below z r) where
           by (inr (inl y)) = subst (λ q. word z r.world (name.Pend q (attempt r.history p).seat) ≡ pend_word (pend.Stamped (attempt r.history p).cell (attempt r.history p).version)) row (own.entry y ∙ ap entry_of is ∙ entry_stamped (attempt r.history p) (i.history.laws.kept p x) x)
           by (inr (inr n)) = absurd (n k.putting)
 
-      which : IsCurrent (slice_get r.world.locals) r.seats r.history p ⊎ (r.listed (attempt r.history p).row (attempt r.history p).cell ≡ true) ⊎ IsOver r.history p → (word z r.world (name.Pend (attempt r.history p).row (attempt r.history p).seat) ≡ pend_word (pend.Stamped (attempt r.history p).cell (attempt r.history p).version)) ⊎ (r.listed (attempt r.history p).row (attempt r.history p).cell ≡ true)
+      which : IsCurrent (slice_get r.world.locals) r.seats r.history p ⊎ (IsHere r.ledger.rows r.history p → r.listed (attempt r.history p).row (attempt r.history p).cell ≡ true) ⊎ IsOver r.history p → (word z r.world (name.Pend (attempt r.history p).row (attempt r.history p).seat) ≡ pend_word (pend.Stamped (attempt r.history p).cell (attempt r.history p).version)) ⊎ (r.listed (attempt r.history p).row (attempt r.history p).cell ≡ true)
       which (inl k) = inl (current k (fresh_published k.local.activity))
-      which (inr (inl y)) = inr y
+      which (inr (inl y)) = inr (y here)
       which (inr (inr o)) = true_false x o.unstamped
 
 -- An attempt that is stamped by an event.
@@ -172,7 +174,7 @@ module _ (z : Sizes) (r r' : Run) (s : ℕ) (choice : Choice) (l : Local) (a : A
       by b c f n (makes_help q m k) =
           let met : Helps r.history r.origin l.activity l (r.seats s) = i.puts.helps s l h.knows (subst HasMet (sym (h.activity ∙ f)) tt) in
           let known = i.shape.sane.locals s l h.knows in
-          let place : HasCell r.history l.row l.met q = pending_cell i.puts l.row l.looked l.met q known.below.row known.ranges.looked m k in
+          let place : HasCell r.ledger.rows r.history l.row l.met q = pending_cell i.puts l.row l.looked l.met q known.below.row known.ranges.looked m k in
           let is : met.put ≡ q = same_Some met.put q (sym met.origin ∙ k) in
           one_stamped p q l.helping (r.seats s).loaded w n (subst IsStamping (sym f) tt) l.met (rw (place.row, sym (ap (λ y. (attempt r.history y).seat) is) ∙ met.seat) m) x
       by b c f n (makes_lose j cell q e m k) = one_lost p q w n x
@@ -185,37 +187,40 @@ module _ (z : Sizes) (r r' : Run) (s : ℕ) (choice : Choice) (l : Local) (a : A
     goes = goes_on_by z r r' s choice l a l' h i st
 
     -- they are remembered or listed, if all that were stamped were and no entry that was passed was pending
-    noted_still : (q n : ℕ) (marks : List Mark) → ((j c : ℕ) → j < z.seats → j < n → IsStamping a → word z r.world (name.Pend q j) ≡ pend_word (pend.Pending c) → ⊥) →
-        ((p : ℕ) → p < length r.history.attempts → (attempt r.history p).row ≡ q → (attempt r.history p).is_stamped ≡ true → (attempt r.history p).seat < n → (is_marked (attempt r.history p).cell marks ≡ true) ⊎ (r.listed q (attempt r.history p).cell ≡ true)) →
-        (p : ℕ) → p < length r'.history.attempts → (attempt r'.history p).row ≡ q → (attempt r'.history p).is_stamped ≡ true → (attempt r'.history p).seat < n → (is_marked (attempt r'.history p).cell marks ≡ true) ⊎ (r'.listed q (attempt r'.history p).cell ≡ true)
-    noted_still q n marks settled was p o e x b = which (attempt_was a h p o)
+    noted_still : (q n : ℕ) (marks : List Mark) → WasLinked r.ledger.rows q → ((j c : ℕ) → j < z.seats → j < n → IsStamping a → word z r.world (name.Pend q j) ≡ pend_word (pend.Pending c) → ⊥) →
+        ((p : ℕ) → p < length r.history.attempts → IsMadeIn r.ledger.rows r.history q p → (attempt r.history p).is_stamped ≡ true → (attempt r.history p).seat < n → (is_marked (attempt r.history p).cell marks ≡ true) ⊎ (r.listed q (attempt r.history p).cell ≡ true)) →
+        (p : ℕ) → p < length r'.history.attempts → IsMadeIn r'.ledger.rows r'.history q p → (attempt r'.history p).is_stamped ≡ true → (attempt r'.history p).seat < n → (is_marked (attempt r'.history p).cell marks ≡ true) ⊎ (r'.listed q (attempt r'.history p).cell ≡ true)
+    noted_still q n marks linked settled was p o e x b = which (attempt_was a h p o)
       where
         old : p < length r.history.attempts → (is_marked (attempt r'.history p).cell marks ≡ true) ⊎ (r'.listed q (attempt r'.history p).cell ≡ true)
         old w = by (was_stamped p w x)
           where
             row : (attempt r.history p).row ≡ q
-            row = sym (goes.attempts p w).row ∙ e
+            row = sym (goes.attempts p w).row ∙ e.row
+
+            made : IsMadeIn r.ledger.rows r.history q p
+            made = record { row = row; born = omega (arith, e.born, (goes.attempts p w).add, (linked_keeps a h i.shape q linked).born) }
 
             seat : (attempt r.history p).seat < n
             seat = subst (λ y. y < n) (goes.attempts p w).seat b
 
             stays : (is_marked (attempt r.history p).cell marks ≡ true) ⊎ (r.listed q (attempt r.history p).cell ≡ true) → (is_marked (attempt r'.history p).cell marks ≡ true) ⊎ (r'.listed q (attempt r'.history p).cell ≡ true)
             stays (inl y) = inl (rw (goes.attempts p w).cell y)
-            stays (inr y) = inr (rw (goes.attempts p w).cell (listed_stays z r r' s choice l a l' h i q (attempt r.history p).cell (subst (WasLinked r.ledger.rows) row (i.puts.given p w).linked) y))
+            stays (inr y) = inr (rw (goes.attempts p w).cell (listed_stays z r r' s choice l a l' h i q (attempt r.history p).cell linked y))
 
             by : WasStamped p → (is_marked (attempt r'.history p).cell marks ≡ true) ⊎ (r'.listed q (attempt r'.history p).cell ≡ true)
-            by (inl y) = stays (was p w row y seat)
-            by (inr (m, (c, y))) = absurd (settled (attempt r.history p).seat c (i.puts.given p w).seat seat m (rw row at y))
+            by (inl y) = stays (was p w made y seat)
+            by (inr (m, (c, y))) = absurd (settled (attempt r.history p).seat c (i.puts.placed p w).seat seat m (rw row at y))
 
         which : (p < length r.history.attempts) ⊎ IsNew z r r' s l a p → (is_marked (attempt r'.history p).cell marks ≡ true) ⊎ (r'.listed q (attempt r'.history p).cell ≡ true)
         which (inl w) = old w
         which (inr y) = true_false x (ap (λ k. k.is_stamped) y.is)
 
     -- what another seat remembers
-    pub remembers_other : (t : ℕ) (k : Local) → slice_get r.world.locals t ≡ Some k → Remembers z r'.history r'.origin r'.listed k.activity k
+    pub remembers_other : (t : ℕ) (k : Local) → slice_get r.world.locals t ≡ Some k → Remembers z r'.ledger.rows r'.history r'.origin r'.listed k.activity k
     remembers_other t k g = record {
       marks = λ x. marks_last r.history r'.history r.origin r'.origin r.ledger.rows goes k.row (frozen_linked z r i.shape t k g x) k.rebalance.marks ((i.puts.remembers t k g).marks x);
-      noted = λ x. noted_still k.row (frozen_by z k.activity) k.rebalance.marks (λ j c o b m e. not_pending (word z r.world) (slice_get r.world.locals) k.row j c ((i.puts.freezes t k g).settled (before_frozen k.activity x) j o b) e) ((i.puts.remembers t k g).noted x);
+      noted = λ x. noted_still k.row (frozen_by z k.activity) k.rebalance.marks (frozen_linked z r i.shape t k g (before_frozen k.activity x)) (λ j c o b m e. not_pending (word z r.world) (slice_get r.world.locals) k.row j c ((i.puts.freezes t k g).settled (before_frozen k.activity x) j o b) e) ((i.puts.remembers t k g).noted x);
     }
       where
         before_frozen : (b : Activity) → IsBeforeTaking b → HasFrozen b
@@ -228,31 +233,35 @@ module _ (z : Sizes) (r r' : Run) (s : ℕ) (choice : Choice) (l : Local) (a : A
 
     -- The acting seat.
 
+    -- its row is or was linked
+    its_row : HasFrozen a → WasLinked r.ledger.rows l.row
+    its_row p = frozen_linked z r i.shape s l h.knows (subst HasFrozen (sym h.activity) p)
+
     -- what it remembered
     own_marks : HasFrozen a → All (IsMarkOf r'.history r'.origin l.row) l.rebalance.marks
-    own_marks p = let x = subst HasFrozen (sym h.activity) p in marks_last r.history r'.history r.origin r'.origin r.ledger.rows goes l.row (frozen_linked z r i.shape s l h.knows x) l.rebalance.marks ((i.puts.remembers s l h.knows).marks x)
+    own_marks p = let x = subst HasFrozen (sym h.activity) p in marks_last r.history r'.history r.origin r'.origin r.ledger.rows goes l.row (its_row p) l.rebalance.marks ((i.puts.remembers s l h.knows).marks x)
 
-    was_noted : IsBeforeTaking a → (p : ℕ) → p < length r.history.attempts → (attempt r.history p).row ≡ l.row → (attempt r.history p).is_stamped ≡ true → (attempt r.history p).seat < frozen_by z a → (is_marked (attempt r.history p).cell l.rebalance.marks ≡ true) ⊎ (r.listed l.row (attempt r.history p).cell ≡ true)
+    was_noted : IsBeforeTaking a → (p : ℕ) → p < length r.history.attempts → IsMadeIn r.ledger.rows r.history l.row p → (attempt r.history p).is_stamped ≡ true → (attempt r.history p).seat < frozen_by z a → (is_marked (attempt r.history p).cell l.rebalance.marks ≡ true) ⊎ (r.listed l.row (attempt r.history p).cell ≡ true)
     was_noted x p w e y b = (i.puts.remembers s l h.knows).noted (subst IsBeforeTaking (sym h.activity) x) p w e y (subst (λ c. (attempt r.history p).seat < frozen_by z c) (sym h.activity) b)
 
     -- what it remembers then, where it passes no entry
-    goes_on : (b : Activity) (k : Local) → k.row ≡ l.row → k.rebalance.marks ≡ l.rebalance.marks → HasFrozen a → (IsStamping a → ⊥) → (IsBeforeTaking b → IsBeforeTaking a × (frozen_by z b ≡ frozen_by z a)) → Remembers z r'.history r'.origin r'.listed b k
+    goes_on : (b : Activity) (k : Local) → k.row ≡ l.row → k.rebalance.marks ≡ l.rebalance.marks → HasFrozen a → (IsStamping a → ⊥) → (IsBeforeTaking b → IsBeforeTaking a × (frozen_by z b ≡ frozen_by z a)) → Remembers z r'.ledger.rows r'.history r'.origin r'.listed b k
     goes_on b k e f p n g = record {
       marks = λ x. rw (e, f) (own_marks p);
-      noted = λ x. rw (e, f, (g x).1) (noted_still l.row (frozen_by z a) l.rebalance.marks (λ j c o w m y. n m) (was_noted (g x).0));
+      noted = λ x. rw (e, f, (g x).1) (noted_still l.row (frozen_by z a) l.rebalance.marks (its_row p) (λ j c o w m y. n m) (was_noted (g x).0));
     }
 
     -- where it passes the entry of one more seat: each stamped attempt of that seat is remembered or listed
     passes_one : (b : Activity) (k : Local) (m n : ℕ) → k.row ≡ l.row → HasFrozen a → (IsStamping a → ⊥) → IsBeforeTaking a → m ≡ frozen_by z a → frozen_by z b ≡ n → n ≤ m + 1 →
         All (IsMarkOf r'.history r'.origin l.row) k.rebalance.marks → ((c : ℕ) → is_marked c l.rebalance.marks ≡ true → is_marked c k.rebalance.marks ≡ true) →
         ((p : ℕ) → p < length r.history.attempts → (attempt r.history p).is_stamped ≡ true → word z r.world (name.Pend l.row m) ≡ pend_word (pend.Stamped (attempt r.history p).cell (attempt r.history p).version) → is_marked (attempt r.history p).cell k.rebalance.marks ≡ true) →
-        Remembers z r'.history r'.origin r'.listed b k
-    passes_one b k m n e p d g u v o marks more here = record {
+        Remembers z r'.ledger.rows r'.history r'.origin r'.listed b k
+    passes_one b k m n e held d g u v o marks more here = record {
       marks = λ x. rw e marks;
-      noted = λ x. rw (e, v) (noted_still l.row n k.rebalance.marks (λ j c o w y k. d y) was);
+      noted = λ x. rw (e, v) (noted_still l.row n k.rebalance.marks (its_row held) (λ j c o w y k. d y) was);
     }
       where
-        was : (p : ℕ) → p < length r.history.attempts → (attempt r.history p).row ≡ l.row → (attempt r.history p).is_stamped ≡ true → (attempt r.history p).seat < n → (is_marked (attempt r.history p).cell k.rebalance.marks ≡ true) ⊎ (r.listed l.row (attempt r.history p).cell ≡ true)
+        was : (p : ℕ) → p < length r.history.attempts → IsMadeIn r.ledger.rows r.history l.row p → (attempt r.history p).is_stamped ≡ true → (attempt r.history p).seat < n → (is_marked (attempt r.history p).cell k.rebalance.marks ≡ true) ⊎ (r.listed l.row (attempt r.history p).cell ≡ true)
         was p w f y b = which (cases_lt (attempt r.history p).seat m)
           where
             before : (is_marked (attempt r.history p).cell l.rebalance.marks ≡ true) ⊎ (r.listed l.row (attempt r.history p).cell ≡ true) → (is_marked (attempt r.history p).cell k.rebalance.marks ≡ true) ⊎ (r.listed l.row (attempt r.history p).cell ≡ true)
@@ -260,19 +269,19 @@ module _ (z : Sizes) (r r' : Run) (s : ℕ) (choice : Choice) (l : Local) (a : A
             before (inr q) = inr q
 
             now : (attempt r.history p).seat ≡ m → (word z r.world (name.Pend (attempt r.history p).row (attempt r.history p).seat) ≡ pend_word (pend.Stamped (attempt r.history p).cell (attempt r.history p).version)) ⊎ (r.listed (attempt r.history p).row (attempt r.history p).cell ≡ true) → (is_marked (attempt r.history p).cell k.rebalance.marks ≡ true) ⊎ (r.listed l.row (attempt r.history p).cell ≡ true)
-            now c (inl q) = inl (here p w y (rw (f, c) at q))
-            now c (inr q) = inr (rw f at q)
+            now c (inl q) = inl (here p w y (rw (f.row, c) at q))
+            now c (inr q) = inr (rw f.row at q)
 
             which : ((attempt r.history p).seat < m) ⊎ (m ≤ (attempt r.history p).seat) → (is_marked (attempt r.history p).cell k.rebalance.marks ≡ true) ⊎ (r.listed l.row (attempt r.history p).cell ≡ true)
             which (inl c) = before (was_noted g p w f y (subst (λ x. (attempt r.history p).seat < x) u c))
-            which (inr c) = now (omega (arith, c, b, o)) (stamped_or_listed z r i p w y)
+            which (inr c) = now (omega (arith, c, b, o)) (stamped_or_listed z r i p w (made_here r.ledger.rows r.history l.row p (its_row held) f) y)
 
     -- where it gathers: some of what it remembered
-    takes_on : (b : Activity) (k : Local) → k.row ≡ l.row → (IsBeforeTaking b → ⊥) → All (IsMarkOf r'.history r'.origin l.row) k.rebalance.marks → Remembers z r'.history r'.origin r'.listed b k
+    takes_on : (b : Activity) (k : Local) → k.row ≡ l.row → (IsBeforeTaking b → ⊥) → All (IsMarkOf r'.history r'.origin l.row) k.rebalance.marks → Remembers z r'.ledger.rows r'.history r'.origin r'.listed b k
     takes_on b k e n m = record { marks = λ x. rw e m; noted = λ x. absurd (n x) }
 
     -- a seat that has frozen no row
-    unfrozen : (b : Activity) (k : Local) → (HasFrozen b → ⊥) → (IsBeforeTaking b → ⊥) → Remembers z r'.history r'.origin r'.listed b k
+    unfrozen : (b : Activity) (k : Local) → (HasFrozen b → ⊥) → (IsBeforeTaking b → ⊥) → Remembers z r'.ledger.rows r'.history r'.origin r'.listed b k
     unfrozen b k n m = record { marks = λ x. absurd (n x); noted = λ x. absurd (m x) }
 
 before_taking : (a : Activity) → (HasFrozen a → ⊥) → IsBeforeTaking a → ⊥
@@ -312,7 +321,7 @@ built_takes (HelpSettle i) n x = n
 built_takes _ n x = x
 
 -- what the acting seat remembers
-pub remembers_own : (z : Sizes) (r r' : Run) (s : ℕ) (choice : Choice) (l : Local) (a : Activity) (l' : Local) → Arrow z (word z r.world) s choice l a l' → Happens z r r' s choice l l' a → Below z r → Step r.history r'.history (log_entry z r a s choice l) → Remembers z r'.history r'.origin r'.listed l'.activity l'
+pub remembers_own : (z : Sizes) (r r' : Run) (s : ℕ) (choice : Choice) (l : Local) (a : Activity) (l' : Local) → Arrow z (word z r.world) s choice l a l' → Happens z r r' s choice l l' a → Below z r → Step r.history r'.history (log_entry z r a s choice l) → Remembers z r'.ledger.rows r'.history r'.origin r'.listed l'.activity l'
 remembers_own z r r' s choice l a l' (builds b next y o t) h i st = record { marks = marks; noted = λ x. absurd (built_takes next.activity after x) }
   where
     after : IsAfterBuilding next.activity

@@ -23,7 +23,7 @@ use Rattle.kw_world.specs.Sane.{IsCellBelow, IsKnown}
 use Rattle.kw_world.specs.Sizes.{Sizes}
 use Rattle.kw_world.specs.Step.{word}
 use Rattle.kw_core.specs.Run.{Run}
-use Rattle.kw_core.specs.Stages.{IsPublished, IsStamped, IsStored, IsInserting, IsUnlisted, IsAtRow}
+use Rattle.kw_core.specs.Stages.{IsPublished, IsPutting, IsStamped, IsStored, IsInserting, IsUnlisted, IsAtRow}
 use Rattle.kw_core.proofs.BuiltNext.{built_next}
 use Rattle.kw_core.proofs.Arrows.{builds, Arrow, meets_stamped, meets_neither, is_passed, helps, finds_stamped, finds_other, list_ends, key_above, rest_passed, gathers_rest, stores_version, meets_cell, meets_none, key_before, key_same, key_after, version_before, version_after, stores_after, loses}
 use Rattle.kw_core.proofs.InfantFrames.{key_stays, version_stays}
@@ -156,7 +156,7 @@ module _ (z : Sizes) (r r' : Run) (s : ℕ) (choice : Choice) (l : Local) (a : A
     its_own = acting_own z r r' s choice l a l' h i (inserting_puts a m)
 
     its_key : row.key l.cell ≡ first_key l.call
-    its_key = rw (its_own.row, its_own.cell) at ((i.puts.body (r.seats s).own its_own.within).key (its_own.announced (subst IsPublished (sym h.activity) (inserting_published a m)))) ∙ its_own.key
+    its_key = rw (its_own.row, its_own.cell) at ((i.puts.body (r.seats s).own its_own.within (i.puts.present s l h.knows (subst IsPutting (sym h.activity) (inserting_puts a m)))).key (its_own.announced (subst IsPublished (sym h.activity) (inserting_published a m)))) ∙ its_own.key
 
     its_version : row.version l.cell ≡ l.version
     its_version = its_own.stored (subst IsStored (sym h.activity) (inserting_stored a m)) ∙ its_own.version (subst IsStamped (sym h.activity) (inserting_stamped a m))

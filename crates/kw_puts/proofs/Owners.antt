@@ -1,5 +1,6 @@
--- Whose a cell is: two attempts of one cell are one, and the attempts that two seats are at work on have different cells.
-use Rattle.std.proofs.Common.{ℕ, ◌≡◌, ◌≢◌, ◌⊎◌, inl, inr, arith, ◌<◌, Bool, true, false, Some, refl, sym, ◌∙◌, ap, subst, length, slice_get}
+-- Whose a cell is: the attempts that two seats are at work on have different cells, and an attempt whose row was not used again has its cell alone.
+use Rattle.std.proofs.Common.{ℕ, ◌≡◌, ◌≢◌, ◌⊎◌, inl, inr, arith, ◌<◌, ◌≤◌, Bool, true, false, Some, refl, sym, ◌∙◌, ap, subst, slice_get}
+use Rattle.std.proofs.lemmas.Bool.{cases_lt}
 use Rattle.std.proofs.lemmas.Option.{same_Some}
 use Rattle.kw_words.specs.declared.layout.Name.TheVariants as name
 use Rattle.kw_words.specs.declared.pend.Pend.TheVariants as pend
@@ -10,14 +11,14 @@ use Rattle.kw_world.specs.declared.local.Local.{Local}
 use Rattle.kw_world.specs.Sizes.{Sizes}
 use Rattle.kw_world.specs.Step.{word}
 use Rattle.kw_core.specs.declared.history.Attempt.{Attempt}
-use Rattle.kw_core.specs.History.{attempt}
+use Rattle.kw_core.specs.History.{History, attempt}
 use Rattle.kw_core.specs.Run.{Run}
 use Rattle.kw_core.specs.Stages.{IsAtRow, IsBalancing, IsBusy, IsPutting, IsPublished}
 use Rattle.kw_rows.specs.Ledger.{Dead, Free, Infant, Ledger, Live, Status}
 use Rattle.kw_rows.specs.Rows.{WasLinked}
 use Rattle.kw_shape.specs.Shape.{Shape}
 use Rattle.kw_shape.proofs.LinkedRows.{fresh_linked}
-use Rattle.kw_puts.specs.Puts.{HasCell, Puts, OwnsAttempt, IsPublishedAt, entry_of}
+use Rattle.kw_puts.specs.Puts.{HasCell, IsHere, IsMadeIn, Puts, OwnsAttempt, IsPublishedAt, entry_of}
 
 -- a contradiction of tests
 pub true_false : {A : Type 0} {b : Bool} → b ≡ true → b ≡ false → A
@@ -106,6 +107,25 @@ was_or_not g q = by (g.fates q).status refl
     by Live e = inl (inl e)
     by Dead e = inl (inr e)
 
+-- The rows of attempts.
+
+-- the row of an attempt was used again, or was not
+pub is_here : (g : Ledger) (h : History) (p : ℕ) → IsHere g h p ⊎ (IsHere g h p → ⊥)
+is_here g h p = which (was_or_not g (attempt h p).row) (cases_lt (attempt h p).add (g.fates (attempt h p).row).born)
+  where
+    which : WasLinked g (attempt h p).row ⊎ (WasLinked g (attempt h p).row → ⊥) → ((attempt h p).add < (g.fates (attempt h p).row).born) ⊎ ((g.fates (attempt h p).row).born ≤ (attempt h p).add) → IsHere g h p ⊎ (IsHere g h p → ⊥)
+    which (inl k) (inl o) = inr (λ x. omega (arith, o, x.born))
+    which (inl k) (inr o) = inl (record { linked = k; born = o })
+    which (inr n) o = inr (λ x. n x.linked)
+
+-- an attempt that was made in a row which is or was linked, since it was linked, is one whose row was not
+pub made_here : (g : Ledger) (h : History) (r p : ℕ) → WasLinked g r → IsMadeIn g h r p → IsHere g h p
+made_here g h r p k x = record { linked = subst (WasLinked g) (sym x.row) k; born = subst (λ q. (g.fates q).born ≤ (attempt h p).add) (sym x.row) x.born }
+
+-- so is one that has a cell there
+pub cell_here : (g : Ledger) (h : History) (r c p : ℕ) → HasCell g h r c p → IsHere g h p
+cell_here g h r c p x = made_here g h r p x.linked (record { row = x.row; born = x.born })
+
 -- the entry of a seat in a row is pending with this cell
 pub record IsPendingOf (z : Sizes) (r : Run) (q t c : ℕ) : Type 0 where
   pub local : Local
@@ -117,25 +137,27 @@ pub record IsPendingOf (z : Sizes) (r : Run) (q t c : ℕ) : Type 0 where
   pub cell : (attempt r.history (r.seats t).own).cell ≡ c
 
 module _ {z : Sizes} {r : Run} (i : Puts z r) where
-  -- two attempts of one cell are one
-  pub same_place : (p q : ℕ) → p < length r.history.attempts → q < length r.history.attempts → (attempt r.history p).row ≡ (attempt r.history q).row → (attempt r.history p).cell ≡ (attempt r.history q).cell → p ≡ q
-  same_place p q o u e f = same_Some p q (sym (i.given p o).origin ∙ rw (e, f) (i.given q u).origin)
-
   -- the own attempt of a seat that puts
   pub own_of : (t : ℕ) (k : Local) → slice_get r.world.locals t ≡ Some k → IsPutting k.activity → OwnsAttempt (word z r.world) r.history t k.activity k (r.seats t)
   own_of t k g p = i.owns t k g p
 
-  -- an attempt with the cell that a seat is at work on is the seat's own
-  pub is_own : (t : ℕ) (k : Local) → slice_get r.world.locals t ≡ Some k → IsPutting k.activity → (p : ℕ) → p < length r.history.attempts → (attempt r.history p).row ≡ k.row → (attempt r.history p).cell ≡ k.cell → p ≡ (r.seats t).own
-  is_own t k g y p o e f = let own = i.owns t k g y in same_place p (r.seats t).own o own.within (e ∙ sym own.row) (f ∙ sym own.cell)
+  -- the cell that a seat is at work on stands for its own attempt
+  pub own_origin : (t : ℕ) (k : Local) → slice_get r.world.locals t ≡ Some k → IsPutting k.activity → r.origin k.row k.cell ≡ Some (r.seats t).own
+  own_origin t k g p = let own = i.owns t k g p in rw (own.row, own.cell) at (i.given (r.seats t).own own.within (i.present t k g p)).origin
+
+  -- a cell that an attempt has stands for this attempt
+  pub cell_origin : (q c p : ℕ) → HasCell r.ledger.rows r.history q c p → r.origin q c ≡ Some p
+  cell_origin q c p x = rw (x.row, x.cell) at (i.given p x.within (cell_here r.ledger.rows r.history q c p x)).origin
+
+  -- an attempt that has the cell at which a seat is at work is the seat's own
+  pub is_own : (t : ℕ) (k : Local) → slice_get r.world.locals t ≡ Some k → IsPutting k.activity → (p : ℕ) → HasCell r.ledger.rows r.history k.row k.cell p → p ≡ (r.seats t).own
+  is_own t k g y p x = same_Some p (r.seats t).own (sym (cell_origin k.row k.cell p x) ∙ own_origin t k g y)
 
   -- two seats that put are at work on different cells
   pub cells_apart : (t s : ℕ) (k l : Local) → t ≢ s → slice_get r.world.locals t ≡ Some k → slice_get r.world.locals s ≡ Some l → IsPutting k.activity → IsPutting l.activity → k.row ≡ l.row → k.cell ≡ l.cell → ⊥
   cells_apart t s k l d g m x y e f =
-      let own = i.owns t k g x in
-      let other = i.owns s l m y in
-      let same = is_own s l m y (r.seats t).own own.within (own.row ∙ e) (own.cell ∙ f) in
-      d (sym own.seat ∙ ap (λ q. (attempt r.history q).seat) same ∙ other.seat)
+      let same : (r.seats t).own ≡ (r.seats s).own = same_Some (r.seats t).own (r.seats s).own (sym (own_origin t k g x) ∙ rw (e, f) (own_origin s l m y)) in
+      d (sym (i.owns t k g x).seat ∙ ap (λ q. (attempt r.history q).seat) same ∙ (i.owns s l m y).seat)
 
   -- the own attempts of two seats are different
   pub owns_apart : (t s : ℕ) (k l : Local) → t ≢ s → slice_get r.world.locals t ≡ Some k → slice_get r.world.locals s ≡ Some l → IsPutting k.activity → IsPutting l.activity → (r.seats t).own ≢ (r.seats s).own
@@ -158,13 +180,22 @@ module _ {z : Sizes} {r : Run} (i : Puts z r) where
   pub pending_own : (q t c p : ℕ) → q < r.world.rows → t < z.seats → word z r.world (name.Pend q t) ≡ pend_word (pend.Pending c) → r.origin q c ≡ Some p → p ≡ (r.seats t).own
   pending_own q t c p w o e x =
       let n = entry_owner q t c w o e in
-      let own = i.owns t n.local n.knows (published_puts n.local.activity n.published) in
-      let origin : r.origin q c ≡ Some (r.seats t).own = rw (own.row ∙ n.row, n.cell) at (i.given (r.seats t).own own.within).origin in
+      let puts = published_puts n.local.activity n.published in
+      let origin : r.origin q c ≡ Some (r.seats t).own = rw (n.row, sym (i.owns t n.local n.knows puts).cell ∙ n.cell) at (own_origin t n.local n.knows puts) in
       same_Some p (r.seats t).own (sym x ∙ origin)
 
   -- so the cell is its own
-  pub pending_cell : (q t c p : ℕ) → q < r.world.rows → t < z.seats → word z r.world (name.Pend q t) ≡ pend_word (pend.Pending c) → r.origin q c ≡ Some p → HasCell r.history q c p
+  pub pending_cell : (q t c p : ℕ) → q < r.world.rows → t < z.seats → word z r.world (name.Pend q t) ≡ pend_word (pend.Pending c) → r.origin q c ≡ Some p → HasCell r.ledger.rows r.history q c p
   pending_cell q t c p w o e x =
       let n = entry_owner q t c w o e in
-      let own = i.owns t n.local n.knows (published_puts n.local.activity n.published) in
-      subst (HasCell r.history q c) (sym (pending_own q t c p w o e x)) (record { within = own.within; row = own.row ∙ n.row; cell = n.cell })
+      let puts = published_puts n.local.activity n.published in
+      let own = i.owns t n.local n.knows puts in
+      let here = i.present t n.local n.knows puts in
+      let row : (attempt r.history (r.seats t).own).row ≡ q = own.row ∙ n.row in
+      subst (HasCell r.ledger.rows r.history q c) (sym (pending_own q t c p w o e x)) (record {
+        within = own.within;
+        row = row;
+        cell = n.cell;
+        linked = subst (WasLinked r.ledger.rows) row here.linked;
+        born = subst (λ y. (r.ledger.rows.fates y).born ≤ (attempt r.history (r.seats t).own).add) row here.born;
+      })

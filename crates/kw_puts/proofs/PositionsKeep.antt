@@ -196,7 +196,7 @@ draw_raises z r r' s choice l l' Walk h d = absurd (walks (is_stopped choice l) 
 draw_raises z r r' s choice l l' (HelpDraw i) h d = omega (arith, h.changed.same)
 draw_raises z r r' s choice l l' SeekFirst h d = absurd (seeks choice d)
   where
-    seeks : (c : Choice) → IsDraw (seek_first_transition c l).operation.kind → ⊥
+    seeks : (c : Choice) → IsDraw (seek_first_transition z.form c l).operation.kind → ⊥
     seeks (Begin call) x = x
     seeks Go x = x
     seeks (Guess q) x = x

@@ -9,7 +9,7 @@ use Rattle.kw_core.specs.Step.{Keeps}
 use Rattle.kw_core.specs.Run.{Run}
 use Rattle.kw_core.specs.Stages.{IsPutting, HasMet}
 use Rattle.kw_shape.specs.Shape.{Shape}
-use Rattle.kw_puts.specs.Puts.{OwnsAttempt, Helps, Puts}
+use Rattle.kw_puts.specs.Puts.{OwnsAttempt, Helps, IsHere, Puts}
 use Rattle.kw_puts.specs.Freezes.{IsToFreeze, Freezes, Remembers}
 use Rattle.kw_puts.specs.Below.{Below}
 use Rattle.kw_core.specs.Step.{Step}
@@ -17,8 +17,9 @@ use Rattle.kw_core.proofs.Happens.{log_entry}
 use Rattle.kw_core.proofs.Happens.{Happens, each_seat}
 use Rattle.kw_puts.proofs.RelyProof.{rely}
 use Rattle.kw_puts.proofs.StablePuts.{owns_stable, helps_stable}
-use Rattle.kw_puts.proofs.AttemptCells.{given_keeps, places_keep, rises_keep, body_keeps}
+use Rattle.kw_puts.proofs.AttemptCells.{placed_keeps, given_keeps, places_keep, rises_keep, body_keeps}
 use Rattle.kw_puts.proofs.OwnAttempts.{owns_own}
+use Rattle.kw_puts.proofs.HereStays.{present_other, present_own}
 use Rattle.kw_puts.proofs.DoneAttempts.{old_keeps}
 use Rattle.kw_puts.proofs.Entries.{entry_keeps, met_at_row, tries_own, helps_own}
 use Rattle.kw_puts.proofs.Copying.{whole_keeps, words_keep}
@@ -31,6 +32,7 @@ use Rattle.kw_puts.proofs.Marking.{remembers_own, remembers_other}
 -- the attempts, their cells and their entries, after every event
 pub puts_keep : (z : Sizes) (r r' : Run) (s : ℕ) (choice : Choice) (l : Local) (a : Activity) (l' : Local) → Happens z r r' s choice l l' a → Below z r → Step r.history r'.history (log_entry z r a s choice l) → Shape z r' → Keeps r'.history → Puts z r'
 puts_keep z r r' s choice l a l' h i st after k = record {
+  placed = placed_keeps z r r' s choice l a l' h i st;
   given = given_keeps z r r' s choice l a l' h.arrow h i st after;
   places = places_keep z r r' s choice l a l' h i st;
   rises = rises_keep z r r' s choice l a l' h.arrow h i st;
@@ -38,11 +40,12 @@ puts_keep z r r' s choice l a l' h i st after k = record {
   owns = each_seat h (λ t k. IsPutting k.activity → OwnsAttempt (word z r'.world) r'.history t k.activity k (r'.seats t))
       (owns_own z r r' s choice l a l' h.arrow h i st after k)
       (λ t k d g p. owns_stable z r r' t k (rely z r r' s choice l a l' h i st t k d g) p (i.puts.owns t k g p));
+  present = each_seat h (λ t k. IsPutting k.activity → IsHere r'.ledger.rows r'.history (r'.seats t).own) (present_own a h i st) (λ t k d g. present_other a h i st t k (h.logs t d) g);
   old = old_keeps z r r' s choice l a l' h.arrow h i st;
   entry = entry_keeps z r r' s choice l a l' h.arrow h i;
   tries = each_seat h (λ t k. IsToFreeze k.activity k) (tries_own z r r' s choice l a l' h.arrow) (λ t k d g. i.puts.tries t k g);
   freezes = each_seat h (λ t k. Freezes z (word z r'.world) (slice_get r'.world.locals) k.activity k) (freezes_own z r r' s choice l a l' h.arrow h i) (λ t k d g. freezes_other z r r' s choice l a l' h i t k g);
-  remembers = each_seat h (λ t k. Remembers z r'.history r'.origin r'.listed k.activity k) (remembers_own z r r' s choice l a l' h.arrow h i st) (λ t k d g. remembers_other z r r' s choice l a l' h i st t k g);
+  remembers = each_seat h (λ t k. Remembers z r'.ledger.rows r'.history r'.origin r'.listed k.activity k) (remembers_own z r r' s choice l a l' h.arrow h i st) (λ t k d g. remembers_other z r r' s choice l a l' h i st t k g);
   helps = each_seat h (λ t k. HasMet k.activity → Helps r'.history r'.origin k.activity k (r'.seats t))
       (helps_own z r r' s choice l a l' h.arrow h i st)
       (λ t k d g p. helps_stable z r r' t k (rely z r r' s choice l a l' h i st t k d g) (row_linked z r i.shape t k g (met_at_row k.activity p)) (i.puts.helps t k g p));

@@ -19,7 +19,7 @@ use Rattle.kw_core.specs.Run.{no_log}
 use Rattle.kw_world.specs.Step.{word}
 use Rattle.kw_core.specs.Run.{start}
 use Rattle.kw_puts.specs.Freezes.{IsToFreeze, Freezes, Remembers}
-use Rattle.kw_puts.specs.Puts.{OwnsAttempt, Helps, Puts}
+use Rattle.kw_puts.specs.Puts.{OwnsAttempt, Helps, IsHere, Puts}
 use Rattle.kw_puts.specs.Positions.{Calling, Draws, Positions, Helping}
 use Rattle.kw_lists.specs.Words.{row_in}
 use Rattle.kw_core.specs.Ledger.{ledger_at_first}
@@ -46,7 +46,8 @@ none_dead o (suc q) a = let x : Free ≡ Dead = a in absurd (cc)
 module _ (z : Sizes) (o : Opening) (i : IsOpening z o) where
   pub puts_start : Puts z (start z o)
   puts_start = record {
-    given = λ p w. absurd (omega arith);
+    placed = λ p w. absurd (omega arith);
+    given = λ p w x. absurd (omega arith);
     places = record {
       owner = λ q c p k u e. let x : None ≡ Some p = e in absurd (cc);
       given = λ q c k u b. absurd (omega (arith, b, given-none z o i q (was_below z (start z o) (shape_starts z o i) q k)));
@@ -55,18 +56,19 @@ module _ (z : Sizes) (o : Opening) (i : IsOpening z o) where
       above = λ q c d p p' k u w e n f m. let x : None ≡ Some p = e in absurd (cc);
       rank = λ q c d p p' k b u e n f m. let x : None ≡ Some p = e in absurd (cc);
     };
-    rises = λ p q w u. absurd (omega arith);
-    body = λ p w. absurd (omega arith);
+    rises = λ p q w u e x. absurd (omega arith);
+    body = λ p w x. absurd (omega arith);
     owns = each_rests z o (λ t l. IsPutting l.activity → OwnsAttempt (word z (opened z o)) nothing_yet t l.activity l no_log) (λ t x. absurd x);
+    present = each_rests z o (λ t l. IsPutting l.activity → IsHere (start z o).ledger.rows nothing_yet no_log.own) (λ t x. absurd x);
     old = λ p w. absurd (omega arith);
     entry = λ q t w u. inl (opens z o i (name.Pend q t) (w, u));
     tries = each_rests z o (λ t l. IsToFreeze l.activity l) (λ t. tt);
     freezes = each_rests z o (λ t l. Freezes z (word z (opened z o)) (slice_get (opened z o).locals) l.activity l) (λ t. record { count = λ x. absurd x; settled = λ x. absurd x });
-    remembers = each_rests z o (λ t l. Remembers z nothing_yet (λ q c. None) none_listed l.activity l) (λ t. record { marks = λ x. absurd x; noted = λ x. absurd x });
+    remembers = each_rests z o (λ t l. Remembers z (start z o).ledger.rows nothing_yet (λ q c. None) none_listed l.activity l) (λ t. record { marks = λ x. absurd x; noted = λ x. absurd x });
     helps = each_rests z o (λ t l. HasMet l.activity → Helps nothing_yet (λ q c. None) l.activity l no_log) (λ t x. absurd x);
     born = λ q k. omega arith;
     dead = λ q j d w. none_dead o q d;
-    gone = λ p w. absurd (omega arith);
+    gone = λ p w x. absurd (omega arith);
     builds = each_rests z o (λ t l. Builds z (row_in (word z (opened z o)) l.row (none_listed l.row)) nothing_yet (λ q c. None) none_listed l.activity l) (λ t. record { gathering = λ x. absurd x; gathered = λ x. absurd x; collected = λ x. absurd x; kept = λ x. absurd x; holds = λ x. absurd x; whole = λ j q x. absurd x; words = λ x. absurd x });
   }
 

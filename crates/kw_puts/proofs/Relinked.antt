@@ -1,7 +1,7 @@
 -- Where the full row is replaced: what holds from then on of each new row, whose cells are copies, all listed.
 --
 -- Of a row that is or was linked each lemma says what `Places` and `Lists` say of every one. What the seat knew of its new row makes it true.
-use Rattle.std.proofs.Common.{ℕ, ◌≡◌, ◌≢◌, ◌⊎◌, inl, inr, ◌<◌, ◌≤◌, true, Option, Some, None, arith, refl, sym, ◌∙◌, ap, subst, length, get_or, slice_get}
+use Rattle.std.proofs.Common.{ℕ, ◌≡◌, ◌⊎◌, inl, inr, ◌<◌, ◌≤◌, true, Option, Some, None, arith, refl, sym, ◌∙◌, ap, subst, length, get_or, slice_get}
 use Rattle.std.specs.Prelude.{All}
 use Rattle.std.proofs.lemmas.Bool.{cases_lt}
 use Rattle.std.proofs.lemmas.Option.{get_or_from_slice_get, same_Some, slice_get-get_or, slice_get_past, slice_get_within}
@@ -59,32 +59,32 @@ use Rattle.kw_puts.proofs.Copying.{builds_at, cell_lasts, cells_short, copied_go
 -- What `Places` says of one row.
 
 pub record PlacesAt (z : Sizes) (v : Words) (g : Ledger) (h : History) (o : Origins) (r : ℕ) : Type 0 where
-  pub owner : (c p : ℕ) → c < z.cells → o r c ≡ Some p → HasCell h r c p ⊎ IsCopyAt v g h r c p
+  pub owner : (c p : ℕ) → c < z.cells → o r c ≡ Some p → HasCell g h r c p ⊎ IsCopyAt v g h r c p
   pub given : (c : ℕ) → c < z.cells → c < given_in v r → ((p : ℕ) × (o r c ≡ Some p)) ⊎ IsFrozen v r
   pub nobody : (c : ℕ) → c < z.cells → given_in v r ≤ c → o r c ≡ None
   pub unstored : (c : ℕ) → c < z.cells → o r c ≡ None → v (name.Version r c) ≡ 0
-  pub above : (c d p q : ℕ) → c < z.cells → d < z.cells → o r c ≡ Some p → (attempt h p).row ≢ r → o r d ≡ Some q → (attempt h q).row ≡ r → c < d
-  pub rank : (c d p q : ℕ) → c < d → d < z.cells → o r c ≡ Some p → (attempt h p).row ≢ r → o r d ≡ Some q → (attempt h q).row ≢ r → RisesTo h p q
+  pub above : (c d p q : ℕ) → c < z.cells → d < z.cells → o r c ≡ Some p → (attempt h p).add < (g.fates r).born → o r d ≡ Some q → (g.fates r).born ≤ (attempt h q).add → c < d
+  pub rank : (c d p q : ℕ) → c < d → d < z.cells → o r c ≡ Some p → (attempt h p).add < (g.fates r).born → o r d ≡ Some q → (attempt h q).add < (g.fates r).born → RisesTo h p q
 
 -- What `Lists` says of one.
 
-pub record ListAt (z : Sizes) (v : Words) (h : History) (o : Origins) (f : Listed) (q : ℕ) : Type 0 where
+pub record ListAt (z : Sizes) (v : Words) (g : Ledger) (h : History) (o : Origins) (f : Listed) (q : ℕ) : Type 0 where
   pub cells : (c : ℕ) → f q c ≡ true → IsListedCell v h o q c
   pub leads : IsSound z.cells (list_in v f q)
-  pub copied : (c p : ℕ) → c < z.cells → o q c ≡ Some p → (attempt h p).row ≢ q → f q c ≡ true
+  pub copied : (c p : ℕ) → c < z.cells → o q c ≡ Some p → (attempt h p).add < (g.fates q).born → f q c ≡ true
 
 -- Attempts over an event.
 
--- an attempt is of one row
-pub row_lasts : (h h' : History) (e : Logged) → Step h h' e → (p : ℕ) → p < length h.attempts → (attempt h' p).row ≡ (attempt h p).row
-row_lasts h h' e st p w = by (st.attempts p (omega (arith, w, st.more_attempts)))
+-- an attempt is given its cell once
+pub add_lasts : (h h' : History) (e : Logged) → Step h h' e → (p : ℕ) → p < length h.attempts → (attempt h' p).add ≡ (attempt h p).add
+add_lasts h h' e st p w = by (st.attempts p (omega (arith, w, st.more_attempts)))
   where
-    by : AttemptStep h h' p → (attempt h' p).row ≡ (attempt h p).row
-    by (as_it_was u x) = ap (λ (y : Attempt). y.row) x
+    by : AttemptStep h h' p → (attempt h' p).add ≡ (attempt h p).add
+    by (as_it_was u x) = ap (λ (y : Attempt). y.add) x
     by (is_added y x u c m k n f g) = absurd (omega (arith, w, x))
-    by (is_announced u m x) = ap (λ (y : Attempt). y.row) x
-    by (is_lost u m x) = ap (λ (y : Attempt). y.row) x
-    by (is_stamped version load u m n f c d y x k) = ap (λ (y : Attempt). y.row) x
+    by (is_announced u m x) = ap (λ (y : Attempt). y.add) x
+    by (is_lost u m x) = ap (λ (y : Attempt). y.add) x
+    by (is_stamped version load u m n f c d y x k) = ap (λ (y : Attempt). y.add) x
 
 -- one that is stamped was stamped once
 pub at_lasts : (h h' : History) (e : Logged) → Step h h' e → (p : ℕ) → (attempt h p).is_stamped ≡ true → (attempt h' p).at ≡ (attempt h p).at
@@ -155,7 +155,7 @@ module _ {z : Sizes} {r r' : Run} {s : ℕ} {choice : Choice} {l l' : Local} {e 
     is : slice_get (infant_cells k) c ≡ Some d
     within : c < length (infant_cells k)
     was : IsCellOf r.history d p
-    elsewhere : (attempt r'.history p).row ≢ q
+    earlier : (attempt r'.history p).add < (r'.ledger.rows.fates q).born
 
   -- each place with an origin has one
   of_cell : (c p : ℕ) → c < z.cells → r'.origin q c ≡ Some p → (d : Cell) × IsCopied c d p
@@ -175,7 +175,7 @@ module _ {z : Sizes} {r r' : Run} {s : ℕ} {choice : Choice} {l l' : Local} {e 
               is = g;
               within = slice_get_within (infant_cells k) c d g;
               was = was;
-              elsewhere = λ m. linked_not_infant r.ledger.rows s q (subst (WasLinked r.ledger.rows) (sym (row_lasts r.history r'.history e st p within) ∙ m) (i.puts.given p within).linked) y.infant;
+              earlier = omega (arith, add_lasts r.history r'.history e st p within, i.history.past.add p within, ap (λ (f : Fate). f.born) y.fate);
             },
           )
       which None g = let x : Some p ≡ None = sym same ∙ copied_before.rest c u tt g in absurd (cc)
@@ -200,7 +200,7 @@ module _ {z : Sizes} {r r' : Run} {s : ℕ} {choice : Choice} {l l' : Local} {e 
       let at : get_or (infant_cells k) c any_cell ≡ d = get_or_from_slice_get (infant_cells k) c d any_cell x.is in
       record {
         within = in_range r'.history p now.stamped;
-        elsewhere = x.elsewhere;
+        earlier = x.earlier;
         stamped = now.stamped;
         before = omega (arith, at_lasts r.history r'.history e st p x.was.stamped, i.history.past.at p (in_range r.history p x.was.stamped) x.was.stamped, ap (λ (f : Fate). f.born) y.fate);
         key = from_cells.keys c x.within ∙ ap (λ (b : Cell). b.key) at ∙ sym now.key;
@@ -215,7 +215,7 @@ module _ {z : Sizes} {r r' : Run} {s : ℕ} {choice : Choice} {l l' : Local} {e 
     given = λ c u g. inl (has_origin c u (omega (arith, g, gives)));
     nobody = λ c u g. no_origin c u (omega (arith, g, gives));
     unstored = λ c u f. unstored c u f (cases_lt c (length (infant_cells k)));
-    above = λ c d p t u w f m g n. absurd ((of_cell d t w g).1.elsewhere n);
+    above = λ c d p t u w f m g n. absurd (omega (arith, n, (of_cell d t w g).1.earlier));
     rank = λ c d p t o w f m g n. rank c d p t o w (of_cell c p (omega (arith, o, w)) f) (of_cell d t w g);
   }
     where
@@ -233,7 +233,7 @@ module _ {z : Sizes} {r r' : Run} {s : ℕ} {choice : Choice} {l l' : Local} {e 
           rw (f.key, f.version, g.key, g.version) (below_rises a b below)
 
   -- and all that `Lists` says of it
-  pub list_relinked : ListAt z (word z r'.world) r'.history r'.origin r'.listed q
+  pub list_relinked : ListAt z (word z r'.world) r'.ledger.rows r'.history r'.origin r'.listed q
   list_relinked = record {
     cells = λ c m. listed c (copied_after.unlisted tt c m).0;
     leads = written_sound z (word z r'.world) k q written few short sound (r'.listed q) rising (λ j u. copied_after.listed j u tt) (λ j m. (copied_after.unlisted tt j m).0);
@@ -263,12 +263,12 @@ module _ (z : Sizes) (r r' : Run) (s : ℕ) (choice : Choice) (l : Local) (a : A
       which (inr y) = comes a h y.replaces y
 
   -- and its list
-  pub new_list : (q : ℕ) → WasLinked r'.ledger.rows q → (WasLinked r.ledger.rows q → ⊥) → ListAt z (word z r'.world) r'.history r'.origin r'.listed q
+  pub new_list : (q : ℕ) → WasLinked r'.ledger.rows q → (WasLinked r.ledger.rows q → ⊥) → ListAt z (word z r'.world) r'.ledger.rows r'.history r'.origin r'.listed q
   new_list q k n = which (linked_before a h i.shape q k)
     where
-      comes : (b : Activity) → Happens z r r' s choice l l' b → b ≡ Replace → ComesNow (word z r.world) r.ledger.rows r'.ledger.rows s (length r.history.log) l b q → ListAt z (word z r'.world) r'.history r'.origin r'.listed q
+      comes : (b : Activity) → Happens z r r' s choice l l' b → b ≡ Replace → ComesNow (word z r.world) r.ledger.rows r'.ledger.rows s (length r.history.log) l b q → ListAt z (word z r'.world) r'.ledger.rows r'.history r'.origin r'.listed q
       comes b x e y = list_relinked (subst (λ c. Happens z r r' s choice l l' c) e x) i st q (subst (λ c. ComesNow (word z r.world) r.ledger.rows r'.ledger.rows s (length r.history.log) l c q) e y)
 
-      which : WasLinked r.ledger.rows q ⊎ ComesNow (word z r.world) r.ledger.rows r'.ledger.rows s (length r.history.log) l a q → ListAt z (word z r'.world) r'.history r'.origin r'.listed q
+      which : WasLinked r.ledger.rows q ⊎ ComesNow (word z r.world) r.ledger.rows r'.ledger.rows s (length r.history.log) l a q → ListAt z (word z r'.world) r'.ledger.rows r'.history r'.origin r'.listed q
       which (inl w) = absurd (n w)
       which (inr y) = comes a h y.replaces y

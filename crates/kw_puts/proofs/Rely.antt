@@ -26,7 +26,6 @@ use Rattle.kw_shape.specs.Infants.{IsInfantOf}
 use Rattle.kw_puts.specs.Freezes.{IsFrozen}
 use Rattle.kw_puts.specs.Lists.{list_in}
 use Rattle.kw_core.specs.Words.{Words, given_in}
-use Rattle.kw_puts.specs.Puts.{key_in, value_in}
 use Rattle.kw_shape.proofs.RelyRows.{RelyRows}
 use Rattle.kw_words.specs.declared.scan.ScanWord.TheVariants.{Waiting, Drawn}
 use Rattle.kw_words.specs.Scan.{scan_word}
@@ -45,10 +44,8 @@ pub data RelyScan (v v' : Words) (h' : History) (t since at at' : ℕ) : Type 0 
   scan_stays : v' (name.Scan t) ≡ v (name.Scan t) → at' ≡ at → RelyScan v v' h' t since at at'
   is_settled : (clock version : ℕ) → v (name.Scan t) ≡ scan_word (Waiting clock) → v' (name.Scan t) ≡ scan_word (Drawn version) → IsVersion version → IsDrawnAt h' at' version → since < at' → RelyScan v v' h' t since at at'
 
--- the cells: what stands in the cell of an announced attempt stays, and so does what the seat has stored in its own
-pub record RelyCells (v v' : Words) (h : History) (a : Activity) (l : Local) : Type 0 where
-  pub key : (p : ℕ) → p < length h.attempts → (attempt h p).is_announced ≡ true → key_in v' (attempt h p).row (attempt h p).cell ≡ key_in v (attempt h p).row (attempt h p).cell
-  pub value : (p : ℕ) → p < length h.attempts → (attempt h p).is_announced ≡ true → value_in v' (attempt h p).row (attempt h p).cell ≡ value_in v (attempt h p).row (attempt h p).cell
+-- the cells: what the seat has stored in its own stays
+pub record RelyCells (v v' : Words) (a : Activity) (l : Local) : Type 0 where
   pub own_key : IsPutting a → v' (name.Key l.row l.cell) ≡ v (name.Key l.row l.cell)
   pub own_value : IsPutting a → v' (name.Value l.row l.cell) ≡ v (name.Value l.row l.cell)
   pub own_version : IsPutting a → v' (name.Version l.row l.cell) ≡ v (name.Version l.row l.cell)
@@ -118,7 +115,7 @@ pub record Rely (z : Sizes) (r r' : Run) (t : ℕ) (l : Local) : Type 0 where
   pub words : RelyWords z (word z r.world) (word z r'.world) r.ledger.rows
   pub since : r'.ledger.waits t ≡ r.ledger.waits t
   pub scan : RelyScan (word z r.world) (word z r'.world) r'.history t (r.ledger.waits t) (r.settled t) (r'.settled t)
-  pub cells : RelyCells (word z r.world) (word z r'.world) r.history l.activity l
+  pub cells : RelyCells (word z r.world) (word z r'.world) l.activity l
   pub lists : RelyLists z (word z r.world) (word z r'.world) r.ledger.rows r.listed r'.listed l.activity l
   -- the cells of its infants stand for what they did, and are listed or not as they were; and no cell of a frozen row is given any more
   pub infants : (q c : ℕ) → IsInfantOf r.ledger.rows t q → (r'.origin q c ≡ r.origin q c) × (r'.listed q c ≡ r.listed q c)

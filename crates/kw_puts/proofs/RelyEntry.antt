@@ -34,7 +34,7 @@ use Rattle.kw_core.proofs.Happens.{Happens, chosen, not_chosen, exchanged, not_e
 use Rattle.kw_core.proofs.FreezeFrame.{FreezesEntry, entry_frozen, entry_left}
 use Rattle.kw_core.proofs.InfantFrames.{entry_stays}
 use Rattle.kw_shape.proofs.LinkedWords.{linked_entry}
-use Rattle.kw_puts.proofs.Owners.{IsPendingOf, true_false, is_own, owns_apart, pending_cell, pending_entry, entry_owner, published_puts, puts_busy, puts_linked}
+use Rattle.kw_puts.proofs.Owners.{IsPendingOf, true_false, own_origin, owns_apart, pending_cell, pending_own, pending_entry, entry_owner, published_puts, puts_busy, puts_linked}
 use Rattle.kw_core.proofs.Changes.{Makes, makes_nothing, makes_begin, makes_add, makes_announce, makes_stamp, makes_help, makes_end, made, makes_lose}
 use Rattle.kw_core.proofs.Happens.{log_entry}
 use Rattle.kw_words.proofs.Refusals.{none_unless}
@@ -227,7 +227,7 @@ module _ (z : Sizes) (r r' : Run) (s : ℕ) (choice : Choice) (l l' : Local) (i 
   won_change e = h.history ∙ ap (λ c. noted r.history (log_entry z r LookHelp s choice l) c) (chosen _ _ _ Nothing e ∙ ap (λ x. helping x l.helping (r.seats s).loaded) helper.origin)
 
   -- its cell is that of the entry's seat
-  met_cell : word z r.world (name.Pend l.row l.looked) ≡ pend_word (pend.Pending l.met) → HasCell r.history l.row l.met helper.put
+  met_cell : word z r.world (name.Pend l.row l.looked) ≡ pend_word (pend.Pending l.met) → HasCell r.ledger.rows r.history l.row l.met helper.put
   met_cell e = pending_cell i.puts l.row l.looked l.met helper.put known.below.row known.ranges.looked e helper.origin
     where
       known : IsKnown z r.world.rows l
@@ -260,7 +260,8 @@ module _ (z : Sizes) (r r' : Run) (s : ℕ) (choice : Choice) (l l' : Local) (i 
       let c = i.positions.calling t k g (puts_busy k.activity p) in
       let word_is : word z r.world (name.Pend k.row t) ≡ pend_word (pend.Pending l.met) = rw (q, f) e in
       let st = pending_entry (attempt r.history (r.seats t).own) l.met (sym (own.entry y) ∙ word_is) in
-      let same : helper.put ≡ (r.seats t).own = is_own i.puts t k g p helper.put (met_cell e).within ((met_cell e).row ∙ sym q) ((met_cell e).cell ∙ sym st.1 ∙ own.cell) in
+      let known = i.shape.sane.locals s l h.knows in
+      let same : helper.put ≡ (r.seats t).own = pending_own i.puts l.row l.looked l.met helper.put known.below.row known.ranges.looked e helper.origin ∙ ap (λ x. (r.seats x).own) (sym f) in
       let cell_is : l.met ≡ k.cell = sym st.1 ∙ own.cell in
       let n : r'.history ≡ noted r.history (log_entry z r LookHelp s choice l) (Stamps (r.seats t).own l.helping (r.seats s).loaded) = subst (λ x. r'.history ≡ noted r.history (log_entry z r LookHelp s choice l) (Stamps x l.helping (r.seats s).loaded)) same (won_change e) in
       is_helped l.helping (r.seats s).loaded (unstamped k.activity y (λ x. true_false (own.stamped x) st.0))
@@ -340,7 +341,7 @@ module _ (z : Sizes) (r r' : Run) (s : ℕ) (choice : Choice) (l l' : Local) (i 
 
     pub loses_own : r'.history ≡ noted r.history (log_entry z r (Freeze j) s choice l) (Loses (r.seats j).own)
     loses_own =
-        let origin : r.origin l.row c ≡ Some (r.seats j).own = rw (loser.row ∙ pends.row, pends.cell) at (i.puts.given (r.seats j).own loser.within).origin in
+        let origin : r.origin l.row c ≡ Some (r.seats j).own = rw (pends.row, sym loser.cell ∙ pends.cell) at (own_origin i.puts j pends.local pends.knows (published_puts pends.local.activity pends.published)) in
         changes (pend.Pending c) e f ∙ ap (λ x. noted r.history (log_entry z r (Freeze j) s choice l) (losing x)) origin
 
 module _ (z : Sizes) (r r' : Run) (s : ℕ) (choice : Choice) (l l' : Local) (i : Below z r) (t : ℕ) (k : Local) (d : t ≢ s) (g : slice_get r.world.locals t ≡ Some k) (j : ℕ) (h : Happens z r r' s choice l l' (Freeze j)) where

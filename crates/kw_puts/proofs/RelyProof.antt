@@ -2,7 +2,7 @@
 use Rattle.std.proofs.Common.{ℕ, ◌≡◌, ◌≢◌, ◌⊎◌, inl, inr, ◌<◌, Bool, true, false, Option, Some, None, arith, refl, sym, ◌∙◌, ap, subst, length, slice_get, ne_eqb, eq-eqb}
 use Rattle.kw_words.specs.declared.layout.Name.TheVariants as name
 use Rattle.kw_world.specs.declared.activity.Activity.{Activity}
-use Rattle.kw_world.specs.declared.activity.Activity.TheVariants.{LookHelp, PutAdd, PutKey, PutValue, PutVersion, InsSet, Insert, PutClear, Leave, WriteCount, WriteVersion, WriteAfter, Freeze, ScanWait, ScanSettle, HelpSettle, TakeRow, Replace}
+use Rattle.kw_world.specs.declared.activity.Activity.TheVariants.{LookHelp, PutAdd, PutKey, PutValue, PutVersion, InsSet, Insert, PutClear, Leave, WriteCount, WriteVersion, WriteAfter, Freeze, ScanWait, ScanSettle, HelpSettle, Reclaim, TakeRow, Replace}
 use Rattle.kw_world.specs.declared.local.Local.{Local}
 use Rattle.kw_world.specs.declared.event.Choice.{Choice}
 use Rattle.kw_world.specs.Sizes.{Sizes}
@@ -10,7 +10,7 @@ use Rattle.std.proofs.lemmas.Option.{slice_get_within, same_Some}
 use Rattle.std.proofs.Common.{◌==◌, if◌then◌else◌}
 use Rattle.std.proofs.lemmas.Bool.{cases_eq}
 use Rattle.kw_words.specs.Count.{count_of}
-use Rattle.kw_words.specs.Plain.{key_of_word, value_of_word, cell_of_link_word}
+use Rattle.kw_words.specs.Plain.{key_of_word, cell_of_link_word}
 use Rattle.kw_world.specs.declared.answer.Answer.{Answer}
 use Rattle.kw_world.specs.PutTransitions.{has_room}
 use Rattle.kw_world.specs.Sane.{IsLocal, IsKnown}
@@ -36,7 +36,7 @@ use Rattle.kw_shape.specs.Infants.{HasAtHand, IsInfantOf, nursing_of}
 use Rattle.kw_shape.specs.RowsIn.{has_frozen}
 use Rattle.kw_shape.proofs.LinkedRows.{hand_infant, not_hand}
 use Rattle.kw_shape.proofs.LinkedWords.{linked_given, linked_key, linked_link, linked_value, linked_version}
-use Rattle.kw_puts.proofs.Owners.{true_false, is_own, cells_apart, puts_linked, row_linked}
+use Rattle.kw_puts.proofs.Owners.{true_false, cells_apart, puts_linked, row_linked}
 use Rattle.kw_core.proofs.Changes.{made}
 use Rattle.kw_puts.proofs.RelyEntry.{change_apart, entry_apart, entry_helped, entry_freezes}
 use Rattle.kw_core.proofs.Happens.{log_entry}
@@ -49,10 +49,10 @@ use Rattle.kw_puts.specs.Below.{Below}
 use Rattle.kw_core.specs.Step.{Step}
 use Rattle.kw_core.proofs.Happens.{Happens}
 use Rattle.kw_puts.proofs.Rely.{RelyWords, RelyScan, scan_stays, is_settled, RelyCells, RelyLists, GoesOn, RelyHistory, RelyEntry, Rely}
-use Rattle.kw_core.specs.Ledger.{Ledger, fate_taken, with_fate, with_replaced}
+use Rattle.kw_core.specs.Ledger.{Ledger, fate_free, fate_taken, with_fate, with_replaced}
 use Rattle.kw_core.specs.Words.{given_in}
 use Rattle.kw_words.specs.declared.count.Count.{Count as Counted}
-use Rattle.kw_words.specs.declared.state.State.TheVariants.{Free}
+use Rattle.kw_words.specs.declared.state.State.TheVariants.{Free, Retired}
 use Rattle.kw_words.specs.Link.{link_word}
 use Rattle.kw_words.specs.State.{state_word}
 use Rattle.kw_world.specs.ReplaceTransitions.{replaced_link}
@@ -95,7 +95,7 @@ rely_version z r r' s choice l PutVersion l' h i q c o w n = which (cases_eq q l
 
     stands : q ≡ l.row → c ≡ l.cell → word z r.world (name.Version q c) ≡ l.version
     stands e f =
-        let b = i.puts.body (r.seats s).own own.within in
+        let b = i.puts.body (r.seats s).own own.within (i.puts.present s l h.knows (subst IsPutting (sym h.activity) tt)) in
         let x : word z r.world (name.Version (attempt r.history (r.seats s).own).row (attempt r.history (r.seats s).own).cell) ≢ 0 = rw (own.row, own.cell) (rw (e, f) at n) in
         let y : word z r.world (name.Version l.row l.cell) ≡ (attempt r.history (r.seats s).own).version = rw (own.row, own.cell) at (b.version x) in
         rw (e, f) (y ∙ own.version (subst IsStamped (sym h.activity) tt))
@@ -119,6 +119,11 @@ rely_words z r r' s choice l a l' h i = record {
 -- only a seat that stores that it waits changes since when it does
 pub waits_stay : (z : Sizes) (r r' : Run) (s : ℕ) (choice : Choice) (l : Local) (a : Activity) (l' : Local) → Happens z r r' s choice l l' a → (t : ℕ) → (t ≡ s → a ≢ ScanWait) → r'.ledger.waits t ≡ r.ledger.waits t
 waits_stay z r r' s choice l ScanWait l' h t f = ap (λ (g : Ledger). g.waits t) h.ledger ∙ rw (ne_eqb t s (λ e. f e refl)) refl
+waits_stay z r r' s choice l Reclaim l' h t f = ap (λ (g : Ledger). g.waits t) h.ledger ∙ met (word z r.world (name.State l.rebalance.sought) == state_word (Retired l.rebalance.number))
+  where
+    met : (b : Bool) → (let g : Ledger = if b then record r.ledger { rows = with_fate r.ledger.rows l.rebalance.sought (fate_free (r.ledger.rows.fates l.rebalance.sought)) } else r.ledger in g.waits t) ≡ r.ledger.waits t
+    met true = refl
+    met false = refl
 waits_stay z r r' s choice l TakeRow l' h t f = ap (λ (g : Ledger). g.waits t) h.ledger ∙ met (word z r.world (name.State l.rebalance.sought) == state_word Free)
   where
     met : (b : Bool) → (let g : Ledger = if b then record r.ledger { rows = with_fate r.ledger.rows l.rebalance.sought (fate_taken s (length r.history.log) (r.ledger.rows.fates l.rebalance.sought)) } else r.ledger in g.waits t) ≡ r.ledger.waits t
@@ -173,10 +178,8 @@ rely_scan z r r' s choice l a l' h i st t o d = scan_stays (scan_word_stays a h 
 -- The cells.
 
 -- the cells that concern another seat
-pub rely_cells : (z : Sizes) (r r' : Run) (s : ℕ) (choice : Choice) (l : Local) (a : Activity) (l' : Local) → Happens z r r' s choice l l' a → Below z r → (t : ℕ) (k : Local) → t ≢ s → slice_get r.world.locals t ≡ Some k → RelyCells (word z r.world) (word z r'.world) r.history k.activity k
+pub rely_cells : (z : Sizes) (r r' : Run) (s : ℕ) (choice : Choice) (l : Local) (a : Activity) (l' : Local) → Happens z r r' s choice l l' a → Below z r → (t : ℕ) (k : Local) → t ≢ s → slice_get r.world.locals t ≡ Some k → RelyCells (word z r.world) (word z r'.world) k.activity k
 rely_cells z r r' s choice l a l' h i t k d g = record {
-  key = λ p o y. let c = i.puts.given p o in ap key_of_word (linked_key a h i.shape (attempt r.history p).row (attempt r.history p).cell c.linked c.cell (λ x e f. fresh (key_puts a x) p o y e f));
-  value = λ p o y. let c = i.puts.given p o in ap value_of_word (linked_value a h i.shape (attempt r.history p).row (attempt r.history p).cell c.linked c.cell (λ x e f. fresh (value_puts a x) p o y e f));
   own_key = λ y. linked_key a h i.shape k.row k.cell (puts_linked z r i.shape t k g y) ranges.cell (λ x e f. apart (key_puts a x).0 y e f);
   own_value = λ y. linked_value a h i.shape k.row k.cell (puts_linked z r i.shape t k g y) ranges.cell (λ x e f. apart (value_puts a x).0 y e f);
   own_version = λ y. linked_version a h i.shape k.row k.cell (puts_linked z r i.shape t k g y) ranges.cell (λ x e f. apart (version_puts a x) y e f);
@@ -184,13 +187,6 @@ rely_cells z r r' s choice l a l' h i t k d g = record {
   where
     ranges : IsLocal z k
     ranges = (i.shape.sane.locals t k g).ranges
-
-    -- the acting seat's cell is not that of an announced attempt
-    fresh : IsPutting a × IsFresh a → (p : ℕ) → p < length r.history.attempts → (attempt r.history p).is_announced ≡ true → (attempt r.history p).row ≡ l.row → (attempt r.history p).cell ≡ l.cell → ⊥
-    fresh x p o y e f =
-        let m : IsPutting l.activity = subst IsPutting (sym h.activity) x.0 in
-        let same = is_own i.puts s l h.knows m p o e f in
-        true_false (subst (λ q. (attempt r.history q).is_announced ≡ true) same y) ((i.puts.owns s l h.knows m).unannounced (subst IsFresh (sym h.activity) x.1))
 
     apart : IsPutting a → IsPutting k.activity → k.row ≡ l.row → k.cell ≡ l.cell → ⊥
     apart x y e f = cells_apart i.puts t s k l d g h.knows y (subst IsPutting (sym h.activity) x) e f
@@ -240,7 +236,7 @@ module _ (z : Sizes) (r r' : Run) (s : ℕ) (choice : Choice) (l : Local) (a : A
       known : IsKnown z r.world.rows k
       known = i.shape.sane.locals t k g
 
-      cells : RelyCells (word z r.world) (word z r'.world) r.history k.activity k
+      cells : RelyCells (word z r.world) (word z r'.world) k.activity k
       cells = rely_cells z r r' s choice l a l' h i t k d g
 
 -- the lists, for another seat

@@ -129,9 +129,9 @@ module _ (z : Sizes) (r : Run) (i : Below z r) (s : ℕ) (l : Local) (g : slice_
       own (inl y) e = inl (rw (m, sym e) y)
       own (inr y) e = inr (rw e at y)
 
-      which : HasCell r.history l.row c p ⊎ IsCopyAt (word z r.world) r.ledger.rows r.history l.row c p → (is_marked c marks ≡ true) ⊎ (r.listed l.row c ≡ true)
-      which (inl y) = own ((i.puts.remembers s l g).noted b p y.within y.row x (subst (λ n. (attempt r.history p).seat < n) (sym f) (i.puts.given p y.within).seat)) y.cell
-      which (inr y) = inr (i.lists.copied l.row c p k w o y.elsewhere)
+      which : HasCell r.ledger.rows r.history l.row c p ⊎ IsCopyAt (word z r.world) r.ledger.rows r.history l.row c p → (is_marked c marks ≡ true) ⊎ (r.listed l.row c ≡ true)
+      which (inl y) = own ((i.puts.remembers s l g).noted b p y.within (record { row = y.row; born = y.born }) x (subst (λ n. (attempt r.history p).seat < n) (sym f) (i.puts.placed p y.within).seat)) y.cell
+      which (inr y) = inr (i.lists.copied l.row c p k w o y.earlier)
 
   -- so a seat that begins the walk will meet it, where it is not remembered
   pub begins_walk : (m : Local) → m.row ≡ l.row → m.rebalance.marks ≡ l.rebalance.marks → m.rebalance.gathered ≡ [] → m.link ≡ None → IsBeforeTaking l.activity → frozen_by z l.activity ≡ z.seats → Gathering z.cells row r.history r.origin TakeFrom m

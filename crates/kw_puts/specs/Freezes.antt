@@ -18,6 +18,8 @@ use Rattle.kw_core.specs.Listed.{Listed}
 use Rattle.kw_core.specs.Run.{Origins}
 use Rattle.kw_core.specs.Stages.{IsFresh}
 use Rattle.kw_core.specs.Words.{Words}
+use Rattle.kw_rows.specs.Ledger.{Ledger}
+use Rattle.kw_puts.specs.Here.{IsMadeIn}
 -- the seat has frozen its row, and has neither replaced it nor given it up
 pub use Rattle.kw_shape.specs.Balances.{HasFrozen}
 use Rattle.kw_shape.specs.RowsIn.{has_frozen}
@@ -72,9 +74,9 @@ IsBeforeTaking (HelpDraw i) = Unit {0}
 IsBeforeTaking (HelpSettle i) = Unit {0}
 IsBeforeTaking _ = ⊥
 
--- what is remembered is the cells of stamped attempts. Each stamped attempt of the row whose seat's entry was passed is remembered, or
--- its cell is listed, until the seat walks along the list
-pub record Remembers (z : Sizes) (h : History) (o : Origins) (f : Listed) (a : Activity) (l : Local) : Type 0 where
+-- what is remembered is the cells of stamped attempts. Each stamped attempt that was made in the row since it was linked, and whose seat's entry was
+-- passed, is remembered, or its cell is listed, until the seat walks along the list
+pub record Remembers (z : Sizes) (g : Ledger) (h : History) (o : Origins) (f : Listed) (a : Activity) (l : Local) : Type 0 where
   pub marks : HasFrozen a → All (IsMarkOf h o l.row) l.rebalance.marks
-  pub noted : IsBeforeTaking a → (p : ℕ) → p < length h.attempts → (attempt h p).row ≡ l.row → (attempt h p).is_stamped ≡ true → (attempt h p).seat < frozen_by z a →
+  pub noted : IsBeforeTaking a → (p : ℕ) → p < length h.attempts → IsMadeIn g h l.row p → (attempt h p).is_stamped ≡ true → (attempt h p).seat < frozen_by z a →
       (is_marked (attempt h p).cell l.rebalance.marks ≡ true) ⊎ (f l.row (attempt h p).cell ≡ true)

@@ -1,3 +1,4 @@
+pub mod Here
 pub mod Freezes
 pub mod Builds
 pub mod Puts

@@ -1,8 +1,8 @@
 -- What holds of the lists of the rows: of the cells that are listed, of the links between them, and of the puts that insert a cell.
 --
 -- A cell is listed by the exchange that inserts it, after its version was stored and before its entry is cleared. So an attempt that no
--- seat is at work on any more is listed, and a walk along the list of its row meets it, unless it never gets a version.
-use Rattle.std.specs.Prelude.{ℕ, ◌≡◌, ◌≢◌, ◌⊎◌, ◌<◌, true, false, Some, length, slice_get}
+-- seat is at work on any more is listed, and a walk along the list of its row meets it, unless it never gets a version, or its row was used again.
+use Rattle.std.specs.Prelude.{ℕ, ◌≡◌, ◌⊎◌, ◌<◌, true, false, Some, length, slice_get}
 use Rattle.kw_words.specs.declared.layout.Name.TheVariants as name
 use Rattle.kw_lists.specs.Rows.{Row, IsBehind, IsSound}
 use Rattle.kw_lists.specs.Changes.{IsAhead}
@@ -20,6 +20,7 @@ use Rattle.kw_core.specs.Run.{Origins, Run}
 use Rattle.kw_core.specs.Stages.{IsUnlisted, IsPutClear}
 use Rattle.kw_core.specs.Words.{Words}
 use Rattle.kw_rows.specs.Rows.{WasLinked}
+use Rattle.kw_puts.specs.Here.{IsHere}
 use Rattle.kw_puts.specs.Puts.{IsCurrent, IsOver, key_in}
 
 -- The cells that are listed.
@@ -65,12 +66,12 @@ WalksList n r _ l = Unit {0}
 -- The group.
 
 -- what holds of the listed cells, of the list of each row that is or was linked, and of the puts that are about to insert a cell; an attempt that no
--- seat is at work on is listed, or never gets a version
+-- seat is at work on is listed, unless its row was used again, or never gets a version
 pub record Lists (z : Sizes) (r : Run) : Type 0 where
   pub cells : (q c : ℕ) → WasLinked r.ledger.rows q → r.listed q c ≡ true → IsListedCell (word z r.world) r.history r.origin q c
   pub leads : (q : ℕ) → WasLinked r.ledger.rows q → IsSound z.cells (list_in (word z r.world) r.listed q)
-  pub copied : (q c p : ℕ) → WasLinked r.ledger.rows q → c < z.cells → r.origin q c ≡ Some p → (attempt r.history p).row ≢ q → r.listed q c ≡ true
+  pub copied : (q c p : ℕ) → WasLinked r.ledger.rows q → c < z.cells → r.origin q c ≡ Some p → (attempt r.history p).add < (r.ledger.rows.fates q).born → r.listed q c ≡ true
   pub own : (t : ℕ) (l : Local) → slice_get r.world.locals t ≡ Some l → IsOwnListed r.listed l.activity l
-  pub old : (p : ℕ) → p < length r.history.attempts → IsCurrent (slice_get r.world.locals) r.seats r.history p ⊎ (r.listed (attempt r.history p).row (attempt r.history p).cell ≡ true) ⊎ IsOver r.history p
+  pub old : (p : ℕ) → p < length r.history.attempts → IsCurrent (slice_get r.world.locals) r.seats r.history p ⊎ (IsHere r.ledger.rows r.history p → r.listed (attempt r.history p).row (attempt r.history p).cell ≡ true) ⊎ IsOver r.history p
   pub inserts : (t : ℕ) (l : Local) → slice_get r.world.locals t ≡ Some l → Inserts z.cells (list_in (word z r.world) r.listed l.row) l.activity l
   pub walks : (t : ℕ) (l : Local) → slice_get r.world.locals t ≡ Some l → WalksList z.cells (list_in (word z r.world) r.listed l.row) l.activity l

@@ -165,7 +165,7 @@ reads_begin {z} {r} k j _ l g (lists w) x n e = record {
 }
   where
     ready : (c p : ℕ) → IsDue r.history r.origin l.row l.call g.looked c p → IsReady r.listed r.history (record l { activity = ListFrom }) c p
-    ready c p d = n.past c p d (k.puts.given p (announced_within r.history p d.announced)).seat
+    ready c p d = n.past c p d (k.puts.placed p (announced_within r.history p d.announced)).seat
 
     which : (c : ℕ) → IsNoted r.listed (record l { activity = ListFrom }) c → (is_marked c l.remembered ≡ true) ⊎ (r.listed l.row c ≡ true) × IsBehind (list_in (word z r.world) r.listed l.row) l.link c
     which c (inl y) = inl y

@@ -9,7 +9,7 @@ use Rattle.kw_words.specs.declared.state.State.TheVariants as state
 use Rattle.kw_words.specs.State.{state_word}
 use Rattle.kw_rows.specs.Ledger.{Dead, Fate, Free, Infant, IsDead, Live}
 use Rattle.kw_world.specs.declared.activity.Activity.{Activity}
-use Rattle.kw_world.specs.declared.activity.Activity.TheVariants.{GiveBack, Replace, TakeRow}
+use Rattle.kw_world.specs.declared.activity.Activity.TheVariants.{GiveBack, Reclaim, Replace, TakeRow}
 use Rattle.kw_world.specs.declared.event.Choice.{Choice}
 use Rattle.kw_world.specs.declared.local.Local.{Local}
 use Rattle.kw_world.specs.SeekTransitions.{infant}
@@ -23,22 +23,21 @@ use Rattle.kw_core.specs.Run.{Run}
 use Rattle.kw_core.specs.Stages.{IsFresh, IsPublished, IsPutting}
 use Rattle.kw_core.specs.Step.{Step}
 use Rattle.kw_core.proofs.Attempts.{in_range}
-use Rattle.kw_core.proofs.Fates.{fate_of_given, fate_of_taken, fate_stays, none_taken}
+use Rattle.kw_core.proofs.Fates.{fate_of_freed, fate_of_given, fate_of_taken, fate_stays, none_freed, none_taken}
 use Rattle.kw_core.proofs.Happens.{Happens, log_entry}
 use Rattle.kw_core.proofs.Steps.{announced_within}
 use Rattle.kw_shape.specs.Shape.{HoldsKey}
 use Rattle.kw_kept.specs.Puts.{Put, Shows}
 use Rattle.kw_puts.specs.Below.{Below}
-use Rattle.kw_puts.specs.Puts.{HasCell, IsCurrent, IsOld, IsOver, OwnsAttempt, entry_of}
-use Rattle.kw_puts.proofs.Owners.{true_false}
+use Rattle.kw_puts.specs.Puts.{HasCell, IsCurrent, IsHere, IsOld, IsOver, OwnsAttempt, entry_of}
+use Rattle.kw_puts.proofs.Owners.{cell_here, true_false}
 use Rattle.kw_puts.proofs.RelyEntry.{fresh_published}
 use Rattle.kw_reads.specs.Contents.{Borns, Contents, InRow, IsGone, Needed, WasPut, puts_of}
 use Rattle.kw_puts.specs.Puts.{IsCopyAt}
-use Rattle.kw_shape.proofs.LinkedRows.{GoesNow}
+use Rattle.kw_shape.proofs.LinkedRows.{GoesNow, dead_before}
 use Rattle.kw_puts.proofs.FrozenRows.{not_pending}
 use Rattle.kw_reads.proofs.KeptKeeps.{held_was, same_put, shows_stay}
 use Rattle.kw_reads.proofs.RowCells.{in_row_stays, in_row_was, is_put_stays, settled_in_row}
-use Rattle.kw_reads.proofs.RowTimes.{dead_was}
 use Rattle.kw_reads.proofs.ScanMoves.{needed_before}
 use Rattle.kw_reads.proofs.Stamping.{StampsNow, StampStep, stamps_none, stamps_one, stamp_step}
 
@@ -53,9 +52,9 @@ entry_over p w e n = which p.is_lost refl p.is_stamped refl
     which false x true y = inr y
     which false x false y = absurd (n p.cell (sym e ∙ rw (x, y) refl))
 
--- each announced attempt of a dead row is lost or stamped
-pub over_of : (z : Sizes) (r : Run) → Below z r → (p : ℕ) → (attempt r.history p).is_announced ≡ true → IsDead r.ledger.rows (attempt r.history p).row → IsGone r p
-over_of z r i p a d = gone (which (i.puts.old p within))
+-- each announced attempt of a dead row that was not used again is lost or stamped
+pub over_of : (z : Sizes) (r : Run) → Below z r → (p : ℕ) → (attempt r.history p).is_announced ≡ true → IsHere r.ledger.rows r.history p → IsDead r.ledger.rows (attempt r.history p).row → IsGone r p
+over_of z r i p a x d = gone (which (i.puts.old p within))
   where
     within : p < length r.history.attempts
     within = announced_within r.history p a
@@ -69,12 +68,12 @@ over_of z r i p a d = gone (which (i.puts.old p within))
         by : IsFresh c.local.activity ⊎ IsPublished c.local.activity ⊎ (IsPutting c.local.activity → ⊥) → ((attempt r.history p).is_lost ≡ true) ⊎ IsPut r.history p
         by (inl x) = true_false a (subst (λ q. (attempt r.history q).is_announced ≡ false) c.own (own.unannounced x))
         by (inr (inr x)) = absurd (x c.putting)
-        by (inr (inl x)) = entry_over (attempt r.history p) (word z r.world (name.Pend (attempt r.history p).row (attempt r.history p).seat)) (sym entry) (λ n e. not_pending (word z r.world) (slice_get r.world.locals) (attempt r.history p).row (attempt r.history p).seat n (i.puts.dead (attempt r.history p).row (attempt r.history p).seat d (i.puts.given p within).seat) e)
+        by (inr (inl x)) = entry_over (attempt r.history p) (word z r.world (name.Pend (attempt r.history p).row (attempt r.history p).seat)) (sym entry) (λ n e. not_pending (word z r.world) (slice_get r.world.locals) (attempt r.history p).row (attempt r.history p).seat n (i.puts.dead (attempt r.history p).row (attempt r.history p).seat d (i.puts.placed p within).seat) e)
           where
             entry : word z r.world (name.Pend (attempt r.history p).row (attempt r.history p).seat) ≡ entry_of (attempt r.history p)
             entry = ap (λ q. word z r.world (name.Pend q (attempt r.history p).seat)) (subst (λ q. (attempt r.history q).row ≡ c.local.row) c.own own.row) ∙ own.entry x ∙ ap (λ q. entry_of (attempt r.history q)) c.own
 
-    which : IsCurrent (slice_get r.world.locals) r.seats r.history p ⊎ IsOld (word z r.world) r.history p ⊎ IsOver r.history p → ((attempt r.history p).is_lost ≡ true) ⊎ IsPut r.history p
+    which : IsCurrent (slice_get r.world.locals) r.seats r.history p ⊎ IsOld (word z r.world) r.ledger.rows r.history p ⊎ IsOver r.history p → ((attempt r.history p).is_lost ≡ true) ⊎ IsPut r.history p
     which (inl c) = current c
     which (inr (inl x)) = inr x.stamped
     which (inr (inr x)) = over x.over
@@ -84,15 +83,15 @@ over_of z r i p a d = gone (which (i.puts.old p within))
         over (inr y) = true_false a y
 
     gone : ((attempt r.history p).is_lost ≡ true) ⊎ IsPut r.history p → IsGone r p
-    gone (inl x) = inl x
-    gone (inr x) = inr (x, i.puts.gone p within d x)
+    gone (inl y) = inl y
+    gone (inr y) = inr (y, i.puts.gone p within x d y)
 
 -- each put of which a dead row has a cell was stamped before the row went
 pub inside_of : (z : Sizes) (r : Run) → Below z r → Borns z r → (q p : ℕ) → IsDead r.ledger.rows q → InRow z r q p → (attempt r.history p).at < (r.ledger.rows.fates q).gone
 inside_of z r i b q p d x = which (i.puts.places.owner q x.cell p (inr d) x.within x.origin)
   where
-    which : HasCell r.history q x.cell p ⊎ IsCopyAt (word z r.world) r.ledger.rows r.history q x.cell p → (attempt r.history p).at < (r.ledger.rows.fates q).gone
-    which (inl own) = subst (λ y. (attempt r.history p).at < (r.ledger.rows.fates y).gone) own.row (i.puts.gone p own.within (subst (IsDead r.ledger.rows) (sym own.row) d) x.is_put)
+    which : HasCell r.ledger.rows r.history q x.cell p ⊎ IsCopyAt (word z r.world) r.ledger.rows r.history q x.cell p → (attempt r.history p).at < (r.ledger.rows.fates q).gone
+    which (inl own) = subst (λ y. (attempt r.history p).at < (r.ledger.rows.fates y).gone) own.row (i.puts.gone p own.within (cell_here r.ledger.rows r.history q x.cell p own) (subst (IsDead r.ledger.rows) (sym own.row) d) x.is_put)
     which (inr copy) = omega (arith, copy.before, b.gone q d)
 
 -- A row goes by the event that replaces it.
@@ -108,6 +107,15 @@ goes_replaces {z} {r} {r'} {s} {choice} {l} {l'} TakeRow h q y = which (cases_eq
     which (inl e) (inl f) = let x : Infant ≡ Dead = sym (ap (λ (v : Fate). v.status) (fate_of_taken h e)) ∙ ap (λ n. (r'.ledger.rows.fates n).status) (sym f) ∙ ap (λ (v : Fate). v.status) y.fate in absurd (cc)
     which (inl e) (inr d) = stays (fate_stays TakeRow h q d)
     which (inr d) f = stays (ap (λ (g : ledger.Ledger). g.rows.fates q) (none_taken h d))
+goes_replaces {z} {r} {r'} {s} {choice} {l} {l'} Reclaim h q y = which (cases_eq (word z r.world (name.State l.rebalance.sought)) (state_word (state.Retired l.rebalance.number))) (cases_eq q l.rebalance.sought)
+  where
+    stays : r'.ledger.rows.fates q ≡ r.ledger.rows.fates q → Reclaim ≡ Replace
+    stays e = let x : Live ≡ Dead = sym y.live ∙ ap (λ (f : Fate). f.status) (sym e ∙ y.fate) in absurd (cc)
+
+    which : (word z r.world (name.State l.rebalance.sought) ≡ state_word (state.Retired l.rebalance.number)) ⊎ (word z r.world (name.State l.rebalance.sought) ≡ state_word (state.Retired l.rebalance.number) → ⊥) → (q ≡ l.rebalance.sought) ⊎ (q ≡ l.rebalance.sought → ⊥) → Reclaim ≡ Replace
+    which (inl e) (inl f) = let x : Free ≡ Dead = sym (ap (λ (v : Fate). v.status) (fate_of_freed h e)) ∙ ap (λ n. (r'.ledger.rows.fates n).status) (sym f) ∙ ap (λ (v : Fate). v.status) y.fate in absurd (cc)
+    which (inl e) (inr d) = stays (fate_stays Reclaim h q d)
+    which (inr d) f = stays (ap (λ (g : ledger.Ledger). g.rows.fates q) (none_freed h d))
 goes_replaces {z} {r} {r'} {s} {choice} {l} {l'} GiveBack h q y = which (cases_eq q (infant l))
   where
     which : (q ≡ infant l) ⊎ (q ≡ infant l → ⊥) → GiveBack ≡ Replace
@@ -133,7 +141,7 @@ module _ (z : Sizes) (r r' : Run) (s : ℕ) (choice : Choice) (l : Local) (a : A
 
   -- a dead row shows for each of its keys what was stamped before it went
   pub dead_keeps : (q k u : ℕ) → IsDead r'.ledger.rows q → HoldsKey (word z r'.world) r'.ledger.rows q k → Needed z r' u → Shows (puts_of r'.history) (InRow z r' q) (WasPut r' q) k u
-  dead_keeps q k u d x m = which (dead_was z r r' s choice l a l' h i st q d)
+  dead_keeps q k u d x m = which (dead_before a h i.shape q d)
     where
       n : Needed z r u
       n = needed_before z r r' s choice l a l' h i u m
@@ -161,6 +169,6 @@ module _ (z : Sizes) (r r' : Run) (s : ℕ) (choice : Choice) (l : Local) (a : A
           none (stamps_none was) p v = was p v
           none (stamps_one o t) p v = absurd (t.other (goes_replaces a h q y))
 
-      which : (r'.ledger.rows.fates q ≡ r.ledger.rows.fates q) × IsDead r.ledger.rows q ⊎ GoesNow r.ledger.rows r'.ledger.rows s (length r.history.log) q → Shows (puts_of r'.history) (InRow z r' q) (WasPut r' q) k u
-      which (inl e) = was_dead e.0 e.1
+      which : IsDead r.ledger.rows q × (r'.ledger.rows.fates q ≡ r.ledger.rows.fates q) ⊎ GoesNow r.ledger.rows r'.ledger.rows s (length r.history.log) q → Shows (puts_of r'.history) (InRow z r' q) (WasPut r' q) k u
+      which (inl e) = was_dead e.1 e.0
       which (inr y) = goes y

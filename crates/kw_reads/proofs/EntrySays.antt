@@ -23,7 +23,8 @@ use Rattle.kw_rows.specs.Rows.{WasLinked}
 use Rattle.kw_puts.specs.Puts.{HasCell, IsCopyAt, IsCurrent, IsOver, IsPublishedAt, entry_of}
 use Rattle.kw_puts.specs.Below.{Below}
 use Rattle.kw_reads.specs.Readers.{IsReady, IsMarkOf}
-use Rattle.kw_puts.proofs.Owners.{true_false, published_puts}
+use Rattle.kw_puts.specs.Here.{IsHere}
+use Rattle.kw_puts.proofs.Owners.{true_false, published_puts, cell_here}
 
 -- what the entry of the seat j in the row q says of a cell that stands for an attempt of this seat: the attempt is stamped and the cell is
 -- listed, or the entry is the attempt's own
@@ -69,7 +70,7 @@ module _ {z : Sizes} {r : Run} (k : Below z r) where
   own_entry q j p w n e = met (attempt r.history p).is_stamped refl (rw n at e)
     where
       cell : (attempt r.history p).cell < z.cells
-      cell = (k.puts.given p w).cell
+      cell = (k.puts.placed p w).cell
 
       met : (b : Bool) → (attempt r.history p).is_stamped ≡ b → word z r.world (name.Pend q j) ≡ (if b then pend_word (pend.Stamped (attempt r.history p).cell (attempt r.history p).version) else pend_word (pend.Pending (attempt r.history p).cell)) → (pend_of (word z r.world (name.Pend q j)) ≡ Some (pend.Pending (attempt r.history p).cell)) ⊎ IsPut r.history p × (pend_of (word z r.world (name.Pend q j)) ≡ Some (pend.Stamped (attempt r.history p).cell (attempt r.history p).version))
       met true s x =
@@ -78,16 +79,16 @@ module _ {z : Sizes} {r : Run} (k : Below z r) where
       met false s x = inl (ap pend_of x ∙ pend_of-Pending (attempt r.history p).cell (omega (arith, cell, k.shape.sane.sized.few_cells)))
 
   -- what the entry of its seat says of an announced attempt that is not lost, and whose own cell this is
-  own_says : (q j c p : ℕ) → WasLinked r.ledger.rows q → HasCell r.history q c p → r.origin q c ≡ Some p → (attempt r.history p).seat ≡ j → (attempt r.history p).is_announced ≡ true → (attempt r.history p).is_lost ≡ false → EntrySays (word z r.world) r.listed r.history q j c p
+  own_says : (q j c p : ℕ) → WasLinked r.ledger.rows q → HasCell r.ledger.rows r.history q c p → r.origin q c ≡ Some p → (attempt r.history p).seat ≡ j → (attempt r.history p).is_announced ≡ true → (attempt r.history p).is_lost ≡ false → EntrySays (word z r.world) r.listed r.history q j c p
   own_says q j c p m w x f a n = which (k.lists.old p w.within)
     where
       over : ((attempt r.history p).is_lost ≡ true) ⊎ ((attempt r.history p).is_announced ≡ false) → EntrySays (word z r.world) r.listed r.history q j c p
       over (inl x) = true_false x n
       over (inr x) = true_false a x
 
-      which : IsCurrent (slice_get r.world.locals) r.seats r.history p ⊎ (r.listed (attempt r.history p).row (attempt r.history p).cell ≡ true) ⊎ IsOver r.history p → EntrySays (word z r.world) r.listed r.history q j c p
+      which : IsCurrent (slice_get r.world.locals) r.seats r.history p ⊎ (IsHere r.ledger.rows r.history p → r.listed (attempt r.history p).row (attempt r.history p).cell ≡ true) ⊎ IsOver r.history p → EntrySays (word z r.world) r.listed r.history q j c p
       which (inr (inr o)) = over o.over
-      which (inr (inl o)) = let y : r.listed q c ≡ true = rw (w.row, w.cell) at o in is_listed (listed_stamped q c p m x y) y
+      which (inr (inl o)) = let y : r.listed q c ≡ true = rw (w.row, w.cell) at (o (cell_here r.ledger.rows r.history q c p w)) in is_listed (listed_stamped q c p m x y) y
       which (inl u) = stage (fresh_or_published u.local.activity u.putting)
         where
           own : (attempt r.history (r.seats (attempt r.history p).seat).own) ≡ attempt r.history p
@@ -108,9 +109,9 @@ module _ {z : Sizes} {r : Run} (k : Below z r) where
   pub entry_says : (q j c p : ℕ) → WasLinked r.ledger.rows q → c < z.cells → r.origin q c ≡ Some p → (attempt r.history p).seat ≡ j → (attempt r.history p).is_announced ≡ true → (attempt r.history p).is_lost ≡ false → EntrySays (word z r.world) r.listed r.history q j c p
   entry_says q j c p m o x f a n = which (k.puts.places.owner q c p m o x)
     where
-      which : HasCell r.history q c p ⊎ IsCopyAt (word z r.world) r.ledger.rows r.history q c p → EntrySays (word z r.world) r.listed r.history q j c p
+      which : HasCell r.ledger.rows r.history q c p ⊎ IsCopyAt (word z r.world) r.ledger.rows r.history q c p → EntrySays (word z r.world) r.listed r.history q j c p
       which (inl w) = own_says q j c p m w x f a n
-      which (inr w) = is_listed w.stamped (k.lists.copied q c p m o x w.elsewhere)
+      which (inr w) = is_listed w.stamped (k.lists.copied q c p m o x w.earlier)
 
   -- an attempt whose entry is stamped is not lost
   stamped_kept : (q j p c version : ℕ) → word z r.world (name.Pend q j) ≡ entry_of (attempt r.history p) → pend_of (word z r.world (name.Pend q j)) ≡ Some (pend.Stamped c version) → (attempt r.history p).is_lost ≡ false
@@ -124,17 +125,19 @@ module _ {z : Sizes} {r : Run} (k : Below z r) where
   pub stamped_owner : (q j c version : ℕ) → q < r.world.rows → j < z.seats → pend_of (word z r.world (name.Pend q j)) ≡ Some (pend.Stamped c version) → IsMarkOf r.history r.origin q (mark_of c version)
   stamped_owner q j c version w o e = which (k.puts.entry q j w o)
     where
-      from : (p : ℕ) → p < length r.history.attempts → (attempt r.history p).row ≡ q → (pend_of (word z r.world (name.Pend q j)) ≡ Some (pend.Pending (attempt r.history p).cell)) ⊎ IsPut r.history p × (pend_of (word z r.world (name.Pend q j)) ≡ Some (pend.Stamped (attempt r.history p).cell (attempt r.history p).version)) → IsMarkOf r.history r.origin q (mark_of c version)
-      from p i f (inl x) = let y : Some (pend.Pending (attempt r.history p).cell) ≡ Some (pend.Stamped c version) = sym x ∙ e in absurd (cc)
-      from p i f (inr x) =
+      from : (p : ℕ) → r.origin q (attempt r.history p).cell ≡ Some p → (pend_of (word z r.world (name.Pend q j)) ≡ Some (pend.Pending (attempt r.history p).cell)) ⊎ IsPut r.history p × (pend_of (word z r.world (name.Pend q j)) ≡ Some (pend.Stamped (attempt r.history p).cell (attempt r.history p).version)) → IsMarkOf r.history r.origin q (mark_of c version)
+      from p o (inl x) = let y : Some (pend.Pending (attempt r.history p).cell) ≡ Some (pend.Stamped c version) = sym x ∙ e in absurd (cc)
+      from p o (inr x) =
           let y : Some (pend.Stamped (attempt r.history p).cell (attempt r.history p).version) ≡ Some (pend.Stamped c version) = sym x.1 ∙ e in
           let n : (attempt r.history p).cell ≡ c = cc in
-          record { put = p; origin = rw (n, f) at (k.puts.given p i).origin; stamped = x.0; version = cc }
+          record { put = p; origin = subst (λ d. r.origin q d ≡ Some p) n o; stamped = x.0; version = cc }
 
       which : (word z r.world (name.Pend q j) ≡ pend_word pend.Idle) ⊎ (word z r.world (name.Pend q j) ≡ pend_word pend.Frozen) ⊎ IsPublishedAt (slice_get r.world.locals) q j → IsMarkOf r.history r.origin q (mark_of c version)
       which (inl x) = let y : Some (pend.Stamped c version) ≡ Some pend.Idle = sym e ∙ ap pend_of x ∙ pend_of-Idle in absurd (cc)
       which (inr (inl x)) = let y : Some (pend.Stamped c version) ≡ Some pend.Frozen = sym e ∙ ap pend_of x ∙ pend_of-Frozen in absurd (cc)
       which (inr (inr x)) =
-          let own = k.puts.owns j x.local x.knows (published_puts x.local.activity x.published) in
+          let puts = published_puts x.local.activity x.published in
+          let own = k.puts.owns j x.local x.knows puts in
+          let origin = (k.puts.given (r.seats j).own own.within (k.puts.present j x.local x.knows puts)).origin in
           let entry = subst (λ y. word z r.world (name.Pend y j) ≡ entry_of (attempt r.history (r.seats j).own)) x.row (own.entry x.published) in
-          from (r.seats j).own own.within (own.row ∙ x.row) (own_entry q j (r.seats j).own own.within (stamped_kept q j (r.seats j).own c version entry e) entry)
+          from (r.seats j).own (subst (λ y. r.origin y (attempt r.history (r.seats j).own).cell ≡ Some (r.seats j).own) (own.row ∙ x.row) origin) (own_entry q j (r.seats j).own own.within (stamped_kept q j (r.seats j).own c version entry e) entry)

@@ -1,6 +1,6 @@
 -- What a reader knows of the puts that were stamped before it looked at its row, or before the row went: it is so at its first look, and
 -- lasts over every event.
-use Rattle.std.proofs.Common.{ℕ, ◌≡◌, ◌≢◌, ◌⊎◌, inl, inr, ◌≤◌, ◌<◌, Bool, true, false, Some, arith, refl, sym, ◌∙◌, ap, subst, length, slice_get, if◌then◌else◌}
+use Rattle.std.proofs.Common.{ℕ, ◌≡◌, ◌⊎◌, inl, inr, ◌≤◌, ◌<◌, Bool, true, false, Some, arith, refl, sym, ◌∙◌, ap, subst, length, slice_get, if◌then◌else◌}
 use Rattle.std.proofs.lemmas.Option.{slice_get_within}
 use Rattle.kw_words.specs.declared.layout.Name.TheVariants as name
 use Rattle.kw_world.specs.declared.activity.Activity.{Activity}
@@ -12,7 +12,7 @@ use Rattle.kw_world.specs.Calls.{is_scan}
 use Rattle.kw_world.specs.Sizes.{Sizes}
 use Rattle.kw_world.specs.Step.{word}
 use Rattle.kw_core.specs.Grows.{AttemptGrows}
-use Rattle.kw_core.specs.History.{attempt}
+use Rattle.kw_core.specs.History.{History, attempt}
 use Rattle.kw_core.specs.HistoryLaws.{IsPut}
 use Rattle.kw_core.specs.Run.{Run}
 use Rattle.kw_core.specs.Stages.{IsAtRow, IsSettled}
@@ -21,22 +21,28 @@ use Rattle.kw_core.proofs.Happens.{Happens}
 use Rattle.kw_core.proofs.Steps.{announced_within}
 use Rattle.kw_kept.specs.Readers.{Before}
 use Rattle.kw_kept.proofs.FrontStays.{front_starts, front_stays, shows_of_same}
-use Rattle.kw_rows.specs.Ledger.{Dead, Fate, IsDead, IsFresh, IsLive, Live}
+use Rattle.kw_rows.specs.Ledger.{Dead, Fate, Free, IsDead, IsFresh, IsLive, Ledger, Live, WasHeld}
 use Rattle.kw_rows.specs.Rows.{WasLinked}
 use Rattle.kw_rows.proofs.Named.{one_row}
 use Rattle.kw_shape.specs.RowsIn.{rows_in}
 use Rattle.kw_shape.specs.Shape.{HoldsKey, IsAtItsRow}
 use Rattle.kw_shape.proofs.RowsStay.{holds_stays}
-use Rattle.kw_puts.proofs.Rely.{GoesOn}
-use Rattle.kw_reads.specs.Contents.{Contents, HasRow, InRow, IsFronted, IsGone, IsSince, Needed, has_drawn, WasPut, floor_of, puts_of, version_of}
+use Rattle.kw_puts.specs.Here.{IsHere, IsMadeIn}
+use Rattle.kw_puts.proofs.Owners.{is_here}
+use Rattle.kw_puts.proofs.Rely.{GoesOn, SameAttempt}
+use Rattle.kw_reads.specs.Contents.{Contents, HasRow, InRow, IsFronted, IsGone, IsPast, IsSince, Needed, has_drawn, WasPut, floor_of, puts_of, version_of}
 use Rattle.kw_reads.specs.Inv.{Inv}
-use Rattle.kw_shape.proofs.LinkedRows.{GoesNow, linked_fate, linked_keeps}
+use Rattle.kw_shape.proofs.LinkedRows.{BecomesNow, linked_fate, linked_keeps}
 use Rattle.kw_reads.proofs.PutsGoOn.{puts_go_on}
 use Rattle.kw_reads.proofs.Relying.{goes_on_by}
 
 -- a live row is not dead
 live_or_dead : {A : Type 0} (z : Sizes) (r : Run) (q : ℕ) → IsLive r.ledger.rows q → IsDead r.ledger.rows q → A
 live_or_dead z r q e d = let x : Live ≡ Dead = sym e ∙ d in absurd (cc)
+
+-- an attempt whose row was not used again was made there since the row was linked
+here_made : (g : Ledger) (h : History) (q p : ℕ) → IsHere g h p → (attempt h p).row ≡ q → IsMadeIn g h q p
+here_made g h q p x e = record { row = e; born = subst (λ n. (g.fates n).born ≤ (attempt h p).add) e x.born }
 
 -- What lasts.
 
@@ -56,13 +62,14 @@ module _ {z : Sizes} {r r' : Run} {s : ℕ} {choice : Choice} {l l' : Local} whe
     other = λ p x u y d. other p x u y d;
   }
     where
-      stands : IsDead r'.ledger.rows row → (r'.ledger.rows.fates row ≡ r.ledger.rows.fates row) ⊎ GoesNow r.ledger.rows r'.ledger.rows s (length r.history.log) row → f.since ≤ (r'.ledger.rows.fates row).gone
+      stands : IsDead r'.ledger.rows row → BecomesNow r.ledger.rows r'.ledger.rows s (length r.history.log) row → f.since ≤ (r'.ledger.rows.fates row).gone
       stands d (inl e) = omega (arith, f.stands (sym (ap (λ (x : Fate). x.status) e) ∙ d), ap (λ (x : Fate). x.gone) e)
-      stands d (inr g) = omega (arith, ap (λ (x : Fate). x.gone) g.fate, f.upto, o)
+      stands d (inr (inl g)) = omega (arith, ap (λ (x : Fate). x.gone) g.fate, f.upto, o)
+      stands d (inr (inr n)) = let x : Dead ≡ Free = sym d ∙ ap (λ (y : Fate). y.status) n.fate in absurd (cc)
 
-      other : (p : ℕ) → (attempt r'.history p).is_announced ≡ true → (attempt r'.history p).announced < floor → HoldsKey (word z r'.world) r'.ledger.rows row (attempt r'.history p).key → (attempt r'.history p).row ≢ row →
+      other : (p : ℕ) → (attempt r'.history p).is_announced ≡ true → (attempt r'.history p).announced < floor → HoldsKey (word z r'.world) r'.ledger.rows row (attempt r'.history p).key → (IsMadeIn r'.ledger.rows r'.history row p → ⊥) →
           ((attempt r'.history p).is_lost ≡ true) ⊎ IsPut r'.history p × ((attempt r'.history p).at < f.since)
-      other p x u y d = which (f.other p n.1 (omega (arith, u, (e.announced n.1).1)) (subst (HoldsKey (word z r.world) r.ledger.rows row) e.key (holds_was a h i row (attempt r'.history p).key k y)) (λ c. d ((g.attempts p n.0).row ∙ c)))
+      other p x u y d = which (f.other p n.1 (omega (arith, u, (e.announced n.1).1)) (subst (HoldsKey (word z r.world) r.ledger.rows row) e.key (holds_was a h i row (attempt r'.history p).key k y)) (λ c. d (made c)))
         where
           g : GoesOn r.history r'.history r.origin r'.origin r.ledger.rows
           g = goes_on_by z r r' s choice l a l' h i
@@ -72,6 +79,12 @@ module _ {z : Sizes} {r r' : Run} {s : ℕ} {choice : Choice} {l l' : Local} whe
 
           e : AttemptGrows r.history r'.history (length r.history.log) p
           e = g.grows.old p n.0
+
+          same : SameAttempt r.history r'.history p
+          same = g.attempts p n.0
+
+          made : IsMadeIn r.ledger.rows r.history row p → IsMadeIn r'.ledger.rows r'.history row p
+          made c = record { row = same.row ∙ c.row; born = omega (arith, c.born, same.add, (linked_keeps a h i.shape row k).born) }
 
           which : ((attempt r.history p).is_lost ≡ true) ⊎ IsPut r.history p × ((attempt r.history p).at < f.since) → ((attempt r'.history p).is_lost ≡ true) ⊎ IsPut r'.history p × ((attempt r'.history p).at < f.since)
           which (inl c) = inl (e.lost c)
@@ -94,9 +107,9 @@ module _ (z : Sizes) (r : Run) (i : Inv z r) (c : Contents z r) (t : ℕ) (l : L
   at_row : IsAtItsRow (word z r.world) r.ledger.rows t l
   at_row = (i.shape.walks t l k).at (subst IsAtRow (sym at) tt)
 
-  -- an attempt that was announced elsewhere, in a row that may hold its key
-  row_of : (p : ℕ) → (attempt r.history p).is_announced ≡ true → WasLinked r.ledger.rows (attempt r.history p).row × HoldsKey (word z r.world) r.ledger.rows (attempt r.history p).row (attempt r.history p).key
-  row_of p x = let g = i.puts.given p (announced_within r.history p x) in (g.linked, g.holds)
+  -- the row of an announced attempt that was not used again may hold its key
+  row_holds : (p : ℕ) → (attempt r.history p).is_announced ≡ true → IsHere r.ledger.rows r.history p → HoldsKey (word z r.world) r.ledger.rows (attempt r.history p).row (attempt r.history p).key
+  row_holds p x y = (i.puts.given p (announced_within r.history p x) y).holds
 
   -- of a live row
   front_live : IsLive r.ledger.rows l.row → IsFronted z r l.row (version_of l) (floor_of r t l) (length r.history.log)
@@ -106,49 +119,65 @@ module _ (z : Sizes) (r : Run) (i : Inv z r) (c : Contents z r) (t : ℕ) (l : L
     stands = λ d. live_or_dead z r l.row a d;
     born = i.puts.born l.row (inl a);
     shows = λ key x. front_starts (puts_of r.history) (InRow z r l.row) (IsPut r.history) (length r.history.log) key (version_of l) (λ p y. i.history.past.at p (in_range r.history p y) y) (λ p y. y.is_put) (c.kept l.row key (version_of l) (record { live = a; holds = x }) version_needed);
-    other = λ p x u y d. let w = row_of p x in which p x y d w.0 w.1;
+    other = λ p x u y d. which p x y d (is_here r.ledger.rows r.history p);
   }
     where
       gone : (p : ℕ) → IsGone r p → ((attempt r.history p).is_lost ≡ true) ⊎ IsPut r.history p × ((attempt r.history p).at < length r.history.log)
       gone p (inl x) = inl x
       gone p (inr x) = inr (x.0, i.history.past.at p (in_range r.history p x.0) x.0)
 
-      which : (p : ℕ) → (attempt r.history p).is_announced ≡ true → HoldsKey (word z r.world) r.ledger.rows l.row (attempt r.history p).key → (attempt r.history p).row ≢ l.row → WasLinked r.ledger.rows (attempt r.history p).row → HoldsKey (word z r.world) r.ledger.rows (attempt r.history p).row (attempt r.history p).key →
+      past : (p : ℕ) → IsPast r p → ((attempt r.history p).is_lost ≡ true) ⊎ IsPut r.history p × ((attempt r.history p).at < length r.history.log)
+      past p (inl x) = inl x
+      past p (inr x) = inr (x.0, i.history.past.at p (in_range r.history p x.0) x.0)
+
+      here : (p : ℕ) → (attempt r.history p).is_announced ≡ true → HoldsKey (word z r.world) r.ledger.rows l.row (attempt r.history p).key → (IsMadeIn r.ledger.rows r.history l.row p → ⊥) → IsHere r.ledger.rows r.history p → WasLinked r.ledger.rows (attempt r.history p).row →
           ((attempt r.history p).is_lost ≡ true) ⊎ IsPut r.history p × ((attempt r.history p).at < length r.history.log)
-      which p x y d (inl b) o = absurd (d (one_row (rows_in (word z r.world)) r.ledger.rows i.shape.rows.closed (attempt r.history p).row l.row (attempt r.history p).key i.shape.rows.chain b a o y))
-      which p x y d (inr b) o = gone p (c.over p x b)
+      here p x y d o (inl b) = absurd (d (here_made r.ledger.rows r.history l.row p o (one_row (rows_in (word z r.world)) r.ledger.rows i.shape.rows.closed (attempt r.history p).row l.row (attempt r.history p).key i.shape.rows.chain b a (row_holds p x o) y)))
+      here p x y d o (inr b) = gone p (c.over p x o b)
+
+      which : (p : ℕ) → (attempt r.history p).is_announced ≡ true → HoldsKey (word z r.world) r.ledger.rows l.row (attempt r.history p).key → (IsMadeIn r.ledger.rows r.history l.row p → ⊥) → IsHere r.ledger.rows r.history p ⊎ (IsHere r.ledger.rows r.history p → ⊥) →
+          ((attempt r.history p).is_lost ≡ true) ⊎ IsPut r.history p × ((attempt r.history p).at < length r.history.log)
+      which p x y d (inl o) = here p x y d o o.linked
+      which p x y d (inr n) = past p (c.past p x n)
 
   -- of one that went
-  front_dead : IsDead r.ledger.rows l.row → IsFronted z r l.row (version_of l) (floor_of r t l) (length r.history.log)
+  front_dead : WasHeld r.ledger.rows t l.row → IsFronted z r l.row (version_of l) (floor_of r t l) (length r.history.log)
   front_dead a = record {
     since = (r.ledger.rows.fates l.row).gone;
-    upto = omega (arith, i.shape.rows.past.gone l.row a);
+    upto = omega (arith, i.shape.rows.past.gone l.row a.dead);
     stands = λ d. omega arith;
-    born = c.borns.gone l.row a;
+    born = c.borns.gone l.row a.dead;
     shows = λ key x. shows_of_same (puts_of r.history) (InRow z r l.row) (λ p. InRow z r l.row p × Before (puts_of r.history) (IsPut r.history) (r.ledger.rows.fates l.row).gone p) (WasPut r l.row) (Before (puts_of r.history) (IsPut r.history) (r.ledger.rows.fates l.row).gone) key (version_of l)
-        (λ p y. y.0) (λ p y. (y, (y.is_put, c.inside l.row p a y))) (λ p y. y) (λ p y. y) (c.dead l.row key (version_of l) a x version_needed);
-    other = λ p x u y d. let w = row_of p x in other p x u w.0 (i.shape.rows.follows l.row (attempt r.history p).row (attempt r.history p).key a w.0 y w.1 (λ e. d (sym e)));
+        (λ p y. y.0) (λ p y. (y, (y.is_put, c.inside l.row p a.dead y))) (λ p y. y) (λ p y. y) (c.dead l.row key (version_of l) a.dead x version_needed);
+    other = λ p x u y d. which p x u y d (is_here r.ledger.rows r.history p);
   }
     where
-      late : (p : ℕ) → IsSince r.ledger.rows (floor_of r t l) l.row → (r.ledger.rows.fates l.row).gone < (r.ledger.rows.fates (attempt r.history p).row).born → (attempt r.history p).is_announced ≡ true → (attempt r.history p).announced < floor_of r t l → ⊥
-      late p (inl b) m x u = live_or_dead z r l.row b a
-      late p (inr b) m x u =
-          let w = announced_within r.history p x in
-          omega (arith, b.1, m, (i.puts.given p w).born, (i.history.laws.attempted p w).announced x, u)
+      late : (p : ℕ) → IsHere r.ledger.rows r.history p → IsSince r.ledger.rows (floor_of r t l) l.row → (r.ledger.rows.fates l.row).gone < (r.ledger.rows.fates (attempt r.history p).row).born → (attempt r.history p).is_announced ≡ true → (attempt r.history p).announced < floor_of r t l → ⊥
+      late p o (inl b) m x u = live_or_dead z r l.row b a.dead
+      late p o (inr b) m x u = omega (arith, b.1, m, o.born, (i.history.laws.attempted p (announced_within r.history p x)).announced x, u)
 
       gone : (p : ℕ) → (r.ledger.rows.fates (attempt r.history p).row).gone < (r.ledger.rows.fates l.row).born → IsGone r p → ((attempt r.history p).is_lost ≡ true) ⊎ IsPut r.history p × ((attempt r.history p).at < (r.ledger.rows.fates l.row).gone)
       gone p m (inl x) = inl x
-      gone p m (inr x) = inr (x.0, omega (arith, x.1, m, c.borns.gone l.row a))
+      gone p m (inr x) = inr (x.0, omega (arith, x.1, m, c.borns.gone l.row a.dead))
 
-      other : (p : ℕ) → (attempt r.history p).is_announced ≡ true → (attempt r.history p).announced < floor_of r t l → WasLinked r.ledger.rows (attempt r.history p).row →
+      past : (p : ℕ) → IsPast r p → ((attempt r.history p).is_lost ≡ true) ⊎ IsPut r.history p × ((attempt r.history p).at < (r.ledger.rows.fates l.row).gone)
+      past p (inl x) = inl x
+      past p (inr x) = inr (x.0, omega (arith, x.1 t a.since a.passes, a.before))
+
+      here : (p : ℕ) → (attempt r.history p).is_announced ≡ true → (attempt r.history p).announced < floor_of r t l → IsHere r.ledger.rows r.history p →
           ((r.ledger.rows.fates l.row).gone < (r.ledger.rows.fates (attempt r.history p).row).born) ⊎ IsDead r.ledger.rows (attempt r.history p).row × ((r.ledger.rows.fates (attempt r.history p).row).gone < (r.ledger.rows.fates l.row).born) →
           ((attempt r.history p).is_lost ≡ true) ⊎ IsPut r.history p × ((attempt r.history p).at < (r.ledger.rows.fates l.row).gone)
-      other p x u w (inl m) = absurd (late p ((c.later t l k).row (subst HasRow (sym at) tt)) m x u)
-      other p x u w (inr m) = gone p m.1 (c.over p x m.0)
+      here p x u o (inl m) = absurd (late p o ((c.later t l k).row (subst HasRow (sym at) tt)) m x u)
+      here p x u o (inr m) = gone p m.1 (c.over p x o m.0)
+
+      which : (p : ℕ) → (attempt r.history p).is_announced ≡ true → (attempt r.history p).announced < floor_of r t l → HoldsKey (word z r.world) r.ledger.rows l.row (attempt r.history p).key → (IsMadeIn r.ledger.rows r.history l.row p → ⊥) → IsHere r.ledger.rows r.history p ⊎ (IsHere r.ledger.rows r.history p → ⊥) →
+          ((attempt r.history p).is_lost ≡ true) ⊎ IsPut r.history p × ((attempt r.history p).at < (r.ledger.rows.fates l.row).gone)
+      which p x u y d (inl o) = here p x u o (i.shape.rows.follows l.row (attempt r.history p).row (attempt r.history p).key a.dead o.linked y (row_holds p x o) (λ e. d (here_made r.ledger.rows r.history l.row p o (sym e))))
+      which p x u y d (inr n) = past p (c.past p x n)
 
   pub first_look : IsFronted z r l.row (version_of l) (floor_of r t l) (length r.history.log)
   first_look = which at_row.fresh
     where
       which : IsFresh r.ledger.rows t l.row → IsFronted z r l.row (version_of l) (floor_of r t l) (length r.history.log)
       which (inl a) = front_live a
-      which (inr a) = front_dead a.dead
+      which (inr a) = front_dead a

@@ -28,7 +28,7 @@ use Rattle.kw_core.specs.Stages.{IsBusy, IsPutting, IsFresh, IsStamp, HasMet, Is
 use Rattle.kw_shape.specs.Shape.{IsPutCall, IsAnswerOf, IsKind}
 use Rattle.kw_reads.specs.Replies.{RisesBelow, IsCovered, IsAnswered, Covers}
 use Rattle.std.proofs.lemmas.Option.{same_Some}
-use Rattle.kw_puts.proofs.Owners.{true_false, is_own, pending_kept, pending_entry, published_puts, puts_busy, entry_owner, pending_cell}
+use Rattle.kw_puts.proofs.Owners.{true_false, pending_own, pending_kept, pending_entry, published_puts, puts_busy, entry_owner, pending_cell}
 use Rattle.kw_core.proofs.Changes as changes
 use Rattle.kw_core.proofs.Changes.{made, makes_nothing, makes_begin, makes_add, makes_announce, makes_stamp, makes_help, makes_lose, makes_end}
 use Rattle.kw_core.specs.Run.{Run, change_of, answering, drawing}
@@ -174,7 +174,7 @@ may_make z r r' s choice l a l' c (makes_help p e f) h i =
     let own = i.puts.owns l.looked w.local w.knows puts in
     let x = i.positions.calling l.looked w.local w.knows (puts_busy w.local.activity puts) in
     let place = pending_cell i.puts l.row l.looked l.met p known.below.row known.ranges.looked e f in
-    let same : p ≡ (r.seats l.looked).own = is_own i.puts l.looked w.local w.knows puts p place.within (place.row ∙ sym w.row) (place.cell ∙ sym w.cell ∙ own.cell) in
+    let same : p ≡ (r.seats l.looked).own = pending_own i.puts l.row l.looked l.met p known.below.row known.ranges.looked e f in
     let is_put : helper.put ≡ p = same_Some helper.put p (sym helper.origin ∙ f) in
     may_stamp z r r' s choice l l' i p l.helping (r.seats s).loaded place.within
     (subst (λ q. (attempt r.history q).is_announced ≡ true) is_put helper.announced)
@@ -184,10 +184,8 @@ may_make z r r' s choice l a l' c (makes_help p e f) h i =
 may_make z r r' s choice l a l' c (makes_lose j cell p x e f) h i =
     let known = i.shape.sane.locals s l h.knows in
     let w = entry_owner i.puts l.row j cell known.below.row (subst (IsActivity z) h.activity known.ranges.activity) e in
-    let puts = published_puts w.local.activity w.published in
-    let own = i.puts.owns j w.local w.knows puts in
     let place = pending_cell i.puts l.row j cell p known.below.row (subst (IsActivity z) h.activity known.ranges.activity) e f in
-    let same : p ≡ (r.seats j).own = is_own i.puts j w.local w.knows puts p place.within (place.row ∙ sym w.row) (place.cell ∙ sym w.cell ∙ own.cell) in
+    let same : p ≡ (r.seats j).own = pending_own i.puts l.row j cell p known.below.row (subst (IsActivity z) h.activity known.ranges.activity) e f in
     (place.within, rw same w.unstamped)
 may_make z r r' s choice l a l' c (makes_end answer) h i =
     let x = i.positions.calling s l h.knows (subst IsBusy (sym h.activity) tt) in

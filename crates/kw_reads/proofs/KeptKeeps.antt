@@ -3,7 +3,7 @@
 use Rattle.std.proofs.Common.{ℕ, ◌≡◌, ◌⊎◌, inl, inr, ◌<◌, ◌≤◌, Contains, Some, arith, sym, ◌∙◌, ap, subst, length, slice_get}
 use Rattle.std.proofs.lemmas.Bool.{cases_lt}
 use Rattle.kw_words.specs.declared.layout.Name.TheVariants as name
-use Rattle.kw_rows.specs.Ledger.{Dead, Fate, IsLive, Live}
+use Rattle.kw_rows.specs.Ledger.{Dead, Fate, Free, IsLive, Live}
 use Rattle.kw_rows.specs.Rows.{WasLinked}
 use Rattle.kw_rows.proofs.Named.{one_row}
 use Rattle.kw_world.specs.declared.activity.Activity.{Activity}
@@ -32,7 +32,7 @@ use Rattle.kw_puts.specs.Below.{Below}
 use Rattle.kw_puts.proofs.Rely.{SameAttempt}
 use Rattle.kw_puts.proofs.RelyProof.{goes_on_by}
 use Rattle.kw_reads.specs.Contents.{Contents, HasPassedRow, InRow, IsHolding, IsOlder, Needed, Needs, Through, has_drawn, is_held, is_helped, puts_of, rows_of}
-use Rattle.kw_shape.proofs.LinkedRows.{ComesNow, GoesNow, full_live, linked_before, linked_fate, linked_keeps}
+use Rattle.kw_shape.proofs.LinkedRows.{ComesNow, FreesNow, GoesNow, full_live, linked_before, linked_fate, linked_keeps}
 use Rattle.kw_reads.proofs.NewRows.{held_by_full}
 use Rattle.kw_reads.proofs.Rebuilt.{is_rebuilt}
 use Rattle.kw_reads.proofs.RowCells.{in_row_stays, in_row_was, is_put_stays, its_row_live, stamped_in_row}
@@ -54,9 +54,10 @@ module _ {z : Sizes} {r r' : Run} {s : ℕ} {choice : Choice} {l l' : Local} (a 
   pub live_was : (q : ℕ) → WasLinked r.ledger.rows q → IsLive r'.ledger.rows q → IsLive r.ledger.rows q
   live_was q w x = which (linked_fate a h i.shape q w)
     where
-      which : (r'.ledger.rows.fates q ≡ r.ledger.rows.fates q) ⊎ GoesNow r.ledger.rows r'.ledger.rows s (length r.history.log) q → IsLive r.ledger.rows q
+      which : (r'.ledger.rows.fates q ≡ r.ledger.rows.fates q) ⊎ GoesNow r.ledger.rows r'.ledger.rows s (length r.history.log) q ⊎ FreesNow r.ledger.rows r'.ledger.rows q → IsLive r.ledger.rows q
       which (inl e) = sym (ap (λ (f : Fate). f.status) e) ∙ x
-      which (inr y) = let t : Live ≡ Dead = sym x ∙ ap (λ (f : Fate). f.status) y.fate in absurd (cc)
+      which (inr (inl y)) = let t : Live ≡ Dead = sym x ∙ ap (λ (f : Fate). f.status) y.fate in absurd (cc)
+      which (inr (inr y)) = let t : Live ≡ Free = sym x ∙ ap (λ (f : Fate). f.status) y.fate in absurd (cc)
 
   -- a row of the list that holds a key did so, or is linked now
   holding_was : (q k : ℕ) → IsHolding z r' q k → IsHolding z r q k ⊎ ComesNow (word z r.world) r.ledger.rows r'.ledger.rows s (length r.history.log) l a q
@@ -104,7 +105,7 @@ module _ (z : Sizes) (r r' : Run) (s : ℕ) (choice : Choice) (l : Local) (a : A
 
   -- the row of what is stamped now holds its key
   pub own_holds : (o : ℕ) → StampsNow z r r' a o → HoldsKey (word z r.world) r.ledger.rows (attempt r.history o).row (attempt r'.history o).key
-  own_holds o x = subst (HoldsKey (word z r.world) r.ledger.rows (attempt r.history o).row) (sym ((goes_on_by z r r' s choice l a l' h i st).attempts o x.within).key) (i.puts.given o x.within).holds
+  own_holds o x = subst (HoldsKey (word z r.world) r.ledger.rows (attempt r.history o).row) (sym ((goes_on_by z r r' s choice l a l' h i st).attempts o x.within).key) (i.puts.given o x.within x.here).holds
 
   module _ (c : Contents z r) where
     -- A stamp.
@@ -123,18 +124,18 @@ module _ (z : Sizes) (r r' : Run) (s : ℕ) (choice : Choice) (l : Local) (a : A
         same = ap (λ (y : Put). y.version) (same_put p m)
 
         holds : HoldsKey (word z r.world) r.ledger.rows (attempt r.history o).row (attempt r.history p).key
-        holds = subst (HoldsKey (word z r.world) r.ledger.rows (attempt r.history o).row) (sym was.key ∙ sym e ∙ ap (λ (y : Put). y.key) (same_put p m)) (i.puts.given o x.within).holds
+        holds = subst (HoldsKey (word z r.world) r.ledger.rows (attempt r.history o).row) (sym was.key ∙ sym e ∙ ap (λ (y : Put). y.key) (same_put p m)) (i.puts.given o x.within x.here).holds
 
         older : IsOlder r (attempt r.history o).row p → StandsBefore (puts_of r'.history) p o
         older y = by_version (cases_lt (attempt r'.history p).version (attempt r'.history o).version)
           where
             least : (r.ledger.rows.fates (attempt r.history o).row).clock ≤ (attempt r'.history o).version
-            least = c.borns.after (attempt r.history o).row x.load (attempt r'.history o).version LoadClock (inl live) x.loaded (omega (arith, (i.puts.given o x.within).born, x.after))
+            least = c.borns.after (attempt r.history o).row x.load (attempt r'.history o).version LoadClock (inl live) x.loaded (omega (arith, x.here.born, x.after))
 
             added : (attempt r'.history p).add < (attempt r'.history o).add
             added =
                 let t = i.history.laws.attempted p (in_range r.history p m) in
-                omega (arith, ap (λ (b : Put). b.add) (same_put p m), t.announced (t.is_announced m), t.load m, t.at m, y.at, (i.puts.given o x.within).born, was.add)
+                omega (arith, ap (λ (b : Put). b.add) (same_put p m), t.announced (t.is_announced m), t.load m, t.at m, y.at, x.here.born, was.add)
 
             by_version : ((attempt r'.history p).version < (attempt r'.history o).version) ⊎ ((attempt r'.history o).version ≤ (attempt r'.history p).version) → StandsBefore (puts_of r'.history) p o
             by_version (inl w) = inl w

@@ -16,6 +16,7 @@ use Rattle.kw_puts.specs.Below.{Below}
 use Rattle.kw_puts.specs.Lists.{list_in}
 use Rattle.kw_puts.specs.Puts.{HasCell, IsCopyAt}
 use Rattle.kw_puts.proofs.ListWords.{link_is}
+use Rattle.kw_puts.proofs.Owners.{cell_here}
 
 -- a link of the list leads to the cell
 record LedTo (r : Row) (d : ℕ) : Type 0 where
@@ -44,9 +45,9 @@ keyed z r k q c p m o e = which (k.puts.places.owner q c p m o e)
     is_link None x = tt
     is_link (Some d) x = (k.lists.leads q m).below d x
 
-    which : HasCell r.history q c p ⊎ IsCopyAt (word z r.world) r.ledger.rows r.history q c p → HoldsKey (word z r.world) r.ledger.rows q (attempt r.history p).key
-    which (inl x) = subst (λ s. HoldsKey (word z r.world) r.ledger.rows s (attempt r.history p).key) x.row (k.puts.given p x.within).holds
+    which : HasCell r.ledger.rows r.history q c p ⊎ IsCopyAt (word z r.world) r.ledger.rows r.history q c p → HoldsKey (word z r.world) r.ledger.rows q (attempt r.history p).key
+    which (inl x) = subst (λ s. HoldsKey (word z r.world) r.ledger.rows s (attempt r.history p).key) x.row (k.puts.given p x.within (cell_here r.ledger.rows r.history q c p x)).holds
     which (inr x) =
-        let t = led_to z.cells (list_in (word z r.world) r.listed q) (k.lists.leads q m) c (k.lists.copied q c p m o e x.elsewhere) in
+        let t = led_to z.cells (list_in (word z r.world) r.listed q) (k.lists.leads q m) c (k.lists.copied q c p m o e x.earlier) in
         let y = (k.shape.keyed q m).linked t.at c (is_link t.at t.on) (sym (link_is (word z r.world) q t.at) ∙ t.leads) in
         subst (λ s. HoldsKey (word z r.world) r.ledger.rows q s) x.key (record { from = y.from; below = y.below })

@@ -8,6 +8,7 @@ pub mod KeptKeeps
 pub mod NeedsKeep
 pub mod RowTimes
 pub mod DeadRows
+pub mod PastAttempts
 pub mod RowsKept
 pub mod KeyedCells
 pub mod HistoryKeeps

@@ -10,13 +10,12 @@ use Rattle.kw_core.specs.Run.{no_log}
 use Rattle.kw_world.specs.Step.{word}
 use Rattle.kw_core.specs.Run.{start}
 use Rattle.kw_core.specs.Listed.{none_listed}
-use Rattle.kw_rows.specs.Rows.{WasLinked}
 use Rattle.kw_puts.specs.Lists.{list_in}
-use Rattle.kw_reads.specs.Readers.{IsMarkOf, Looks, ReadsList, Reads, Gathers, Apart, HasSeen, Readers}
+use Rattle.kw_reads.specs.Readers.{IsMarkOf, Looks, ReadsList, Reads, Gathers, Apart, HasSeen, IsReadRow, Readers}
 use Rattle.kw_reads.specs.Replies.{HasPairs, IsAnswered, Replies}
 use Rattle.kw_reads.specs.Contents.{Contents, IsFronted, IsLater, floor_of, version_of}
 use Rattle.kw_reads.specs.Inv.{Inv}
-use Rattle.kw_reads.proofs.RowsKept.{borns_start, over_start, inside_start, older_start, kept_start, dead_start, needs_start}
+use Rattle.kw_reads.proofs.RowsKept.{borns_start, over_start, past_start, inside_start, older_start, kept_start, dead_start, needs_start}
 use Rattle.kw_core.proofs.NotedLaws.{nothing_keeps}
 use Rattle.kw_shape.proofs.ShapeOpens.{each_rests, shape_starts}
 use Rattle.kw_shape.specs.Shape.{IsPutCall}
@@ -27,7 +26,7 @@ module _ (z : Sizes) (o : Opening) (i : IsOpening z o) where
   pub readers_start : Readers z (start z o)
   readers_start = record {
     within = λ q c p e. let x : None ≡ Some p = e in absurd (cc);
-    linked = each_rests z o (λ t l. IsKeeping l.activity → (q : ℕ) → None ≡ Some q → WasLinked (start z o).ledger.rows q) (λ t x. absurd x);
+    read = each_rests z o (λ t l. IsKeeping l.activity → (q : ℕ) → None ≡ Some q → IsReadRow (start z o).ledger.rows t l.activity l q) (λ t x. absurd x);
     remembers = each_rests z o (λ t l. IsLooking l.activity ⊎ IsTaking l.activity → All (IsMarkOf nothing_yet (λ q c. None) l.row) l.remembered) (λ t x j c w. absurd (omega arith));
     looks = each_rests z o (λ t l. IsLooking l.activity → Looks z none_listed nothing_yet (λ q c. None) l.activity l no_log) (λ t x. absurd x);
     walks = each_rests z o (λ t l. ReadsList z.cells (list_in (word z (opened z o)) none_listed l.row) l.activity l) (λ t. tt);
@@ -41,6 +40,7 @@ module _ (z : Sizes) (o : Opening) (i : IsOpening z o) where
   contents_start = record {
     borns = borns_start z o i;
     over = over_start z o i;
+    past = past_start z o i;
     inside = inside_start z o i;
     older = older_start z o i;
     kept = kept_start z o i;

@@ -13,9 +13,9 @@ use Rattle.kw_world.specs.Step.{word}
 use Rattle.kw_core.specs.Run.{Run}
 use Rattle.kw_core.specs.Stages.{IsAtRead, IsKeeping, IsLooking, IsTaking}
 use Rattle.kw_rows.specs.Rows.{WasLinked}
-use Rattle.kw_shape.proofs.LinkedRows.{fresh_linked, linked_keeps}
+use Rattle.kw_shape.proofs.LinkedRows.{fresh_linked}
 use Rattle.kw_puts.specs.Lists.{list_in}
-use Rattle.kw_reads.specs.Readers.{IsMarkOf, Looks, ReadsList, Reads, Gathers, Apart, HasSeen, Readers}
+use Rattle.kw_reads.specs.Readers.{IsMarkOf, Looks, ReadsList, Reads, Gathers, Apart, HasSeen, IsReadRow, Readers}
 use Rattle.kw_reads.specs.Inv.{Inv}
 use Rattle.kw_core.proofs.Happens.{Happens, each_seat}
 use Rattle.kw_core.proofs.Arrows.{Arrow}
@@ -27,7 +27,7 @@ use Rattle.kw_reads.proofs.LooksKeep.{keeps, marks_by, looks_by}
 use Rattle.kw_reads.proofs.WalksKeep.{read_at_row, walks_by}
 use Rattle.kw_reads.proofs.ApartKeeps.{apart_by}
 use Rattle.kw_reads.proofs.CellsKeep.{reads_by}
-use Rattle.kw_reads.proofs.SeenKeep.{gathers_by, linked_by, seen_by}
+use Rattle.kw_reads.proofs.SeenKeep.{gathers_by, read_by, read_linked, seen_by}
 use Rattle.kw_reads.proofs.StableReaders.{marks_stable, looks_stable, walks_stable, reads_stable, gathers_stable, apart_stable, seen_stable}
 
 -- what holds before the event, and the earlier groups after it
@@ -74,8 +74,10 @@ module _ (z : Sizes) (r r' : Run) (s : ℕ) (choice : Choice) (l : Local) (a : A
   its_row x = fresh_linked r.ledger.rows t k.row ((i.shape.walks t k g).at (read_at_row k.activity x)).fresh
 
   -- the row that it has read
-  pub linked_other : IsKeeping k.activity → (q : ℕ) → (r'.seats t).read ≡ Some q → WasLinked r'.ledger.rows q
-  linked_other p q e = (linked_keeps a h i.shape q (i.readers.linked t k g p q (sym (ap (λ x. x.read) (h.logs t d)) ∙ e))).linked
+  pub read_other : IsKeeping k.activity → (q : ℕ) → (r'.seats t).read ≡ Some q → IsReadRow r'.ledger.rows t k.activity k q
+  read_other p q e =
+      let x = i.readers.read t k g p q (sym (ap (λ x. x.read) (h.logs t d)) ∙ e) in
+      record { call = x.call; passing = x.passing; fresh = ((rely z r r' s choice l a l' h i t k d g).fresh x.passing).fresh q x.fresh }
 
   -- the cells that it remembers
   pub marks_other : IsLooking k.activity ⊎ IsTaking k.activity → All (IsMarkOf r'.history r'.origin k.row) k.remembered
@@ -95,7 +97,7 @@ module _ (z : Sizes) (r r' : Run) (s : ℕ) (choice : Choice) (l : Local) (a : A
 
   -- what it has gathered
   pub gathers_other : Gathers r'.history r'.origin k.activity k (r'.seats t)
-  gathers_other = gathers_stable z r r' t k (rely z r r' s choice l a l' h i t k d g) (record_stays z r r' s choice l a l' h i) (λ x. its_row (taking_reads k.activity x)) (i.readers.linked t k g) (i.readers.gathers t k g)
+  gathers_other = gathers_stable z r r' t k (rely z r r' s choice l a l' h i t k d g) (record_stays z r r' s choice l a l' h i) (λ x. its_row (taking_reads k.activity x)) (read_linked i t k g) (i.readers.gathers t k g)
 
   -- that it gathers none twice
   pub apart_other : IsTaking k.activity → Apart z (list_in (word z r'.world) r'.listed k.row) k.activity k
@@ -103,7 +105,7 @@ module _ (z : Sizes) (r r' : Run) (s : ℕ) (choice : Choice) (l : Local) (a : A
 
   -- what it has seen of the row that it has read
   pub seen_other : HasSeen r'.history r'.origin k.activity k (r'.seats t)
-  seen_other = seen_stable z r r' t k (rely z r r' s choice l a l' h i t k d g) (record_stays z r r' s choice l a l' h i) (i.readers.linked t k g) (i.positions.looks t) (i.readers.seen t k g)
+  seen_other = seen_stable z r r' t k (rely z r r' s choice l a l' h i t k d g) (record_stays z r r' s choice l a l' h i) (read_linked i t k g) (i.positions.looks t) (i.readers.seen t k g)
 
 -- The group.
 
@@ -111,7 +113,7 @@ module _ (z : Sizes) (r r' : Run) (s : ℕ) (choice : Choice) (l : Local) (a : A
 pub readers_keep : (z : Sizes) (r r' : Run) (s : ℕ) (choice : Choice) (l : Local) (a : Activity) (l' : Local) → Happens z r r' s choice l l' a → Before z r r' → Readers z r'
 readers_keep z r r' s choice l a l' h i = record {
   within = within_keeps a h i.inv;
-  linked = each_seat h (λ t k. IsKeeping k.activity → (q : ℕ) → (r'.seats t).read ≡ Some q → WasLinked r'.ledger.rows q) (λ p. linked_by a h i.inv) (linked_other z r r' s choice l a l' h i.inv);
+  read = each_seat h (λ t k. IsKeeping k.activity → (q : ℕ) → (r'.seats t).read ≡ Some q → IsReadRow r'.ledger.rows t k.activity k q) (read_by a h i.inv i.after) (read_other z r r' s choice l a l' h i.inv);
   remembers = each_seat h (λ t k. IsLooking k.activity ⊎ IsTaking k.activity → All (IsMarkOf r'.history r'.origin k.row) k.remembered) (marks_own z r r' s choice l a l' h.arrow h i) (marks_other z r r' s choice l a l' h i.inv);
   looks = each_seat h (λ t k. IsLooking k.activity → Looks z r'.listed r'.history r'.origin k.activity k (r'.seats t)) (looks_own z r r' s choice l a l' h.arrow h i) (looks_other z r r' s choice l a l' h i.inv);
   walks = each_seat h (λ t k. ReadsList z.cells (list_in (word z r'.world) r'.listed k.row) k.activity k) (walks_by z r r' s choice l a l' h.arrow h i.inv) (walks_other z r r' s choice l a l' h i.inv);

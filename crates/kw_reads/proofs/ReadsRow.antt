@@ -27,7 +27,9 @@ use Rattle.kw_rows.specs.Rows.{WasLinked}
 use Rattle.kw_shape.specs.Shape.{HoldsKey, IsAtItsRow}
 use Rattle.kw_shape.proofs.RowsStay.{fresh_linked}
 use Rattle.kw_puts.specs.Below.{Below}
+use Rattle.kw_puts.specs.Here.{IsMadeIn}
 use Rattle.kw_puts.specs.Puts.{HasCell, IsCopyAt}
+use Rattle.kw_puts.proofs.Owners.{made_here}
 use Rattle.kw_reads.specs.Contents.{Contents, InRow, IsFronted, IsOlder, IsStanding, puts_of}
 use Rattle.kw_reads.specs.Readers.{AreCopies, IsCopyOf, IsDue}
 use Rattle.kw_reads.proofs.BestIds.{Gives, best_gives, copies_within}
@@ -144,7 +146,7 @@ module _ (z : Sizes) (r : Run) (b : Below z r) (c : Contents z r) (t : ℕ) (m :
     gathered = λ p. Contains g.ids p × ((attempt r.history p).key ≡ key);
     stamped = IsPut r.history;
     before = Before (puts_of r.history) (IsPut r.history) read.front.since;
-    here = λ p. (attempt r.history p).row ≡ m.row;
+    here = λ p. IsMadeIn r.ledger.rows r.history m.row p;
     early = λ p. ((attempt r.history p).is_announced ≡ true) × ((attempt r.history p).announced < floor);
     lost = λ p. (attempt r.history p).is_lost ≡ true;
   }
@@ -204,15 +206,12 @@ module _ (z : Sizes) (r : Run) (b : Below z r) (c : Contents z r) (t : ℕ) (m :
           met (inl w) = absurd (d (cell.2.stamped, w))
           met (inr w) = w
 
-      own : (attempt r.history p).row ≡ m.row
-      own = met (b.puts.places.owner m.row cell.0.place p linked cell.1 cell.2.origin)
-        where
-          met : HasCell r.history m.row cell.0.place p ⊎ IsCopyAt (word z r.world) r.ledger.rows r.history m.row cell.0.place p → (attempt r.history p).row ≡ m.row
-          met (inl a) = a.row
-          met (inr a) = absurd (omega (arith, a.before, read.front.born, late))
-
       born : (r.ledger.rows.fates m.row).born ≤ (attempt r.history p).add
-      born = subst (λ k. (r.ledger.rows.fates k).born ≤ (attempt r.history p).add) own (b.puts.given p cell.2.within).born
+      born = met (b.puts.places.owner m.row cell.0.place p linked cell.1 cell.2.origin)
+        where
+          met : HasCell r.ledger.rows r.history m.row cell.0.place p ⊎ IsCopyAt (word z r.world) r.ledger.rows r.history m.row cell.0.place p → (r.ledger.rows.fates m.row).born ≤ (attempt r.history p).add
+          met (inl a) = a.born
+          met (inr a) = absurd (omega (arith, a.before, read.front.born, late))
 
       above : IsOlder r m.row q → (attempt r.history q).version ≤ (attempt r.history p).version
       above o =
@@ -234,7 +233,7 @@ module _ (z : Sizes) (r : Run) (b : Below z r) (c : Contents z r) (t : ℕ) (m :
   own : (q : ℕ) → sets.early q → (attempt r.history q).key ≡ key → sets.here q → sets.lost q ⊎ sets.gathered q
   own q x e f = lost_or (attempt r.history q).is_lost (λ k. (
     read.taken (attempt r.history q).cell q (record {
-      origin = subst (λ w. r.origin w (attempt r.history q).cell ≡ Some q) f (b.puts.given q (announced_within r.history q x.0)).origin;
+      origin = subst (λ w. r.origin w (attempt r.history q).cell ≡ Some q) f.row (b.puts.given q (announced_within r.history q x.0) (made_here r.ledger.rows r.history m.row q linked f)).origin;
       announced = x.0;
       before = omega (arith, x.1, early);
       kept = k;
@@ -242,6 +241,15 @@ module _ (z : Sizes) (r : Run) (b : Below z r) (c : Contents z r) (t : ℕ) (m :
     }),
     e,
   ))
+
+  -- an attempt was made here since the row was linked, or not
+  made_known : (q : ℕ) → IsMadeIn r.ledger.rows r.history m.row q ⊎ (IsMadeIn r.ledger.rows r.history m.row q → ⊥)
+  made_known q = which (cases_eq (attempt r.history q).row m.row) (cases_lt (attempt r.history q).add (r.ledger.rows.fates m.row).born)
+    where
+      which : ((attempt r.history q).row ≡ m.row) ⊎ ((attempt r.history q).row ≡ m.row → ⊥) → ((attempt r.history q).add < (r.ledger.rows.fates m.row).born) ⊎ ((r.ledger.rows.fates m.row).born ≤ (attempt r.history q).add) → IsMadeIn r.ledger.rows r.history m.row q ⊎ (IsMadeIn r.ledger.rows r.history m.row q → ⊥)
+      which (inl e) (inr o) = inl (record { row = e; born = o })
+      which (inl e) (inl o) = inr (λ x. omega (arith, o, x.born))
+      which (inr d) o = inr (λ x. d x.row)
 
   -- what the law of readers asks
   reads : Reads (puts_of r.history) sets key version best
@@ -255,7 +263,7 @@ module _ (z : Sizes) (r : Run) (b : Below z r) (c : Contents z r) (t : ℕ) (m :
     stamps = λ p x. x.0;
     known = before_known z r b read.front.since;
     later = later;
-    where_made = λ q. cases_eq (attempt r.history q).row m.row;
+    where_made = made_known;
     own = own;
     other = λ q x e d. read.front.other q x.0 x.1 (subst (HoldsKey (word z r.world) r.ledger.rows m.row) (sym e) holds) d;
   }

@@ -38,12 +38,12 @@ module _ {z : Sizes} {r r' : Run} {a : Activity} {o : ℕ} (i : Below z r) (x : 
   -- it is none whose entries are all settled
   pub not_settled : (q : ℕ) → ((j : ℕ) → j < z.seats → IsSettled (word z r.world) (slice_get r.world.locals) q j) → (attempt r.history o).row ≢ q
   not_settled q f e =
-      let g = i.puts.given o x.within in
+      let g = i.puts.placed o x.within in
       not_pending (word z r.world) (slice_get r.world.locals) q (attempt r.history o).seat x.cell (f (attempt r.history o).seat g.seat) (subst (λ y. word z r.world (name.Pend y (attempt r.history o).seat) ≡ pend_word (pend.Pending x.cell)) e x.entry)
 
   -- so it is in the list
   pub its_row_live : IsLive r.ledger.rows (attempt r.history o).row
-  its_row_live = which (i.puts.given o x.within).linked
+  its_row_live = which x.here.linked
     where
       which : WasLinked r.ledger.rows (attempt r.history o).row → IsLive r.ledger.rows (attempt r.history o).row
       which (inl y) = y
@@ -51,7 +51,7 @@ module _ {z : Sizes} {r r' : Run} {a : Activity} {o : ℕ} (i : Below z r) (x : 
 
   -- it has a cell there
   pub stamped_in_row : InRow z r' (attempt r.history o).row o
-  stamped_in_row = let g = i.puts.given o x.within in record { cell = (attempt r.history o).cell; within = g.cell; origin = x.origin (attempt r.history o).row (attempt r.history o).cell ∙ g.origin; is_put = x.stamps }
+  stamped_in_row = record { cell = (attempt r.history o).cell; within = (i.puts.placed o x.within).cell; origin = x.origin (attempt r.history o).row (attempt r.history o).cell ∙ (i.puts.given o x.within x.here).origin; is_put = x.stamps }
 
 -- Cells over an event.
 
@@ -93,7 +93,7 @@ settled_in_row {z} {r} {r'} {s} {choice} {l} {l'} a h i q p k f x = which (stamp
         at : r.origin q x.cell ≡ Some o
         at = subst (λ n. r.origin q x.cell ≡ Some n) e (sym (y.origin q x.cell) ∙ x.origin)
 
-        owned : HasCell r.history q x.cell o ⊎ IsCopyAt (word z r.world) r.ledger.rows r.history q x.cell o → InRow z r q p
+        owned : HasCell r.ledger.rows r.history q x.cell o ⊎ IsCopyAt (word z r.world) r.ledger.rows r.history q x.cell o → InRow z r q p
         owned (inl own) = absurd (not_settled i y q f own.row)
         owned (inr copy) = in_row_was a h i q p k (subst (IsPut r.history) (sym e) copy.stamped) x
 

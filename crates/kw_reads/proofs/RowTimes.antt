@@ -4,7 +4,7 @@ use Rattle.std.proofs.Common.{ℕ, ◌≡◌, ◌⊎◌, inl, inr, ◌+◌, ◌�
 use Rattle.std.proofs.lemmas.Bool.{cases_eq}
 use Rattle.kw_words.specs.declared.kind.Kind.{Kind}
 use Rattle.kw_words.specs.declared.layout.Name.TheVariants as name
-use Rattle.kw_rows.specs.Ledger.{Dead, Fate, IsDead, Live}
+use Rattle.kw_rows.specs.Ledger.{Fate, IsDead}
 use Rattle.kw_rows.specs.Rows.{WasLinked}
 use Rattle.kw_rows.proofs.Named.{one_row}
 use Rattle.kw_world.specs.declared.activity.Activity.{Activity}
@@ -27,7 +27,7 @@ use Rattle.kw_shape.specs.Shape.{HoldsKey}
 use Rattle.kw_kept.specs.Puts.{Put}
 use Rattle.kw_puts.specs.Below.{Below}
 use Rattle.kw_reads.specs.Contents.{Borns, Contents, InRow, IsOlder, IsStanding}
-use Rattle.kw_shape.proofs.LinkedRows.{ComesNow, GoesNow, linked_before, linked_fate, linked_keeps}
+use Rattle.kw_shape.proofs.LinkedRows.{ComesNow, GoesNow, dead_before, linked_before, linked_keeps}
 use Rattle.kw_puts.proofs.RelyProof.{waits_stay}
 use Rattle.kw_reads.proofs.KeptKeeps.{held_was, live_was, own_holds, same_put}
 use Rattle.kw_reads.proofs.NeedsKeep.{version_past}
@@ -53,27 +53,15 @@ module _ (z : Sizes) (r r' : Run) (s : ℕ) (choice : Choice) (l : Local) (a : A
   now : length r'.history.log ≡ length r.history.log + 1
   now = now_grows r.history r'.history _ st
 
-  -- a row that is dead was so, or goes now
-  pub dead_was : (q : ℕ) → IsDead r'.ledger.rows q → (r'.ledger.rows.fates q ≡ r.ledger.rows.fates q) × IsDead r.ledger.rows q ⊎ GoesNow r.ledger.rows r'.ledger.rows s (length r.history.log) q
-  dead_was q d = which (linked_before a h i.shape q (inr d))
-    where
-      fate : (r'.ledger.rows.fates q ≡ r.ledger.rows.fates q) ⊎ GoesNow r.ledger.rows r'.ledger.rows s (length r.history.log) q → (r'.ledger.rows.fates q ≡ r.ledger.rows.fates q) × IsDead r.ledger.rows q ⊎ GoesNow r.ledger.rows r'.ledger.rows s (length r.history.log) q
-      fate (inl e) = inl (e, sym (ap (λ (f : Fate). f.status) e) ∙ d)
-      fate (inr y) = inr y
-
-      which : WasLinked r.ledger.rows q ⊎ ComesNow (word z r.world) r.ledger.rows r'.ledger.rows s (length r.history.log) l a q → (r'.ledger.rows.fates q ≡ r.ledger.rows.fates q) × IsDead r.ledger.rows q ⊎ GoesNow r.ledger.rows r'.ledger.rows s (length r.history.log) q
-      which (inl w) = fate (linked_fate a h i.shape q w)
-      which (inr y) = let x : Live ≡ Dead = sym (ap (λ (f : Fate). f.status) y.fate) ∙ d in absurd (cc)
-
   -- What no event takes from a row.
 
   module _ (b : Borns z r) where
     -- a dead row was linked before it went
     borns_gone : (q : ℕ) → IsDead r'.ledger.rows q → (r'.ledger.rows.fates q).born ≤ (r'.ledger.rows.fates q).gone
-    borns_gone q d = which (dead_was q d)
+    borns_gone q d = which (dead_before a h i.shape q d)
       where
-        which : (r'.ledger.rows.fates q ≡ r.ledger.rows.fates q) × IsDead r.ledger.rows q ⊎ GoesNow r.ledger.rows r'.ledger.rows s (length r.history.log) q → (r'.ledger.rows.fates q).born ≤ (r'.ledger.rows.fates q).gone
-        which (inl x) = omega (arith, ap (λ (f : Fate). f.born) x.0, ap (λ (f : Fate). f.gone) x.0, b.gone q x.1)
+        which : IsDead r.ledger.rows q × (r'.ledger.rows.fates q ≡ r.ledger.rows.fates q) ⊎ GoesNow r.ledger.rows r'.ledger.rows s (length r.history.log) q → (r'.ledger.rows.fates q).born ≤ (r'.ledger.rows.fates q).gone
+        which (inl x) = omega (arith, ap (λ (f : Fate). f.born) x.1, ap (λ (f : Fate). f.gone) x.1, b.gone q x.0)
         which (inr x) = omega (arith, ap (λ (f : Fate). f.born) x.fate, ap (λ (f : Fate). f.gone) x.fate, i.puts.born q (inl x.live))
 
     -- the clock of a row is that of its link
@@ -117,10 +105,10 @@ module _ (z : Sizes) (r r' : Run) (s : ℕ) (choice : Choice) (l : Local) (a : A
   -- a row that stands for a put that was stamped before did so, or is linked now
   standing_was : (q p : ℕ) → IsPut r.history p → IsStanding r' q p → WasLinked r.ledger.rows q → IsStanding r q p
   standing_was q p m (inl x) w = inl (live_was a h i q w x)
-  standing_was q p m (inr x) w = which (dead_was q x.0)
+  standing_was q p m (inr x) w = which (dead_before a h i.shape q x.0)
     where
-      which : (r'.ledger.rows.fates q ≡ r.ledger.rows.fates q) × IsDead r.ledger.rows q ⊎ GoesNow r.ledger.rows r'.ledger.rows s (length r.history.log) q → IsStanding r q p
-      which (inl y) = inr (y.1, omega (arith, x.1, ap (λ (f : Fate). f.gone) y.0, ap (λ (v : Put). v.at) (same_put z r r' s choice l a l' h i st p m)))
+      which : IsDead r.ledger.rows q × (r'.ledger.rows.fates q ≡ r.ledger.rows.fates q) ⊎ GoesNow r.ledger.rows r'.ledger.rows s (length r.history.log) q → IsStanding r q p
+      which (inl y) = inr (y.0, omega (arith, x.1, ap (λ (f : Fate). f.gone) y.1, ap (λ (v : Put). v.at) (same_put z r r' s choice l a l' h i st p m)))
       which (inr y) = inl y.live
 
   -- what was stamped of a key that a row holds has a cell in it, or was stamped before the row was linked
@@ -153,8 +141,8 @@ module _ (z : Sizes) (r r' : Run) (s : ℕ) (choice : Choice) (l : Local) (a : A
               by (inl w) = w
               by (inr w) = absurd (t.other w.replaces)
 
-          gone : (r'.ledger.rows.fates q ≡ r.ledger.rows.fates q) × IsDead r.ledger.rows q ⊎ GoesNow r.ledger.rows r'.ledger.rows s (length r.history.log) q → (r'.ledger.rows.fates q).gone ≤ length r.history.log
-          gone (inl w) = omega (arith, ap (λ (f : Fate). f.gone) w.0, i.shape.rows.past.gone q w.1)
+          gone : IsDead r.ledger.rows q × (r'.ledger.rows.fates q ≡ r.ledger.rows.fates q) ⊎ GoesNow r.ledger.rows r'.ledger.rows s (length r.history.log) q → (r'.ledger.rows.fates q).gone ≤ length r.history.log
+          gone (inl w) = omega (arith, ap (λ (f : Fate). f.gone) w.1, i.shape.rows.past.gone q w.0)
           gone (inr w) = omega (arith, ap (λ (f : Fate). f.gone) w.fate)
 
           here : IsStanding r' q o → HoldsKey (word z r'.world) r'.ledger.rows q (attempt r'.history o).key → InRow z r' q o ⊎ IsOlder r' q o
@@ -162,7 +150,7 @@ module _ (z : Sizes) (r r' : Run) (s : ℕ) (choice : Choice) (l : Local) (a : A
               let k = before (inl v) in
               let same = one_row (rows_in (word z r.world)) r.ledger.rows i.shape.rows.closed q (attempt r.history o).row (attempt r'.history o).key i.shape.rows.chain (live_was a h i q k v) (its_row_live i t) (held_was a h i q (attempt r'.history o).key k w) (own_holds z r r' s choice l a l' h i st o t) in
               inl (subst (λ n. InRow z r' n o) (sym same) (stamped_in_row i t))
-          here (inr v) w = absurd (omega (arith, v.1, t.at, gone (dead_was q v.0)))
+          here (inr v) w = absurd (omega (arith, v.1, t.at, gone (dead_before a h i.shape q v.0)))
 
       now_or_was : (o : ℕ) → StampsNow z r r' a o → (p ≡ o) ⊎ IsPut r.history p → InRow z r' q p ⊎ IsOlder r' q p
       now_or_was o t (inl e) = new o t e

@@ -24,13 +24,15 @@ use Rattle.kw_shape.specs.Shape.{HoldsKey}
 use Rattle.kw_kept.specs.Kept.{Kept}
 use Rattle.kw_kept.specs.Puts.{Greatest, Same, Shows}
 use Rattle.kw_puts.specs.Below.{Below}
-use Rattle.kw_reads.specs.Contents.{Borns, HasPassedRow, InRow, IsGone, IsOlder, IsStanding, Needed, Needs, WasPut, puts_of, rows_of}
+use Rattle.kw_puts.specs.Here.{IsHere}
+use Rattle.kw_reads.specs.Contents.{Borns, HasPassedRow, InRow, IsGone, IsOlder, IsPast, IsStanding, Needed, Needs, WasPut, puts_of, rows_of}
 use Rattle.kw_reads.specs.Inv.{Inv, lower}
 use Rattle.kw_reads.proofs.DeadRows as dead_rows
 use Rattle.kw_reads.proofs.DeadRows.{inside_of, over_of}
 use Rattle.kw_reads.proofs.HistoryKeeps.{history_step}
 use Rattle.kw_reads.proofs.KeptKeeps as kept_rows
 use Rattle.kw_reads.proofs.NeedsKeep.{needs_other, needs_own}
+use Rattle.kw_reads.proofs.PastAttempts as past_attempts
 use Rattle.kw_reads.proofs.RowTimes as row_times
 use Rattle.kw_reads.proofs.RowTimes.{borns_keep}
 
@@ -46,8 +48,12 @@ module _ (z : Sizes) (r r' : Run) (s : ℕ) (choice : Choice) (l : Local) (a : A
   borns_keeps = borns_keep z r r' s choice l a l' h (lower i) step i.contents.borns
 
   -- what has become of the attempts of dead rows
-  pub over_keeps : (p : ℕ) → (attempt r'.history p).is_announced ≡ true → IsDead r'.ledger.rows (attempt r'.history p).row → IsGone r' p
+  pub over_keeps : (p : ℕ) → (attempt r'.history p).is_announced ≡ true → IsHere r'.ledger.rows r'.history p → IsDead r'.ledger.rows (attempt r'.history p).row → IsGone r' p
   over_keeps = over_of z r' after
+
+  -- and of those whose rows were used again
+  pub past_keeps : (p : ℕ) → (attempt r'.history p).is_announced ≡ true → (IsHere r'.ledger.rows r'.history p → ⊥) → IsPast r' p
+  past_keeps = past_attempts.past_keeps z r r' s choice l a l' h (lower i) step after i.contents
 
   -- what dead rows have cells of
   pub inside_keeps : (q p : ℕ) → IsDead r'.ledger.rows q → InRow z r' q p → (attempt r'.history p).at < (r'.ledger.rows.fates q).gone
@@ -100,8 +106,12 @@ module _ (z : Sizes) (o : Opening) (i : IsOpening z o) where
   borns_start = record { gone = λ q d. none_dead o q d; clock = λ q k. omega (arith, opens z o i name.Clock tt); after = λ q x c k w t n. none_stands x k c t; waits = λ q. omega arith }
 
   -- what has become of the attempts of dead rows
-  pub over_start : (p : ℕ) → (attempt (start z o).history p).is_announced ≡ true → IsDead (start z o).ledger.rows (attempt (start z o).history p).row → IsGone (start z o) p
-  over_start p a d = none_announced p a
+  pub over_start : (p : ℕ) → (attempt (start z o).history p).is_announced ≡ true → IsHere (start z o).ledger.rows (start z o).history p → IsDead (start z o).ledger.rows (attempt (start z o).history p).row → IsGone (start z o) p
+  over_start p a x d = none_announced p a
+
+  -- and of those whose rows were used again
+  pub past_start : (p : ℕ) → (attempt (start z o).history p).is_announced ≡ true → (IsHere (start z o).ledger.rows (start z o).history p → ⊥) → IsPast (start z o) p
+  past_start p a n = none_announced p a
 
   -- what dead rows have cells of
   pub inside_start : (q p : ℕ) → IsDead (start z o).ledger.rows q → InRow z (start z o) q p → (attempt (start z o).history p).at < ((start z o).ledger.rows.fates q).gone

@@ -1,12 +1,12 @@
--- What a reader has gathered, and what it has seen of the row that it read, is kept by its own events; and that row is or was linked.
-use Rattle.std.proofs.Common.{ℕ, ◌≡◌, ◌⊎◌, inl, inr, ◌+◌, ◌≤◌, Bool, true, false, if◌then◌else◌, Some, None, [], arith, refl, sym, ◌∙◌, ap, subst, length, unwrap_or, ne_eqb}
+-- What a reader has gathered, and what it has seen of the row that it read, is kept by its own events; and that row is one that it may name.
+use Rattle.std.proofs.Common.{ℕ, ◌≡◌, ◌⊎◌, inl, inr, ◌+◌, ◌≤◌, Bool, true, false, if◌then◌else◌, Some, None, Option, [], arith, refl, sym, ◌∙◌, ap, subst, length, slice_get, unwrap_or, ne_eqb}
 use Rattle.std.specs.Prelude.{insert}
 use Rattle.std.proofs.lemmas.Bool.{cases_eq}
 use Rattle.std.proofs.lemmas.Option.{same_Some}
 use Rattle.kw_words.specs.declared.layout.Name.TheVariants as name
 use Rattle.kw_words.specs.Plain.{value_of_word}
 use Rattle.kw_world.specs.declared.activity.Activity.{Activity}
-use Rattle.kw_world.specs.declared.activity.Activity.TheVariants.{Idle, Enter, ScanSettle, Look, LookKey, LookClock, LookHelp, ListFrom, ListKey, ListVer, ListVal, RestKey, RestVal, PutAdd, PutKey}
+use Rattle.kw_world.specs.declared.activity.Activity.TheVariants.{Idle, Enter, ScanSettle, Look, LookKey, LookClock, LookHelp, ListFrom, ListKey, ListVer, ListVal, RestKey, RestVal, PutAdd, PutKey, Leave}
 use Rattle.kw_world.specs.declared.local.Local.{Local}
 use Rattle.kw_world.specs.declared.event.Choice.{Choice}
 use Rattle.kw_world.specs.declared.event.Choice.TheVariants.{Begin, Go, Guess, Stop}
@@ -16,21 +16,27 @@ use Rattle.kw_core.specs.History.{History, attempt}
 use Rattle.kw_core.specs.HistoryLaws.{IsPut}
 use Rattle.kw_core.specs.Run.{Origins, Run, is_at_cell, log_begun, log_gathered, log_look, log_read, place_gathered}
 use Rattle.kw_core.specs.declared.seat_log.SeatLog.{SeatLog}
-use Rattle.kw_core.specs.Stages.{IsAtRead, IsLooking, IsTaking, IsReading, IsKeeping, HasLooked, HasPlace, HasVersion, HasCellKey}
+use Rattle.kw_core.specs.Stages.{IsAtRead, IsLooking, IsTaking, IsReading, IsKeeping, IsPassing, IsUnderway, HasLooked, HasPlace, HasVersion, HasCellKey}
 use Rattle.kw_cells.specs.declared.cell.Cell as kw_cell
 use Rattle.kw_cells.specs.InOrder.{place_in}
 use Rattle.kw_world.specs.Marks.{is_marked}
 use Rattle.kw_world.specs.ReadTransitions.{cell_in_hand, gathering}
 use Rattle.kw_puts.specs.Builds.{has_place}
 use Rattle.kw_puts.specs.Lists.{list_in}
+use Rattle.kw_core.specs.Words.{Words}
+use Rattle.kw_model.specs.declared.call.Call.{Call}
+use Rattle.kw_model.specs.declared.call.Call.TheVariants.{Get, Scan}
+use Rattle.kw_rows.specs.Ledger.{IsFresh}
 use Rattle.kw_rows.specs.Rows.{WasLinked}
-use Rattle.kw_reads.specs.Readers.{IsDue, IsCopyOf, IsInHand, AreCopies, Gathers, Apart, HasSeen}
+use Rattle.kw_reads.specs.Readers.{IsDue, IsCopyOf, IsInHand, AreCopies, Gathers, Apart, HasSeen, IsReadRow}
 use Rattle.kw_reads.specs.Inv.{Inv}
 use Rattle.kw_core.proofs.BuiltNext.{built_goes}
 use Rattle.kw_core.proofs.Attempts.{in_range}
-use Rattle.kw_core.proofs.Arrows.{builds, NextLook, looks, lists, Arrow, begins, reads_last, reads_before, meets_pending, meets_stamped, meets_neither, is_wanted, is_passed, loads_to_help, helps, finds_stamped, finds_other, list_leads, list_ends, key_below, key_within, key_above, loads_version, gathers_listed, rest_wanted, rest_passed, gathers_rest, takes_cell, takes_none, leaves, takes_full, settles_empty, settles}
+use Rattle.kw_core.proofs.Arrows.{builds, NextLook, looks, lists, Arrow, begins, reads_last, reads_before, meets_pending, meets_stamped, meets_neither, is_wanted, is_passed, loads_to_help, helps, finds_stamped, finds_other, list_leads, list_ends, key_below, key_within, key_above, loads_version, gathers_listed, rest_wanted, rest_passed, gathers_rest, takes_cell, takes_none, enters, enters_scan, leaves, retries, takes_full, settles_empty, settles}
 use Rattle.kw_core.proofs.SeatLogs.{settled_same}
-use Rattle.kw_core.proofs.Happens.{Happens}
+use Rattle.kw_core.proofs.Fates.{others_stay}
+use Rattle.kw_core.proofs.Frame.{WritesPass}
+use Rattle.kw_core.proofs.Happens.{Happens, knows_next}
 use Rattle.kw_core.proofs.Marks.{zip_insert}
 use Rattle.kw_reads.proofs.Ready.{due_before, stamped_lasts, stamped_same, copies_last}
 use Rattle.kw_puts.specs.Below.{Below}
@@ -38,8 +44,14 @@ use Rattle.kw_reads.proofs.LooksKeep.{goes}
 use Rattle.kw_reads.proofs.CellsKeep.{seen_next, copies_next, cells_before, unread_before, left_at_end, left_above, left_passed, left_gathered, value_stands}
 use Rattle.kw_puts.proofs.BuiltStages.{after_reading}
 use Rattle.kw_reads.proofs.BuiltReads.{after_rests, building_keeping, building_log, taking_reads}
-use Rattle.kw_shape.proofs.LinkedRows.{linked_keeps}
-use Rattle.kw_reads.proofs.WalksKeep.{row_linked, row_linked_on, walks_before}
+use Rattle.kw_shape.proofs.AfterBuilding.{built_pass}
+use Rattle.kw_shape.proofs.LinkedRows.{fresh_linked}
+use Rattle.kw_shape.proofs.NextCalls.{arrow_call}
+use Rattle.kw_shape.proofs.OwnRows.{own_rely}
+use Rattle.kw_shape.proofs.RelyRows.{is_passing}
+use Rattle.kw_shape.specs.Passes.{Passes}
+use Rattle.kw_shape.specs.Shape.{IsKind, IsPutCall, IsReadCall}
+use Rattle.kw_reads.proofs.WalksKeep.{row_fresh, row_linked, row_linked_on, walks_before}
 use Rattle.kw_reads.proofs.ApartKeeps.{apart_before, hand_fresh, gather_is, place_below}
 
 -- nothing is said of a row where none counts as read
@@ -55,6 +67,10 @@ added_same : {A : Type 0} (f : SeatLog → A) (b : Bool) (g : SeatLog) (n : ℕ)
 added_same f true g n e = e
 added_same f false g n e = refl
 
+-- a row that counts as read is or was linked
+pub read_linked : {z : Sizes} {r : Run} → Inv z r → (t : ℕ) (k : Local) → slice_get r.world.locals t ≡ Some k → IsKeeping k.activity → (q : ℕ) → (r.seats t).read ≡ Some q → WasLinked r.ledger.rows q
+read_linked {z} {r} i t k g p q e = fresh_linked r.ledger.rows t q (i.readers.read t k g p q e).fresh
+
 -- an event of a seat that keeps what it gathered and read
 module _ {z : Sizes} {r r' : Run} {s : ℕ} {choice : Choice} {l l' : Local} {a : Activity} (h : Happens z r r' s choice l l' a) (i : Inv z r) where
   -- what the seat had seen
@@ -66,8 +82,8 @@ module _ {z : Sizes} {r r' : Run} {s : ℕ} {choice : Choice} {l l' : Local} {a 
   gathered_before = subst (λ c. Gathers r.history r.origin c l (r.seats s)) h.activity (i.readers.gathers s l h.knows)
 
   -- the row that it had read is or was linked
-  read_linked : IsKeeping a → (q : ℕ) → (r.seats s).read ≡ Some q → WasLinked r.ledger.rows q
-  read_linked k = i.readers.linked s l h.knows (subst IsKeeping (sym h.activity) k)
+  had_linked : IsKeeping a → (q : ℕ) → (r.seats s).read ≡ Some q → WasLinked r.ledger.rows q
+  had_linked k = read_linked i s l h.knows (subst IsKeeping (sym h.activity) k)
 
   -- it has seen it still
   seen_kept : (c : Activity) → IsKeeping a → l'.call ≡ l.call → (r'.seats s).looked ≡ (r.seats s).looked → (r'.seats s).ids ≡ (r.seats s).ids → (r'.seats s).read ≡ (r.seats s).read → (IsReading c → ⊥) → HasSeen r'.history r'.origin c l' (r'.seats s)
@@ -78,7 +94,7 @@ module _ {z : Sizes} {r r' : Run} {s : ℕ} {choice : Choice} {l l' : Local} {a 
   }
     where
       due : (q c p : ℕ) → (r.seats s).read ≡ Some q → IsDue r'.history r'.origin q l'.call (r'.seats s).looked c p → IsDue r.history r.origin q l.call (r.seats s).looked c p
-      due q c p e d = due_before (goes h i) q l.call (r.seats s).looked c p (read_linked k q e) (i.positions.looks s) (subst (λ x. IsDue r'.history r'.origin q l.call x c p) looked (subst (λ x. IsDue r'.history r'.origin q x (r'.seats s).looked c p) call d))
+      due q c p e d = due_before (goes h i) q l.call (r.seats s).looked c p (had_linked k q e) (i.positions.looks s) (subst (λ x. IsDue r'.history r'.origin q l.call x c p) looked (subst (λ x. IsDue r'.history r'.origin q x (r'.seats s).looked c p) call d))
 
   -- it has gathered it still
   gathers_kept : (c : Activity) → IsKeeping a → l'.call ≡ l.call → l'.gathered ≡ l.gathered → (r'.seats s).ids ≡ (r.seats s).ids → (r'.seats s).read ≡ (r.seats s).read → (IsLooking c → ⊥) → (HasLooked c → ⊥) → (IsTaking c → ⊥) → Gathers r'.history r'.origin c l' (r'.seats s)
@@ -86,7 +102,7 @@ module _ {z : Sizes} {r r' : Run} {s : ℕ} {choice : Choice} {l l' : Local} {a 
     empty = λ x. absurd (n x);
     no_ids = λ x. absurd (m x);
     taking = λ x. absurd (o x);
-    kept = λ x q e. rw (call, gathered, ids) (copies_last (goes h i) q (read_linked k q (sym read ∙ e)) l.call l.gathered (r.seats s).ids (gathered_before.kept k q (sym read ∙ e)));
+    kept = λ x q e. rw (call, gathered, ids) (copies_last (goes h i) q (had_linked k q (sym read ∙ e)) l.call l.gathered (r.seats s).ids (gathered_before.kept k q (sym read ∙ e)));
   }
 
 -- a look: no row counts as read, and nothing is gathered
@@ -247,6 +263,41 @@ read_is next row q g e = which (is_at_cell next) e
     which true x = inl x
     which false x = inr (same_Some row q x)
 
+-- a reader at its row is in its pass, and its call is a get or a scan
+reader_is : (a : Activity) (l : Local) → IsAtRead a → IsKind a l → IsPassing a × IsReadCall l.call
+reader_is (Look i) l x k = (tt, k)
+reader_is LookKey l x k = (tt, k)
+reader_is LookClock l x k = (tt, k)
+reader_is LookHelp l x k = (tt, k)
+reader_is ListFrom l x k = (tt, k)
+reader_is ListKey l x k = (tt, k)
+reader_is ListVer l x k = (tt, k)
+reader_is ListVal l x k = (tt, k)
+reader_is RestKey l x k = (tt, k)
+reader_is RestVal l x k = (tt, k)
+reader_is _ l x k = absurd x
+
+-- no call that reads is a put or a delete
+reads_or_puts : (c : Option Call) → IsReadCall c → IsPutCall c → ⊥
+reads_or_puts (Some (Get key)) x y = y
+reads_or_puts (Some (Scan from upto)) x y = y
+reads_or_puts _ x y = x
+
+-- a seat in its pass whose event does not end it is in its call
+passing_underway : (a : Activity) → IsPassing a → (WritesPass a → ⊥) → IsUnderway a
+passing_underway Idle p n = absurd p
+passing_underway (Leave answer) p n = n tt
+passing_underway _ p n = tt
+
+-- a call that reads ends its pass only where it ends: a put alone tries again
+read_goes_on : (z : Sizes) (v : Words) (s : ℕ) (choice : Choice) (l : Local) (a : Activity) (k : Local) → Arrow z v s choice l a k → IsReadCall l.call → IsKind a l → IsPassing a → IsKeeping k.activity → WritesPass a → ⊥
+read_goes_on z v s choice l a k (builds b next y o t) c u p n w = built_pass b y w
+read_goes_on z v s choice l a k (enters e) c u p n w = p
+read_goes_on z v s choice l a k (enters_scan e) c u p n w = p
+read_goes_on z v s choice l a k (leaves answer) c u p n w = n
+read_goes_on z v s choice l a k retries c u p n w = reads_or_puts l.call c u
+read_goes_on z v s choice l a k b c u p n w = w
+
 -- a call that begins has read no row
 begun_unread : {A : Type 0} (choice : Choice) (call q : ℕ) (g : SeatLog) → is_skipped Idle choice ≡ false → (log_begun choice call g).read ≡ Some q → A
 begun_unread (Begin c) call q g b e = let y : None ≡ Some q = e in absurd (cc)
@@ -286,10 +337,30 @@ module _ {z : Sizes} {r r' : Run} {s : ℕ} {choice : Choice} {l l' : Local} whe
   read_was PutAdd h i q e = inl (tt, sym (ap (λ g. g.read) h.log ∙ added_same (λ g. g.read) _ (r.seats s) _ refl) ∙ e)
   read_was a h i q e = inl (tt, sym (ap (λ g. g.read) h.log) ∙ e)
 
-  -- so it is or was linked
-  pub linked_by : (a : Activity) → Happens z r r' s choice l l' a → Inv z r → (q : ℕ) → (r'.seats s).read ≡ Some q → WasLinked r'.ledger.rows q
-  linked_by a h i q e = which (read_was a h i q e)
+  -- before the event it was one that the seat might name, in its pass and for a call that reads
+  read_before : (a : Activity) → Happens z r r' s choice l l' a → Inv z r → (q : ℕ) → IsKeeping a × ((r.seats s).read ≡ Some q) ⊎ IsAtRead a × (l.row ≡ q) → IsReadRow r.ledger.rows s a l q
+  read_before a h i q (inl x) = subst (λ b. IsReadRow r.ledger.rows s b l q) h.activity (i.readers.read s l h.knows (subst IsKeeping (sym h.activity) x.0) q x.1)
+  read_before a h i q (inr x) =
+      let y = reader_is a l x.0 (subst (λ b. IsKind b l) h.activity (i.shape.kinds s l h.knows).kind) in
+      record { call = y.1; passing = y.0; fresh = subst (IsFresh r.ledger.rows s) x.1 (row_fresh h i x.0) }
+
+  -- and so it is after it
+  pub read_by : (a : Activity) → Happens z r r' s choice l l' a → Inv z r → Below z r' → IsKeeping l'.activity → (q : ℕ) → (r'.seats s).read ≡ Some q → IsReadRow r'.ledger.rows s l'.activity l' q
+  read_by a h i k n q e = record {
+    call = subst IsReadCall (sym (arrow_call z (word z r.world) s choice l a l' h.arrow (passing_underway a was.passing goes_on)).0) was.call;
+    passing = passing (is_passing l'.activity);
+    fresh = (own_rely z r r' s choice l a l' h i.shape was.passing goes_on).fresh q was.fresh;
+  }
     where
-      which : IsKeeping a × ((r.seats s).read ≡ Some q) ⊎ IsAtRead a × (l.row ≡ q) → WasLinked r'.ledger.rows q
-      which (inl x) = (linked_keeps a h i.shape q (read_linked h i x.0 q x.1)).linked
-      which (inr x) = subst (WasLinked r'.ledger.rows) x.1 (row_linked_on h i x.0)
+      was : IsReadRow r.ledger.rows s a l q
+      was = read_before a h i q (read_was a h i q e)
+
+      goes_on : WritesPass a → ⊥
+      goes_on = read_goes_on z (word z r.world) s choice l a l' h.arrow was.call (subst (λ b. IsKind b l) h.activity (i.shape.kinds s l h.knows).kind) was.passing n
+
+      passing : IsPassing l'.activity ⊎ (IsPassing l'.activity → ⊥) → IsPassing l'.activity
+      passing (inl x) = x
+      passing (inr d) =
+          let p = (subst (λ b. Passes (word z r.world) r.ledger.rows s b l) h.activity (i.shape.passes s l h.knows)).in_pass was.passing in
+          let x : None ≡ Some p.since = sym ((k.shape.passes s l' (knows_next h)).in_none d).passes ∙ others_stay a h s (λ w f. goes_on w) ∙ p.passes in
+          absurd (cc)

@@ -26,7 +26,8 @@ use Rattle.kw_core.proofs.Changes.{Makes, made, makes_nothing, makes_begin, make
 use Rattle.kw_core.proofs.Happens.{Happens, log_entry}
 use Rattle.kw_core.proofs.NotedLaws.{attempt_push_new, attempt_push_old, attempt_same, attempt_set_other, attempt_set_same}
 use Rattle.kw_puts.specs.Below.{Below}
-use Rattle.kw_puts.proofs.Owners.{entry_owner, published_puts}
+use Rattle.kw_puts.specs.Here.{IsHere}
+use Rattle.kw_puts.proofs.Owners.{entry_owner, pending_own, published_puts}
 use Rattle.kw_puts.proofs.Rely.{GoesOn}
 use Rattle.kw_reads.specs.Contents.{puts_of}
 
@@ -41,6 +42,8 @@ put_stays h h' o o' g e p x = let y = e.grows.old p (in_range h p x) in let s = 
 -- the attempt o is stamped now, and no other one: its entry was pending, and its version was loaded after it was given its cell
 pub record StampsNow (z : Sizes) (r r' : Run) (a : Activity) (o : ℕ) : Type 0 where
   pub within : o < length r.history.attempts
+  -- its row was not used again
+  pub here : IsHere r.ledger.rows r.history o
   pub stamps : IsPut r'.history o
   pub at : (attempt r'.history o).at ≡ length r.history.log
   pub load : ℕ
@@ -82,6 +85,7 @@ record IsEntryOf (z : Sizes) (r : Run) (q t p : ℕ) : Type 0 where
   within : p < length r.history.attempts
   row : (attempt r.history p).row ≡ q
   seat : (attempt r.history p).seat ≡ t
+  here : IsHere r.ledger.rows r.history p
 
 module _ {z : Sizes} {r : Run} (i : Below z r) where
   -- an attempt was given its cell before it was announced
@@ -92,11 +96,9 @@ module _ {z : Sizes} {r : Run} (i : Below z r) where
   entry_of_seat : (q t c p : ℕ) → q < r.world.rows → t < z.seats → word z r.world (name.Pend q t) ≡ pend_word (pend.Pending c) → r.origin q c ≡ Some p → IsEntryOf z r q t p
   entry_of_seat q t c p o u e f =
       let w = entry_owner i.puts q t c o u e in
-      let own = i.puts.owns t w.local w.knows (published_puts w.local.activity w.published) in
-      let g = (i.puts.given (r.seats t).own own.within).origin in
-      let row : (attempt r.history (r.seats t).own).row ≡ q = own.row ∙ w.row in
-      let same : p ≡ (r.seats t).own = same_Some p (r.seats t).own (sym f ∙ subst (λ x. r.origin x c ≡ Some (r.seats t).own) row (subst (λ x. r.origin (attempt r.history (r.seats t).own).row x ≡ Some (r.seats t).own) w.cell g)) in
-      rw same (record { within = own.within; row = row; seat = own.seat })
+      let puts = published_puts w.local.activity w.published in
+      let own = i.puts.owns t w.local w.knows puts in
+      subst (IsEntryOf z r q t) (sym (pending_own i.puts q t c p o u e f)) (record { within = own.within; row = own.row ∙ w.row; seat = own.seat; here = i.puts.present t w.local w.knows puts })
 
 module _ {z : Sizes} {r r' : Run} {s : ℕ} {choice : Choice} {l l' : Local} (i : Below z r) where
   -- by its change
@@ -125,6 +127,7 @@ module _ {z : Sizes} {r r' : Run} {s : ℕ} {choice : Choice} {l l' : Local} (i 
       let now = attempt_set_same r.history r'.history (r.seats s).own _ set own.within in
       stamps_one (r.seats s).own (record {
         within = own.within;
+        here = i.puts.present s l h.knows (subst IsPutting (sym h.activity) tt);
         stamps = ap (λ (b : Attempt). b.is_stamped) now;
         at = ap (λ (b : Attempt). b.at) now;
         load = (r.seats s).loaded;
@@ -145,6 +148,7 @@ module _ {z : Sizes} {r r' : Run} {s : ℕ} {choice : Choice} {l l' : Local} (i 
       let now = attempt_set_same r.history r'.history p _ set x.within in
       stamps_one p (record {
         within = x.within;
+        here = x.here;
         stamps = ap (λ (b : Attempt). b.is_stamped) now;
         at = ap (λ (b : Attempt). b.at) now;
         load = (r.seats s).loaded;

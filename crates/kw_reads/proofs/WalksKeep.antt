@@ -18,8 +18,10 @@ use Rattle.kw_world.specs.Sizes.{Sizes}
 use Rattle.kw_world.specs.Step.{word}
 use Rattle.kw_core.specs.Run.{Run}
 use Rattle.kw_core.specs.Stages.{IsAtRead, IsAtRow, IsAtListed}
+use Rattle.kw_rows.specs.Ledger.{IsFresh}
 use Rattle.kw_rows.specs.Rows.{WasLinked}
-use Rattle.kw_shape.proofs.LinkedRows.{fresh_linked, linked_keeps}
+use Rattle.kw_rows.proofs.Named.{held_by}
+use Rattle.kw_shape.proofs.LinkedRows.{fresh_linked, held_linked, linked_keeps}
 use Rattle.kw_puts.specs.Lists.{list_in}
 use Rattle.kw_puts.proofs.ListSteps.{list_step, leaves, stays_sound}
 use Rattle.kw_puts.proofs.ListWords.{link_is}
@@ -74,13 +76,17 @@ walks_rest n row l _ (scans_on q c e f u) = tt
 
 -- a reader's event, with what it leaves of the list of its row
 module _ {z : Sizes} {r r' : Run} {s : ℕ} {choice : Choice} {l l' : Local} {a : Activity} (h : Happens z r r' s choice l l' a) (i : Inv z r) where
-  -- its row is linked, or was so
+  -- its row is one that it may name
+  pub row_fresh : IsAtRead a → IsFresh r.ledger.rows s l.row
+  row_fresh x = ((i.shape.walks s l h.knows).at (subst IsAtRow (sym h.activity) (read_at_row a x))).fresh
+
+  -- so it is linked, or was so
   pub row_linked : IsAtRead a → WasLinked r.ledger.rows l.row
-  row_linked x = fresh_linked r.ledger.rows s l.row ((i.shape.walks s l h.knows).at (subst IsAtRow (sym h.activity) (read_at_row a x))).fresh
+  row_linked x = fresh_linked r.ledger.rows s l.row (row_fresh x)
 
   -- after the event too
   pub row_linked_on : IsAtRead a → WasLinked r'.ledger.rows l.row
-  row_linked_on x = (linked_keeps a h i.shape l.row (row_linked x)).linked
+  row_linked_on x = held_linked (word z r.world) (word z r'.world) r.ledger.rows r'.ledger.rows l.row (held_by r.ledger.rows s l.row (row_fresh x)) (linked_keeps a h i.shape l.row (row_linked x))
 
   -- what the event leaves of it
   pub row_left : IsAtRead a → Leaves z.cells (list_in (word z r.world) r.listed l.row) (list_in (word z r'.world) r'.listed l.row)

@@ -1,5 +1,5 @@
 -- What the rows have kept of the stamped puts, and what a reader of a row may say of them.
-use Rattle.std.specs.Prelude.{ℕ, ◌≡◌, ◌≢◌, ◌⊎◌, ◌<◌, ◌≤◌, true, if◌then◌else◌, Some, Contains, length, slice_get}
+use Rattle.std.specs.Prelude.{ℕ, ◌≡◌, ◌⊎◌, ◌<◌, ◌≤◌, true, if◌then◌else◌, Some, Contains, length, slice_get}
 use Rattle.kw_words.specs.declared.layout.Name.TheVariants as name
 use Rattle.kw_words.specs.declared.scan.ScanWord.TheVariants.{Waiting, Drawn}
 use Rattle.kw_words.specs.Scan.{scan_word}
@@ -18,6 +18,7 @@ use Rattle.kw_core.specs.Stages.{IsReading, IsAtRow}
 use Rattle.kw_rows.specs.Ledger.{Ledger, IsLive, IsDead}
 use Rattle.kw_rows.specs.Rows.{WasLinked}
 use Rattle.kw_shape.specs.Shape.{HoldsKey}
+use Rattle.kw_puts.specs.Here.{IsHere, IsMadeIn}
 use Rattle.kw_puts.specs.Positions.{HelpsScan}
 use Rattle.kw_puts.specs.Freezes.{HasFrozen}
 use Rattle.kw_core.specs.History.{Kind}
@@ -71,6 +72,10 @@ pub record IsOlder (r : Run) (q p : ℕ) : Type 0 where
 abbrev pub IsGone : Run → ℕ → Type 0
 IsGone r p = ((attempt r.history p).is_lost ≡ true) ⊎ WasPut r (attempt r.history p).row p
 
+-- what an attempt has become whose row was used again: it is lost, or was stamped before each pass that is on
+abbrev pub IsPast : Run → ℕ → Type 0
+IsPast r p = ((attempt r.history p).is_lost ≡ true) ⊎ IsPut r.history p × ((t since : ℕ) → r.ledger.rows.passes t ≡ Some since → (attempt r.history p).at < since)
+
 -- the row is live, or went after this position
 abbrev pub IsSince : Ledger → ℕ → ℕ → Type 0
 IsSince g d q = IsLive g q ⊎ IsDead g q × (d < (g.fates q).gone)
@@ -84,14 +89,14 @@ abbrev pub version_of : Local → ℕ
 version_of l = if is_scan l.call then l.version else NEWEST
 
 -- what a reader of a row knows, at this version, of the puts that were stamped before it looked, or before the row went where this was before:
--- of all that was announced before the floor elsewhere, each is lost, or was stamped by then
+-- of all that was announced before the floor and was not made in this row since it was linked, each is lost, or was stamped by then
 pub record IsFronted (z : Sizes) (r : Run) (row version floor looked : ℕ) : Type 0 where
   pub since : ℕ
   pub upto : since ≤ looked
   pub stands : IsDead r.ledger.rows row → since ≤ (r.ledger.rows.fates row).gone
   pub born : (r.ledger.rows.fates row).born ≤ since
   pub shows : (k : ℕ) → HoldsKey (word z r.world) r.ledger.rows row k → Front (puts_of r.history) (InRow z r row) (IsPut r.history) since k version
-  pub other : (p : ℕ) → (attempt r.history p).is_announced ≡ true → (attempt r.history p).announced < floor → HoldsKey (word z r.world) r.ledger.rows row (attempt r.history p).key → (attempt r.history p).row ≢ row →
+  pub other : (p : ℕ) → (attempt r.history p).is_announced ≡ true → (attempt r.history p).announced < floor → HoldsKey (word z r.world) r.ledger.rows row (attempt r.history p).key → (IsMadeIn r.ledger.rows r.history row p → ⊥) →
       ((attempt r.history p).is_lost ≡ true) ⊎ IsPut r.history p × ((attempt r.history p).at < since)
 
 -- the seat walks, and names its row
@@ -142,7 +147,9 @@ pub record Borns (z : Sizes) (r : Run) : Type 0 where
 -- what the rows have kept of the stamped puts
 pub record Contents (z : Sizes) (r : Run) : Type 0 where
   pub borns : Borns z r
-  pub over : (p : ℕ) → (attempt r.history p).is_announced ≡ true → IsDead r.ledger.rows (attempt r.history p).row → IsGone r p
+  -- the attempts of dead rows, and those whose rows were used again
+  pub over : (p : ℕ) → (attempt r.history p).is_announced ≡ true → IsHere r.ledger.rows r.history p → IsDead r.ledger.rows (attempt r.history p).row → IsGone r p
+  pub past : (p : ℕ) → (attempt r.history p).is_announced ≡ true → (IsHere r.ledger.rows r.history p → ⊥) → IsPast r p
   pub inside : (q p : ℕ) → IsDead r.ledger.rows q → InRow z r q p → (attempt r.history p).at < (r.ledger.rows.fates q).gone
   pub older : (q p : ℕ) → IsPut r.history p → IsStanding r q p → HoldsKey (word z r.world) r.ledger.rows q (attempt r.history p).key → InRow z r q p ⊎ IsOlder r q p
   pub kept : Kept (puts_of r.history) (rows_of z r) (Needed z r)

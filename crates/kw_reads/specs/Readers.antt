@@ -26,8 +26,9 @@ use Rattle.kw_core.specs.History.{History, attempt}
 use Rattle.kw_core.specs.Listed.{Listed}
 use Rattle.kw_core.specs.declared.seat_log.SeatLog.{SeatLog}
 use Rattle.kw_core.specs.Run.{Origins, Run}
-use Rattle.kw_rows.specs.Rows.{WasLinked}
-use Rattle.kw_core.specs.Stages.{IsLooking, HasLooked, HasMet, IsTaking, IsListing, IsResting, HasPlace, HasVersion, HasCellKey, IsReading, IsKeeping}
+use Rattle.kw_rows.specs.Ledger.{Ledger, IsFresh}
+use Rattle.kw_shape.specs.Shape.{IsReadCall}
+use Rattle.kw_core.specs.Stages.{IsLooking, HasLooked, HasMet, IsTaking, IsListing, IsResting, HasPlace, HasVersion, HasCellKey, IsReading, IsKeeping, IsPassing}
 use Rattle.kw_puts.specs.Builds.{has_place}
 use Rattle.kw_puts.specs.Lists.{list_in}
 
@@ -169,13 +170,22 @@ pub record HasSeen (h : History) (o : Origins) (a : Activity) (l : Local) (g : S
   pub stamped : IsKeeping a → (r : ℕ) → g.read ≡ Some r → (c p : ℕ) → IsDue h o r l.call g.looked c p → (attempt h p).is_stamped ≡ true
   pub taken : IsKeeping a → (r : ℕ) → g.read ≡ Some r → (c p : ℕ) → IsDue h o r l.call g.looked c p → Contains g.ids p
 
+-- The row that was read.
+
+-- a row that counts as read: the call is a get or a scan, its pass is on, and the seat may name the row. So the row is not used again while
+-- what was gathered of it is there. A put has read no row: it ends its pass to try again, and would keep the row beyond that
+pub record IsReadRow (g : Ledger) (t : ℕ) (a : Activity) (l : Local) (q : ℕ) : Type 0 where
+  pub call : IsReadCall l.call
+  pub passing : IsPassing a
+  pub fresh : IsFresh g t q
+
 -- The group.
 
 -- what holds of the readers
 pub record Readers (z : Sizes) (r : Run) : Type 0 where
-  -- what stands for an attempt is a cell of its row, and a row that was read is or was linked
+  -- what stands for an attempt is a cell of its row, and a row that was read is one that the seat may name
   pub within : (q c p : ℕ) → r.origin q c ≡ Some p → c < z.cells
-  pub linked : (t : ℕ) (l : Local) → slice_get r.world.locals t ≡ Some l → IsKeeping l.activity → (q : ℕ) → (r.seats t).read ≡ Some q → WasLinked r.ledger.rows q
+  pub read : (t : ℕ) (l : Local) → slice_get r.world.locals t ≡ Some l → IsKeeping l.activity → (q : ℕ) → (r.seats t).read ≡ Some q → IsReadRow r.ledger.rows t l.activity l q
   pub remembers : (t : ℕ) (l : Local) → slice_get r.world.locals t ≡ Some l → IsLooking l.activity ⊎ IsTaking l.activity → All (IsMarkOf r.history r.origin l.row) l.remembered
   pub looks : (t : ℕ) (l : Local) → slice_get r.world.locals t ≡ Some l → IsLooking l.activity → Looks z r.listed r.history r.origin l.activity l (r.seats t)
   pub walks : (t : ℕ) (l : Local) → slice_get r.world.locals t ≡ Some l → ReadsList z.cells (list_in (word z r.world) r.listed l.row) l.activity l

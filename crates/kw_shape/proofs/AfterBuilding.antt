@@ -5,15 +5,16 @@ use Rattle.kw_model.specs.declared.call.Call.{Call}
 use Rattle.kw_model.specs.declared.call.Call.TheVariants.{Put, Del, Get, Scan}
 use Rattle.kw_rows.specs.Ledger.{Ledger}
 use Rattle.kw_world.specs.declared.activity.Activity.{Activity}
-use Rattle.kw_world.specs.declared.activity.Activity.TheVariants.{Idle, Enter, Leave, Again, AgainEpoch, BalClock, PutClock, Stamp, PutVersion, InsFrom, InsKey, InsVer, InsSet, Insert, PutClear, SeekFirst, Seek, TakeRow, GiveBack, WriteCount, WriteMin, WriteNext, WriteFirst, WritePend, WriteKey, WriteValue, WriteVersion, WriteAfter, Before, BeforeGuess, BeforeHead, BeforeLink, BeforeMin, Replace, Normalise, Number, Retire}
+use Rattle.kw_world.specs.declared.activity.Activity.TheVariants.{Idle, Enter, Leave, Again, AgainEpoch, BalClock, PutClock, Stamp, PutVersion, InsFrom, InsKey, InsVer, InsSet, Insert, PutClear, SeekFirst, Seek, SeekPass, Reclaim, TakeRow, GiveBack, WriteCount, WriteMin, WriteNext, WriteFirst, WritePend, WriteKey, WriteValue, WriteVersion, WriteAfter, Before, BeforeGuess, BeforeHead, BeforeLink, BeforeMin, Replace, Normalise, Number, Retire}
 use Rattle.kw_world.specs.declared.answer.Answer.TheVariants.{Done, NoRows}
 use Rattle.kw_world.specs.declared.local.Local.{Local}
 use Rattle.kw_world.specs.Sizes.{IsRebalancing, Sizes}
 use Rattle.kw_core.specs.declared.stage.Stage.TheVariants.{Rebalancing}
-use Rattle.kw_core.specs.Stages.{IsBalancing, IsBusy, IsDone, IsPassing, IsPublished, stage_of}
+use Rattle.kw_core.specs.Stages.{IsBalancing, IsBusy, IsDone, IsPassing, IsPublished, IsReached, stage_of}
 use Rattle.kw_core.specs.Words.{Words}
 use Rattle.kw_core.proofs.Building.{IsBuilding}
 use Rattle.kw_core.proofs.BuiltNext.{IsAfterBuilding}
+use Rattle.kw_core.proofs.BuiltReached.{reusing_rebalances}
 use Rattle.kw_core.proofs.Frame.{WritesPass}
 use Rattle.kw_shape.specs.Balances.{HasFrozen}
 use Rattle.kw_shape.specs.Shape.{IsAnswerOf, IsPutCall, Kinds, Walks}
@@ -24,6 +25,8 @@ use Rattle.kw_shape.specs.Shape.{IsAnswerOf, IsPutCall, Kinds, Walks}
 built_stage : (a : Activity) → IsBuilding a → stage_of a ≡ Rebalancing
 built_stage SeekFirst x = refl
 built_stage Seek x = refl
+built_stage (SeekPass i) x = refl
+built_stage Reclaim x = refl
 built_stage TakeRow x = refl
 built_stage GiveBack x = refl
 built_stage WriteCount x = refl
@@ -79,6 +82,8 @@ built_unpublished _ x p = p
 pub built_kinds : (z : Sizes) (a : Activity) (l : Local) → IsBuilding a → Kinds z a l → IsRebalancing z.form × IsPutCall l.call
 built_kinds z SeekFirst l x k = (k.reached, k.kind)
 built_kinds z Seek l x k = (k.reached, k.kind)
+built_kinds z (SeekPass i) l x k = (reusing_rebalances z.form k.reached, k.kind)
+built_kinds z Reclaim l x k = (reusing_rebalances z.form k.reached, k.kind)
 built_kinds z TakeRow l x k = (k.reached, k.kind)
 built_kinds z GiveBack l x k = (k.reached, k.kind)
 built_kinds z WriteCount l x k = (k.reached, k.kind)
@@ -124,9 +129,11 @@ no_rows (Some (Scan from upto)) k = k
 no_rows None k = k
 
 -- its activity is one of its put
-pub after_kinds : (z : Sizes) (a : Activity) (l : Local) → IsAfterBuilding a → IsRebalancing z.form → IsPutCall l.call → Kinds z a l
+pub after_kinds : (z : Sizes) (a : Activity) (l : Local) → IsAfterBuilding a → IsReached z a → IsPutCall l.call → Kinds z a l
 after_kinds z SeekFirst l x o p = record { reached = o; kind = p; range = λ u. absurd u }
 after_kinds z Seek l x o p = record { reached = o; kind = p; range = λ u. absurd u }
+after_kinds z (SeekPass i) l x o p = record { reached = o; kind = p; range = λ u. absurd u }
+after_kinds z Reclaim l x o p = record { reached = o; kind = p; range = λ u. absurd u }
 after_kinds z TakeRow l x o p = record { reached = o; kind = p; range = λ u. absurd u }
 after_kinds z GiveBack l x o p = record { reached = o; kind = p; range = λ u. absurd u }
 after_kinds z WriteCount l x o p = record { reached = o; kind = p; range = λ u. absurd u }
@@ -156,6 +163,8 @@ after_kinds z _ l x o p = absurd x
 pub after_walks : (v : Words) (g : Ledger) (t : ℕ) (a : Activity) (l : Local) → IsAfterBuilding a → Walks v g t a l
 after_walks v g t SeekFirst l x = record { on = tt; lower = λ u. absurd u; at = λ u. absurd u; begins = λ u. absurd u; wants = λ u. absurd u }
 after_walks v g t Seek l x = record { on = tt; lower = λ u. absurd u; at = λ u. absurd u; begins = λ u. absurd u; wants = λ u. absurd u }
+after_walks v g t (SeekPass i) l x = record { on = tt; lower = λ u. absurd u; at = λ u. absurd u; begins = λ u. absurd u; wants = λ u. absurd u }
+after_walks v g t Reclaim l x = record { on = tt; lower = λ u. absurd u; at = λ u. absurd u; begins = λ u. absurd u; wants = λ u. absurd u }
 after_walks v g t TakeRow l x = record { on = tt; lower = λ u. absurd u; at = λ u. absurd u; begins = λ u. absurd u; wants = λ u. absurd u }
 after_walks v g t GiveBack l x = record { on = tt; lower = λ u. absurd u; at = λ u. absurd u; begins = λ u. absurd u; wants = λ u. absurd u }
 after_walks v g t WriteCount l x = record { on = tt; lower = λ u. absurd u; at = λ u. absurd u; begins = λ u. absurd u; wants = λ u. absurd u }

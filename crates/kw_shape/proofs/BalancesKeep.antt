@@ -7,7 +7,7 @@ use Rattle.kw_rows.specs.RowState as row
 use Rattle.kw_rows.proofs.Named.{held_by}
 use Rattle.kw_rows.proofs.Views.{alone, leads, opens}
 use Rattle.kw_world.specs.declared.activity.Activity.{Activity}
-use Rattle.kw_world.specs.declared.activity.Activity.TheVariants.{Leave, Again, BalClock, BalEpoch, BalState, BalNormal, Engage, MarkLink, Decide, FreezeCount, FreezeLook, Freeze, ScanLook, HelpDraw, HelpSettle, TakeFrom, TakeKey, TakeVersion, TakeValue, TakeRestKey, TakeRestValue, SeekFirst, Seek, TakeRow, GiveBack, WriteCount, WriteMin, WriteNext, WriteFirst, WritePend, WriteKey, WriteValue, WriteVersion, WriteAfter, Before, BeforeGuess, BeforeHead, BeforeLink, BeforeMin, Replace, Normalise, Number, Retire}
+use Rattle.kw_world.specs.declared.activity.Activity.TheVariants.{Leave, Again, BalClock, BalEpoch, BalState, BalNormal, Engage, MarkLink, Decide, FreezeCount, FreezeLook, Freeze, ScanLook, HelpDraw, HelpSettle, TakeFrom, TakeKey, TakeVersion, TakeValue, TakeRestKey, TakeRestValue, SeekFirst, Seek, SeekPass, Reclaim, TakeRow, GiveBack, WriteCount, WriteMin, WriteNext, WriteFirst, WritePend, WriteKey, WriteValue, WriteVersion, WriteAfter, Before, BeforeGuess, BeforeHead, BeforeLink, BeforeMin, Replace, Normalise, Number, Retire}
 use Rattle.kw_world.specs.declared.answer.Answer.TheVariants.{NoRows}
 use Rattle.kw_world.specs.declared.event.Choice.{Choice}
 use Rattle.kw_world.specs.declared.local.Local.{Local}
@@ -53,6 +53,8 @@ named v g t TakeRestKey l b = b.fresh tt
 named v g t TakeRestValue l b = b.fresh tt
 named v g t SeekFirst l b = b.fresh tt
 named v g t Seek l b = b.fresh tt
+named v g t (SeekPass i) l b = b.fresh tt
+named v g t Reclaim l b = b.fresh tt
 named v g t TakeRow l b = b.fresh tt
 named v g t GiveBack l b = b.fresh tt
 named v g t WriteCount l b = b.fresh tt
@@ -95,6 +97,8 @@ frozen_balances TakeRestKey x = tt
 frozen_balances TakeRestValue x = tt
 frozen_balances SeekFirst x = tt
 frozen_balances Seek x = tt
+frozen_balances (SeekPass i) x = tt
+frozen_balances Reclaim x = tt
 frozen_balances TakeRow x = tt
 frozen_balances GiveBack x = tt
 frozen_balances WriteCount x = tt
@@ -118,6 +122,8 @@ frozen_balances _ x = absurd x
 built_group : (v : Words) (g : kw_rows.Ledger) (c : Activity) (k : Local) → IsBuilding c → (HasFrozen c → Group (rows_in v) g (Alone k.row k.rebalance.after)) → Group (rows_in v) g (view_of c k)
 built_group v g SeekFirst k x f = f tt
 built_group v g Seek k x f = f tt
+built_group v g (SeekPass i) k x f = f tt
+built_group v g Reclaim k x f = f tt
 built_group v g TakeRow k x f = f tt
 built_group v g GiveBack k x f = f tt
 built_group v g WriteCount k x f = f tt
@@ -144,6 +150,8 @@ built_group v g _ k x f = absurd x
 built_alone : (a : Activity) (l : Local) → IsBuilding a → HasFrozen a → view_of a l ≡ Alone l.row l.rebalance.after
 built_alone SeekFirst l x f = refl
 built_alone Seek l x f = refl
+built_alone (SeekPass i) l x f = refl
+built_alone Reclaim l x f = refl
 built_alone TakeRow l x f = refl
 built_alone GiveBack l x f = refl
 built_alone WriteCount l x f = refl

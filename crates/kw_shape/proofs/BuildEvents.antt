@@ -1,5 +1,5 @@
--- Which event of the rows it is when a seat takes a row, gives one back, writes one, makes one normal, draws a number, or retires the row that
--- it replaced: each is one of those of `kw_rows`, whose laws say what it keeps.
+-- Which event of the rows it is when a seat takes a row, frees a retired one, gives one back, writes one, makes one normal, draws a number, or
+-- retires the row that it replaced: each is one of those of `kw_rows`, whose laws say what it keeps.
 --
 -- What is needed beside the words stands as a premise: that states go with what has become of the rows, that the row at hand is an infant of
 -- the seat or a row that it may name, and that the number was drawn after the row went.
@@ -15,13 +15,13 @@ use Rattle.kw_words.specs.Link.{link_of}
 use Rattle.kw_words.specs.Plain.{key_of_word}
 use Rattle.kw_words.specs.State.{IsState, state_of, state_word}
 use Rattle.kw_words.proofs.StateWords.{state_of-state_word}
-use Rattle.kw_rows.specs.Events.{Event, SameLedger, SameLinks, SameStates, SetsState, fills, gives_back, normalises, numbers, rests, retires, takes}
+use Rattle.kw_rows.specs.Events.{Event, SameLedger, SameLinks, SameStates, SetsState, fills, gives_back, normalises, numbers, reclaims, rests, retires, takes}
 use Rattle.kw_rows.specs.Ledger as kw_rows
 use Rattle.kw_rows.specs.RowState as row
 use Rattle.kw_rows.specs.Rows.{Rows}
 use Rattle.kw_rows.specs.States.{HasState, IsNumbered, States}
 use Rattle.kw_world.specs.declared.activity.Activity.{Activity}
-use Rattle.kw_world.specs.declared.activity.Activity.TheVariants.{TakeRow, GiveBack, WriteCount, WriteMin, WriteNext, WriteFirst, WritePend, WriteKey, WriteValue, WriteVersion, WriteAfter, Normalise, Number, Retire}
+use Rattle.kw_world.specs.declared.activity.Activity.TheVariants.{Reclaim, TakeRow, GiveBack, WriteCount, WriteMin, WriteNext, WriteFirst, WritePend, WriteKey, WriteValue, WriteVersion, WriteAfter, Normalise, Number, Retire}
 use Rattle.kw_world.specs.declared.event.Choice.{Choice}
 use Rattle.kw_world.specs.declared.local.Local.{Local}
 use Rattle.kw_world.specs.Sane.{IsSane}
@@ -33,10 +33,10 @@ use Rattle.kw_core.specs.Ledger as ledger
 use Rattle.kw_core.specs.Run.{Run}
 use Rattle.kw_core.specs.Words.{Words}
 use Rattle.kw_core.proofs.Beyond.{beyond}
-use Rattle.kw_core.proofs.Fates.{ChangesFate, DrawsNumber, fate_of_given, fate_of_taken, fate_stays, none_taken, number_of_drawn, other_numbers, others_stay, passes_stay}
+use Rattle.kw_core.proofs.Fates.{ChangesFate, DrawsNumber, fate_of_freed, fate_of_given, fate_of_taken, fate_stays, none_freed, none_taken, number_of_drawn, other_numbers, others_stay, passes_stay}
 use Rattle.kw_core.proofs.Frame.{WritesPass}
 use Rattle.kw_core.proofs.Happens.{Happens}
-use Rattle.kw_core.proofs.InfantFrames.{ChangesCount, ChangesHead, ChangesLeast, ChangesNext, ChangesState, count_stays, given_back, head_stays, least_stays, next_stays, normal_lost, normal_won, retired, state_stays, taken_lost, taken_won}
+use Rattle.kw_core.proofs.InfantFrames.{ChangesCount, ChangesHead, ChangesLeast, ChangesNext, ChangesState, count_stays, freed, given_back, head_stays, least_stays, next_stays, normal_lost, normal_won, not_freed, retired, state_stays, taken_lost, taken_won}
 use Rattle.kw_shape.specs.Infants.{IsInfantOf, IsWriting, nursing_of}
 use Rattle.kw_shape.specs.Passes.{Numbers}
 use Rattle.kw_shape.specs.RowsIn.{has_frozen, has_mark, rows_in, state_met}
@@ -54,6 +54,16 @@ free_by_state w g q states e = by_status (g.fates q).status (states q)
     by_status kw_rows.Infant h = let f : row.Infant (g.fates q).owner ≡ row.Free = sym h ∙ e in absurd (cc)
     by_status kw_rows.Live h = absurd (rw e at h)
     by_status kw_rows.Dead h = absurd (rw e at h)
+
+-- a row whose state is that of a retired one is dead
+pub dead_by_state : (w : Rows) (g : kw_rows.Ledger) (q m : ℕ) → States w g → w.state q ≡ row.Retired m → kw_rows.IsDead g q
+dead_by_state w g q m states e = by_status (g.fates q).status (states q)
+  where
+    by_status : (c : kw_rows.Status) → HasState w g q c → c ≡ kw_rows.Dead
+    by_status kw_rows.Free h = let f : row.Free ≡ row.Retired m = sym h ∙ e in absurd (cc)
+    by_status kw_rows.Infant h = let f : row.Infant (g.fates q).owner ≡ row.Retired m = sym h ∙ e in absurd (cc)
+    by_status kw_rows.Live h = absurd (rw e at h)
+    by_status kw_rows.Dead h = refl
 
 -- a number at the epoch is not drawn
 undrawn : (v : Words) (g : kw_rows.Ledger) (o : Option ℕ) → g.numbered (v name.Epoch) ≡ o → Numbers v g → g.numbered (v name.Epoch) ≡ None
@@ -112,7 +122,7 @@ module _ {z : Sizes} {r r' : Run} {s : ℕ} {choice : Choice} {l l' : Local} whe
   ledger_kept a h fates passes drawn = record { fates = λ q. fate_stays a h q (fates q); others = passes_stay a h passes drawn }
 
   -- the number of a seat fits a state
-  seat_fits : (a : Activity) → Happens z r r' s choice l l' a → IsSane z r.world → IsState (state.Infant s)
+  pub seat_fits : (a : Activity) → Happens z r r' s choice l l' a → IsSane z r.world → IsState (state.Infant s)
   seat_fits a h sane = omega (arith, h.seat, sane.sized.few_seats)
 
   -- The events.
@@ -136,6 +146,32 @@ module _ {z : Sizes} {r r' : Run} {s : ℕ} {choice : Choice} {l l' : Local} whe
         links = links_kept TakeRow h sane (λ c. c) (λ q c. c) (λ q c. c) (λ q c. c);
         states = states_still TakeRow h sane l.rebalance.sought (λ q n c. n c) (taken_lost h d);
         ledger = record { fates = λ q. ap (λ (g : ledger.Ledger). g.rows.fates q) (none_taken h d); others = passes_stay TakeRow h (λ c. c) (λ c. c) };
+      })
+
+  -- one that finds a row retired with the number that it knows frees it
+  pub freeing : Happens z r r' s choice l l' Reclaim → IsSane z r.world → States (rows_in (word z r.world)) r.ledger.rows → IsState (state.Retired l.rebalance.number) →
+      ((t since at : ℕ) → r.ledger.rows.passes t ≡ Some since → r.ledger.rows.numbered l.rebalance.number ≡ Some at → at < since) → Event (rows_in (word z r.world)) (rows_in (word z r'.world)) r.ledger.rows r'.ledger.rows (length r.history.log)
+  freeing h sane states small young = which (cases_eq (word z r.world (name.State l.rebalance.sought)) (state_word (state.Retired l.rebalance.number)))
+    where
+      which : (word z r.world (name.State l.rebalance.sought) ≡ state_word (state.Retired l.rebalance.number)) ⊎ (word z r.world (name.State l.rebalance.sought) ≡ state_word (state.Retired l.rebalance.number) → ⊥) →
+          Event (rows_in (word z r.world)) (rows_in (word z r'.world)) r.ledger.rows r'.ledger.rows (length r.history.log)
+      which (inl e) =
+          let f = word_says _ (state.Retired l.rebalance.number) small e in
+          reclaims l.rebalance.sought l.rebalance.number (record {
+            dead = dead_by_state (rows_in (word z r.world)) r.ledger.rows l.rebalance.sought l.rebalance.number states f;
+            retired = f;
+            young = young;
+            turns = record {
+              sets = sets_state Reclaim h sane (λ c. c) (λ q c. c) (λ q c. c) (λ q c. c) l.rebalance.sought (λ q d c. d c) row.Free (word_says _ state.Free tt (freed h e));
+              fates = λ q d. fate_stays Reclaim h q d;
+              others = passes_stay Reclaim h (λ c. c) (λ c. c);
+            };
+            status = ap (λ (f : kw_rows.Fate). f.status) (fate_of_freed h e);
+          })
+      which (inr d) = rests (record {
+        links = links_kept Reclaim h sane (λ c. c) (λ q c. c) (λ q c. c) (λ q c. c);
+        states = states_still Reclaim h sane l.rebalance.sought (λ q n c. n c) (not_freed h d);
+        ledger = record { fates = λ q. ap (λ (g : ledger.Ledger). g.rows.fates q) (none_freed h d); others = passes_stay Reclaim h (λ c. c) (λ c. c) };
       })
 
   -- one that gives its infant at hand back

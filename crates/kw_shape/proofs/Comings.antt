@@ -2,7 +2,7 @@
 use Rattle.std.proofs.Common.{ℕ, ◌≡◌, [], refl}
 use Rattle.kw_rows.specs.Ledger.{Ledger}
 use Rattle.kw_world.specs.declared.activity.Activity.{Activity}
-use Rattle.kw_world.specs.declared.activity.Activity.TheVariants.{SeekFirst, Seek, TakeRow, GiveBack, WriteCount, WriteMin, WriteNext, WriteFirst, WritePend, WriteKey, WriteValue, WriteVersion, WriteAfter, Before, BeforeGuess, BeforeHead, BeforeLink, BeforeMin, Replace, Normalise, Number, Retire}
+use Rattle.kw_world.specs.declared.activity.Activity.TheVariants.{SeekFirst, Seek, SeekPass, Reclaim, TakeRow, GiveBack, WriteCount, WriteMin, WriteNext, WriteFirst, WritePend, WriteKey, WriteValue, WriteVersion, WriteAfter, Before, BeforeGuess, BeforeHead, BeforeLink, BeforeMin, Replace, Normalise, Number, Retire}
 use Rattle.kw_world.specs.declared.event.Choice.{Choice}
 use Rattle.kw_world.specs.declared.local.Local.{Local}
 use Rattle.kw_world.specs.Sizes.{Sizes}
@@ -54,6 +54,8 @@ comes z v s choice l a k _ = stays_out (λ x. x)
 pub unbuilt_nursing : (a : Activity) → (IsBuilding a → ⊥) → nursing_of a ≡ HasNone
 unbuilt_nursing SeekFirst n = absurd (n tt)
 unbuilt_nursing Seek n = absurd (n tt)
+unbuilt_nursing (SeekPass i) n = absurd (n tt)
+unbuilt_nursing Reclaim n = absurd (n tt)
 unbuilt_nursing TakeRow n = absurd (n tt)
 unbuilt_nursing GiveBack n = absurd (n tt)
 unbuilt_nursing WriteCount n = absurd (n tt)
@@ -81,7 +83,7 @@ won_builds Retire x = tt
 won_builds _ x = absurd x
 
 -- it seeks no row before its own
-searching_builds : (a : Activity) (l : Local) → IsSearching a l → IsBuilding a
+pub searching_builds : (a : Activity) (l : Local) → IsSearching a l → IsBuilding a
 searching_builds BeforeGuess l x = tt
 searching_builds BeforeLink l x = tt
 searching_builds BeforeMin l x = tt

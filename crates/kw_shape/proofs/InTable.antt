@@ -27,7 +27,7 @@ use Rattle.kw_words.proofs.PendWords.{pend_of-pend_word}
 use Rattle.kw_words.proofs.ScanWords.{scan_of-scan_word}
 use Rattle.kw_words.proofs.Places.{same_name}
 use Rattle.kw_world.specs.declared.activity.Activity.{Activity}
-use Rattle.kw_world.specs.declared.activity.Activity.TheVariants.{Enter, ScanWait, ScanDraw, ScanSettle, Start, Walk, LookHelp, ClearScan, PutAdd, PutKey, PutValue, Announce, Stamp, PutVersion, InsSet, Insert, PutClear, Leave, Again, BalNormal, Engage, MarkLink, Decide, FreezeCount, Freeze, HelpDraw, HelpSettle, SeekFirst, TakeRow, GiveBack, WriteCount, WriteMin, WriteNext, WriteFirst, WritePend, WriteKey, WriteValue, WriteVersion, WriteAfter, Before, Replace, Normalise, Number, Retire}
+use Rattle.kw_world.specs.declared.activity.Activity.TheVariants.{Enter, ScanWait, ScanDraw, ScanSettle, Start, Walk, LookHelp, ClearScan, PutAdd, PutKey, PutValue, Announce, Stamp, PutVersion, InsSet, Insert, PutClear, Leave, Again, BalNormal, Engage, MarkLink, Decide, FreezeCount, Freeze, HelpDraw, HelpSettle, SeekFirst, Reclaim, TakeRow, GiveBack, WriteCount, WriteMin, WriteNext, WriteFirst, WritePend, WriteKey, WriteValue, WriteVersion, WriteAfter, Before, Replace, Normalise, Number, Retire}
 use Rattle.kw_world.specs.declared.limits.TheConstants.{GIVEN_END}
 use Rattle.kw_world.specs.declared.local.Local.{Local}
 use Rattle.kw_world.specs.declared.event.Choice.{Choice}
@@ -130,7 +130,7 @@ module _ (z : Sizes) (rows : ℕ) (v : Words) (s : ℕ) (choice : Choice) (l : L
   set_state q x y i e b o = (exchanges (λ u. IsRowState z (state_of u)) (v (name.State q)) _ _ (w.each (name.State q) o) (state_known z y i e), exchanges (λ u. IsStateBelow rows (state_of u)) (v (name.State q)) _ _ (w.led (name.State q) o) (state_below rows y i b))
 
   -- a search for free rows, and one for the row before the full one, each from the row that the seat chooses
-  seeks : (c : Choice) → IsWithin z.seats z.cells rows (seek_first_transition c l).operation.name → Writes (seek_first_transition c l)
+  seeks : (c : Choice) → IsWithin z.seats z.cells rows (seek_first_transition z.form c l).operation.name → Writes (seek_first_transition z.form c l)
   seeks (Begin call) n = loaded (name.State l.rebalance.sought) n
   seeks Go n = loaded (name.State l.rebalance.sought) n
   seeks (Guess r) n = loaded (name.State r) n
@@ -190,6 +190,7 @@ module _ (z : Sizes) (rows : ℕ) (v : Words) (s : ℕ) (choice : Choice) (l : L
   written (HelpDraw i) k n = ((omega arith, more.clock), tt)
   written (HelpSettle i) k n = (exchanges (λ u. IsKnownWord (scan_of u)) (v (name.Scan i)) _ _ (w.each (name.Scan i) n) (scan_known (Drawn l.rebalance.drawn) k.ranges.rebalance.drawn), tt)
   written SeekFirst k n = seeks choice n
+  written Reclaim k n = set_state l.rebalance.sought (state.Retired l.rebalance.number) state.Free tt tt tt n
   written TakeRow k n = set_state l.rebalance.sought state.Free (state.Infant s) (omega (arith, more.seat, w.sized.few_seats)) more.seat tt n
   written GiveBack k n = (state_known z state.Free tt tt, state_below rows state.Free tt tt)
   written WriteCount k n = (new.count_known z rows l w.sized k.ranges k.below, tt)

@@ -6,13 +6,13 @@ use Rattle.std.proofs.lemmas.Option.{get_or_from_slice_get, same_Some, slice_get
 use Rattle.std.proofs.Math.Seq.{get_or-append_seam}
 use Rattle.kw_rows.specs.Ledger.{Ledger}
 use Rattle.kw_world.specs.declared.activity.Activity.{Activity}
-use Rattle.kw_world.specs.declared.activity.Activity.TheVariants.{Seek, GiveBack, WriteCount, WritePend, WriteKey, WriteVersion, Before, Again, Leave, BalClock}
+use Rattle.kw_world.specs.declared.activity.Activity.TheVariants.{Seek, SeekPass, Reclaim, GiveBack, WriteCount, WritePend, WriteKey, WriteVersion, Before, Again, Leave, BalClock}
 use Rattle.kw_world.specs.declared.local.Local.{Local}
 use Rattle.kw_world.specs.declared.rebalance.Afterwards.{Afterwards}
 use Rattle.kw_world.specs.SeekTransitions.{at_infant, infant}
 use Rattle.kw_world.specs.Sizes.{Sizes}
 use Rattle.kw_core.specs.Words.{Words}
-use Rattle.kw_core.proofs.NextBuilt.{GivenBack, is_refused_rows, moves_left, tries_again, NextBack, gives_back, has_none, NextSeek, asks, has_asked, NextTaken, has_enough, wants_more, NextNewCell, empties, fills, has_cells, NextNewEntry, has_entries, writes_idle, NextNewRow, has_written, writes_row}
+use Rattle.kw_core.proofs.NextBuilt.{GivenBack, is_refused_rows, moves_left, tries_again, NextBack, gives_back, has_none, NextPass, has_looked, looks_on, NextSeek, asks, has_asked, NextTaken, has_enough, wants_more, NextNewCell, empties, fills, has_cells, NextNewEntry, has_entries, writes_idle, NextNewRow, has_written, writes_row}
 use Rattle.kw_shape.proofs.InfantsStay.{infant_at}
 use Rattle.kw_shape.proofs.InfantsWritten.{cells_done, cells_end, entries_done, written_like}
 use Rattle.kw_shape.specs.Infants.{HasNone, Takes, Writes, Links, HasAtHand, HasAll, Infants, IsInfantOf, IsNursed, IsWhole, IsWriting, Written, nursing_of}
@@ -129,6 +129,10 @@ module _ (z : Sizes) (v : Words) (g : Ledger) (t : ℕ) where
   pub seek_on : (rows : ℕ) (k next : Local) → NextSeek rows k next → Own g t k.rebalance.taken → Infants z v g t next.activity next
   seek_on rows k next (asks o) x = seeking Seek _ refl x
   seek_on rows k next (has_asked m o y) x = back_on _ k next y x
+
+  pub pass_on : (i : ℕ) (k next : Local) → NextPass z i k next → Own g t k.rebalance.taken → Infants z v g t next.activity next
+  pass_on i k next (looks_on o) x = seeking (SeekPass i) _ refl x
+  pass_on i k next (has_looked o) x = seeking Reclaim _ refl x
 
   pub taken_on : (rows : ℕ) (k next : Local) → NextTaken rows k next → Own g t k.rebalance.taken → 0 < length k.rebalance.taken → Infants z v g t next.activity next
   taken_on rows k next (wants_more m o y) x c = seek_on rows k next y x

@@ -3,19 +3,20 @@
 -- Of the structure of the rows no more is asked than that a state goes with what has become of its row (`States`); of the world, that
 -- the taken rows are rows of the table.
 use Rattle.std.proofs.Common.{ℕ, ◌≡◌, ◌≢◌, ◌⊎◌, inl, inr, ◌+◌, ◌<◌, Bool, false, true, [], ◌∷◌, Option, Some, None, arith, refl, sym, ◌∙◌, ap, subst, length, length-append, slice_get}
+use Rattle.std.proofs.lemmas.Bool.{cases_eq}
 use Rattle.kw_words.specs.declared.layout.Name.{Name}
 use Rattle.kw_words.specs.declared.layout.Name.TheVariants as name
 use Rattle.kw_words.specs.declared.state.State.TheVariants as state
 use Rattle.kw_words.specs.declared.link.Link.{Link}
 use Rattle.kw_words.specs.Link.{IsLink, link_of, link_word}
-use Rattle.kw_words.specs.State.{state_of, state_word}
+use Rattle.kw_words.specs.State.{IsState, state_of, state_word}
 use Rattle.kw_words.proofs.LinkWords.{link_of-link_word}
 use Rattle.kw_words.proofs.StateWords.{state_of-state_word}
 use Rattle.kw_rows.specs.Ledger.{Fate, Ledger}
 use Rattle.kw_rows.specs.RowState as row
 use Rattle.kw_rows.specs.States.{HasState, States}
 use Rattle.kw_world.specs.declared.activity.Activity.{Activity}
-use Rattle.kw_world.specs.declared.activity.Activity.TheVariants.{SeekFirst, Seek, TakeRow, GiveBack, WriteCount, WriteMin, WriteNext, WriteFirst, WritePend, WriteKey, WriteValue, WriteVersion, WriteAfter, Before, BeforeGuess, BeforeHead, BeforeLink, BeforeMin, Replace, Normalise, Number, Retire, Again}
+use Rattle.kw_world.specs.declared.activity.Activity.TheVariants.{SeekFirst, Seek, SeekPass, Reclaim, TakeRow, GiveBack, WriteCount, WriteMin, WriteNext, WriteFirst, WritePend, WriteKey, WriteValue, WriteVersion, WriteAfter, Before, BeforeGuess, BeforeHead, BeforeLink, BeforeMin, Replace, Normalise, Number, Retire, Again}
 use Rattle.kw_world.specs.declared.event.Choice.{Choice}
 use Rattle.kw_world.specs.declared.event.Choice.TheVariants.{Begin, Go, Guess, Stop}
 use Rattle.kw_world.specs.declared.local.Local.{Local}
@@ -28,13 +29,13 @@ use Rattle.kw_world.specs.WriteTransitions.{unmarked_link}
 use Rattle.kw_core.specs.Ledger as ledger
 use Rattle.kw_core.specs.Run.{Run}
 use Rattle.kw_core.specs.Words.{Words}
-use Rattle.kw_core.proofs.Building.{Building, first_is_free, first_is_taken, sought_is_free, sought_is_taken, takes_row, loses_row, gives_one_back, gives_last_back, writes_link, begins_before, guesses_before, guess_before_fails, before_serves, before_is_above, takes_head_before, leads_to_full, leads_on_marked, leads_to_other, leads_nowhere, walks_before, walks_past, replaces_row, is_marked_before, is_replaced, makes_normal, makes_last_normal, draws_number, retires_row, marked_link}
+use Rattle.kw_core.proofs.Building.{Building, first_is_free, first_is_retired, first_is_taken, sought_is_free, sought_is_retired, sought_is_taken, pass_is_old, pass_is_young, frees_row, takes_row, loses_row, gives_one_back, gives_last_back, writes_link, begins_before, guesses_before, guess_before_fails, before_serves, before_is_above, takes_head_before, leads_to_full, leads_on_marked, leads_to_other, leads_nowhere, walks_before, walks_past, replaces_row, is_marked_before, is_replaced, makes_normal, makes_last_normal, draws_number, retires_row, marked_link}
 use Rattle.kw_core.proofs.Building as built
-use Rattle.kw_core.proofs.Fates.{ChangesFate, fate_of_taken, fate_stays, none_replaced, none_taken}
+use Rattle.kw_core.proofs.Fates.{ChangesFate, fate_of_taken, fate_stays, none_freed, none_replaced, none_taken}
 use Rattle.kw_core.proofs.Happens.{Happens}
 use Rattle.kw_core.proofs.InfantFrames.{IsTarget, target_of, row_stays}
 use Rattle.kw_core.proofs.NextBuilt.{NextBefore, is_behind, is_first}
-use Rattle.kw_shape.proofs.InfantsKeep.{Own, Wrote, at_writing, back_on, cell_on, entry_on, given_on, got_more, linking, nowhere, seek_on, seeking, taken_on}
+use Rattle.kw_shape.proofs.InfantsKeep.{Own, Wrote, at_writing, back_on, cell_on, entry_on, given_on, got_more, linking, nowhere, pass_on, seek_on, seeking, taken_on}
 use Rattle.kw_shape.proofs.InfantsStay.{infant_at, infant_stays, infants_stable, written_stays}
 use Rattle.kw_shape.proofs.InfantsWritten.{writes_after, writes_count, writes_entry, writes_first, writes_key, writes_least, writes_next, writes_value, writes_version, written_like}
 use Rattle.kw_shape.specs.Infants.{Writes, Links, HasAll, HasAtHand, Infants, IsInfantOf, IsNursed, IsWhole, IsWriting, Written, nursing_of}
@@ -49,6 +50,13 @@ pub infant_not_free : {A : Type 0} (v : Words) (g : Ledger) (t q : ℕ) → Stat
 infant_not_free v g t q states x e =
     let free : (rows_in v).state q ≡ row.Free = ap (λ w. state_met (state_of w)) e ∙ ap state_met (state_of-state_word state.Free tt) in
     let c : row.Infant t ≡ row.Free = sym (infant_state v g t q states x) ∙ free in
+    absurd (cc)
+
+-- nor that of a retired one
+pub infant_not_retired : {A : Type 0} (v : Words) (g : Ledger) (t q m : ℕ) → States (rows_in v) g → IsState (state.Retired m) → IsInfantOf g t q → v (name.State q) ≡ state_word (state.Retired m) → A
+infant_not_retired v g t q m states small x e =
+    let retired : (rows_in v).state q ≡ row.Retired m = ap (λ w. state_met (state_of w)) e ∙ ap state_met (state_of-state_word (state.Retired m) small) in
+    let c : row.Infant t ≡ row.Retired m = sym (infant_state v g t q states x) ∙ retired in
     absurd (cc)
 
 -- whether a link is marked
@@ -129,6 +137,16 @@ module _ {z : Sizes} {r r' : Run} {s : ℕ} {choice : Choice} {l k : Local} wher
       apart i j q (inr f) (inl e) = fresh j q e f.1
       apart i j q (inr f) (inr e) = f.0 ∙ sym e.0
 
+  -- A retired row is freed.
+
+  -- the taken rows are infants still, since that one was dead
+  own_freed : Happens z r r' s choice l k Reclaim → States (rows_in (word z r.world)) r.ledger.rows → IsState (state.Retired l.rebalance.number) → Own r.ledger.rows s l.rebalance.taken → Own r'.ledger.rows s l.rebalance.taken
+  own_freed h states small o = which (cases_eq (word z r.world (name.State l.rebalance.sought)) (state_word (state.Retired l.rebalance.number)))
+    where
+      which : (word z r.world (name.State l.rebalance.sought) ≡ state_word (state.Retired l.rebalance.number)) ⊎ (word z r.world (name.State l.rebalance.sought) ≡ state_word (state.Retired l.rebalance.number) → ⊥) → Own r'.ledger.rows s l.rebalance.taken
+      which (inl e) = own_stays Reclaim h (λ q x c. infant_not_retired (word z r.world) r.ledger.rows s q l.rebalance.number states small x (ap (λ y. word z r.world (name.State y)) c ∙ e)) o
+      which (inr d) = subst (λ g. Own g s l.rebalance.taken) (sym (ap (λ (g : ledger.Ledger). g.rows) (none_freed h d))) o
+
   -- Each event.
 
   -- an event that loads
@@ -158,10 +176,10 @@ module _ {z : Sizes} {r r' : Run} {s : ℕ} {choice : Choice} {l k : Local} wher
 
   -- the same of a search for rows
   seek_loaded : (c : Choice) → choice ≡ c → Happens z r r' s choice l k SeekFirst → (n : Name) → word z r'.world n ≡ word z r.world n
-  seek_loaded (Begin call) e h n = h.changed.loaded (ap (λ (d : Choice). (seek_first_transition d l).operation.action) e) n
-  seek_loaded Go e h n = h.changed.loaded (ap (λ (d : Choice). (seek_first_transition d l).operation.action) e) n
-  seek_loaded (Guess q) e h n = h.changed.loaded (ap (λ (d : Choice). (seek_first_transition d l).operation.action) e) n
-  seek_loaded Stop e h n = h.changed.loaded (ap (λ (d : Choice). (seek_first_transition d l).operation.action) e) n
+  seek_loaded (Begin call) e h n = h.changed.loaded (ap (λ (d : Choice). (seek_first_transition z.form d l).operation.action) e) n
+  seek_loaded Go e h n = h.changed.loaded (ap (λ (d : Choice). (seek_first_transition z.form d l).operation.action) e) n
+  seek_loaded (Guess q) e h n = h.changed.loaded (ap (λ (d : Choice). (seek_first_transition z.form d l).operation.action) e) n
+  seek_loaded Stop e h n = h.changed.loaded (ap (λ (d : Choice). (seek_first_transition z.form d l).operation.action) e) n
 
   -- one row is given back, and the next one is at hand
   one_back : Happens z r r' s choice l k GiveBack → l.rebalance.at + 1 < length l.rebalance.taken → Infants z (word z r.world) r.ledger.rows s GiveBack l → Infants z (word z r'.world) r'.ledger.rows s GiveBack (record (at_infant (l.rebalance.at + 1) l) { activity = GiveBack })
@@ -178,12 +196,17 @@ module _ {z : Sizes} {r r' : Run} {s : ℕ} {choice : Choice} {l k : Local} wher
 
 module _ {z : Sizes} {r r' : Run} {s : ℕ} {choice : Choice} {l : Local} where
   -- each event of the seat
-  pub infants_own : (a : Activity) (k : Local) → Building z (word z r.world) choice l a k → Happens z r r' s choice l k a → States (rows_in (word z r.world)) r.ledger.rows → IsLink (unmarked_link (Some l.row)) →
+  pub infants_own : (a : Activity) (k : Local) → Building z (word z r.world) choice l a k → Happens z r r' s choice l k a → States (rows_in (word z r.world)) r.ledger.rows → IsLink (unmarked_link (Some l.row)) × IsState (state.Retired l.rebalance.number) →
       ((i q : ℕ) → slice_get l.rebalance.taken i ≡ Some q → q < r.world.rows) → Infants z (word z r.world) r.ledger.rows s a l → Infants z (word z r'.world) r'.ledger.rows s k.activity k
   infants_own a k (first_is_free q c e) h states small inside x = seeking z (word z r'.world) r'.ledger.rows s TakeRow _ refl (own_of z (word z r'.world) r'.ledger.rows s SeekFirst l (λ i. tt) (loaded SeekFirst h (seek_loaded choice refl h) (λ q c. c) inside x))
   infants_own a k (first_is_taken q rows next c n y) h states small inside x = seek_on z (word z r'.world) r'.ledger.rows s rows _ next y (own_of z (word z r'.world) r'.ledger.rows s SeekFirst l (λ i. tt) (loaded SeekFirst h (seek_loaded choice refl h) (λ q c. c) inside x))
   infants_own a k (sought_is_free e) h states small inside x = seeking z (word z r'.world) r'.ledger.rows s TakeRow _ refl (own_of z (word z r'.world) r'.ledger.rows s Seek l (λ i. tt) (loaded Seek h (h.changed.loaded refl) (λ q c. c) inside x))
   infants_own a k (sought_is_taken rows next n y) h states small inside x = seek_on z (word z r'.world) r'.ledger.rows s rows _ next y (own_of z (word z r'.world) r'.ledger.rows s Seek l (λ i. tt) (loaded Seek h (h.changed.loaded refl) (λ q c. c) inside x))
+  infants_own a k (first_is_retired q m c e f) h states small inside x = seeking z (word z r'.world) r'.ledger.rows s (SeekPass 0) _ refl (own_of z (word z r'.world) r'.ledger.rows s SeekFirst l (λ i. tt) (loaded SeekFirst h (seek_loaded choice refl h) (λ q c. c) inside x))
+  infants_own a k (sought_is_retired m e f) h states small inside x = seeking z (word z r'.world) r'.ledger.rows s (SeekPass 0) _ refl (own_of z (word z r'.world) r'.ledger.rows s Seek l (λ i. tt) (loaded Seek h (h.changed.loaded refl) (λ q c. c) inside x))
+  infants_own a k (pass_is_old i epoch rows next e o y) h states small inside x = seek_on z (word z r'.world) r'.ledger.rows s rows _ next y (own_of z (word z r'.world) r'.ledger.rows s (SeekPass i) l (λ i. tt) (loaded (SeekPass i) h (h.changed.loaded refl) (λ q c. c) inside x))
+  infants_own a k (pass_is_young i next o y) h states small inside x = pass_on z (word z r'.world) r'.ledger.rows s _ l next y (own_of z (word z r'.world) r'.ledger.rows s (SeekPass i) l (λ i. tt) (loaded (SeekPass i) h (h.changed.loaded refl) (λ q c. c) inside x))
+  infants_own a k frees_row h states small inside x = seeking z (word z r'.world) r'.ledger.rows s TakeRow _ refl (own_freed h states small.1 (own_of z (word z r.world) r.ledger.rows s Reclaim l (λ i. tt) x))
   infants_own a k (takes_row rows next e y) h states small inside x = taken_on z (word z r'.world) r'.ledger.rows s rows _ next y (own_more h states e (own_of z (word z r.world) r.ledger.rows s TakeRow l (λ i. tt) x)) (omega (arith, length-append l.rebalance.taken (l.rebalance.sought ∷ [])))
   infants_own a k (loses_row rows next d y) h states small inside x = seek_on z (word z r'.world) r'.ledger.rows s rows _ next y (subst (λ g. Own g s l.rebalance.taken) (sym (ap (λ (g : ledger.Ledger). g.rows) (none_taken h d))) (own_of z (word z r.world) r.ledger.rows s TakeRow l (λ i. tt) x))
   infants_own a k (gives_one_back o) h states small inside x = one_back h o x
@@ -210,8 +233,8 @@ module _ {z : Sizes} {r r' : Run} {s : ℕ} {choice : Choice} {l : Local} where
   infants_own a k (walks_before o) h states small inside x = linked BeforeMin BeforeLink _ h (loaded BeforeMin h (h.changed.loaded refl) (λ q c. c) inside x) refl refl refl refl (λ i q w. written_like z (word z r'.world) Before (at_infant i l) _ q refl refl refl w)
   infants_own a k (walks_past next o y) h states small inside x = back_on z (word z r'.world) r'.ledger.rows s _ l next y (own_of z (word z r'.world) r'.ledger.rows s BeforeMin l (λ i. tt) (loaded BeforeMin h (h.changed.loaded refl) (λ q c. c) inside x))
   infants_own a k (replaces_row e) h states small inside x = nowhere z (word z r'.world) r'.ledger.rows s Normalise _ refl
-  infants_own a k (is_marked_before next e y) h states small inside x = back_on z (word z r'.world) r'.ledger.rows s _ l next y (subst (λ g. Own g s l.rebalance.taken) (sym (ap (λ (g : ledger.Ledger). g.rows) (none_replaced h (marked_other l.row small e)))) (own_of z (word z r.world) r.ledger.rows s Replace l (λ i. tt) x))
-  infants_own a k (is_replaced next d y) h states small inside x = back_on z (word z r'.world) r'.ledger.rows s _ l next y (subst (λ g. Own g s l.rebalance.taken) (sym (ap (λ (g : ledger.Ledger). g.rows) (none_replaced h (not_open _ l.row small (λ q. d (ap row_linked q)))))) (own_of z (word z r.world) r.ledger.rows s Replace l (λ i. tt) x))
+  infants_own a k (is_marked_before next e y) h states small inside x = back_on z (word z r'.world) r'.ledger.rows s _ l next y (subst (λ g. Own g s l.rebalance.taken) (sym (ap (λ (g : ledger.Ledger). g.rows) (none_replaced h (marked_other l.row small.0 e)))) (own_of z (word z r.world) r.ledger.rows s Replace l (λ i. tt) x))
+  infants_own a k (is_replaced next d y) h states small inside x = back_on z (word z r'.world) r'.ledger.rows s _ l next y (subst (λ g. Own g s l.rebalance.taken) (sym (ap (λ (g : ledger.Ledger). g.rows) (none_replaced h (not_open _ l.row small.0 (λ q. d (ap row_linked q)))))) (own_of z (word z r.world) r.ledger.rows s Replace l (λ i. tt) x))
   infants_own a k (makes_normal o) h states small inside x = nowhere z (word z r'.world) r'.ledger.rows s Normalise _ refl
   infants_own a k (makes_last_normal o) h states small inside x = nowhere z (word z r'.world) r'.ledger.rows s Number _ refl
   infants_own a k draws_number h states small inside x = nowhere z (word z r'.world) r'.ledger.rows s Retire _ refl

@@ -1,4 +1,5 @@
--- An event of one seat leaves the infants of every other: the rows on which it acts were linked, or are its own infants, or are free.
+-- An event of one seat leaves the infants of every other: the rows on which it acts were linked, or are its own infants, or are free,
+-- or retired.
 use Rattle.std.proofs.Common.{ℕ, suc, ◌≡◌, ◌≢◌, ◌⊎◌, inl, inr, false, true, List, [], ◌∷◌, Some, arith, refl, sym, ◌∙◌, ap, subst, slice_get}
 use Rattle.std.proofs.lemmas.Bool.{cases_eq}
 use Rattle.std.proofs.lemmas.Option.{same_Some}
@@ -6,13 +7,13 @@ use Rattle.kw_words.specs.declared.layout.Name.{Name}
 use Rattle.kw_words.specs.declared.layout.Name.TheVariants as name
 use Rattle.kw_words.specs.declared.state.State.TheVariants as state
 use Rattle.kw_words.specs.Layout.{IsWithin}
-use Rattle.kw_words.specs.State.{state_word}
+use Rattle.kw_words.specs.State.{IsState, state_word}
 use Rattle.kw_rows.specs.Events.{IsIn}
 use Rattle.kw_rows.specs.Ledger.{Ledger, Infant, Live, Dead}
 use Rattle.kw_rows.specs.Rows.{WasLinked}
 use Rattle.kw_rows.specs.States.{States}
 use Rattle.kw_world.specs.declared.activity.Activity.{Activity}
-use Rattle.kw_world.specs.declared.activity.Activity.TheVariants.{TakeRow, GiveBack, WriteCount, WriteMin, WriteNext, WriteFirst, WritePend, WriteKey, WriteValue, WriteVersion, WriteAfter, Replace, Normalise}
+use Rattle.kw_world.specs.declared.activity.Activity.TheVariants.{Reclaim, TakeRow, GiveBack, WriteCount, WriteMin, WriteNext, WriteFirst, WritePend, WriteKey, WriteValue, WriteVersion, WriteAfter, Replace, Normalise}
 use Rattle.kw_world.specs.declared.event.Choice.{Choice}
 use Rattle.kw_world.specs.declared.local.Local.{Local}
 use Rattle.kw_world.specs.SeekTransitions.{infant}
@@ -20,11 +21,11 @@ use Rattle.kw_world.specs.Sizes.{Sizes}
 use Rattle.kw_world.specs.Step.{word}
 use Rattle.kw_core.specs.Ledger as ledger
 use Rattle.kw_core.specs.Run.{Run}
-use Rattle.kw_core.proofs.Fates.{fate_stays, none_taken}
+use Rattle.kw_core.proofs.Fates.{fate_stays, none_freed, none_taken}
 use Rattle.kw_core.proofs.Frame.{unwritten}
 use Rattle.kw_core.proofs.Happens.{Happens}
 use Rattle.kw_core.proofs.InfantFrames.{Target, NoRow, OwnRow, NewRow, SoughtRow, RowBefore, IsTarget, row_in, row_stays, target_of}
-use Rattle.kw_shape.proofs.InfantsOwn.{infant_not_free}
+use Rattle.kw_shape.proofs.InfantsOwn.{infant_not_free, infant_not_retired}
 use Rattle.kw_shape.proofs.InfantsStay.{RelyInfants, infant_at, is_state}
 use Rattle.kw_shape.specs.Infants.{Infants, IsInfantOf}
 use Rattle.kw_shape.specs.RowsIn.{rows_in}
@@ -53,6 +54,7 @@ module _ {z : Sizes} {r r' : Run} {s : ℕ} {choice : Choice} {l l' : Local} whe
   words_kept : (a : Activity) → Happens z r r' s choice l l' a → (t : ℕ) → t ≢ s → Infants z (word z r.world) r.ledger.rows s a l → (target_of a ≡ OwnRow → WasLinked r.ledger.rows l.row) → (target_of a ≡ RowBefore → (p : ℕ) → l.rebalance.before ≡ Some p → WasLinked r.ledger.rows p) →
       (q : ℕ) → IsInfantOf r.ledger.rows t q → (n : Name) → row_in n ≡ Some q → is_state n ≡ false → IsWithin z.seats z.cells r.world.rows n → word z r'.world n ≡ word z r.world n
   words_kept TakeRow h t d x own before q y n e f i = unwritten TakeRow h n i (no_state l.rebalance.sought n f)
+  words_kept Reclaim h t d x own before q y n e f i = unwritten Reclaim h n i (no_state l.rebalance.sought n f)
   words_kept GiveBack h t d x own before q y n e f i = unwritten GiveBack h n i (no_state (infant l) n f)
   words_kept Normalise h t d x own before q y n e f i = unwritten Normalise h n i (no_state (infant l) n f)
   words_kept Replace h t d x own before q y n e f i = row_stays Replace h n q e i (λ p. linked_not_infant r.ledger.rows t q (before refl q p) y)
@@ -75,26 +77,31 @@ module _ {z : Sizes} {r r' : Run} {s : ℕ} {choice : Choice} {l l' : Local} whe
       by_target RowBefore k new sought left m = left k
 
   -- nor does its fate change
-  fates_kept : (a : Activity) → Happens z r r' s choice l l' a → (t : ℕ) → t ≢ s → States (rows_in (word z r.world)) r.ledger.rows → Infants z (word z r.world) r.ledger.rows s a l → (target_of a ≡ RowBefore → WasLinked r.ledger.rows l.row) →
+  fates_kept : (a : Activity) → Happens z r r' s choice l l' a → (t : ℕ) → t ≢ s → States (rows_in (word z r.world)) r.ledger.rows → IsState (state.Retired l.rebalance.number) → Infants z (word z r.world) r.ledger.rows s a l → (target_of a ≡ RowBefore → WasLinked r.ledger.rows l.row) →
       (q : ℕ) → IsInfantOf r.ledger.rows t q → r'.ledger.rows.fates q ≡ r.ledger.rows.fates q
-  fates_kept TakeRow h t d states x full q y = which (cases_eq (word z r.world (name.State l.rebalance.sought)) (state_word state.Free))
+  fates_kept TakeRow h t d states small x full q y = which (cases_eq (word z r.world (name.State l.rebalance.sought)) (state_word state.Free))
     where
       which : (word z r.world (name.State l.rebalance.sought) ≡ state_word state.Free) ⊎ (word z r.world (name.State l.rebalance.sought) ≡ state_word state.Free → ⊥) → r'.ledger.rows.fates q ≡ r.ledger.rows.fates q
       which (inl e) = fate_stays TakeRow h q (λ c. infant_not_free (word z r.world) r.ledger.rows t q states y (ap (λ k. word z r.world (name.State k)) c ∙ e))
       which (inr n) = ap (λ (g : ledger.Ledger). g.rows.fates q) (none_taken h n)
-  fates_kept GiveBack h t d states x full q y = fate_stays GiveBack h q (λ c. one_owner r.ledger.rows t s q d y (subst (IsInfantOf r.ledger.rows s) (sym c) (x.owned l.rebalance.at (infant l) (omega arith) (infant_at l (x.hand tt)))))
-  fates_kept Replace h t d states x full q y = fate_stays Replace h q acts
+  fates_kept Reclaim h t d states small x full q y = which (cases_eq (word z r.world (name.State l.rebalance.sought)) (state_word (state.Retired l.rebalance.number)))
+    where
+      which : (word z r.world (name.State l.rebalance.sought) ≡ state_word (state.Retired l.rebalance.number)) ⊎ (word z r.world (name.State l.rebalance.sought) ≡ state_word (state.Retired l.rebalance.number) → ⊥) → r'.ledger.rows.fates q ≡ r.ledger.rows.fates q
+      which (inl e) = fate_stays Reclaim h q (λ c. infant_not_retired (word z r.world) r.ledger.rows t q l.rebalance.number states small y (ap (λ k. word z r.world (name.State k)) c ∙ e))
+      which (inr n) = ap (λ (g : ledger.Ledger). g.rows.fates q) (none_freed h n)
+  fates_kept GiveBack h t d states small x full q y = fate_stays GiveBack h q (λ c. one_owner r.ledger.rows t s q d y (subst (IsInfantOf r.ledger.rows s) (sym c) (x.owned l.rebalance.at (infant l) (omega arith) (infant_at l (x.hand tt)))))
+  fates_kept Replace h t d states small x full q y = fate_stays Replace h q acts
     where
       acts : (q ≡ l.row) ⊎ IsIn l.rebalance.taken q → ⊥
       acts (inl c) = linked_not_infant r.ledger.rows t q (subst (WasLinked r.ledger.rows) (sym c) (full refl)) y
       acts (inr c) = let p = place_of_row l.rebalance.taken q c in one_owner r.ledger.rows t s q d y (x.owned p.0 q tt p.1)
-  fates_kept a h t d states x full q y = fate_stays a h q (λ c. c)
+  fates_kept a h t d states small x full q y = fate_stays a h q (λ c. c)
 
   -- so the infants of another seat stay
-  pub rely_infants : (a : Activity) → Happens z r r' s choice l l' a → (t : ℕ) → t ≢ s → States (rows_in (word z r.world)) r.ledger.rows → Infants z (word z r.world) r.ledger.rows s a l →
+  pub rely_infants : (a : Activity) → Happens z r r' s choice l l' a → (t : ℕ) → t ≢ s → States (rows_in (word z r.world)) r.ledger.rows → IsState (state.Retired l.rebalance.number) → Infants z (word z r.world) r.ledger.rows s a l →
       (target_of a ≡ OwnRow → WasLinked r.ledger.rows l.row) → (target_of a ≡ RowBefore → WasLinked r.ledger.rows l.row × ((p : ℕ) → l.rebalance.before ≡ Some p → WasLinked r.ledger.rows p)) →
       RelyInfants z r.world.rows (word z r.world) (word z r'.world) r.ledger.rows r'.ledger.rows t
-  rely_infants a h t d states x own before = record {
-    fates = fates_kept a h t d states x (λ e. (before e).0);
+  rely_infants a h t d states small x own before = record {
+    fates = fates_kept a h t d states small x (λ e. (before e).0);
     words = λ q y o n e f i. words_kept a h t d x own (λ c. (before c).1) q y n e f i;
   }

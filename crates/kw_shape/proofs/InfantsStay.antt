@@ -87,15 +87,15 @@ measured GiveBack l m = m
 measured _ l m = absurd m
 
 -- the row before the full one stays: it and the full row may be named still, their least keys are as they were, and a dead full row is dead
-pub search_stable : (v v' : Words) (g g' : Ledger) (t : ℕ) (a : Activity) (l : Local) → RelyRows v v' g g' t → (IsDead g l.row → IsDead g' l.row) → Search v g t a l → Search v' g' t a l
+pub search_stable : (v v' : Words) (g g' : Ledger) (t : ℕ) (a : Activity) (l : Local) → RelyRows v v' g g' t → (IsMeasured a l → IsDead g l.row → IsDead g' l.row) → Search v g t a l → Search v' g' t a l
 search_stable v v' g g' t a l y dead x = record {
   some = x.some;
   fresh = λ p s e. y.fresh p (x.fresh p s e);
   least = λ p m e. x.least p m e ∙ sym (y.least p (x.fresh p (measured a l m) e));
-  left = λ p m e. which p (y.least p (x.fresh p (measured a l m) e)) (x.left p m e);
+  left = λ p m e. which p m (y.least p (x.fresh p (measured a l m) e)) (x.left p m e);
   met = λ m. y.fresh l.candidate (x.met m);
 }
   where
-    which : (p : ℕ) → least_in v' p ≡ least_in v p → IsLeft v g l p → IsLeft v' g' l p
-    which p e (inl o) = inl (omega (arith, e, o))
-    which p e (inr o) = inr (dead o.0, o.1)
+    which : (p : ℕ) → IsMeasured a l → least_in v' p ≡ least_in v p → IsLeft v g l p → IsLeft v' g' l p
+    which p m e (inl o) = inl (omega (arith, e, o))
+    which p m e (inr o) = inr (dead m o.0, o.1)

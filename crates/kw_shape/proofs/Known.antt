@@ -45,7 +45,7 @@ use Rattle.kw_words.proofs.ScanWords.{IsScan-scan_of}
 use Rattle.kw_world.specs.FreezeTransitions.{needing, to_scans}
 use Rattle.kw_world.specs.TakeTransitions.{keeping, planned, to_take}
 use Rattle.kw_world.specs.ReadTransitions.{cell_in_hand, with_pairs, gathering, remembering}
-use Rattle.kw_world.specs.Sane.{IsVersion, IsEntry, IsWord, IsLed, IsOffered, IsPair, IsAnswer, IsMark, IsCopy, IsPlaced, IsActivity, IsRowBelow, IsLinkBelow, IsRowState, IsCellBelow, IsLocal, IsLocalBelow, IsKnown, HasRebalanceRoom, marks_by}
+use Rattle.kw_world.specs.Sane.{IsVersion, IsNumber, IsEntry, IsWord, IsLed, IsOffered, IsPair, IsAnswer, IsMark, IsCopy, IsPlaced, IsActivity, IsRowBelow, IsLinkBelow, IsRowState, IsCellBelow, IsLocal, IsLocalBelow, IsKnown, HasRebalanceRoom, marks_by}
 use Rattle.kw_world.proofs.Opens.{none_below, none_ranges, none_room, rests_known}
 use Rattle.kw_core.specs.Words.{Words}
 use Rattle.kw_core.proofs.Events.{IsBegun}
@@ -53,9 +53,9 @@ use Rattle.kw_core.proofs.RoomBelow.{room_below}
 use Rattle.kw_core.proofs.InRange.{unmarked_in_range, unmarked_few, least_holds, version_in_hand, gathered_in_range, gathered_few, version_of_scan, answer_in_range, pairs_in_range, value_in_range, first_in_range, last_in_range, linked_in_range, stopped_in_range, with_cell_in_range}
 use Rattle.kw_cells.proofs.InOrder.{length-with_cell}
 use Rattle.kw_core.proofs.Arrows.{Arrow, begins, enters, is_spent, waits, draws, settles_empty, settles, starts_at_head, guesses, takes_head, guess_serves, stops, puts_in_last, reads_last, meets_next, walks_on, puts_before, reads_before, meets_pending, meets_stamped, meets_neither, is_passed, loads_to_help, helps, finds_stamped, finds_other, list_leads, list_ends, key_below, key_within, key_above, loads_version, gathers_listed, rest_wanted, rest_passed, gathers_rest, clears_scan, finds_none, takes_cell, takes_none, is_refused, loads_clock, is_stamped, is_not_own, stores_version, meets_cell, meets_none, key_before, version_before, loses, clears, leaves, enters_again, clock_is_spent, epoch_is_spent, finds_infant, finds_leader, finds_other_state, engages, marks_link, marks_led, decides, decides_not, finds_full, takes_full, announces_full, stamps_full, NextLook, looks, lists, NextRest, rests, answers, ends_scan, scans_on, freezes_count, meets_idle, meets_unstamped, remembers, remembers_last, meets_frozen, meets_frozen_last, freezes_entry, freezes_last, looks_again, meets_quiet, meets_quiet_last, helps_scan, meets_drawn, meets_drawn_last, draws_for, settles_scan, settles_last, finds_drawn, finds_drawn_last, finds_no_scan, finds_no_scan_last, take_leads, takes_left, takes_no_more, takes_key, takes_version, keeps_taken, takes_left_key, keeps_left, keeps_no_more, below, builds}
-use Rattle.kw_core.proofs.Building.{Building, IsBuilding, first_is_free, first_is_taken, sought_is_free, sought_is_taken, takes_row, loses_row, gives_one_back, gives_last_back, writes_count, writes_least, writes_link, writes_first, writes_entry, writes_key, writes_value, writes_version, writes_after, begins_before, guesses_before, guess_before_fails, before_serves, before_is_above, takes_head_before, leads_to_full, leads_on_marked, leads_to_other, leads_nowhere, walks_before, walks_past, replaces_row, is_marked_before, is_replaced, makes_normal, makes_last_normal, draws_number, retires_row}
+use Rattle.kw_core.proofs.Building.{Building, IsBuilding, first_is_free, first_is_taken, sought_is_free, sought_is_taken, first_is_retired, sought_is_retired, pass_is_old, pass_is_young, frees_row, takes_row, loses_row, gives_one_back, gives_last_back, writes_count, writes_least, writes_link, writes_first, writes_entry, writes_key, writes_value, writes_version, writes_after, begins_before, guesses_before, guess_before_fails, before_serves, before_is_above, takes_head_before, leads_to_full, leads_on_marked, leads_to_other, leads_nowhere, walks_before, walks_past, replaces_row, is_marked_before, is_replaced, makes_normal, makes_last_normal, draws_number, retires_row}
 use Rattle.kw_core.proofs.NextBuilt as following
-use Rattle.kw_core.proofs.NextBuilt.{GivenBack, is_refused_rows, moves_left, NextBack, gives_back, has_none, NextSeek, asks, has_asked, NextTaken, wants_more, has_enough, NextNewRow, writes_row, has_written, NextNewCell, fills, empties, has_cells, NextNewEntry, writes_idle, has_entries, NextBefore, is_first, is_behind}
+use Rattle.kw_core.proofs.NextBuilt.{GivenBack, is_refused_rows, moves_left, NextBack, gives_back, has_none, NextSeek, asks, has_asked, looks_on, has_looked, NextTaken, wants_more, has_enough, NextNewRow, writes_row, has_written, NextNewCell, fills, empties, has_cells, NextNewEntry, writes_idle, has_entries, NextBefore, is_first, is_behind}
 
 -- all words of a table are in range
 pub record AreSane (z : Sizes) (rows : ℕ) (v : Words) : Type 0 where
@@ -391,6 +391,19 @@ built_known z rows v choice l a next w c i k (first_is_taken q r other e d y) s 
     seek_known z rows w.sized r (seeking q l) next y s (assumption k.ranges) (assumption (k.below, o)) k.remembered k.gathered (idle_room z (seeking q l).rebalance k.rebalance.marks k.rebalance.needed k.rebalance.gathered) (k.rebalance.taken tt)
 built_known z rows v choice l a next w c i k (sought_is_free e) s = assumption (k, s)
 built_known z rows v choice l a next w c i k (sought_is_taken r other d y) s = seek_known z rows w.sized r l next y s k.ranges k.below k.remembered k.gathered (idle_room z l.rebalance k.rebalance.marks k.rebalance.needed k.rebalance.gathered) (k.rebalance.taken tt)
+built_known z rows v choice l a next w c i k (first_is_retired q m e f u) s =
+    let o : q < rows = chosen_below rows choice q l.rebalance.sought i k.below.rebalance.sought e in
+    let n : IsNumber m = subst (IsRowState z) f (w.each (name.State q) o) in
+    let p : 0 < z.seats = omega (arith, w.sized.some_seats) in
+    assumption (k, s, n, p)
+built_known z rows v choice l a next w c i k (sought_is_retired m f u) s =
+    let n : IsNumber m = subst (IsRowState z) f (w.each (name.State l.rebalance.sought) k.below.rebalance.sought) in
+    let p : 0 < z.seats = omega (arith, w.sized.some_seats) in
+    assumption (k, s, n, p)
+built_known z rows v choice l a next w c i k (pass_is_old j epoch r other e o y) s = seek_known z rows w.sized r l next y s k.ranges k.below k.remembered k.gathered (idle_room z l.rebalance k.rebalance.marks k.rebalance.needed k.rebalance.gathered) (k.rebalance.taken tt)
+built_known z rows v choice l a next w c i k (pass_is_young j other y (looks_on o)) s = assumption (k, s, o)
+built_known z rows v choice l a next w c i k (pass_is_young j other y (has_looked o)) s = assumption (k, s)
+built_known z rows v choice l a next w c i k frees_row s = assumption (k, s)
 built_known z rows v choice l a next w c i k (takes_row r other e y) s = taken_known z rows w.sized r l next y s k.ranges k.below k.remembered k.gathered (idle_room z l.rebalance k.rebalance.marks k.rebalance.needed k.rebalance.gathered)
 built_known z rows v choice l a next w c i k (loses_row r other d y) s = seek_known z rows w.sized r l next y s k.ranges k.below k.remembered k.gathered (idle_room z l.rebalance k.rebalance.marks k.rebalance.needed k.rebalance.gathered) (k.rebalance.taken tt)
 built_known z rows v choice l a next w c i k (gives_one_back o) s = let n : l.rebalance.at + 1 ≤ length l.rebalance.taken = omega (arith, o) in assumption (k, n)

@@ -28,6 +28,7 @@ pub mod NoneLost
 pub mod SearchKeep
 pub mod Comings
 pub mod WonKeep
+pub mod SoughtKeep
 pub mod NursedKeep
 pub mod BuildEvents
 pub mod ReplaceEvent

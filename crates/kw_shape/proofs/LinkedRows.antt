@@ -1,7 +1,9 @@
--- What an event leaves of the rows that were linked: they were so still, and no fate of theirs changes but that of a full row that is
--- replaced, which is dead from now on. And which words of them an event may change that takes, writes or links new rows.
+-- What an event leaves of the rows that were linked: no fate of theirs changes but that of a full row that is replaced, which is dead from
+-- now on, and that of a dead row that nobody may name and that is freed. And which words of them an event may change that takes, writes or
+-- links new rows.
 --
--- The rows on which such an event acts are free, or infants of the seat, or the full row, or the row before that one.
+-- The rows on which such an event acts are free, or retired and named by nobody, or infants of the seat, or the full row, or the row before
+-- that one.
 use Rattle.std.proofs.Common.{ℕ, ◌≡◌, ◌≢◌, ◌⊎◌, inl, inr, ◌<◌, ◌≤◌, true, false, Option, Some, None, arith, refl, sym, ◌∙◌, ap, subst, length}
 use Rattle.std.proofs.lemmas.Bool.{cases_eq, cases_lt}
 use Rattle.kw_words.specs.declared.layout.Name.{Name}
@@ -14,12 +16,14 @@ use Rattle.kw_words.specs.Plain.{key_of_word}
 use Rattle.kw_words.specs.State.{state_word}
 use Rattle.kw_words.proofs.LinkWords.{link_of-link_word}
 use Rattle.kw_rows.specs.Events.{IsIn}
-use Rattle.kw_rows.specs.Ledger.{Dead, Fate, Free, IsDead, IsFresh, IsLive, Ledger, Live}
+use Rattle.kw_rows.specs.Ledger.{Dead, Fate, Free, IsDead, IsFresh, IsHeld, IsLive, Ledger, Live}
 use Rattle.kw_rows.specs.Rows.{WasLinked}
+use Rattle.kw_rows.specs.RowState as row
 use Rattle.kw_rows.proofs.Chains.{IsLink, leads_live}
+use Rattle.kw_rows.proofs.Framed.{retired_no}
 use Rattle.kw_rows.proofs.Lists.{in_or_not}
 use Rattle.kw_world.specs.declared.activity.Activity.{Activity}
-use Rattle.kw_world.specs.declared.activity.Activity.TheVariants.{PutAdd, FreezeCount, SeekFirst, Seek, TakeRow, GiveBack, WriteCount, WriteMin, WriteNext, WriteFirst, WritePend, WriteKey, WriteValue, WriteVersion, WriteAfter, Before, BeforeGuess, BeforeHead, BeforeLink, BeforeMin, Replace, Normalise, Number, Retire}
+use Rattle.kw_world.specs.declared.activity.Activity.TheVariants.{PutAdd, FreezeCount, SeekFirst, Seek, SeekPass, Reclaim, TakeRow, GiveBack, WriteCount, WriteMin, WriteNext, WriteFirst, WritePend, WriteKey, WriteValue, WriteVersion, WriteAfter, Before, BeforeGuess, BeforeHead, BeforeLink, BeforeMin, Replace, Normalise, Number, Retire}
 use Rattle.kw_world.specs.declared.event.Choice.{Choice}
 use Rattle.kw_world.specs.declared.local.Local.{Local}
 use Rattle.kw_world.specs.ReplaceTransitions.{replaced_link}
@@ -29,16 +33,16 @@ use Rattle.kw_world.specs.Step.{word}
 use Rattle.kw_world.specs.Transition.{row_linked}
 use Rattle.kw_world.specs.WriteTransitions.{unmarked_link}
 use Rattle.kw_core.specs.Ledger as ledger
-use Rattle.kw_core.specs.Ledger.{fate_dead, fate_live}
+use Rattle.kw_core.specs.Ledger.{fate_dead, fate_free, fate_live}
 use Rattle.kw_core.specs.Run.{Run}
 use Rattle.kw_core.specs.Words.{Words, least_in}
 use Rattle.kw_core.proofs.Building.{IsBuilding}
-use Rattle.kw_core.proofs.Fates.{fate_of_full, fate_of_given, fate_of_new, fate_of_taken, fate_stays, none_replaced, none_taken}
+use Rattle.kw_core.proofs.Fates.{fate_of_freed, fate_of_full, fate_of_given, fate_of_new, fate_of_taken, fate_stays, none_freed, none_replaced, none_taken}
 use Rattle.kw_core.proofs.Frame.{unwritten}
 use Rattle.kw_core.proofs.FreezeFrame.{CountStep, count_asked, count_frozen, count_frozen_now, count_more, count_same}
 use Rattle.kw_core.proofs.Happens.{Happens}
 use Rattle.kw_core.proofs.InfantFrames.{count_stays, row_in, row_stays}
-use Rattle.kw_shape.proofs.BuildEvents.{free_by_state, least_word, word_says}
+use Rattle.kw_shape.proofs.BuildEvents.{dead_by_state, free_by_state, least_word, word_says}
 use Rattle.kw_shape.proofs.InfantsFit.{row_link}
 use Rattle.kw_shape.proofs.InfantsRely.{linked_not_infant, no_state, place_of_row}
 use Rattle.kw_shape.proofs.InfantsStay.{infant_at, is_state}
@@ -48,6 +52,7 @@ use Rattle.kw_shape.specs.Infants.{GivesBack, Writes, HasAtHand, Infants, IsInfa
 use Rattle.kw_shape.specs.RowsIn.{has_frozen, has_mark, rows_in}
 use Rattle.kw_shape.specs.Search.{Search}
 use Rattle.kw_shape.specs.Shape.{Shape}
+use Rattle.kw_shape.specs.Sought.{Sought}
 
 -- a row that was linked is not free
 pub linked_not_free : {A : Type 0} (g : Ledger) (q : ℕ) → WasLinked g q → (g.fates q).status ≡ Free → A
@@ -67,17 +72,35 @@ was_below z r i q k = which (cases_lt q r.world.rows)
     which (inl o) = o
     which (inr o) = linked_not_free r.ledger.rows q k (i.beyond q o)
 
--- what stays of a row that was linked: that it was, what has become of it if it is dead, the events that took and linked it, its range, and
--- that it gives no more cells
+-- The row is dead, and nobody may name it; it is free from now on. All else that is recorded of it stays until it is taken again.
+pub record FreesNow (g g' : Ledger) (q : ℕ) : Type 0 where
+  pub dead : IsDead g q
+  pub unheld : IsHeld g q → ⊥
+  pub fate : g'.fates q ≡ fate_free (g.fates q)
+
+-- what stays of a row that was linked: the events that took and linked it, its range, its clock, and that it gives no more cells. And, unless
+-- it is freed, that it was linked, and what has become of it if it is dead
 pub record StaysLinked (v v' : Words) (g g' : Ledger) (q : ℕ) : Type 0 where
-  pub linked : WasLinked g' q
-  pub dead : IsDead g q → g'.fates q ≡ g.fates q
+  pub linked : WasLinked g' q ⊎ FreesNow g g' q
+  pub dead : IsDead g q → WasLinked g' q → g'.fates q ≡ g.fates q
   pub taken : (g'.fates q).taken ≡ (g.fates q).taken
   pub born : (g'.fates q).born ≡ (g.fates q).born
   pub upper : (g'.fates q).upper ≡ (g.fates q).upper
   pub clock : (g'.fates q).clock ≡ (g.fates q).clock
   pub least : least_in v' q ≡ least_in v q
   pub frozen : (rows_in v).frozen q ≡ true → (rows_in v').frozen q ≡ true
+
+-- a row that some seat may name is not freed
+pub held_linked : (v v' : Words) (g g' : Ledger) (q : ℕ) → IsHeld g q → StaysLinked v v' g g' q → WasLinked g' q
+held_linked v v' g g' q o x = which x.linked
+  where
+    which : WasLinked g' q ⊎ FreesNow g g' q → WasLinked g' q
+    which (inl k) = k
+    which (inr f) = absurd (f.unheld o)
+
+-- so if it is dead, it is as it was
+pub held_dead : (v v' : Words) (g g' : Ledger) (q : ℕ) → IsHeld g q → IsDead g q → StaysLinked v v' g g' q → g'.fates q ≡ g.fates q
+held_dead v v' g g' q o d x = x.dead d (held_linked v v' g g' q o x)
 
 -- the row was in the list, and is dead from this position on
 pub record GoesNow (g g' : Ledger) (s now q : ℕ) : Type 0 where
@@ -92,15 +115,20 @@ pub record ComesNow (v : Words) (g g' : Ledger) (s now : ℕ) (l : Local) (a : A
   pub infant : IsInfantOf g s q
   pub fate : g'.fates q ≡ fate_live v now q (g.fates q)
 
+-- what becomes of a row that was linked: its fate stays, or it is replaced now, or freed now
+abbrev pub BecomesNow : Ledger → Ledger → ℕ → ℕ → ℕ → Type 0
+BecomesNow g g' s now q = (g'.fates q ≡ g.fates q) ⊎ GoesNow g g' s now q ⊎ FreesNow g g' q
+
 -- a row whose fate is as it was
 linked_same : (g g' : Ledger) (q : ℕ) → g'.fates q ≡ g.fates q → WasLinked g' q → WasLinked g q
 linked_same g g' q e (inl x) = inl (sym (ap (λ (f : Fate). f.status) e) ∙ x)
 linked_same g g' q e (inr x) = inr (sym (ap (λ (f : Fate). f.status) e) ∙ x)
 
--- a part of the fate that a dead row keeps
-fate_part : {A : Type 0} (g g' : Ledger) (s now q : ℕ) (f : Fate → A) → f (fate_dead s now (g.fates q)) ≡ f (g.fates q) → (g'.fates q ≡ g.fates q) ⊎ GoesNow g g' s now q → f (g'.fates q) ≡ f (g.fates q)
-fate_part g g' s now q f e (inl x) = ap f x
-fate_part g g' s now q f e (inr x) = ap f x.fate ∙ e
+-- a part of the fate that a row keeps which is replaced or freed
+fate_part : {A : Type 0} (g g' : Ledger) (s now q : ℕ) (f : Fate → A) → f (fate_dead s now (g.fates q)) ≡ f (g.fates q) → f (fate_free (g.fates q)) ≡ f (g.fates q) → BecomesNow g g' s now q → f (g'.fates q) ≡ f (g.fates q)
+fate_part g g' s now q f e o (inl x) = ap f x
+fate_part g g' s now q f e o (inr (inl x)) = ap f x.fate ∙ e
+fate_part g g' s now q f e o (inr (inr x)) = ap f x.fate ∙ o
 
 -- a frozen count stays frozen
 frozen_on : (v v' : Words) (q : ℕ) → CountStep v v' q → (rows_in v).frozen q ≡ true → (rows_in v').frozen q ≡ true
@@ -164,15 +192,47 @@ module _ {z : Sizes} {r r' : Run} {s : ℕ} {choice : Choice} {l l' : Local} whe
       let f = found_open h i e in
       leads_live (rows_in (word z r.world)) r.ledger.rows i.rows.chain l.rebalance.before l.row (link_live h i l.rebalance.before refl f) (exchanged_head (word z r.world) l.rebalance.before ∙ ap row_linked f)
 
-  -- The fate of a row that was linked stays, unless the row is replaced now.
+  -- Where a retired row is freed.
 
-  pub linked_fate : (a : Activity) → Happens z r r' s choice l l' a → Shape z r → (q : ℕ) → WasLinked r.ledger.rows q → (r'.ledger.rows.fates q ≡ r.ledger.rows.fates q) ⊎ GoesNow r.ledger.rows r'.ledger.rows s (length r.history.log) q
+  -- what the seat knows of it
+  pub sought_at : (a : Activity) → Happens z r r' s choice l l' a → Shape z r → Sought z (word z r.world) r.ledger.rows s a l
+  sought_at a h i = subst (λ b. Sought z (word z r.world) r.ledger.rows s b l) h.activity (i.sought s l h.knows)
+
+  -- each pass that is on, of whatever seat, began after the number was drawn
+  pub all_young : Happens z r r' s choice l l' Reclaim → Shape z r → (t since at : ℕ) → r.ledger.rows.passes t ≡ Some since → r.ledger.rows.numbered l.rebalance.number ≡ Some at → at < since
+  all_young h i t since at p n = which (cases_lt t z.seats)
+    where
+      which : (t < z.seats) ⊎ (z.seats ≤ t) → at < since
+      which (inl o) = (sought_at Reclaim h i).young t since at o tt p n
+      which (inr o) = let x : None ≡ Some since = sym (i.outside t (omega (arith, o, i.sane.seats))) ∙ p in absurd (cc)
+
+  -- the row is found retired
+  pub found_retired : Happens z r r' s choice l l' Reclaim → Shape z r → word z r.world (name.State l.rebalance.sought) ≡ state_word (state.Retired l.rebalance.number) → (rows_in (word z r.world)).state l.rebalance.sought ≡ row.Retired l.rebalance.number
+  found_retired h i e = word_says _ (state.Retired l.rebalance.number) (i.sane.locals s l h.knows).ranges.rebalance.number e
+
+  -- so it was dead, and nobody may name it
+  pub frees : Happens z r r' s choice l l' Reclaim → Shape z r → word z r.world (name.State l.rebalance.sought) ≡ state_word (state.Retired l.rebalance.number) → FreesNow r.ledger.rows r'.ledger.rows l.rebalance.sought
+  frees h i e =
+      let f = found_retired h i e in
+      let d = dead_by_state (rows_in (word z r.world)) r.ledger.rows l.rebalance.sought l.rebalance.number i.rows.states f in
+      record { dead = d; unheld = retired_no (rows_in (word z r.world)) r.ledger.rows l.rebalance.sought l.rebalance.number i.rows.states d f (all_young h i); fate = fate_of_freed h e }
+
+  -- The fate of a row that was linked stays, unless the row is replaced or freed now.
+
+  pub linked_fate : (a : Activity) → Happens z r r' s choice l l' a → Shape z r → (q : ℕ) → WasLinked r.ledger.rows q → BecomesNow r.ledger.rows r'.ledger.rows s (length r.history.log) q
   linked_fate TakeRow h i q k = which (cases_eq (word z r.world (name.State l.rebalance.sought)) (state_word state.Free))
     where
       which : (word z r.world (name.State l.rebalance.sought) ≡ state_word state.Free) ⊎ (word z r.world (name.State l.rebalance.sought) ≡ state_word state.Free → ⊥) →
-          (r'.ledger.rows.fates q ≡ r.ledger.rows.fates q) ⊎ GoesNow r.ledger.rows r'.ledger.rows s (length r.history.log) q
+          BecomesNow r.ledger.rows r'.ledger.rows s (length r.history.log) q
       which (inl e) = inl (fate_stays TakeRow h q (not_sought h i e q k))
       which (inr d) = inl (ap (λ (g : ledger.Ledger). g.rows.fates q) (none_taken h d))
+  linked_fate Reclaim h i q k = which (cases_eq (word z r.world (name.State l.rebalance.sought)) (state_word (state.Retired l.rebalance.number))) (cases_eq q l.rebalance.sought)
+    where
+      which : (word z r.world (name.State l.rebalance.sought) ≡ state_word (state.Retired l.rebalance.number)) ⊎ (word z r.world (name.State l.rebalance.sought) ≡ state_word (state.Retired l.rebalance.number) → ⊥) →
+          (q ≡ l.rebalance.sought) ⊎ (q ≡ l.rebalance.sought → ⊥) → BecomesNow r.ledger.rows r'.ledger.rows s (length r.history.log) q
+      which (inl e) (inl c) = inr (inr (subst (FreesNow r.ledger.rows r'.ledger.rows) (sym c) (frees h i e)))
+      which (inl e) (inr d) = inl (fate_stays Reclaim h q d)
+      which (inr n) c = inl (ap (λ (g : ledger.Ledger). g.rows.fates q) (none_freed h n))
   linked_fate GiveBack h i q k = inl (fate_stays GiveBack h q (not_hand GiveBack h i tt q k))
   linked_fate Replace h i q k = which (cases_eq (word z r.world (replaced_link l.rebalance.before)) (link_word (unmarked_link (Some l.row))))
     where
@@ -181,12 +241,12 @@ module _ {z : Sizes} {r r' : Run} {s : ℕ} {choice : Choice} {l l' : Local} whe
       acts d (inr c) = not_taken h i q k c
 
       here : word z r.world (replaced_link l.rebalance.before) ≡ link_word (unmarked_link (Some l.row)) → (q ≡ l.row) ⊎ (q ≡ l.row → ⊥) →
-          (r'.ledger.rows.fates q ≡ r.ledger.rows.fates q) ⊎ GoesNow r.ledger.rows r'.ledger.rows s (length r.history.log) q
-      here e (inl c) = inr (subst (λ x. GoesNow r.ledger.rows r'.ledger.rows s (length r.history.log) x) (sym c) (record { live = full_live h i e; fate = fate_of_full h e }))
+          BecomesNow r.ledger.rows r'.ledger.rows s (length r.history.log) q
+      here e (inl c) = inr (inl (subst (λ x. GoesNow r.ledger.rows r'.ledger.rows s (length r.history.log) x) (sym c) (record { live = full_live h i e; fate = fate_of_full h e })))
       here e (inr d) = inl (fate_stays Replace h q (acts d))
 
       which : (word z r.world (replaced_link l.rebalance.before) ≡ link_word (unmarked_link (Some l.row))) ⊎ (word z r.world (replaced_link l.rebalance.before) ≡ link_word (unmarked_link (Some l.row)) → ⊥) →
-          (r'.ledger.rows.fates q ≡ r.ledger.rows.fates q) ⊎ GoesNow r.ledger.rows r'.ledger.rows s (length r.history.log) q
+          BecomesNow r.ledger.rows r'.ledger.rows s (length r.history.log) q
       which (inl e) = here e (cases_eq q l.row)
       which (inr d) = inl (ap (λ (g : ledger.Ledger). g.rows.fates q) (none_replaced h d))
   linked_fate a h i q k = inl (fate_stays a h q (λ c. c))
@@ -207,26 +267,28 @@ module _ {z : Sizes} {r r' : Run} {s : ℕ} {choice : Choice} {l l' : Local} whe
   pub linked_keeps : (a : Activity) → Happens z r r' s choice l l' a → Shape z r → (q : ℕ) → WasLinked r.ledger.rows q → StaysLinked (word z r.world) (word z r'.world) r.ledger.rows r'.ledger.rows q
   linked_keeps a h i q k = record {
     linked = linked fate k;
-    dead = λ d. dead fate d;
-    taken = fate_part r.ledger.rows r'.ledger.rows s (length r.history.log) q (λ (f : Fate). f.taken) refl fate;
-    born = fate_part r.ledger.rows r'.ledger.rows s (length r.history.log) q (λ (f : Fate). f.born) refl fate;
-    upper = fate_part r.ledger.rows r'.ledger.rows s (length r.history.log) q (λ (f : Fate). f.upper) refl fate;
-    clock = fate_part r.ledger.rows r'.ledger.rows s (length r.history.log) q (λ (f : Fate). f.clock) refl fate;
+    dead = λ d w. dead fate d w;
+    taken = fate_part r.ledger.rows r'.ledger.rows s (length r.history.log) q (λ (f : Fate). f.taken) refl refl fate;
+    born = fate_part r.ledger.rows r'.ledger.rows s (length r.history.log) q (λ (f : Fate). f.born) refl refl fate;
+    upper = fate_part r.ledger.rows r'.ledger.rows s (length r.history.log) q (λ (f : Fate). f.upper) refl refl fate;
+    clock = fate_part r.ledger.rows r'.ledger.rows s (length r.history.log) q (λ (f : Fate). f.clock) refl refl fate;
     least = linked_least a h i q k;
     frozen = frozen_on (word z r.world) (word z r'.world) q (linked_count a h i q k);
   }
     where
-      fate : (r'.ledger.rows.fates q ≡ r.ledger.rows.fates q) ⊎ GoesNow r.ledger.rows r'.ledger.rows s (length r.history.log) q
+      fate : BecomesNow r.ledger.rows r'.ledger.rows s (length r.history.log) q
       fate = linked_fate a h i q k
 
-      linked : (r'.ledger.rows.fates q ≡ r.ledger.rows.fates q) ⊎ GoesNow r.ledger.rows r'.ledger.rows s (length r.history.log) q → WasLinked r.ledger.rows q → WasLinked r'.ledger.rows q
-      linked (inl e) (inl x) = inl (ap (λ (f : Fate). f.status) e ∙ x)
-      linked (inl e) (inr x) = inr (ap (λ (f : Fate). f.status) e ∙ x)
-      linked (inr g) x = inr (ap (λ (f : Fate). f.status) g.fate)
+      linked : BecomesNow r.ledger.rows r'.ledger.rows s (length r.history.log) q → WasLinked r.ledger.rows q → WasLinked r'.ledger.rows q ⊎ FreesNow r.ledger.rows r'.ledger.rows q
+      linked (inl e) (inl x) = inl (inl (ap (λ (f : Fate). f.status) e ∙ x))
+      linked (inl e) (inr x) = inl (inr (ap (λ (f : Fate). f.status) e ∙ x))
+      linked (inr (inl g)) x = inl (inr (ap (λ (f : Fate). f.status) g.fate))
+      linked (inr (inr f)) x = inr f
 
-      dead : (r'.ledger.rows.fates q ≡ r.ledger.rows.fates q) ⊎ GoesNow r.ledger.rows r'.ledger.rows s (length r.history.log) q → IsDead r.ledger.rows q → r'.ledger.rows.fates q ≡ r.ledger.rows.fates q
-      dead (inl e) d = e
-      dead (inr g) d = let x : Live ≡ Dead = sym g.live ∙ d in absurd (cc)
+      dead : BecomesNow r.ledger.rows r'.ledger.rows s (length r.history.log) q → IsDead r.ledger.rows q → WasLinked r'.ledger.rows q → r'.ledger.rows.fates q ≡ r.ledger.rows.fates q
+      dead (inl e) d w = e
+      dead (inr (inl g)) d w = let x : Live ≡ Dead = sym g.live ∙ d in absurd (cc)
+      dead (inr (inr f)) d w = linked_not_free r'.ledger.rows q w (ap (λ (f : Fate). f.status) f.fate)
 
   -- A row that was linked after the event was so before, or is one of those that are linked now.
 
@@ -238,6 +300,13 @@ module _ {z : Sizes} {r r' : Run} {s : ℕ} {choice : Choice} {l l' : Local} whe
       which (inl e) (inl c) = linked_not_infant r'.ledger.rows s q k (subst (IsInfantOf r'.ledger.rows s) (sym c) (record { status = ap (λ (f : Fate). f.status) (fate_of_taken h e); owner = ap (λ (f : Fate). f.owner) (fate_of_taken h e) }))
       which (inl e) (inr d) = inl (linked_same r.ledger.rows r'.ledger.rows q (fate_stays TakeRow h q d) k)
       which (inr d) c = inl (linked_same r.ledger.rows r'.ledger.rows q (ap (λ (g : ledger.Ledger). g.rows.fates q) (none_taken h d)) k)
+  linked_before Reclaim h i q k = which (cases_eq (word z r.world (name.State l.rebalance.sought)) (state_word (state.Retired l.rebalance.number))) (cases_eq q l.rebalance.sought)
+    where
+      which : (word z r.world (name.State l.rebalance.sought) ≡ state_word (state.Retired l.rebalance.number)) ⊎ (word z r.world (name.State l.rebalance.sought) ≡ state_word (state.Retired l.rebalance.number) → ⊥) →
+          (q ≡ l.rebalance.sought) ⊎ (q ≡ l.rebalance.sought → ⊥) → WasLinked r.ledger.rows q ⊎ ComesNow (word z r.world) r.ledger.rows r'.ledger.rows s (length r.history.log) l Reclaim q
+      which (inl e) (inl c) = linked_not_free r'.ledger.rows q k (ap (λ x. (r'.ledger.rows.fates x).status) c ∙ ap (λ (f : Fate). f.status) (fate_of_freed h e))
+      which (inl e) (inr d) = inl (linked_same r.ledger.rows r'.ledger.rows q (fate_stays Reclaim h q d) k)
+      which (inr n) c = inl (linked_same r.ledger.rows r'.ledger.rows q (ap (λ (g : ledger.Ledger). g.rows.fates q) (none_freed h n)) k)
   linked_before GiveBack h i q k = which (cases_eq q (infant l))
     where
       which : (q ≡ infant l) ⊎ (q ≡ infant l → ⊥) → WasLinked r.ledger.rows q ⊎ ComesNow (word z r.world) r.ledger.rows r'.ledger.rows s (length r.history.log) l GiveBack q
@@ -264,6 +333,19 @@ module _ {z : Sizes} {r r' : Run} {s : ℕ} {choice : Choice} {l l' : Local} whe
       which (inr d) = inl (linked_same r.ledger.rows r'.ledger.rows q (ap (λ (g : ledger.Ledger). g.rows.fates q) (none_replaced h d)) k)
   linked_before a h i q k = inl (linked_same r.ledger.rows r'.ledger.rows q (fate_stays a h q (λ c. c)) k)
 
+  -- a row that is dead now was so, and is as it was, or goes now
+  pub dead_before : (a : Activity) → Happens z r r' s choice l l' a → Shape z r → (q : ℕ) → IsDead r'.ledger.rows q → IsDead r.ledger.rows q × (r'.ledger.rows.fates q ≡ r.ledger.rows.fates q) ⊎ GoesNow r.ledger.rows r'.ledger.rows s (length r.history.log) q
+  dead_before a h i q d = which (linked_before a h i q (inr d))
+    where
+      fate : BecomesNow r.ledger.rows r'.ledger.rows s (length r.history.log) q → IsDead r.ledger.rows q × (r'.ledger.rows.fates q ≡ r.ledger.rows.fates q) ⊎ GoesNow r.ledger.rows r'.ledger.rows s (length r.history.log) q
+      fate (inl e) = inl (sym (ap (λ (f : Fate). f.status) e) ∙ d, e)
+      fate (inr (inl g)) = inr g
+      fate (inr (inr f)) = linked_not_free r'.ledger.rows q (inr d) (ap (λ (f : Fate). f.status) f.fate)
+
+      which : WasLinked r.ledger.rows q ⊎ ComesNow (word z r.world) r.ledger.rows r'.ledger.rows s (length r.history.log) l a q → IsDead r.ledger.rows q × (r'.ledger.rows.fates q ≡ r.ledger.rows.fates q) ⊎ GoesNow r.ledger.rows r'.ledger.rows s (length r.history.log) q
+      which (inl w) = fate (linked_fate a h i q w)
+      which (inr y) = let x : Live ≡ Dead = sym (ap (λ (f : Fate). f.status) y.fate) ∙ d in absurd (cc)
+
   -- The words.
 
   -- an event that takes, writes or links new rows, or retires the full one, writes no word of a row that was linked but a state, and the
@@ -271,6 +353,7 @@ module _ {z : Sizes} {r r' : Run} {s : ℕ} {choice : Choice} {l l' : Local} whe
   pub built_leaves : (a : Activity) → IsBuilding a → Happens z r r' s choice l l' a → Shape z r → (n : Name) (q : ℕ) → WasLinked r.ledger.rows q → row_in n ≡ Some q → IsWithin z.seats z.cells r.world.rows n → is_state n ≡ false → (a ≡ Replace → l.rebalance.before ≡ Some q → ⊥) →
       word z r'.world n ≡ word z r.world n
   built_leaves TakeRow b h i n q k e o f c = unwritten TakeRow h n o (no_state l.rebalance.sought n f)
+  built_leaves Reclaim b h i n q k e o f c = unwritten Reclaim h n o (no_state l.rebalance.sought n f)
   built_leaves GiveBack b h i n q k e o f c = unwritten GiveBack h n o (no_state (infant l) n f)
   built_leaves Normalise b h i n q k e o f c = unwritten Normalise h n o (no_state (infant l) n f)
   built_leaves Retire b h i n q k e o f c = unwritten Retire h n o (no_state l.row n f)
@@ -286,6 +369,7 @@ module _ {z : Sizes} {r r' : Run} {s : ℕ} {choice : Choice} {l l' : Local} whe
   built_leaves (WriteAfter j) b h i n q k e o f c = row_stays (WriteAfter j) h n q e o (not_hand (WriteAfter j) h i tt q k)
   built_leaves SeekFirst b h i n q k e o f c = row_stays SeekFirst h n q e o (λ x. x)
   built_leaves Seek b h i n q k e o f c = row_stays Seek h n q e o (λ x. x)
+  built_leaves (SeekPass j) b h i n q k e o f c = row_stays (SeekPass j) h n q e o (λ x. x)
   built_leaves Before b h i n q k e o f c = row_stays Before h n q e o (λ x. x)
   built_leaves BeforeGuess b h i n q k e o f c = row_stays BeforeGuess h n q e o (λ x. x)
   built_leaves BeforeHead b h i n q k e o f c = row_stays BeforeHead h n q e o (λ x. x)

@@ -15,7 +15,7 @@ use Rattle.kw_words.proofs.LinkWords.{link_word_of}
 use Rattle.kw_rows.specs.Events.{IsIn}
 use Rattle.kw_rows.specs.Ledger.{Dead, Fate, Free, Infant, Ledger, Live}
 use Rattle.kw_world.specs.declared.activity.Activity.{Activity}
-use Rattle.kw_world.specs.declared.activity.Activity.TheVariants.{SeekFirst, Seek, TakeRow, GiveBack, WriteCount, WriteMin, WriteNext, WriteFirst, WritePend, WriteKey, WriteValue, WriteVersion, WriteAfter, Before, BeforeGuess, BeforeHead, BeforeLink, BeforeMin, Replace, Normalise, Number, Retire}
+use Rattle.kw_world.specs.declared.activity.Activity.TheVariants.{SeekFirst, Seek, SeekPass, Reclaim, TakeRow, GiveBack, WriteCount, WriteMin, WriteNext, WriteFirst, WritePend, WriteKey, WriteValue, WriteVersion, WriteAfter, Before, BeforeGuess, BeforeHead, BeforeLink, BeforeMin, Replace, Normalise, Number, Retire}
 use Rattle.kw_world.specs.declared.event.Choice.{Choice}
 use Rattle.kw_world.specs.declared.local.Local.{Local}
 use Rattle.kw_world.specs.declared.rebalance.Afterwards.{Afterwards}
@@ -27,11 +27,11 @@ use Rattle.kw_world.specs.WriteTransitions.{unmarked_link}
 use Rattle.kw_core.specs.Ledger as ledger
 use Rattle.kw_core.specs.Run.{Run}
 use Rattle.kw_core.proofs.Arrows.{Arrow, builds}
-use Rattle.kw_core.proofs.Building.{Building, IsBuilding, first_is_free, first_is_taken, sought_is_free, sought_is_taken, takes_row, loses_row, gives_one_back, gives_last_back, writes_link, begins_before, guesses_before, guess_before_fails, before_serves, before_is_above, takes_head_before, leads_to_full, leads_on_marked, leads_to_other, leads_nowhere, walks_before, walks_past, replaces_row, is_marked_before, is_replaced, makes_normal, makes_last_normal, draws_number, retires_row}
+use Rattle.kw_core.proofs.Building.{Building, IsBuilding, first_is_free, first_is_retired, first_is_taken, sought_is_free, sought_is_retired, sought_is_taken, pass_is_old, pass_is_young, frees_row, takes_row, loses_row, gives_one_back, gives_last_back, writes_link, begins_before, guesses_before, guess_before_fails, before_serves, before_is_above, takes_head_before, leads_to_full, leads_on_marked, leads_to_other, leads_nowhere, walks_before, walks_past, replaces_row, is_marked_before, is_replaced, makes_normal, makes_last_normal, draws_number, retires_row}
 use Rattle.kw_core.proofs.Building as built
-use Rattle.kw_core.proofs.Fates.{fate_of_full, fate_of_given, fate_of_new, fate_of_taken, fate_stays, none_replaced, none_taken}
+use Rattle.kw_core.proofs.Fates.{fate_of_freed, fate_of_full, fate_of_given, fate_of_new, fate_of_taken, fate_stays, none_freed, none_replaced, none_taken}
 use Rattle.kw_core.proofs.Happens.{Happens}
-use Rattle.kw_core.proofs.NextBuilt.{NextBack, gives_back, has_none, NextSeek, asks, has_asked, NextTaken, has_enough, wants_more, NextNewCell, empties, fills, has_cells, NextNewEntry, has_entries, writes_idle, NextNewRow, has_written, writes_row, NextBefore, is_behind, is_first}
+use Rattle.kw_core.proofs.NextBuilt.{NextBack, gives_back, has_none, NextPass, has_looked, looks_on, NextSeek, asks, has_asked, NextTaken, has_enough, wants_more, NextNewCell, empties, fills, has_cells, NextNewEntry, has_entries, writes_idle, NextNewRow, has_written, writes_row, NextBefore, is_behind, is_first}
 use Rattle.kw_shape.proofs.Comings.{unbuilt_nursing}
 use Rattle.kw_shape.proofs.InfantsStay.{infant_at, infant_stays}
 use Rattle.kw_shape.proofs.LinkedRows.{infants_at}
@@ -66,6 +66,11 @@ on_back c k next q (has_none m e n) y = absurd (omega (arith, e, slice_get_withi
 on_seek : (rows : ℕ) (k next : Local) (q : ℕ) → NextSeek rows k next → IsTaken k q → IsNursedRow next.activity next q
 on_seek rows k next q (asks o) y = (y.0, tt, y.1)
 on_seek rows k next q (has_asked m o n) y = on_back _ k next q n y
+
+-- the next pass is looked at, or all were
+on_pass : (z : Sizes) (i : ℕ) (k next : Local) (q : ℕ) → NextPass z i k next → IsTaken k q → IsNursedRow next.activity next q
+on_pass z i k next q (looks_on o) y = (y.0, tt, y.1)
+on_pass z i k next q (has_looked o) y = (y.0, tt, y.1)
 
 -- one more row is sought, or they are written
 on_taken : (rows : ℕ) (k next : Local) (q : ℕ) → NextTaken rows k next → IsTaken k q → IsNursedRow next.activity next q
@@ -114,6 +119,12 @@ module _ {z : Sizes} {r r' : Run} {s : ℕ} {choice : Choice} {l k : Local} wher
       let y : Free ≡ Infant = sym (ap (λ (f : Fate). f.status) (ap r'.ledger.rows.fates e ∙ fate_of_given h)) ∙ x.status in
       absurd (cc)
 
+  -- nor is one that is freed
+  not_freed_now : Happens z r r' s choice l k Reclaim → word z r.world (name.State l.rebalance.sought) ≡ state_word (state.Retired l.rebalance.number) → (t q : ℕ) → IsInfantOf r'.ledger.rows t q → q ≡ l.rebalance.sought → ⊥
+  not_freed_now h e t q x c =
+      let y : Free ≡ Infant = sym (ap (λ (f : Fate). f.status) (ap r'.ledger.rows.fates c ∙ fate_of_freed h e)) ∙ x.status in
+      absurd (cc)
+
   -- nor is the full row once it is replaced, nor one that is linked in its place
   not_replaced : Happens z r r' s choice l k Replace → word z r.world (replaced_link l.rebalance.before) ≡ link_word (unmarked_link (Some l.row)) → (t q : ℕ) → IsInfantOf r'.ledger.rows t q → (q ≡ l.row) ⊎ IsIn l.rebalance.taken q → ⊥
   not_replaced h e t q x c = which (cases_eq q l.row) c
@@ -131,6 +142,11 @@ module _ {z : Sizes} {r r' : Run} {s : ℕ} {choice : Choice} {l k : Local} wher
       which (inl e) (inl c) = absurd (d refl (sym x.owner ∙ ap (λ (f : Fate). f.owner) (ap r'.ledger.rows.fates c ∙ fate_of_taken h e)))
       which (inl e) (inr n) = was_one r.ledger.rows r'.ledger.rows t q (fate_stays TakeRow h q n) x
       which (inr n) c = ledger_stays r r' (none_taken h n) t q x
+  was_infant Reclaim h t q d x = which (cases_eq (word z r.world (name.State l.rebalance.sought)) (state_word (state.Retired l.rebalance.number)))
+    where
+      which : (word z r.world (name.State l.rebalance.sought) ≡ state_word (state.Retired l.rebalance.number)) ⊎ (word z r.world (name.State l.rebalance.sought) ≡ state_word (state.Retired l.rebalance.number) → ⊥) → IsInfantOf r.ledger.rows t q
+      which (inl e) = was_one r.ledger.rows r'.ledger.rows t q (fate_stays Reclaim h q (not_freed_now h e t q x)) x
+      which (inr n) = ledger_stays r r' (none_freed h n) t q x
   was_infant GiveBack h t q d x = was_one r.ledger.rows r'.ledger.rows t q (fate_stays GiveBack h q (not_given h t q x)) x
   was_infant Replace h t q d x = which (cases_eq (word z r.world (replaced_link l.rebalance.before)) (link_word (unmarked_link (Some l.row))))
     where
@@ -156,6 +172,11 @@ module _ {z : Sizes} {r r' : Run} {s : ℕ} {choice : Choice} {l : Local} where
   built_own a k (first_is_taken q rows next c n y) h hand x = goes SeekFirst next.activity next h (λ c. cc) x (λ p t. on_seek rows _ next p y t)
   built_own a k (sought_is_free e) h hand x = goes Seek TakeRow _ h (λ c. cc) x (λ p y. (y.0, tt, y.1))
   built_own a k (sought_is_taken rows next n y) h hand x = goes Seek next.activity next h (λ c. cc) x (λ p t. on_seek rows _ next p y t)
+  built_own a k (first_is_retired q m c e f) h hand x = goes SeekFirst (SeekPass 0) _ h (λ c. cc) x (λ p y. (y.0, tt, y.1))
+  built_own a k (sought_is_retired m e f) h hand x = goes Seek (SeekPass 0) _ h (λ c. cc) x (λ p y. (y.0, tt, y.1))
+  built_own a k (pass_is_old i epoch rows next e o y) h hand x = goes (SeekPass i) next.activity next h (λ c. cc) x (λ p t. on_seek rows _ next p y t)
+  built_own a k (pass_is_young i next o y) h hand x = goes (SeekPass i) next.activity next h (λ c. cc) x (λ p t. on_pass z _ l next p y t)
+  built_own a k frees_row h hand x = goes Reclaim TakeRow _ h (λ c. cc) x (λ p y. (y.0, tt, y.1))
   built_own a k (takes_row rows next e y) h hand x = λ q o. on_taken rows _ next q y (taken q o (cases_eq q l.rebalance.sought))
     where
       taken : (q : ℕ) → IsInfantOf r'.ledger.rows s q → (q ≡ l.rebalance.sought) ⊎ (q ≡ l.rebalance.sought → ⊥) → IsTaken (with_row l) q

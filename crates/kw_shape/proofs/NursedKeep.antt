@@ -1,7 +1,8 @@
 -- Every event keeps what each seat knows of its infants, and of the row before its full one.
 use Rattle.std.proofs.Common.{ℕ, zero, suc, ◌≡◌, ◌≢◌, ◌⊎◌, inl, inr, List, [], Some, None, refl, sym, ◌∙◌, ap, subst, slice_get}
-use Rattle.kw_rows.specs.Ledger.{Fate, IsDead, Ledger}
+use Rattle.kw_rows.specs.Ledger.{Fate, IsDead, IsHeld, Ledger}
 use Rattle.kw_rows.specs.Rows.{WasLinked}
+use Rattle.kw_rows.proofs.Named.{held_by}
 use Rattle.kw_world.specs.declared.activity.Activity.{Activity}
 use Rattle.kw_world.specs.declared.activity.Activity.TheVariants.{LookHelp, PutAdd, PutKey, PutValue, Announce, Stamp, PutVersion, InsSet, Insert, PutClear, BalNormal, Engage, MarkLink, Decide, FreezeCount, Freeze, SeekFirst, Replace, Retire}
 use Rattle.kw_world.specs.declared.event.Choice.{Choice}
@@ -11,23 +12,24 @@ use Rattle.kw_world.specs.Step.{word}
 use Rattle.kw_core.specs.Run.{Run}
 use Rattle.kw_core.specs.Stages.{IsAtRow, IsPassing}
 use Rattle.kw_core.proofs.Arrows.{Arrow}
+use Rattle.kw_core.proofs.BuiltNext.{built_keeps}
 use Rattle.kw_core.proofs.Happens.{Happens}
 use Rattle.kw_core.proofs.InfantFrames.{OwnRow, RowBefore, target_of}
 use Rattle.kw_shape.proofs.AfterBuilding.{built_balancing, built_pass, built_passes}
-use Rattle.kw_shape.proofs.Comings.{Comes, comes, goes_on, seeks, stays_out, unbuilt_nursing, unbuilt_search}
+use Rattle.kw_shape.proofs.Comings.{Comes, comes, goes_on, searching_builds, seeks, stays_out, unbuilt_nursing, unbuilt_search}
 use Rattle.kw_shape.proofs.InfantsFit.{row_link, taken_below}
 use Rattle.kw_shape.proofs.InfantsKeep.{Own, nowhere, seeking}
 use Rattle.kw_shape.proofs.InfantsOwn.{infants_own}
 use Rattle.kw_shape.proofs.InfantsRely.{rely_infants}
-use Rattle.kw_shape.proofs.InfantsStay.{infants_stable, search_stable}
-use Rattle.kw_shape.proofs.LinkedRows.{balance_at, fresh_linked, infants_at, linked_keeps, search_at}
+use Rattle.kw_shape.proofs.InfantsStay.{infants_stable, measured, search_stable}
+use Rattle.kw_shape.proofs.LinkedRows.{balance_at, fresh_linked, held_dead, infants_at, linked_keeps, search_at}
 use Rattle.kw_shape.proofs.OwnRows.{own_rely}
 use Rattle.kw_shape.proofs.RelyRows.{is_passing}
 use Rattle.kw_shape.proofs.RowsKeep.{others_kept, rely_rows}
 use Rattle.kw_shape.proofs.SearchKeep.{search_by}
 use Rattle.kw_shape.proofs.WonKeep.{head_open}
 use Rattle.kw_shape.specs.Infants.{Infants}
-use Rattle.kw_shape.specs.Search.{Search}
+use Rattle.kw_shape.specs.Search.{IsMeasured, Search}
 use Rattle.kw_shape.specs.Shape.{Shape, Walks}
 
 -- a seat that has taken no row owns none
@@ -48,7 +50,7 @@ module _ {z : Sizes} {r r' : Run} {s : ℕ} {choice : Choice} {l l' : Local} whe
       which : Comes z (word z r.world) choice l a l' → Infants z (word z r'.world) r'.ledger.rows s l'.activity l'
       which (stays_out n) = nowhere z (word z r'.world) r'.ledger.rows s l'.activity l' (unbuilt_nursing l'.activity n)
       which (seeks e t) = subst (λ c. Infants z (word z r'.world) r'.ledger.rows s c l') (sym e) (seeking z (word z r'.world) r'.ledger.rows s SeekFirst l' refl (none_taken r'.ledger.rows s l'.rebalance.taken t))
-      which (goes_on o t) = infants_own a l' t h i.rows.states (row_link z r.world s l i.sane h.knows) (taken_below z r.world s l i.sane h.knows) (infants_at a h i)
+      which (goes_on o t) = infants_own a l' t h i.rows.states (row_link z r.world s l i.sane h.knows, (i.sane.locals s l h.knows).ranges.rebalance.number) (taken_below z r.world s l i.sane h.knows) (infants_at a h i)
 
   -- the row on which a seat acts was linked
   at_linked : (a : Activity) → Happens z r r' s choice l l' a → Shape z r → IsAtRow a → WasLinked r.ledger.rows l.row
@@ -81,12 +83,13 @@ module _ {z : Sizes} {r r' : Run} {s : ℕ} {choice : Choice} {l l' : Local} whe
 
   -- another seat
   pub infants_other : (a : Activity) → Happens z r r' s choice l l' a → Shape z r → (t : ℕ) (k : Local) → t ≢ s → slice_get r.world.locals t ≡ Some k → Infants z (word z r'.world) r'.ledger.rows t k.activity k
-  infants_other a h i t k d g = infants_stable z r.world.rows (word z r.world) (word z r'.world) r.ledger.rows r'.ledger.rows t k.activity k (rely_infants a h t d i.rows.states (infants_at a h i) (own_linked a h i) (before_linked a h i)) (taken_below z r.world t k i.sane g) (i.infants t k g)
+  infants_other a h i t k d g = infants_stable z r.world.rows (word z r.world) (word z r'.world) r.ledger.rows r'.ledger.rows t k.activity k (rely_infants a h t d i.rows.states (i.sane.locals s l h.knows).ranges.rebalance.number (infants_at a h i) (own_linked a h i) (before_linked a h i)) (taken_below z r.world t k i.sane g) (i.infants t k g)
 
   -- The row before its full one.
 
-  dead_stays : (a : Activity) → Happens z r r' s choice l l' a → Shape z r → (q : ℕ) → IsDead r.ledger.rows q → IsDead r'.ledger.rows q
-  dead_stays a h i q d = ap (λ (f : Fate). f.status) ((linked_keeps a h i q (inr d)).dead d) ∙ d
+  -- a dead row that some seat may name is dead still
+  dead_stays : (a : Activity) → Happens z r r' s choice l l' a → Shape z r → (q : ℕ) → IsHeld r.ledger.rows q → IsDead r.ledger.rows q → IsDead r'.ledger.rows q
+  dead_stays a h i q o d = ap (λ (f : Fate). f.status) (held_dead _ _ r.ledger.rows r'.ledger.rows q o d (linked_keeps a h i q (inr d))) ∙ d
 
   -- the acting seat
   pub search_go : (a : Activity) → Arrow z (word z r.world) s choice l a l' → Happens z r r' s choice l l' a → Shape z r → Search (word z r'.world) r'.ledger.rows s l'.activity l'
@@ -98,12 +101,14 @@ module _ {z : Sizes} {r r' : Run} {s : ℕ} {choice : Choice} {l l' : Local} whe
       which (goes_on o t) =
           let y = balance_at a h i in
           let was = search_by (word z r.world) r.ledger.rows s _ i.rows l (y.fresh (built_balancing a o)) (y.lower (built_balancing a o)) z choice a l' t (head_open z r i l.row) (search_at a h i) in
-          search_stable _ _ r.ledger.rows r'.ledger.rows s l'.activity l' (own_rely z r r' s choice l a l' h i (built_passes a o).0 (built_pass a o)) (dead_stays a h i l'.row) was
+          let same : IsMeasured l'.activity l' → l'.row ≡ l.row = λ m. (built_keeps z (word z r.world) choice l a l' t (searching_builds l'.activity l' (measured l'.activity l' m))).row in
+          let held : IsMeasured l'.activity l' → IsHeld r.ledger.rows l'.row = λ m. subst (IsHeld r.ledger.rows) (sym (same m)) (held_by r.ledger.rows s l.row (y.fresh (built_balancing a o))) in
+          search_stable _ _ r.ledger.rows r'.ledger.rows s l'.activity l' (own_rely z r r' s choice l a l' h i (built_passes a o).0 (built_pass a o)) (λ m. dead_stays a h i l'.row (held m)) was
 
   -- another seat
   pub search_other : (a : Activity) → Happens z r r' s choice l l' a → Shape z r → (t : ℕ) (k : Local) → t ≢ s → slice_get r.world.locals t ≡ Some k → Search (word z r'.world) r'.ledger.rows t k.activity k
   search_other a h i t k d g = which (is_passing k.activity)
     where
       which : IsPassing k.activity ⊎ (IsPassing k.activity → ⊥) → Search (word z r'.world) r'.ledger.rows t k.activity k
-      which (inl x) = let p = (i.passes t k g).in_pass x in search_stable _ _ r.ledger.rows r'.ledger.rows t k.activity k (rely_rows a h i t p.since p.passes (others_kept a h t d ∙ p.passes)) (dead_stays a h i k.row) (i.search t k g)
+      which (inl x) = let p = (i.passes t k g).in_pass x in search_stable _ _ r.ledger.rows r'.ledger.rows t k.activity k (rely_rows a h i t p.since p.passes (others_kept a h t d ∙ p.passes)) (λ m. dead_stays a h i k.row (held_by r.ledger.rows t k.row ((i.balances t k g).fresh (built_balancing k.activity (searching_builds k.activity k (measured k.activity k m)))))) (i.search t k g)
       which (inr n) = unbuilt_search (word z r'.world) r'.ledger.rows t k.activity k (λ x. n (built_passes k.activity x).0)

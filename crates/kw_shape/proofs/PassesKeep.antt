@@ -44,7 +44,7 @@ rest_passes l k (ends_scan o y n) = (tt, tt, refl)
 rest_passes l k (scans_on q o y n u) = (tt, tt, refl)
 
 -- a seat that is in a pass makes a call
-passing_busy : (a : Activity) → IsPassing a → IsBusy a
+pub passing_busy : (a : Activity) → IsPassing a → IsBusy a
 passing_busy Idle x = absurd x
 passing_busy _ x = tt
 

@@ -13,9 +13,9 @@ use Rattle.kw_cells.specs.Kept.{kept_of}
 use Rattle.kw_core.specs.Run.{Run}
 use Rattle.kw_core.specs.Words.{Words}
 use Rattle.kw_core.proofs.Arrows.{Arrow, NextLook, NextRest, answers, builds, ends_scan, finds_other, finds_stamped, gathers_rest, helps, is_passed, keeps_no_more, key_above, list_ends, lists, looks, meets_neither, meets_stamped, rest_passed, rests, scans_on, takes_no_more}
-use Rattle.kw_core.proofs.Building.{Building, before_is_above, before_serves, begins_before, draws_number, first_is_free, first_is_taken, gives_last_back, gives_one_back, guess_before_fails, guesses_before, is_marked_before, is_replaced, leads_nowhere, leads_on_marked, leads_to_full, leads_to_other, loses_row, makes_last_normal, makes_normal, replaces_row, retires_row, sought_is_free, sought_is_taken, takes_head_before, takes_row, walks_before, walks_past, writes_after, writes_count, writes_entry, writes_first, writes_key, writes_least, writes_link, writes_value, writes_version}
+use Rattle.kw_core.proofs.Building.{Building, first_is_retired, sought_is_retired, pass_is_old, pass_is_young, frees_row, before_is_above, before_serves, begins_before, draws_number, first_is_free, first_is_taken, gives_last_back, gives_one_back, guess_before_fails, guesses_before, is_marked_before, is_replaced, leads_nowhere, leads_on_marked, leads_to_full, leads_to_other, loses_row, makes_last_normal, makes_normal, replaces_row, retires_row, sought_is_free, sought_is_taken, takes_head_before, takes_row, walks_before, walks_past, writes_after, writes_count, writes_entry, writes_first, writes_key, writes_least, writes_link, writes_value, writes_version}
 use Rattle.kw_core.proofs.Happens.{Happens}
-use Rattle.kw_core.proofs.NextBuilt.{GivenBack, is_refused_rows, moves_left, tries_again, NextBack, gives_back, has_none, NextSeek, asks, has_asked, NextTaken, has_enough, wants_more, NextNewCell, empties, fills, has_cells, NextNewEntry, has_entries, writes_idle, NextNewRow, has_written, writes_row, NextBefore, is_behind, is_first}
+use Rattle.kw_core.proofs.NextBuilt.{GivenBack, is_refused_rows, moves_left, tries_again, NextBack, gives_back, has_none, NextSeek, asks, has_asked, NextPass, looks_on, has_looked, NextTaken, has_enough, wants_more, NextNewCell, empties, fills, has_cells, NextNewEntry, has_entries, writes_idle, NextNewRow, has_written, writes_row, NextBefore, is_behind, is_first}
 use Rattle.kw_shape.specs.Infants.{HasAll, HasNone, nursing_of}
 use Rattle.kw_shape.specs.Keyed.{IsPlanned}
 use Rattle.kw_shape.specs.Plans.{Plans}
@@ -62,6 +62,10 @@ module _ (z : Sizes) where
   seek_on rows k next (asks o) p = record { kept = λ x. p.kept; starts = λ x. p.starts; few = λ x. absurd x }
   seek_on rows k next (has_asked m o y) p = back_on _ k next y p
 
+  pass_on : (j : ℕ) (k next : Local) → NextPass z j k next → HasPlan z k → Plans z next.activity next
+  pass_on j k next (looks_on o) p = record { kept = λ x. p.kept; starts = λ x. p.starts; few = λ x. absurd x }
+  pass_on j k next (has_looked o) p = record { kept = λ x. p.kept; starts = λ x. p.starts; few = λ x. absurd x }
+
   taken_on : (rows : ℕ) (k next : Local) → NextTaken rows k next → length k.rebalance.taken ≤ length k.rebalance.starts → HasPlan z k → Plans z next.activity next
   taken_on rows k next (wants_more m o y) f p = seek_on rows k next y p
   taken_on rows k next (has_enough o) f p = record { kept = λ x. p.kept; starts = λ x. p.starts; few = λ x. f }
@@ -89,6 +93,11 @@ module _ (z : Sizes) where
   plans_built v choice l a k (first_is_taken q rows next f n y) o p = seek_on rows (seeking q l) k y (record { kept = p.kept tt; starts = p.starts tt })
   plans_built v choice l a k (sought_is_free e) o p = record { kept = p.kept; starts = p.starts; few = λ x. absurd x }
   plans_built v choice l a k (sought_is_taken rows next n y) o p = seek_on rows l k y (has_plan z a l tt p)
+  plans_built v choice l a k (first_is_retired q m f e u) o p = record { kept = p.kept; starts = p.starts; few = λ x. absurd x }
+  plans_built v choice l a k (sought_is_retired m e u) o p = record { kept = p.kept; starts = p.starts; few = λ x. absurd x }
+  plans_built v choice l a k (pass_is_old j epoch rows next e u y) o p = seek_on rows l k y (has_plan z a l tt p)
+  plans_built v choice l a k (pass_is_young j next y n) o p = pass_on (j + 1) l k n (has_plan z a l tt p)
+  plans_built v choice l a k frees_row o p = record { kept = p.kept; starts = p.starts; few = λ x. absurd x }
   plans_built v choice l a k (takes_row rows next e y) o p = taken_on rows (with_row l) k y (omega (arith, o tt, length-append l.rebalance.taken (l.rebalance.sought ∷ []))) (record { kept = p.kept tt; starts = p.starts tt })
   plans_built v choice l a k (loses_row rows next d y) o p = seek_on rows l k y (has_plan z a l tt p)
   plans_built v choice l a k (gives_one_back n) o p = record { kept = p.kept; starts = p.starts; few = λ x. absurd x }

@@ -26,7 +26,7 @@ use Rattle.kw_rows.proofs.Kept.{kept}
 use Rattle.kw_rows.proofs.Named.{held_by}
 use Rattle.kw_rows.proofs.Views.{may_freeze, may_mark}
 use Rattle.kw_world.specs.declared.activity.Activity.{Activity}
-use Rattle.kw_world.specs.declared.activity.Activity.TheVariants.{Enter, PutAdd, Leave, Again, BalNormal, Engage, MarkLink, Decide, FreezeCount, TakeRow, GiveBack, WriteCount, WriteMin, WriteNext, WriteFirst, WritePend, WriteKey, WriteValue, WriteVersion, WriteAfter, Replace, Normalise, Number, Retire}
+use Rattle.kw_world.specs.declared.activity.Activity.TheVariants.{Enter, PutAdd, Leave, Again, BalNormal, Engage, MarkLink, Decide, FreezeCount, Reclaim, TakeRow, GiveBack, WriteCount, WriteMin, WriteNext, WriteFirst, WritePend, WriteKey, WriteValue, WriteVersion, WriteAfter, Replace, Normalise, Number, Retire}
 use Rattle.kw_world.specs.declared.answer.Answer.{Answer}
 use Rattle.kw_world.specs.declared.event.Choice.{Choice}
 use Rattle.kw_world.specs.declared.local.Local.{Local}
@@ -43,12 +43,12 @@ use Rattle.kw_core.proofs.Fates.{ChangesFate, DrawsNumber, fate_stays, numbers_s
 use Rattle.kw_core.proofs.FreezeFrame.{freezes_given}
 use Rattle.kw_core.proofs.Happens.{Happens, chosen, exchanged, log_entry, not_exchanged}
 use Rattle.kw_core.proofs.InfantFrames.{ChangesCount, ChangesHead, ChangesLeast, ChangesNext, ChangesState, head_stays}
-use Rattle.kw_shape.proofs.BuildEvents.{count_word, giving_back, least_word, ledger_kept, links_kept, making_normal, next_word, numbering, retiring, sets_state, state_kept, states_still, taking, word_says, writing}
+use Rattle.kw_shape.proofs.BuildEvents.{count_word, freeing, giving_back, least_word, ledger_kept, links_kept, making_normal, next_word, numbering, retiring, sets_state, state_kept, states_still, taking, word_says, writing}
 use Rattle.kw_shape.proofs.MayReplace.{may_replace}
 use Rattle.kw_shape.proofs.InfantsFit.{row_link}
 use Rattle.kw_shape.proofs.InfantsStay.{infant_at}
 pub use Rattle.kw_shape.proofs.LinkedRows.{balance_at}
-use Rattle.kw_shape.proofs.LinkedRows.{fresh_linked, hand_infant, linked_keeps}
+use Rattle.kw_shape.proofs.LinkedRows.{all_young, fresh_linked, hand_infant, linked_keeps}
 use Rattle.kw_shape.proofs.RelyRows.{RelyRows}
 use Rattle.kw_shape.proofs.ReplaceEvent.{replace_event}
 use Rattle.kw_shape.specs.Balances.{Balances}
@@ -255,6 +255,7 @@ module _ {z : Sizes} {r r' : Run} {s : ℕ} {choice : Choice} {l l' : Local} whe
   row_event (Decide count) h i = deciding count h i
   row_event FreezeCount h i = freezes l.row (freezing h i)
   row_event TakeRow h i = taking h i.sane i.rows.states
+  row_event Reclaim h i = freeing h i.sane i.rows.states (i.sane.locals s l h.knows).ranges.rebalance.number (all_young h i)
   row_event GiveBack h i = giving_back h i.sane (hand_infant GiveBack h i tt)
   row_event WriteCount h i = writing WriteCount tt h i.sane (hand_infant WriteCount h i tt)
   row_event WriteMin h i = writing WriteMin tt h i.sane (hand_infant WriteMin h i tt)

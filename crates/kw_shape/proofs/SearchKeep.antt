@@ -19,8 +19,8 @@ use Rattle.kw_world.specs.ReplaceTransitions.{replaced_link}
 use Rattle.kw_world.specs.Sizes.{Sizes}
 use Rattle.kw_world.specs.Transition.{row_linked, row_or_first}
 use Rattle.kw_core.specs.Words.{Words, least_in, next_in}
-use Rattle.kw_core.proofs.Building.{Building, first_is_free, first_is_taken, sought_is_free, sought_is_taken, takes_row, loses_row, gives_one_back, gives_last_back, writes_count, writes_least, writes_link, writes_first, writes_entry, writes_key, writes_value, writes_version, writes_after, begins_before, guesses_before, guess_before_fails, before_serves, before_is_above, takes_head_before, leads_to_full, leads_on_marked, leads_to_other, leads_nowhere, walks_before, walks_past, replaces_row, is_marked_before, is_replaced, makes_normal, makes_last_normal, draws_number, retires_row, marked_link}
-use Rattle.kw_core.proofs.NextBuilt.{GivenBack, is_refused_rows, moves_left, tries_again, NextBack, gives_back, has_none, NextSeek, asks, has_asked, NextTaken, has_enough, wants_more, NextNewCell, empties, fills, has_cells, NextNewEntry, has_entries, writes_idle, NextNewRow, has_written, writes_row, NextBefore, is_behind, is_first}
+use Rattle.kw_core.proofs.Building.{Building, first_is_free, first_is_retired, first_is_taken, sought_is_free, sought_is_retired, sought_is_taken, pass_is_old, pass_is_young, frees_row, takes_row, loses_row, gives_one_back, gives_last_back, writes_count, writes_least, writes_link, writes_first, writes_entry, writes_key, writes_value, writes_version, writes_after, begins_before, guesses_before, guess_before_fails, before_serves, before_is_above, takes_head_before, leads_to_full, leads_on_marked, leads_to_other, leads_nowhere, walks_before, walks_past, replaces_row, is_marked_before, is_replaced, makes_normal, makes_last_normal, draws_number, retires_row, marked_link}
+use Rattle.kw_core.proofs.NextBuilt.{GivenBack, is_refused_rows, moves_left, tries_again, NextBack, gives_back, has_none, NextPass, has_looked, looks_on, NextSeek, asks, has_asked, NextTaken, has_enough, wants_more, NextNewCell, empties, fills, has_cells, NextNewEntry, has_entries, writes_idle, NextNewRow, has_written, writes_row, NextBefore, is_behind, is_first}
 use Rattle.kw_shape.specs.RowsIn.{rows_in, state_met}
 use Rattle.kw_shape.specs.Search.{HasBefore, HasMetNext, IsLeft, IsMeasured, IsSearching, Search}
 
@@ -52,6 +52,10 @@ module _ (v : Words) (g : Ledger) (t : ℕ) where
   seek_on : (rows : ℕ) (k next : Local) → NextSeek rows k next → Search v g t next.activity next
   seek_on rows k next (asks o) = elsewhere _ _ (λ x. x) (λ x. x) (λ x. x) (λ x. x)
   seek_on rows k next (has_asked m o y) = back_on Refuse k next (λ e. cc) y
+
+  pass_on : (z : Sizes) (i : ℕ) (k next : Local) → NextPass z i k next → Search v g t next.activity next
+  pass_on z i k next (looks_on o) = elsewhere _ _ (λ x. x) (λ x. x) (λ x. x) (λ x. x)
+  pass_on z i k next (has_looked o) = elsewhere _ _ (λ x. x) (λ x. x) (λ x. x) (λ x. x)
 
   taken_on : (rows : ℕ) (k next : Local) → NextTaken rows k next → Search v g t next.activity next
   taken_on rows k next (wants_more m o y) = seek_on rows k next y
@@ -113,6 +117,11 @@ module _ (v : Words) (g : Ledger) (t now : ℕ) (i : Structure (rows_in v) g now
   search_by z choice a k (first_is_taken q rows next f n y) head x = seek_on v g t rows _ next y
   search_by z choice a k (sought_is_free e) head x = elsewhere v g t _ _ (λ y. y) (λ y. y) (λ y. y) (λ y. y)
   search_by z choice a k (sought_is_taken rows next n y) head x = seek_on v g t rows _ next y
+  search_by z choice a k (first_is_retired q m c e f) head x = elsewhere v g t _ _ (λ y. y) (λ y. y) (λ y. y) (λ y. y)
+  search_by z choice a k (sought_is_retired m e f) head x = elsewhere v g t _ _ (λ y. y) (λ y. y) (λ y. y) (λ y. y)
+  search_by z choice a k (pass_is_old j epoch rows next e o y) head x = seek_on v g t rows _ next y
+  search_by z choice a k (pass_is_young j next o y) head x = pass_on v g t z _ l next y
+  search_by z choice a k frees_row head x = elsewhere v g t _ _ (λ y. y) (λ y. y) (λ y. y) (λ y. y)
   search_by z choice a k (takes_row rows next e y) head x = taken_on v g t rows _ next y
   search_by z choice a k (loses_row rows next d y) head x = seek_on v g t rows _ next y
   search_by z choice a k (gives_one_back o) head x = record { some = x.some; fresh = x.fresh; least = x.least; left = x.left; met = x.met }

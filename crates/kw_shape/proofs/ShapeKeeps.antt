@@ -2,7 +2,7 @@
 use Rattle.std.proofs.Common.{ℕ, ◌≡◌, ◌≢◌, ◌⊎◌, inl, inr, ◌+◌, ◌*◌, ◌<◌, ◌≤◌, true, false, Option, Some, None, arith, refl, sym, ◌∙◌, ap, subst, length, slice_get}
 use Rattle.kw_words.specs.declared.layout.Name.TheVariants as name
 use Rattle.kw_world.specs.declared.activity.Activity.{Activity}
-use Rattle.kw_world.specs.declared.activity.Activity.TheVariants.{Idle, Enter, ScanClock, PutCount, PutAdd, AgainEpoch, BalClock, FreezeCount, HelpDraw, ScanDraw, WriteCount, TakeRow, GiveBack, Replace}
+use Rattle.kw_world.specs.declared.activity.Activity.TheVariants.{Idle, Enter, ScanClock, PutCount, PutAdd, AgainEpoch, BalClock, FreezeCount, HelpDraw, ScanDraw, WriteCount, Reclaim, TakeRow, GiveBack, Replace}
 use Rattle.kw_world.specs.declared.local.Local.{Local}
 use Rattle.kw_world.specs.declared.event.Choice.{Choice}
 use Rattle.kw_world.specs.SeekTransitions.{infant}
@@ -29,12 +29,16 @@ use Rattle.kw_world.specs.Calls.{first_key, is_scan}
 use Rattle.kw_world.specs.Transition.{row_linked, row_or_first}
 use Rattle.kw_core.specs.Words.{Words, given_in}
 use Rattle.kw_rows.specs.Ledger.{Fate}
+use Rattle.kw_rows.specs.RowState.{IsEngaged}
 use Rattle.kw_shape.specs.Balances.{Balances}
 use Rattle.kw_shape.specs.Infants.{HasLostNone, Infants}
 use Rattle.kw_shape.specs.Passes.{Passes}
 use Rattle.kw_shape.specs.Plans.{Plans}
 use Rattle.kw_shape.specs.Search.{Search}
-use Rattle.kw_shape.specs.Won.{Won}
+use Rattle.kw_shape.specs.RowsIn.{rows_in}
+use Rattle.kw_shape.specs.Sought.{Sought}
+use Rattle.kw_shape.specs.Won.{HasWon, Won}
+use Rattle.kw_shape.proofs.SoughtKeep.{outside_stays, sought_other, sought_own, unretired_other, unretired_own}
 use Rattle.kw_shape.proofs.NoneLost.{none_lost_other, none_lost_own}
 use Rattle.kw_shape.proofs.NursedKeep.{infants_go, infants_other, search_go, search_other}
 use Rattle.kw_shape.proofs.WonKeep.{won_other, won_own}
@@ -71,6 +75,7 @@ use Rattle.kw_world.specs.WalkTransitions.{is_stop}
 use Rattle.kw_core.specs.Stages.{IsPassing, is_put}
 use Rattle.kw_shape.specs.Shape.{IsSomeCall, IsPutCall, IsReadCall, IsScanCall, IsAnswerOf, IsPairs}
 use Rattle.kw_core.proofs.BuiltNext.{built_goes, built_next}
+use Rattle.kw_core.proofs.BuiltReached.{built_reached, reusing_rebalances}
 use Rattle.kw_core.proofs.InfantFrames.{count_stays, count_written}
 use Rattle.kw_words.proofs.CountWords.{count_of-count_word}
 use Rattle.kw_world.specs.WriteTransitions.{infant_cells, infant_count}
@@ -301,7 +306,7 @@ kinds_cell z l next (scans_on q o y n w) k e = record { reached = tt; kind = som
 
 -- by the arrow that the seat takes
 kinds_by : (z : Sizes) (v : Words) (s : ℕ) (choice : Choice) (l : Local) (a : Activity) (l' : Local) → Arrow z v s choice l a l' → Kinds z a l → Kinds z l'.activity l'
-kinds_by z v s choice l a l' (builds b next y o t) k = let p = built_kinds z b l y k in let g = built_goes z v choice l b next t in after_kinds z next.activity next g.next p.0 (subst IsPutCall (sym g.call) p.1)
+kinds_by z v s choice l a l' (builds b next y o t) k = let p = built_kinds z b l y k in let g = built_goes z v choice l b next t in after_kinds z next.activity next g.next (built_reached z v choice l b next t o) (subst IsPutCall (sym g.call) p.1)
 kinds_by z v s choice l a l' (begins call e y) k = record { reached = tt; kind = tt; range = λ x. absurd x }
 kinds_by z v s choice l a l' (enters y) k = record { reached = tt; kind = k.kind; range = λ x. one_key l.call y }
 kinds_by z v s choice l a l' (enters_scan y) k = record { reached = tt; kind = scan_call l.call y; range = λ x. absurd x }
@@ -467,6 +472,7 @@ walks_other z r r' s choice l a l' h i t k d g = which (is_passing k.activity)
 module _ {z : Sizes} {r r' : Run} {s : ℕ} {choice : Choice} {l l' : Local} where
   -- no event acts on a row that the table does not have
   beyond_stays : (a : Activity) → Happens z r r' s choice l l' a → Shape z r → (q : ℕ) → r.world.rows ≤ q → r'.ledger.rows.fates q ≡ r.ledger.rows.fates q
+  beyond_stays Reclaim h i q o = fate_stays Reclaim h q (λ c. absurd (omega (arith, o, c, (i.sane.locals s l h.knows).below.rebalance.sought)))
   beyond_stays TakeRow h i q o = fate_stays TakeRow h q (λ c. absurd (omega (arith, o, c, (i.sane.locals s l h.knows).below.rebalance.sought)))
   beyond_stays GiveBack h i q o = fate_stays GiveBack h q (λ c. absurd (omega (arith, o, c, taken_below z r.world s l i.sane h.knows l.rebalance.at (infant l) (infant_at l ((infants_at GiveBack h i).hand tt)))))
   beyond_stays Replace h i q o = fate_stays Replace h q acts
@@ -484,6 +490,7 @@ still_keeps z r r' s choice l a l' h i n q = which (i.still n q)
     status = ap (λ (x : Fate). x.status) (same a h)
       where
         same : (c : Activity) → Happens z r r' s choice l l' c → r'.ledger.rows.fates q ≡ r.ledger.rows.fates q
+        same Reclaim k = absurd (n (reusing_rebalances z.form k.reached))
         same TakeRow k = absurd (n k.reached)
         same GiveBack k = absurd (n k.reached)
         same Replace k = absurd (n k.reached)
@@ -507,6 +514,7 @@ shape_keeps z r r' s choice l a l' h i = record {
   numbers = numbers_keep z r r' s choice l a l' h i;
   kinds = each_seat h (λ t k. Kinds z k.activity k) (kinds_own z r r' s choice l a l' h.arrow h i) (λ t k d g. i.kinds t k g);
   passes = each_seat h (λ t k. Passes (word z r'.world) r'.ledger.rows t k.activity k) (passes_own z r r' s choice l a l' h.arrow h i) (passes_other z r r' s choice l a l' h i);
+  outside = outside_stays a h i;
   walks = each_seat h (λ t k. Walks (word z r'.world) r'.ledger.rows t k.activity k) (walks_own z r r' s choice l a l' h.arrow h i) (walks_other z r r' s choice l a l' h i);
   balances = each_seat h (λ t k. Balances (word z r'.world) r'.ledger.rows t k.activity k) (balances_own z r r' s choice l a l' h.arrow h i) (balances_other z r r' s choice l a l' h i);
   keys = each_seat h (λ t k. Keys (word z r'.world) r'.ledger.rows k.activity k) (keys_own a h i sane) (λ t k d g. keys_stay a h i t k g);
@@ -515,6 +523,8 @@ shape_keeps z r r' s choice l a l' h i = record {
   none_lost = each_seat h (λ t k. HasLostNone r'.ledger.rows t k.activity k) (none_lost_own a l' h.arrow h i) (none_lost_other a h i);
   search = each_seat h (λ t k. Search (word z r'.world) r'.ledger.rows t k.activity k) (search_go a h.arrow h i) (search_other a h i);
   won = each_seat h (λ t k. Won r'.ledger.rows t k.activity k) (won_own a h.arrow h i) (won_other a h i);
+  sought = each_seat h (λ t k. Sought z (word z r'.world) r'.ledger.rows t k.activity k) (sought_own a h.arrow h i) (sought_other a h i);
+  unretired = each_seat h (λ t k. HasWon k.activity → IsEngaged ((rows_in (word z r'.world)).state k.row)) (unretired_own a h.arrow h i) (unretired_other a h i);
 }
   where
     sane : IsSane z r'.world

@@ -29,6 +29,7 @@ use Rattle.kw_core.specs.Run.{start}
 use Rattle.kw_core.proofs.Beyond.{beyond}
 use Rattle.kw_rows.specs.Ledger.{Free, Infant, Live, Dead, IsDead, IsHeld, IsLive}
 use Rattle.kw_rows.specs.RowState as row
+use Rattle.kw_rows.specs.RowState.{IsEngaged}
 use Rattle.kw_rows.specs.Rows.{Chain, bound}
 use Rattle.kw_rows.specs.States.{IsLiveState, Marks, States}
 use Rattle.kw_rows.specs.Structure.{Structure}
@@ -37,7 +38,9 @@ use Rattle.kw_shape.specs.RowsIn.{has_frozen, has_mark, rows_in, state_met}
 use Rattle.kw_shape.specs.Balances.{Balances}
 use Rattle.kw_shape.specs.Infants.{HasLostNone, Infants}
 use Rattle.kw_shape.specs.Search.{Search}
-use Rattle.kw_shape.specs.Won.{Won}
+use Rattle.kw_shape.specs.Sought.{Sought}
+use Rattle.kw_shape.specs.Won.{HasWon, Won}
+use Rattle.kw_shape.proofs.SoughtKeep.{unsought}
 use Rattle.kw_shape.proofs.Comings.{unbuilt_search}
 use Rattle.kw_shape.proofs.InfantsKeep.{nowhere}
 use Rattle.kw_shape.proofs.WonKeep.{unwon}
@@ -243,6 +246,9 @@ module _ (z : Sizes) (o : Opening) (i : IsOpening z o) where
     numbers = record { below = λ m at e. let x : None ≡ Some at = e in absurd (cc); rises = λ m n x y e f. let u : None ≡ Some x = e in absurd (cc) };
     kinds = each_rests z o (λ t l. Kinds z l.activity l) (λ t. record { reached = tt; kind = tt; range = λ x. absurd x });
     passes = λ t l g. each_rests z o (λ t l. t < z.seats → Passes (word z (opened z o)) (ledger_at_first o).rows t l.activity l) passes_start t l g (omega (arith, slice_get_within (opened z o).locals t l g, (opened-sane z o i).seats));
+    outside = λ t w. refl;
+    sought = each_rests z o (λ t l. Sought z (word z (opened z o)) (ledger_at_first o).rows t l.activity l) (λ t. unsought z (word z (opened z o)) (ledger_at_first o).rows t Idle (resting 0) (λ x. x, λ x. x));
+    unretired = each_rests z o (λ t l. HasWon l.activity → IsEngaged ((rows_in (word z (opened z o))).state l.row)) (λ t x. absurd x);
     walks = each_rests z o (λ t l. Walks (word z (opened z o)) (ledger_at_first o).rows t l.activity l) (λ t. walks_outside (word z (opened z o)) (ledger_at_first o).rows t Idle (resting 0) (λ x. x));
     balances = each_rests z o (λ t l. Balances (word z (opened z o)) (ledger_at_first o).rows t l.activity l) (λ t. outside (word z (opened z o)) (ledger_at_first o).rows t Idle (resting 0) (λ x. x) tt);
   }

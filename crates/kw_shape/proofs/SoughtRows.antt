@@ -1,25 +1,27 @@
 -- A seat that takes new rows asks rows of the table alone, and no more than all.
-use Rattle.std.proofs.Common.{ℕ, ◌≡◌, ◌+◌, ◌<◌, ◌==◌, Bool, true, false, nat_lt, if◌then◌else◌, Option, Some, None, arith, refl, sym, subst}
+use Rattle.std.proofs.Common.{ℕ, ◌≡◌, ◌+◌, ◌<◌, ◌==◌, Bool, true, false, nat_lt, nat_le, if◌then◌else◌, Option, Some, None, arith, refl, sym, subst}
 use Rattle.std.proofs.lemmas.Bool.Decides.{nat_tests}
 use Rattle.kw_words.specs.declared.layout.Name.TheVariants as name
 use Rattle.kw_words.specs.declared.state.State.{State}
 use Rattle.kw_words.specs.declared.state.State.TheVariants.{Free, Infant, Normal, Leader, Follower, Retired}
+use Rattle.kw_words.specs.Plain.{pass_of_word}
 use Rattle.kw_words.specs.State.{state_of, state_word}
 use Rattle.kw_world.specs.declared.activity.Activity.{Activity}
-use Rattle.kw_world.specs.declared.activity.Activity.TheVariants.{SeekFirst, Seek, TakeRow}
+use Rattle.kw_world.specs.declared.activity.Activity.TheVariants.{SeekFirst, Seek, SeekPass, Reclaim, TakeRow}
 use Rattle.kw_world.specs.declared.event.Choice.{Choice}
 use Rattle.kw_world.specs.declared.event.Choice.TheVariants.{Begin, Go, Guess, Stop}
 use Rattle.kw_world.specs.declared.local.Local.{Local}
 use Rattle.kw_world.specs.declared.rebalance.Afterwards.{Afterwards}
 use Rattle.kw_world.specs.Sane.{IsOffered, IsTakingRows, IsSane}
-use Rattle.kw_world.specs.SeekTransitions.{row_behind, seek_first_transition, seek_met, take_row, with_row}
-use Rattle.kw_world.specs.Sizes.{Sizes}
+use Rattle.kw_world.specs.SeekTransitions.{row_behind, pass_met, retired_at, seek_first_transition, seek_met, take_row, to_pass, to_seek, with_row}
+use Rattle.kw_world.specs.Sizes.{Sizes, Form, Refused, Alone, Reused}
 use Rattle.kw_world.specs.Step.{word}
+use Rattle.kw_world.specs.Transition.{Outcome}
 use Rattle.kw_core.specs.Run.{Run}
 use Rattle.kw_core.specs.Words.{Words}
-use Rattle.kw_core.proofs.Building.{Building, IsBuilding, first_is_free, first_is_taken, sought_is_free, sought_is_taken, takes_row, loses_row, gives_last_back, writes_first, writes_entry, writes_after, begins_before, takes_head_before, leads_on_marked, leads_nowhere, walks_past, is_marked_before, is_replaced, retires_row, building}
+use Rattle.kw_core.proofs.Building.{Building, IsBuilding, first_is_free, first_is_taken, sought_is_free, sought_is_taken, first_is_retired, sought_is_retired, pass_is_old, pass_is_young, frees_row, takes_row, loses_row, gives_last_back, writes_first, writes_entry, writes_after, begins_before, takes_head_before, leads_on_marked, leads_nowhere, walks_past, is_marked_before, is_replaced, retires_row, building}
 use Rattle.kw_core.proofs.Happens.{Happens}
-use Rattle.kw_core.proofs.NextBuilt.{GivenBack, tries_again, is_refused_rows, moves_left, NextBack, gives_back, has_none, NextSeek, asks, has_asked, NextTaken, wants_more, has_enough, NextNewRow, writes_row, has_written, NextNewCell, fills, empties, has_cells, NextNewEntry, writes_idle, has_entries, NextBefore, is_first, is_behind, next_seek, next_taken}
+use Rattle.kw_core.proofs.NextBuilt.{GivenBack, tries_again, is_refused_rows, moves_left, NextBack, gives_back, has_none, NextSeek, asks, has_asked, NextPass, looks_on, has_looked, NextTaken, wants_more, has_enough, NextNewRow, writes_row, has_written, NextNewCell, fills, empties, has_cells, NextNewEntry, writes_idle, has_entries, NextBefore, is_first, is_behind, next_pass, next_seek, next_taken}
 use Rattle.kw_shape.proofs.Known.{IsSoughtIn}
 
 module _ (rows : ℕ) (some : 0 < rows) where
@@ -44,6 +46,10 @@ module _ (rows : ℕ) (some : 0 < rows) where
   seek_sought : (l k : Local) → NextSeek rows l k → IsSoughtIn rows l → IsSoughtIn rows k
   seek_sought l k (asks o) i = record { sought = behind_below l.rebalance.sought; asked = omega (arith, o) }
   seek_sought l k (has_asked next o n) i = back_sought _ l next n i
+
+  pass_sought : (z : Sizes) (j : ℕ) (l k : Local) → NextPass z j l k → IsSoughtIn rows l → IsSoughtIn rows k
+  pass_sought z j l k (looks_on o) i = assumption i
+  pass_sought z j l k (has_looked o) i = assumption i
 
   taken_sought : (l k : Local) → NextTaken rows l k → IsSoughtIn rows l → IsSoughtIn rows k
   taken_sought l k (wants_more next o n) i = seek_sought l next n i
@@ -72,6 +78,11 @@ module _ (rows : ℕ) (some : 0 < rows) where
   kept_sought z v choice l a k (first_is_taken q r next c d y) n i = absurd (n tt)
   kept_sought z v choice l a k (sought_is_free e) n i = absurd (n tt)
   kept_sought z v choice l a k (sought_is_taken r next d y) n i = absurd (n tt)
+  kept_sought z v choice l a k (first_is_retired q m c e f) n i = absurd (n tt)
+  kept_sought z v choice l a k (sought_is_retired m e f) n i = absurd (n tt)
+  kept_sought z v choice l a k (pass_is_old j epoch r next e o y) n i = absurd (n tt)
+  kept_sought z v choice l a k (pass_is_young j next y o) n i = absurd (n tt)
+  kept_sought z v choice l a k frees_row n i = absurd (n tt)
   kept_sought z v choice l a k (takes_row r next e y) n i = absurd (n tt)
   kept_sought z v choice l a k (loses_row r next d y) n i = absurd (n tt)
   kept_sought z v choice l a k (gives_last_back next o y) n i = given_sought _ l next y
@@ -89,20 +100,34 @@ module _ (rows : ℕ) (some : 0 < rows) where
   kept_sought z v choice l a k _ n i = assumption i
 
   -- a search that meets a state
-  met_sought : (x : Option State) (l : Local) → IsSoughtIn rows l → IsSoughtIn rows (seek_met rows x l).local
-  met_sought (Some Free) l i = assumption i
-  met_sought (Some (Infant seat)) l i = seek_sought l _ (next_seek rows l) i
-  met_sought (Some Normal) l i = seek_sought l _ (next_seek rows l) i
-  met_sought (Some (Leader count)) l i = seek_sought l _ (next_seek rows l) i
-  met_sought (Some (Follower leader)) l i = seek_sought l _ (next_seek rows l) i
-  met_sought (Some (Retired number)) l i = seek_sought l _ (next_seek rows l) i
-  met_sought None l i = seek_sought l _ (next_seek rows l) i
+  retired_sought : (f : Form) (m : ℕ) (l : Local) → IsSoughtIn rows l → IsSoughtIn rows (retired_at f rows m l).local
+  retired_sought Refused m l i = assumption i
+  retired_sought Alone m l i = seek_sought l _ (next_seek rows l) i
+  retired_sought Reused m l i = assumption i
 
-  first_sought : (choice : Choice) (l : Local) (w : ℕ) → IsOffered rows choice → IsSoughtIn rows l → IsSoughtIn rows ((seek_first_transition choice l).next rows w).local
-  first_sought (Begin call) l w o i = met_sought (state_of w) l i
-  first_sought Go l w o i = met_sought (state_of w) l i
-  first_sought (Guess q) l w o i = met_sought (state_of w) _ (record { sought = o; asked = i.asked })
-  first_sought Stop l w o i = met_sought (state_of w) l i
+  met_sought : (f : Form) (x : Option State) (l : Local) → IsSoughtIn rows l → IsSoughtIn rows (seek_met f rows x l).local
+  met_sought f (Some Free) l i = assumption i
+  met_sought f (Some (Infant seat)) l i = seek_sought l _ (next_seek rows l) i
+  met_sought f (Some Normal) l i = seek_sought l _ (next_seek rows l) i
+  met_sought f (Some (Leader count)) l i = seek_sought l _ (next_seek rows l) i
+  met_sought f (Some (Follower leader)) l i = seek_sought l _ (next_seek rows l) i
+  met_sought f (Some (Retired number)) l i = retired_sought f number l i
+  met_sought f None l i = seek_sought l _ (next_seek rows l) i
+
+  first_sought : (f : Form) (choice : Choice) (l : Local) (w : ℕ) → IsOffered rows choice → IsSoughtIn rows l → IsSoughtIn rows ((seek_first_transition f choice l).next rows w).local
+  first_sought f (Begin call) l w o i = met_sought f (state_of w) l i
+  first_sought f Go l w o i = met_sought f (state_of w) l i
+  first_sought f (Guess q) l w o i = met_sought f (state_of w) _ (record { sought = o; asked = i.asked })
+  first_sought f Stop l w o i = met_sought f (state_of w) l i
+
+  -- one that meets a pass
+  passed_sought : (z : Sizes) (j : ℕ) (x : Option ℕ) (l : Local) → IsSoughtIn rows l → IsSoughtIn rows (pass_met z j rows x l).local
+  passed_sought z j (Some epoch) l i = which (nat_le epoch l.rebalance.number)
+    where
+      which : (b : Bool) → IsSoughtIn rows (let x : Outcome = if b then to_seek rows l else to_pass z (j + 1) l in x).local
+      which true = seek_sought l _ (next_seek rows l) i
+      which false = pass_sought z (j + 1) l _ (next_pass z (j + 1) l) i
+  passed_sought z j None l i = pass_sought z (j + 1) l _ (next_pass z (j + 1) l) i
 
   -- one that finds its row free, or not
   take_sought : (b : Bool) (l : Local) → IsSoughtIn rows l → IsSoughtIn rows (take_row rows b l).local
@@ -120,7 +145,9 @@ sought_in {z} {r} {r'} {s} {choice} {l} {l'} a b h sane = by a h b
     now = let k = (sane.locals s l h.knows).below.rebalance in record { sought = k.sought; asked = k.asked }
 
     by : (a : Activity) → Happens z r r' s choice l l' a → IsBuilding a → IsSoughtIn r.world.rows l'
-    by SeekFirst h b = subst (IsSoughtIn r.world.rows) (sym h.next) (first_sought r.world.rows some choice l _ h.offers now)
-    by Seek h b = subst (IsSoughtIn r.world.rows) (sym h.next) (met_sought r.world.rows some (state_of (word z r.world (name.State l.rebalance.sought))) l now)
+    by SeekFirst h b = subst (IsSoughtIn r.world.rows) (sym h.next) (first_sought r.world.rows some z.form choice l _ h.offers now)
+    by Seek h b = subst (IsSoughtIn r.world.rows) (sym h.next) (met_sought r.world.rows some z.form (state_of (word z r.world (name.State l.rebalance.sought))) l now)
+    by (SeekPass i) h b = subst (IsSoughtIn r.world.rows) (sym h.next) (passed_sought r.world.rows some z i (pass_of_word (word z r.world (name.Pass i))) l now)
+    by Reclaim h b = subst (IsSoughtIn r.world.rows) (sym h.next) (assumption now)
     by TakeRow h b = subst (IsSoughtIn r.world.rows) (sym h.next) (take_sought r.world.rows some (word z r.world (name.State l.rebalance.sought) == state_word Free) l now)
     by a h b = subst (IsSoughtIn r.world.rows) (sym h.next) (kept_sought r.world.rows some z (word z r.world) choice l a _ (building z r.world.rows (word z r.world) s choice l a b) (λ t. t) now)

@@ -1,14 +1,15 @@
 -- What a seat knows once it has replaced its full row, and where it moves when it finds the row before its full one marked.
-use Rattle.std.proofs.Common.{ℕ, zero, suc, ◌≡◌, ◌≢◌, inl, inr, ◌+◌, false, true, List, [], ◌∷◌, Option, Some, None, arith, refl, sym, ◌∙◌, ap, subst, length, slice_get}
+use Rattle.std.proofs.Common.{ℕ, zero, suc, ◌≡◌, ◌≢◌, ◌⊎◌, inl, inr, ◌+◌, ◌<◌, false, true, List, [], ◌∷◌, Option, Some, None, arith, refl, sym, ◌∙◌, ap, subst, length, slice_get}
 use Rattle.std.proofs.lemmas.Option.{same_Some}
 use Rattle.kw_words.specs.declared.layout.Name.TheVariants as name
 use Rattle.kw_words.specs.declared.link.Link.{Link}
 use Rattle.kw_words.specs.Link.{link_of, link_word}
 use Rattle.kw_words.proofs.LinkWords.{link_word_of}
 use Rattle.kw_rows.specs.Events.{IsIn}
-use Rattle.kw_rows.specs.Ledger.{Fate, IsDead, IsFresh, Ledger}
+use Rattle.kw_rows.specs.Ledger.{Fate, IsDead, IsFresh, IsHeld, Ledger}
 use Rattle.kw_rows.specs.Rows.{WasLinked}
 use Rattle.kw_rows.specs.States.{IsNumbered}
+use Rattle.kw_rows.proofs.Named.{held_by}
 use Rattle.kw_world.specs.declared.activity.Activity.{Activity}
 use Rattle.kw_world.specs.declared.activity.Activity.TheVariants.{BalClock, Normalise, Number, Replace, Retire}
 use Rattle.kw_world.specs.declared.event.Choice.{Choice}
@@ -17,21 +18,22 @@ use Rattle.kw_world.specs.declared.rebalance.Afterwards.{Afterwards}
 use Rattle.kw_world.specs.declared.rebalance.Afterwards.TheVariants.{TryAgain, Refuse, MoveLeft}
 use Rattle.kw_world.specs.ReplaceTransitions.{replaced_link}
 use Rattle.kw_world.specs.Sane.{IsHead}
+use Rattle.kw_world.specs.SeekTransitions.{at_infant}
 use Rattle.kw_world.specs.Sizes.{Sizes}
 use Rattle.kw_world.specs.Step.{word}
 use Rattle.kw_world.specs.Transition.{row_or_first}
 use Rattle.kw_world.specs.WriteTransitions.{unmarked_link}
 use Rattle.kw_core.specs.Run.{Run}
-use Rattle.kw_core.specs.Stages.{IsPassing}
+use Rattle.kw_core.specs.Stages.{IsBalancing, IsPassing}
 use Rattle.kw_core.specs.Words.{Words, least_in}
 use Rattle.kw_core.proofs.Arrows.{Arrow}
-use Rattle.kw_core.proofs.Building.{Building, first_is_taken, sought_is_taken, takes_row, loses_row, gives_last_back, writes_first, writes_entry, writes_after, begins_before, takes_head_before, leads_on_marked, leads_nowhere, walks_past, replaces_row, is_marked_before, is_replaced, makes_normal, makes_last_normal, draws_number, marked_link}
+use Rattle.kw_core.proofs.Building.{Building, first_is_taken, sought_is_taken, pass_is_old, pass_is_young, takes_row, loses_row, gives_last_back, writes_first, writes_entry, writes_after, begins_before, takes_head_before, leads_on_marked, leads_nowhere, walks_past, replaces_row, is_marked_before, is_replaced, makes_normal, makes_last_normal, draws_number, marked_link}
 use Rattle.kw_core.proofs.Fates.{fate_of_full, fate_of_new, number_of_drawn}
 use Rattle.kw_core.proofs.Happens.{Happens}
-use Rattle.kw_core.proofs.NextBuilt.{GivenBack, is_refused_rows, moves_left, tries_again, NextBack, gives_back, has_none, NextSeek, asks, has_asked, NextTaken, has_enough, wants_more, NextNewCell, empties, fills, has_cells, NextNewEntry, has_entries, writes_idle, NextNewRow, has_written, writes_row, NextBefore, is_behind, is_first}
+use Rattle.kw_core.proofs.NextBuilt.{GivenBack, is_refused_rows, moves_left, tries_again, NextBack, gives_back, has_none, NextPass, has_looked, looks_on, NextSeek, asks, has_asked, NextTaken, has_enough, wants_more, NextNewCell, empties, fills, has_cells, NextNewEntry, has_entries, writes_idle, NextNewRow, has_written, writes_row, NextBefore, is_behind, is_first}
 use Rattle.kw_shape.proofs.Comings.{Comes, comes, goes_on, seeks, stays_out, won_builds}
 use Rattle.kw_shape.proofs.InfantsRely.{linked_not_infant}
-use Rattle.kw_shape.proofs.LinkedRows.{balance_at, fresh_linked, infants_at, linked_keeps}
+use Rattle.kw_shape.proofs.LinkedRows.{balance_at, fresh_linked, held_dead, infants_at, linked_keeps}
 use Rattle.kw_shape.proofs.OwnRows.{own_rely}
 use Rattle.kw_shape.proofs.PassesKeep.{old_number}
 use Rattle.kw_shape.proofs.RowsKeep.{others_kept, rely_rows, won_at}
@@ -64,6 +66,10 @@ back_plain c k next n (has_none m o y) = given_plain c k next n y
 seek_plain : (rows : ℕ) (k next : Local) → NextSeek rows k next → IsPlain next.activity
 seek_plain rows k next (asks o) = (λ x. x, λ x. x)
 seek_plain rows k next (has_asked m o y) = back_plain Refuse k next (λ e. cc) y
+
+pass_plain : (z : Sizes) (i : ℕ) (k next : Local) → NextPass z i k next → IsPlain next.activity
+pass_plain z i k next (looks_on o) = (λ x. x, λ x. x)
+pass_plain z i k next (has_looked o) = (λ x. x, λ x. x)
 
 taken_plain : (rows : ℕ) (k next : Local) → NextTaken rows k next → IsPlain next.activity
 taken_plain rows k next (wants_more m o y) = seek_plain rows k next y
@@ -128,6 +134,8 @@ module _ (v : Words) (g : Ledger) (t : ℕ) (l : Local) where
       by : {c : Activity} {m : Local} → Building z v choice l c m → Search v g t c l → IsClock m.activity → Moves v g t m
       by (first_is_taken q rows next f n y) s x = absurd ((seek_plain rows _ next y).0 x)
       by (sought_is_taken rows next n y) s x = absurd ((seek_plain rows _ next y).0 x)
+      by (pass_is_old i epoch rows next f o y) s x = absurd ((seek_plain rows _ next y).0 x)
+      by (pass_is_young i next o y) s x = absurd ((pass_plain z _ l next y).0 x)
       by (takes_row rows next f y) s x = absurd ((taken_plain rows _ next y).0 x)
       by (loses_row rows next d y) s x = absurd ((seek_plain rows _ next y).0 x)
       by (gives_last_back next o y) s x = given_moves l.rebalance.afterwards refl next y x (λ f. let p = s.some f in arrives p.0 p.1 (s.fresh p.0 f p.1) (s.least p.0 f p.1) next (subst (λ c. GivenBack l c next) f y))
@@ -167,6 +175,13 @@ won_passes Number x = tt
 won_passes Retire x = tt
 won_passes _ x = absurd x
 
+-- it rebalances its row
+pub won_balances : (a : Activity) → HasWon a → IsBalancing a
+won_balances Normalise x = tt
+won_balances Number x = tt
+won_balances Retire x = tt
+won_balances _ x = absurd x
+
 -- elsewhere nothing
 pub unwon : (g : Ledger) (t : ℕ) (a : Activity) (k : Local) → (HasWon a → ⊥) → Won g t a k
 unwon g t a k n = record { hand = λ x. absurd (n (normal_won a x)); fresh = λ x. absurd (n (normal_won a x)); dead = λ x. absurd (n x); owner = λ x. absurd (n x); number = λ x. absurd (n (retire_won a x)) }
@@ -178,20 +193,59 @@ in_list [] (suc i) q e = let x : None ≡ Some q = e in absurd (cc)
 in_list (x ∷ xs) zero q e = inl (sym (same_Some x q e))
 in_list (x ∷ xs) (suc i) q e = inr (in_list xs i q e)
 
+-- a seat has replaced its row, or has not
+has_won : (a : Activity) → HasWon a ⊎ (HasWon a → ⊥)
+has_won Normalise = inl tt
+has_won Number = inl tt
+has_won Retire = inl tt
+has_won _ = inr (λ x. x)
+
+-- how it comes to that: it does so now, or it goes on from there
+pub data WonBy (v : Words) (l : Local) : Activity → Local → Type 0 where
+  wins_now : link_of (v (replaced_link l.rebalance.before)) ≡ Some (unmarked_link (Some l.row)) → WonBy v l Replace (record (at_infant 0 l) { activity = Normalise })
+  has_next : l.rebalance.at + 1 < length l.rebalance.taken → WonBy v l Normalise (record (at_infant (l.rebalance.at + 1) l) { activity = Normalise })
+  was_last : WonBy v l Normalise (record l { activity = Number })
+  has_number : WonBy v l Number (record l { rebalance = record l.rebalance { number = v name.Epoch }; activity = Retire })
+
+pub won_by : (z : Sizes) (v : Words) (choice : Choice) (l : Local) (a : Activity) (k : Local) → Building z v choice l a k → HasWon k.activity → WonBy v l a k
+won_by z v choice l a k (first_is_taken q rows next f n y) x = absurd ((seek_plain rows _ next y).1 x)
+won_by z v choice l a k (sought_is_taken rows next n y) x = absurd ((seek_plain rows _ next y).1 x)
+won_by z v choice l a k (pass_is_old j epoch rows next f o y) x = absurd ((seek_plain rows _ next y).1 x)
+won_by z v choice l a k (pass_is_young j next o y) x = absurd ((pass_plain z _ l next y).1 x)
+won_by z v choice l a k (takes_row rows next f y) x = absurd ((taken_plain rows _ next y).1 x)
+won_by z v choice l a k (loses_row rows next d y) x = absurd ((seek_plain rows _ next y).1 x)
+won_by z v choice l a k (gives_last_back next o y) x = absurd (given_unwon l.rebalance.afterwards l next y x)
+won_by z v choice l a k (writes_first next y) x = absurd ((entry_plain z 0 l next y).1 x)
+won_by z v choice l a k (writes_entry j next y) x = absurd ((entry_plain z (j + 1) l next y).1 x)
+won_by z v choice l a k (writes_after j next y) x = absurd ((cell_plain z (j + 1) l next y).1 x)
+won_by z v choice l a k (begins_before next y) x = absurd ((before_plain _ l next y).1 x)
+won_by z v choice l a k (takes_head_before next y) x = absurd ((before_plain _ l next y).1 x)
+won_by z v choice l a k (leads_on_marked next f y) x = absurd (back_unwon MoveLeft l next y x)
+won_by z v choice l a k (leads_nowhere next f y) x = absurd (back_unwon TryAgain l next y x)
+won_by z v choice l a k (walks_past next o y) x = absurd (back_unwon TryAgain l next y x)
+won_by z v choice l a k (is_marked_before next f y) x = absurd (back_unwon MoveLeft l next y x)
+won_by z v choice l a k (is_replaced next d y) x = absurd (back_unwon TryAgain l next y x)
+won_by z v choice l a k (replaces_row e) x = wins_now e
+won_by z v choice l a k (makes_normal o) x = has_next o
+won_by z v choice l a k (makes_last_normal o) x = was_last
+won_by z v choice l a k draws_number x = has_number
+won_by z v choice l a k _ x = absurd x
+
 module _ {z : Sizes} {r r' : Run} {s : ℕ} {choice : Choice} {l l' : Local} where
-  -- a dead row is as it was
-  dead_fate : (a : Activity) → Happens z r r' s choice l l' a → Shape z r → (q : ℕ) → IsDead r.ledger.rows q → r'.ledger.rows.fates q ≡ r.ledger.rows.fates q
-  dead_fate a h i q d = (linked_keeps a h i q (inr d)).dead d
+  -- a dead row that some seat may name is as it was
+  dead_fate : (a : Activity) → Happens z r r' s choice l l' a → Shape z r → (q : ℕ) → IsHeld r.ledger.rows q → IsDead r.ledger.rows q → r'.ledger.rows.fates q ≡ r.ledger.rows.fates q
+  dead_fate a h i q o d = held_dead _ _ r.ledger.rows r'.ledger.rows q o d (linked_keeps a h i q (inr d))
 
-  still_dead : (a : Activity) → Happens z r r' s choice l l' a → Shape z r → (q : ℕ) → IsDead r.ledger.rows q → IsDead r'.ledger.rows q
-  still_dead a h i q d = ap (λ (f : Fate). f.status) (dead_fate a h i q d) ∙ d
+  -- so it is dead still, and has the same owner
+  still_dead : (a : Activity) → Happens z r r' s choice l l' a → Shape z r → (q : ℕ) → IsHeld r.ledger.rows q → IsDead r.ledger.rows q → IsDead r'.ledger.rows q
+  still_dead a h i q o d = ap (λ (f : Fate). f.status) (dead_fate a h i q o d) ∙ d
 
-  still_owner : (a : Activity) → Happens z r r' s choice l l' a → Shape z r → (t q : ℕ) → IsDead r.ledger.rows q → (r.ledger.rows.fates q).owner ≡ t → (r'.ledger.rows.fates q).owner ≡ t
-  still_owner a h i t q d o = ap (λ (f : Fate). f.owner) (dead_fate a h i q d) ∙ o
+  still_owner : (a : Activity) → Happens z r r' s choice l l' a → Shape z r → (t q : ℕ) → IsHeld r.ledger.rows q → IsDead r.ledger.rows q → (r.ledger.rows.fates q).owner ≡ t → (r'.ledger.rows.fates q).owner ≡ t
+  still_owner a h i t q o d e = ap (λ (f : Fate). f.owner) (dead_fate a h i q o d) ∙ e
 
   -- a number that was drawn after it went is so still
-  still_numbered : (a : Activity) → Happens z r r' s choice l l' a → Shape z r → (q m : ℕ) → IsDead r.ledger.rows q → IsNumbered r.ledger.rows q m → IsNumbered r'.ledger.rows q m
-  still_numbered a h i q m d n = record { at = n.at; drawn = old_number a h m (i.numbers.below m n.at n.drawn) ∙ n.drawn; after = omega (arith, n.after, ap (λ (f : Fate). f.gone) (dead_fate a h i q d)) }
+  still_numbered : (a : Activity) → Happens z r r' s choice l l' a → Shape z r → (q m : ℕ) → IsHeld r.ledger.rows q → IsDead r.ledger.rows q → IsNumbered r.ledger.rows q m → IsNumbered r'.ledger.rows q m
+  still_numbered a h i q m o d n = record { at = n.at; drawn = old_number a h m (i.numbers.below m n.at n.drawn) ∙ n.drawn; after = omega (arith, n.after, ap (λ (f : Fate). f.gone) (dead_fate a h i q o d)) }
 
   -- the seat that replaces its row knows the new ones, and that its own is dead
   wins : Happens z r r' s choice l l' Replace → Shape z r → link_of (word z r.world (replaced_link l.rebalance.before)) ≡ Some (unmarked_link (Some l.row)) → (k : Local) → k.rebalance.taken ≡ l.rebalance.taken → k.rebalance.at ≡ 0 → k.row ≡ l.row → Won r'.ledger.rows s Normalise k
@@ -219,40 +273,27 @@ module _ {z : Sizes} {r r' : Run} {s : ℕ} {choice : Choice} {l l' : Local} whe
   still_fresh : Happens z r r' s choice l l' Normalise → Shape z r → (q : ℕ) → IsFresh r.ledger.rows s q → IsFresh r'.ledger.rows s q
   still_fresh h i q f = (own_rely z r r' s choice l Normalise l' h i tt (λ x. x)).fresh q f
 
-  -- by the event that the seat makes
-  won_built : (a : Activity) (k : Local) → Building z (word z r.world) choice l a k → Happens z r r' s choice l l' a → Shape z r → Won r'.ledger.rows s k.activity k
-  won_built a k (first_is_taken q rows next f n y) h i = unwon r'.ledger.rows s _ next ((seek_plain rows _ next y).1)
-  won_built a k (sought_is_taken rows next n y) h i = unwon r'.ledger.rows s _ next ((seek_plain rows _ next y).1)
-  won_built a k (takes_row rows next f y) h i = unwon r'.ledger.rows s _ next ((taken_plain rows _ next y).1)
-  won_built a k (loses_row rows next d y) h i = unwon r'.ledger.rows s _ next ((seek_plain rows _ next y).1)
-  won_built a k (gives_last_back next o y) h i = unwon r'.ledger.rows s _ next (given_unwon l.rebalance.afterwards l next y)
-  won_built a k (writes_first next y) h i = unwon r'.ledger.rows s _ next ((entry_plain z 0 l next y).1)
-  won_built a k (writes_entry j next y) h i = unwon r'.ledger.rows s _ next ((entry_plain z (j + 1) l next y).1)
-  won_built a k (writes_after j next y) h i = unwon r'.ledger.rows s _ next ((cell_plain z (j + 1) l next y).1)
-  won_built a k (begins_before next y) h i = unwon r'.ledger.rows s _ next ((before_plain _ l next y).1)
-  won_built a k (takes_head_before next y) h i = unwon r'.ledger.rows s _ next ((before_plain _ l next y).1)
-  won_built a k (leads_on_marked next f y) h i = unwon r'.ledger.rows s _ next (back_unwon MoveLeft l next y)
-  won_built a k (leads_nowhere next f y) h i = unwon r'.ledger.rows s _ next (back_unwon TryAgain l next y)
-  won_built a k (walks_past next o y) h i = unwon r'.ledger.rows s _ next (back_unwon TryAgain l next y)
-  won_built a k (is_marked_before next f y) h i = unwon r'.ledger.rows s _ next (back_unwon MoveLeft l next y)
-  won_built a k (is_replaced next d y) h i = unwon r'.ledger.rows s _ next (back_unwon TryAgain l next y)
-  won_built a k (replaces_row e) h i = wins h i e _ refl refl refl
-  won_built a k (makes_normal o) h i =
+  -- by the way that it came
+  knows_won : (a : Activity) (k : Local) → WonBy (word z r.world) l a k → Happens z r r' s choice l l' a → Shape z r → Won r'.ledger.rows s k.activity k
+  knows_won a k (wins_now e) h i = wins h i e _ refl refl refl
+  knows_won a k (has_next o) h i =
       let w = won_at Normalise h i in
-      record { hand = λ x. o; fresh = λ x j q f. still_fresh h i q (w.fresh tt j q f); dead = λ x. still_dead Normalise h i l.row (w.dead tt); owner = λ x. still_owner Normalise h i s l.row (w.dead tt) (w.owner tt); number = λ x. absurd x }
-  won_built a k (makes_last_normal o) h i =
+      let held = held_by r.ledger.rows s l.row ((balance_at Normalise h i).fresh tt) in
+      record { hand = λ x. o; fresh = λ x j q f. still_fresh h i q (w.fresh tt j q f); dead = λ x. still_dead Normalise h i l.row held (w.dead tt); owner = λ x. still_owner Normalise h i s l.row held (w.dead tt) (w.owner tt); number = λ x. absurd x }
+  knows_won a k was_last h i =
       let w = won_at Normalise h i in
-      record { hand = λ x. absurd x; fresh = λ x. absurd x; dead = λ x. still_dead Normalise h i l.row (w.dead tt); owner = λ x. still_owner Normalise h i s l.row (w.dead tt) (w.owner tt); number = λ x. absurd x }
-  won_built a k draws_number h i =
+      let held = held_by r.ledger.rows s l.row ((balance_at Normalise h i).fresh tt) in
+      record { hand = λ x. absurd x; fresh = λ x. absurd x; dead = λ x. still_dead Normalise h i l.row held (w.dead tt); owner = λ x. still_owner Normalise h i s l.row held (w.dead tt) (w.owner tt); number = λ x. absurd x }
+  knows_won a k has_number h i =
       let w = won_at Number h i in
+      let held = held_by r.ledger.rows s l.row ((balance_at Number h i).fresh tt) in
       record {
         hand = λ x. absurd x;
         fresh = λ x. absurd x;
-        dead = λ x. still_dead Number h i l.row (w.dead tt);
-        owner = λ x. still_owner Number h i s l.row (w.dead tt) (w.owner tt);
-        number = λ x. record { at = length r.history.log; drawn = number_of_drawn h; after = omega (arith, i.rows.past.gone l.row (w.dead tt), ap (λ (f : Fate). f.gone) (dead_fate Number h i l.row (w.dead tt))) };
+        dead = λ x. still_dead Number h i l.row held (w.dead tt);
+        owner = λ x. still_owner Number h i s l.row held (w.dead tt) (w.owner tt);
+        number = λ x. record { at = length r.history.log; drawn = number_of_drawn h; after = omega (arith, i.rows.past.gone l.row (w.dead tt), ap (λ (f : Fate). f.gone) (dead_fate Number h i l.row held (w.dead tt))) };
       }
-  won_built a k _ h i = unwon r'.ledger.rows s _ _ (λ x. x)
 
   -- so the acting seat knows what it should
   pub won_own : (a : Activity) → Arrow z (word z r.world) s choice l a l' → Happens z r r' s choice l l' a → Shape z r → Won r'.ledger.rows s l'.activity l'
@@ -261,17 +302,24 @@ module _ {z : Sizes} {r r' : Run} {s : ℕ} {choice : Choice} {l l' : Local} whe
       which : Comes z (word z r.world) choice l a l' → Won r'.ledger.rows s l'.activity l'
       which (stays_out n) = unwon r'.ledger.rows s l'.activity l' (λ x. n (won_builds l'.activity x))
       which (seeks e t) = unwon r'.ledger.rows s l'.activity l' (λ x. subst HasWon e x)
-      which (goes_on o t) = won_built a l' t h i
+      which (goes_on o t) = won (has_won l'.activity)
+        where
+          won : HasWon l'.activity ⊎ (HasWon l'.activity → ⊥) → Won r'.ledger.rows s l'.activity l'
+          won (inl x) = knows_won a l' (won_by z (word z r.world) choice l a l' t x) h i
+          won (inr n) = unwon r'.ledger.rows s l'.activity l' n
 
   -- and so does every other one
   pub won_other : (a : Activity) → Happens z r r' s choice l l' a → Shape z r → (t : ℕ) (k : Local) → t ≢ s → slice_get r.world.locals t ≡ Some k → Won r'.ledger.rows t k.activity k
   won_other a h i t k d g = record {
     hand = w.hand;
     fresh = λ x j q f. let p = (i.passes t k g).in_pass (won_passes k.activity (normal_won k.activity x)) in (rely_rows a h i t p.since p.passes (others_kept a h t d ∙ p.passes)).fresh q (w.fresh x j q f);
-    dead = λ x. still_dead a h i k.row (w.dead x);
-    owner = λ x. still_owner a h i t k.row (w.dead x) (w.owner x);
-    number = λ x. still_numbered a h i k.row k.rebalance.number (w.dead (retire_won k.activity x)) (w.number x);
+    dead = λ x. still_dead a h i k.row (held x) (w.dead x);
+    owner = λ x. still_owner a h i t k.row (held x) (w.dead x) (w.owner x);
+    number = λ x. let y = retire_won k.activity x in still_numbered a h i k.row k.rebalance.number (held y) (w.dead y) (w.number x);
   }
     where
       w : Won r.ledger.rows t k.activity k
       w = i.won t k g
+
+      held : HasWon k.activity → IsHeld r.ledger.rows k.row
+      held x = held_by r.ledger.rows t k.row ((i.balances t k g).fresh (won_balances k.activity x))

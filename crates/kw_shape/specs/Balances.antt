@@ -5,7 +5,7 @@
 -- others do, also when somebody else has replaced the row.
 use Rattle.std.specs.Prelude.{ℕ, ◌≡◌, true}
 use Rattle.kw_world.specs.declared.activity.Activity.{Activity}
-use Rattle.kw_world.specs.declared.activity.Activity.TheVariants.{MarkLink, Decide, FreezeCount, FreezeLook, Freeze, ScanLook, HelpDraw, HelpSettle, TakeFrom, TakeKey, TakeVersion, TakeValue, TakeRestKey, TakeRestValue, SeekFirst, Seek, TakeRow, GiveBack, WriteCount, WriteMin, WriteNext, WriteFirst, WritePend, WriteKey, WriteValue, WriteVersion, WriteAfter, Before, BeforeGuess, BeforeHead, BeforeLink, BeforeMin, Replace}
+use Rattle.kw_world.specs.declared.activity.Activity.TheVariants.{MarkLink, Decide, FreezeCount, FreezeLook, Freeze, ScanLook, HelpDraw, HelpSettle, TakeFrom, TakeKey, TakeVersion, TakeValue, TakeRestKey, TakeRestValue, SeekFirst, Seek, SeekPass, Reclaim, TakeRow, GiveBack, WriteCount, WriteMin, WriteNext, WriteFirst, WritePend, WriteKey, WriteValue, WriteVersion, WriteAfter, Before, BeforeGuess, BeforeHead, BeforeLink, BeforeMin, Replace}
 use Rattle.kw_world.specs.declared.local.Local.{Local}
 use Rattle.kw_core.specs.Stages.{IsBalancing}
 use Rattle.kw_core.specs.Words.{Words, least_in}
@@ -32,6 +32,8 @@ view_of TakeRestKey l = Alone l.row l.rebalance.after
 view_of TakeRestValue l = Alone l.row l.rebalance.after
 view_of SeekFirst l = Alone l.row l.rebalance.after
 view_of Seek l = Alone l.row l.rebalance.after
+view_of (SeekPass i) l = Alone l.row l.rebalance.after
+view_of Reclaim l = Alone l.row l.rebalance.after
 view_of TakeRow l = Alone l.row l.rebalance.after
 view_of GiveBack l = Alone l.row l.rebalance.after
 view_of WriteCount l = Alone l.row l.rebalance.after
@@ -66,6 +68,8 @@ HasFrozen TakeRestKey = Unit {0}
 HasFrozen TakeRestValue = Unit {0}
 HasFrozen SeekFirst = Unit {0}
 HasFrozen Seek = Unit {0}
+HasFrozen (SeekPass i) = Unit {0}
+HasFrozen Reclaim = Unit {0}
 HasFrozen TakeRow = Unit {0}
 HasFrozen GiveBack = Unit {0}
 HasFrozen WriteCount = Unit {0}

@@ -1,7 +1,7 @@
 -- How many numbers of retired rows the seats may still draw before they ask the epoch anew.
 use Rattle.std.specs.Prelude.{ℕ, ◌+◌, List, [], ◌∷◌}
 use Rattle.kw_world.specs.declared.activity.Activity.{Activity}
-use Rattle.kw_world.specs.declared.activity.Activity.TheVariants.{BalState, BalNormal, Engage, MarkLink, Decide, FreezeCount, FreezeLook, Freeze, ScanLook, HelpDraw, HelpSettle, TakeFrom, TakeKey, TakeVersion, TakeValue, TakeRestKey, TakeRestValue, SeekFirst, Seek, TakeRow, WriteCount, WriteMin, WriteNext, WriteFirst, WritePend, WriteKey, WriteValue, WriteVersion, WriteAfter, Before, BeforeGuess, BeforeHead, BeforeLink, BeforeMin, Replace, Normalise, Number}
+use Rattle.kw_world.specs.declared.activity.Activity.TheVariants.{BalState, BalNormal, Engage, MarkLink, Decide, FreezeCount, FreezeLook, Freeze, ScanLook, HelpDraw, HelpSettle, TakeFrom, TakeKey, TakeVersion, TakeValue, TakeRestKey, TakeRestValue, SeekFirst, Seek, SeekPass, Reclaim, TakeRow, WriteCount, WriteMin, WriteNext, WriteFirst, WritePend, WriteKey, WriteValue, WriteVersion, WriteAfter, Before, BeforeGuess, BeforeHead, BeforeLink, BeforeMin, Replace, Normalise, Number}
 use Rattle.kw_world.specs.declared.local.Local.{Local}
 
 abbrev pub numbering : Activity → ℕ
@@ -24,6 +24,8 @@ numbering TakeRestKey = 1
 numbering TakeRestValue = 1
 numbering SeekFirst = 1
 numbering Seek = 1
+numbering (SeekPass i) = 1
+numbering Reclaim = 1
 numbering TakeRow = 1
 numbering WriteCount = 1
 numbering WriteMin = 1

@@ -13,7 +13,7 @@ use Rattle.kw_words.specs.Plain.{cell_link_word, key_word, value_word, version_w
 use Rattle.kw_cells.specs.Cells.{value_in}
 use Rattle.kw_rows.specs.Ledger.{Ledger, Infant}
 use Rattle.kw_world.specs.declared.activity.Activity.{Activity}
-use Rattle.kw_world.specs.declared.activity.Activity.TheVariants.{SeekFirst, Seek, TakeRow, GiveBack, WriteCount, WriteMin, WriteNext, WriteFirst, WritePend, WriteKey, WriteValue, WriteVersion, WriteAfter, Before, BeforeGuess, BeforeHead, BeforeLink, BeforeMin, Replace}
+use Rattle.kw_world.specs.declared.activity.Activity.TheVariants.{SeekFirst, Seek, SeekPass, Reclaim, TakeRow, GiveBack, WriteCount, WriteMin, WriteNext, WriteFirst, WritePend, WriteKey, WriteValue, WriteVersion, WriteAfter, Before, BeforeGuess, BeforeHead, BeforeLink, BeforeMin, Replace}
 use Rattle.kw_world.specs.declared.local.Local.{Local}
 use Rattle.kw_world.specs.SeekTransitions.{at_infant, infant}
 use Rattle.kw_world.specs.Sizes.{Sizes}
@@ -38,6 +38,8 @@ pub data Nursing : Type 0 where
 abbrev pub nursing_of : Activity → Nursing
 nursing_of SeekFirst = Takes
 nursing_of Seek = Takes
+nursing_of (SeekPass i) = Takes
+nursing_of Reclaim = Takes
 nursing_of TakeRow = Takes
 nursing_of GiveBack = GivesBack
 nursing_of WriteCount = Writes

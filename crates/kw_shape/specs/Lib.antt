@@ -1,6 +1,7 @@
 pub mod Rooms
 pub mod RowsIn
 pub mod Passes
+pub mod Sought
 pub mod Balances
 pub mod Shape
 pub mod MetRows

@@ -22,6 +22,7 @@ use Rattle.kw_core.specs.declared.stage.Stage.TheVariants.{Rebalancing, Retrying
 use Rattle.kw_core.specs.Stages.{stage_of, IsStarting, IsCovering, IsAtRow, IsPastStart, IsReached}
 use Rattle.kw_core.specs.Run.{Run}
 use Rattle.kw_rows.specs.Ledger.{Ledger, Free, IsLive, IsFresh}
+use Rattle.kw_rows.specs.RowState.{IsEngaged}
 use Rattle.kw_rows.specs.Rows as rows
 use Rattle.kw_rows.specs.Rows.{WasLinked}
 use Rattle.kw_rows.specs.Structure.{Structure}
@@ -34,7 +35,8 @@ use Rattle.kw_shape.specs.Keyed.{Keyed, Keys}
 use Rattle.kw_shape.specs.Plans.{Plans}
 use Rattle.kw_shape.specs.Infants.{HasLostNone, Infants}
 use Rattle.kw_shape.specs.Search.{Search}
-use Rattle.kw_shape.specs.Won.{Won}
+use Rattle.kw_shape.specs.Sought.{Sought}
+use Rattle.kw_shape.specs.Won.{HasWon, Won}
 
 -- The rows.
 
@@ -197,6 +199,8 @@ pub record Shape (z : Sizes) (r : Run) : Type 0 where
   pub numbers : Numbers (word z r.world) r.ledger.rows
   pub kinds : (t : ℕ) (l : Local) → slice_get r.world.locals t ≡ Some l → Kinds z l.activity l
   pub passes : (t : ℕ) (l : Local) → slice_get r.world.locals t ≡ Some l → Passes (word z r.world) r.ledger.rows t l.activity l
+  -- a seat that the table does not have is in no pass
+  pub outside : (t : ℕ) → length r.world.locals ≤ t → r.ledger.rows.passes t ≡ None
   pub walks : (t : ℕ) (l : Local) → slice_get r.world.locals t ≡ Some l → Walks (word z r.world) r.ledger.rows t l.activity l
   pub balances : (t : ℕ) (l : Local) → slice_get r.world.locals t ≡ Some l → Balances (word z r.world) r.ledger.rows t l.activity l
   -- each seat knows keys of its row, what it has planned, the rows that it took, of which none is lost, the row before its full one, and what it has
@@ -207,3 +211,7 @@ pub record Shape (z : Sizes) (r : Run) : Type 0 where
   pub none_lost : (t : ℕ) (l : Local) → slice_get r.world.locals t ≡ Some l → HasLostNone r.ledger.rows t l.activity l
   pub search : (t : ℕ) (l : Local) → slice_get r.world.locals t ≡ Some l → Search (word z r.world) r.ledger.rows t l.activity l
   pub won : (t : ℕ) (l : Local) → slice_get r.world.locals t ≡ Some l → Won r.ledger.rows t l.activity l
+  -- what each seat knows of the row that it asks for
+  pub sought : (t : ℕ) (l : Local) → slice_get r.world.locals t ≡ Some l → Sought z (word z r.world) r.ledger.rows t l.activity l
+  -- the full row that a seat has replaced is not retired before it does so
+  pub unretired : (t : ℕ) (l : Local) → slice_get r.world.locals t ≡ Some l → HasWon l.activity → IsEngaged ((rows_in (word z r.world)).state l.row)

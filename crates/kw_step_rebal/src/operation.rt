@@ -3,6 +3,7 @@
 //! The operation depends on what the seat knows and on its choice, and on no word. `operation_write` has those that store what a
 //! new row holds.
 ghost use Rattle.std.specs.Prelude.{◌≡◌, Some};
+ghost use Rattle.kw_step_rebal.specs.Families.{IsBuilding, IsLinking};
 ghost use Rattle.kw_words.specs.Link.{link_word};
 ghost use Rattle.kw_words.specs.Pend.{IsPend, pend_word};
 ghost use Rattle.kw_words.specs.Scan.{scan_word};
@@ -42,7 +43,6 @@ pub fn rebalance_operation(seat: u32, local: &Local, choice: Choice) -> Operatio
     ensures { result ≡ (transition_of product seat choice local.now).operation }
 {
     let row = local.row;
-    let new_row = infant(local);
     match local.activity {
         Activity::Again => store(Kind::ClearPass, Name::Pass(seat), pack_pass(None)),
         Activity::AgainEpoch => load(Kind::LoadEpoch, Name::Epoch),
@@ -73,11 +73,30 @@ pub fn rebalance_operation(seat: u32, local: &Local, choice: Choice) -> Operatio
         Activity::TakeValue => load(Kind::LoadValue, Name::Value(row, local.place)),
         Activity::TakeRestKey => load(Kind::LoadKey, Name::Key(row, local.place)),
         Activity::TakeRestValue => load(Kind::LoadValue, Name::Value(row, local.place)),
+        _ => build_operation(seat, local, choice),
+    }
+}
+
+// The operation of an event by which new rows are sought, taken and written, or linked in place of the full row.
+#[tactic(auto, unfolding(kw_world::specs::Step::transition_of))]
+fn build_operation(seat: u32, local: &Local, choice: Choice) -> Operation
+    requires ranges { IsLocal product local.now }
+    requires family { IsBuilding local.now.activity }
+    ensures { result ≡ (transition_of product seat choice local.now).operation }
+{
+    let new_row = infant(local);
+    match local.activity {
         Activity::SeekFirst => match choice {
             Choice::Guess(guess) => load(Kind::LoadState, Name::State(guess)),
             _ => load(Kind::LoadState, Name::State(local.rebalance.sought)),
         },
         Activity::Seek => load(Kind::LoadState, Name::State(local.rebalance.sought)),
+        Activity::SeekPass(other) => load(Kind::LoadPass, Name::Pass(other)),
+        Activity::Reclaim => {
+            let state = Name::State(local.rebalance.sought);
+            let retired = State::Retired(local.rebalance.number);
+            change_state(Kind::Reclaim, state, retired, State::Free)
+        }
         Activity::TakeRow => take_row(Name::State(local.rebalance.sought), seat),
         Activity::GiveBack => store_state(Kind::GiveBack, new_row, State::Free),
         Activity::WriteCount => write_count(local, new_row),
@@ -92,6 +111,18 @@ pub fn rebalance_operation(seat: u32, local: &Local, choice: Choice) -> Operatio
         Activity::WriteValue(cell) => write_value(local, new_row, cell),
         Activity::WriteVersion(cell) => write_version(local, new_row, cell),
         Activity::WriteAfter(cell) => write_after(local, new_row, cell),
+        _ => link_operation(seat, local, choice),
+    }
+}
+
+// The operation of an event by which the new rows are linked in place of the full one, which is retired.
+#[tactic(auto, unfolding(kw_world::specs::Step::transition_of))]
+fn link_operation(seat: u32, local: &Local, choice: Choice) -> Operation
+    requires ranges { IsLocal product local.now }
+    requires family { IsLinking local.now.activity }
+    ensures { result ≡ (transition_of product seat choice local.now).operation }
+{
+    match local.activity {
         Activity::Before => match choice {
             Choice::Guess(guess) => load(Kind::LoadState, Name::State(guess)),
             _ => load(Kind::LoadHead, Name::Head),
@@ -101,11 +132,11 @@ pub fn rebalance_operation(seat: u32, local: &Local, choice: Choice) -> Operatio
         Activity::BeforeLink => load(Kind::LoadLink, Name::Next(row_before(local))),
         Activity::BeforeMin => load(Kind::LoadMin, Name::Min(local.candidate)),
         Activity::Replace => replace(local),
-        Activity::Normalise => normalise(Name::State(new_row), seat),
+        Activity::Normalise => normalise(Name::State(infant(local)), seat),
         Activity::Number => add_one(Kind::Number, Name::Epoch),
         Activity::Retire => {
             let retired = State::Retired(local.rebalance.number);
-            store_state(Kind::StoreRetired, row, retired)
+            store_state(Kind::StoreRetired, local.row, retired)
         }
         _ => unreachable!(),
     }

@@ -3,6 +3,7 @@
 //! The operation tells the seat a word, and nothing for a store. `rebalance_resume` makes of that what the table says: the fields
 //! that the event's line names change, and the activity. One file for each topic has the lines that need more than a sentence.
 ghost use Rattle.std.specs.Prelude.{◌≡◌};
+ghost use Rattle.kw_step_rebal.specs.Families.{IsBuilding};
 ghost use Rattle.kw_world.specs.Parts.{part_of};
 ghost use Rattle.kw_world.specs.Sane.{IsLocal, HasRoom};
 ghost use Rattle.kw_world.specs.Sizes.{product};
@@ -15,7 +16,7 @@ use crate::resume_freeze::{count_frozen, entry_tried, look, scan, scan_helped};
 use crate::resume_replace::{
     before, before_head, before_least, before_link, guess_least, normalised, replaced,
 };
-use crate::resume_seek::{gave_back, seek, seek_first, take_row};
+use crate::resume_seek::{gave_back, pass, seek, seek_first, take_row};
 use crate::resume_take::{
     rest_value, take_from, take_key, take_rest_key, take_value, take_version,
 };
@@ -62,8 +63,23 @@ pub fn rebalance_resume(local: &mut Local, rows: u32, choice: Choice, told: u64)
         Activity::TakeValue => take_value(local, told),
         Activity::TakeRestKey => take_rest_key(local, told),
         Activity::TakeRestValue => rest_value(local, told),
+        _ => build_resume(local, rows, choice, told),
+    }
+}
+
+// What it knows after an event by which new rows are sought, taken and written, or linked in place of the full row.
+#[tactic(auto, unfolding(kw_world::specs::Step::transition_of))]
+fn build_resume(local: &mut Local, rows: u32, choice: Choice, told: u64) -> StepDone
+    requires ranges { IsLocal product local.old }
+    requires room { HasRoom product local.old }
+    requires family { IsBuilding local.old.activity }
+    ensures { outcome local.new result ≡ next_of product rows choice local.old told }
+{
+    match local.activity {
         Activity::SeekFirst => seek_first(local, rows, choice, told),
         Activity::Seek => seek(local, rows, told),
+        Activity::SeekPass(other) => pass(local, rows, other, told),
+        Activity::Reclaim => to(local, Activity::TakeRow),
         Activity::TakeRow => take_row(local, rows, told),
         Activity::GiveBack => gave_back(local),
         Activity::WriteCount => to(local, Activity::WriteMin),

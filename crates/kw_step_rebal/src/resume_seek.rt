@@ -1,13 +1,18 @@
 //! What a seat knows after the events of its search for free rows, and after it gave rows back.
 ghost use Rattle.std.specs.Prelude.{◌≡◌, ◌==◌, ◌<◌, ◌≤◌, length};
+ghost use Rattle.kw_words.specs.Plain.{pass_of_word};
 ghost use Rattle.kw_words.specs.State.{state_of, state_word};
+ghost use Rattle.kw_words.specs.declared.sizes.TheConstants.{SEATS};
 ghost use Rattle.kw_words.specs.declared.state.State.{State};
-ghost use Rattle.kw_world.specs.SeekTransitions.{gave_back, give_back, given_back, has_more, row_behind, seek_first_transition, seek_met, seeking, take_row, to_seek};
+ghost use Rattle.kw_world.specs.SeekTransitions.{gave_back, give_back, given_back, has_more, pass_met, row_behind, seek_first_transition, seek_met, seeking, take_row, to_pass, to_seek};
+ghost use Rattle.kw_world.specs.Sizes.{product};
 ghost use Rattle.kw_world.specs.Transition.{outcome};
 
 use crate::infant::next_at;
 use crate::resume::to;
 use crate::resume_engage::{again, refuse, to_rebalance};
+use kw_words::plain::unpack_pass;
+use kw_words::sizes::SEAT_COUNT;
 use kw_words::state::State;
 use kw_world::activity::Activity;
 use kw_world::answer::Answer;
@@ -87,23 +92,50 @@ fn to_seek(local: &mut Local, rows: u32) -> StepDone
 
 // The seat was told the state of the row that it asks.
 pub(crate) fn seek(local: &mut Local, rows: u32, found: u64) -> StepDone
-    ensures { outcome local.new result ≡ seek_met rows (state_of found)
+    ensures { outcome local.new result ≡ seek_met product.form rows (state_of found)
         (seeking local.old.rebalance.sought local.old) }
 {
     match State::unpack(found) {
         Some(State::Free) => to(local, Activity::TakeRow),
+        Some(State::Retired(number)) => {
+            local.rebalance.number = number;
+            to(local, Activity::SeekPass(0))
+        }
         _ => to_seek(local, rows),
     }
 }
 
 // The seat was told the state of the first row that it asks.
 pub(crate) fn seek_first(local: &mut Local, rows: u32, choice: Choice, found: u64) -> StepDone
-    ensures { outcome local.new result ≡ (seek_first_transition choice local.old).next rows found }
+    ensures { outcome local.new result ≡
+        (seek_first_transition product.form choice local.old).next rows found }
 {
     if let Choice::Guess(row) = choice {
         local.rebalance.sought = row;
     }
     seek(local, rows, found)
+}
+
+// The seat goes on to the pass of this seat, or frees the row once it has looked at all passes.
+fn to_pass(local: &mut Local, seat: u32) -> StepDone
+    ensures { outcome local.new result ≡ to_pass product seat local.old }
+{
+    if seat < SEAT_COUNT {
+        return to(local, Activity::SeekPass(seat));
+    }
+    to(local, Activity::Reclaim)
+}
+
+// The seat was told the epoch that this seat has announced, while it asks for a retired row.
+pub(crate) fn pass(local: &mut Local, rows: u32, seat: u32, found: u64) -> StepDone
+    requires { seat < SEATS }
+    ensures { outcome local.new result ≡ pass_met product seat rows (pass_of_word found)
+        local.old }
+{
+    match unpack_pass(found) {
+        Some(epoch) if epoch <= local.rebalance.number => to_seek(local, rows),
+        _ => to_pass(local, seat + 1),
+    }
 }
 
 // The seat has tried to take the row, and was told the state found.

@@ -171,33 +171,98 @@ fn the_last_cell_is_kept_in_one_new_row(rt: HostRuntime) -> Result<(), Fail> {
     Ok(())
 }
 
-// A seat tries to take row 1, and needs one row.
-fn at_a_free_row(alloc: Global) -> Local
+// A seat needs one row, has asked two, of which row 1 was the last, knows the number 6, and does this next.
+fn asking(alloc: Global, activity: Activity) -> Local
+    requires activity { IsActivity product activity }
     ensures ranges { IsLocal product result }
     ensures room { HasRoom product result }
-    ensures at { result.activity ≡ Activity.TakeRow }
+    ensures at { result.activity ≡ activity }
 {
     let mut starts = RowCuts::new();
     starts.push(0);
     let mut local = Local::idle(alloc);
-    local.activity = Activity::TakeRow;
+    local.activity = activity;
     local.rebalance.starts = Starts::of(starts);
     local.rebalance.sought = 1;
     local.rebalance.asked = 2;
+    local.rebalance.number = 6;
     local
 }
 
 // a free row has the word 0, and a normal one the word 2
 #[test]
 fn a_row_is_taken_where_it_was_free(rt: HostRuntime) -> Result<(), Fail> {
-    let mut local = at_a_free_row(rt.alloc());
+    let mut local = asking(rt.alloc(), Activity::TakeRow);
     rebalance_resume(&mut local, 3, Choice::Go, 0);
     assert_eq!(rt; local.activity, Activity::WriteCount);
     assert_eq!(rt; local.rebalance.taken.as_slice(), [1].as_slice());
-    let mut local = at_a_free_row(rt.alloc());
+    let mut local = asking(rt.alloc(), Activity::TakeRow);
     rebalance_resume(&mut local, 3, Choice::Go, 2);
     assert_eq!(rt; local.activity, Activity::Seek);
     assert_eq!(rt; (local.rebalance.sought, local.rebalance.asked), (2, 3));
+    Ok(())
+}
+
+// a row that was retired with the number 9 has the word 5 + 8 * 9
+#[test]
+fn the_number_of_a_retired_row_is_remembered(rt: HostRuntime) -> Result<(), Fail> {
+    let mut local = asking(rt.alloc(), Activity::Seek);
+    rebalance_resume(&mut local, 3, Choice::Go, 77);
+    assert_eq!(rt; local.activity, Activity::SeekPass(0));
+    assert_eq!(rt; (local.rebalance.sought, local.rebalance.number), (1, 9));
+    Ok(())
+}
+
+// a seat that announces no epoch has the word 0 for its pass, and any other one its epoch
+#[test]
+fn the_pass_of_each_seat_is_looked_at(rt: HostRuntime) -> Result<(), Fail> {
+    let mut local = asking(rt.alloc(), Activity::SeekPass(2));
+    let operation = rebalance_operation(1, &local, Choice::Go);
+    assert_eq!(rt; operation.kind, Kind::LoadPass);
+    assert_eq!(rt; operation.name, Name::Pass(2));
+    assert_eq!(rt; operation.action, Action::Load);
+    rebalance_resume(&mut local, 3, Choice::Go, 0);
+    assert_eq!(rt; local.activity, Activity::SeekPass(3));
+    let mut local = asking(rt.alloc(), Activity::SeekPass(2));
+    rebalance_resume(&mut local, 3, Choice::Go, 7);
+    assert_eq!(rt; local.activity, Activity::SeekPass(3));
+    let mut local = asking(rt.alloc(), Activity::SeekPass(7));
+    rebalance_resume(&mut local, 3, Choice::Go, 7);
+    assert_eq!(rt; local.activity, Activity::Reclaim);
+    Ok(())
+}
+
+#[test]
+fn a_pass_up_to_the_number_keeps_the_row_from_use(rt: HostRuntime) -> Result<(), Fail> {
+    let mut local = asking(rt.alloc(), Activity::SeekPass(2));
+    rebalance_resume(&mut local, 3, Choice::Go, 6);
+    assert_eq!(rt; local.activity, Activity::Seek);
+    assert_eq!(rt; (local.rebalance.sought, local.rebalance.asked), (2, 3));
+    let mut local = asking(rt.alloc(), Activity::SeekPass(7));
+    rebalance_resume(&mut local, 3, Choice::Go, 5);
+    assert_eq!(rt; local.activity, Activity::Seek);
+    Ok(())
+}
+
+// a row that was retired with the number 6 has the word 5 + 8 * 6, a free one the word 0, and a normal one the word 2
+#[test]
+fn a_row_that_is_freed_is_tried(rt: HostRuntime) -> Result<(), Fail> {
+    let mut local = asking(rt.alloc(), Activity::Reclaim);
+    let operation = rebalance_operation(1, &local, Choice::Go);
+    assert_eq!(rt; operation.kind, Kind::Reclaim);
+    assert_eq!(rt; operation.name, Name::State(1));
+    assert_eq!(rt; operation.action, Action::Exchange(53, 0));
+    rebalance_resume(&mut local, 3, Choice::Go, 53);
+    assert_eq!(rt;
+        (local.activity, local.rebalance.sought),
+        (Activity::TakeRow, 1)
+    );
+    let mut local = asking(rt.alloc(), Activity::Reclaim);
+    rebalance_resume(&mut local, 3, Choice::Go, 2);
+    assert_eq!(rt;
+        (local.activity, local.rebalance.sought),
+        (Activity::TakeRow, 1)
+    );
     Ok(())
 }
 

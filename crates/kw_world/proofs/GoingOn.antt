@@ -10,7 +10,7 @@ use Rattle.kw_words.specs.declared.state.State.TheVariants.{Free, Infant, Normal
 use Rattle.kw_words.specs.State.{state_of}
 use Rattle.kw_words.specs.Link.{link_of}
 use Rattle.kw_words.specs.Pend.{pend_of, pend_word}
-use Rattle.kw_words.specs.Plain.{version_of_word, key_of_word, value_of_word, cell_of_link_word, cell_link_word}
+use Rattle.kw_words.specs.Plain.{version_of_word, key_of_word, value_of_word, pass_of_word, cell_of_link_word, cell_link_word}
 use Rattle.kw_words.specs.Count.{count_of}
 use Rattle.kw_words.specs.Scan.{scan_of}
 use Rattle.kw_words.specs.declared.sizes.TheConstants.{SPENT}
@@ -21,11 +21,11 @@ use Rattle.kw_world.specs.Calls.{first_key, last_key, is_in_range, is_range_empt
 use Rattle.kw_model.specs.declared.call.Call.{Call}
 use Rattle.kw_model.specs.declared.call.Call.TheVariants.{Put, Del, Get, Scan}
 use Rattle.kw_world.specs.declared.activity.Activity.{Activity}
-use Rattle.kw_world.specs.declared.activity.Activity.TheVariants.{Idle, Enter, ScanClock, ScanWait, ScanDraw, ScanSettle, Start, Head, GuessMin, Walk, WalkMin, Look, LookKey, LookClock, LookHelp, ListFrom, ListKey, ListVer, ListVal, RestKey, RestVal, ClearScan, PutCount, PutAdd, PutKey, PutValue, Announce, PutClock, Stamp, PutVersion, InsFrom, InsKey, InsVer, InsSet, Insert, PutClear, Leave, Again, AgainEpoch, BalClock, BalEpoch, BalState, BalNormal, Engage, MarkLink, Decide, FreezeCount, FreezeLook, Freeze, ScanLook, HelpDraw, HelpSettle, TakeFrom, TakeKey, TakeVersion, TakeValue, TakeRestKey, TakeRestValue, SeekFirst, Seek, TakeRow, GiveBack, WriteCount, WriteMin, WriteNext, WriteFirst, WritePend, WriteKey, WriteValue, WriteVersion, WriteAfter, Before, BeforeGuess, BeforeHead, BeforeLink, BeforeMin, Replace, Normalise, Number, Retire}
+use Rattle.kw_world.specs.declared.activity.Activity.TheVariants.{Idle, Enter, ScanClock, ScanWait, ScanDraw, ScanSettle, Start, Head, GuessMin, Walk, WalkMin, Look, LookKey, LookClock, LookHelp, ListFrom, ListKey, ListVer, ListVal, RestKey, RestVal, ClearScan, PutCount, PutAdd, PutKey, PutValue, Announce, PutClock, Stamp, PutVersion, InsFrom, InsKey, InsVer, InsSet, Insert, PutClear, Leave, Again, AgainEpoch, BalClock, BalEpoch, BalState, BalNormal, Engage, MarkLink, Decide, FreezeCount, FreezeLook, Freeze, ScanLook, HelpDraw, HelpSettle, TakeFrom, TakeKey, TakeVersion, TakeValue, TakeRestKey, TakeRestValue, SeekFirst, Seek, SeekPass, Reclaim, TakeRow, GiveBack, WriteCount, WriteMin, WriteNext, WriteFirst, WritePend, WriteKey, WriteValue, WriteVersion, WriteAfter, Before, BeforeGuess, BeforeHead, BeforeLink, BeforeMin, Replace, Normalise, Number, Retire}
 use Rattle.kw_world.specs.declared.local.Local.{Local}
 use Rattle.kw_world.specs.declared.event.Choice.{Choice}
 use Rattle.kw_world.specs.declared.event.Choice.TheVariants.{Begin, Go, Guess, Stop}
-use Rattle.kw_world.specs.Sizes.{Form, Refused, Alone, Sizes}
+use Rattle.kw_world.specs.Sizes.{Form, Refused, Alone, Reused, Sizes}
 use Rattle.kw_world.specs.Transition.{Outcome, row_linked, row_or_first, to, leave}
 use Rattle.kw_world.specs.PutTransitions.{stamp_met, full_in, full, has_room, given_of}
 use Rattle.kw_world.specs.ListTransitions.{insert_from, insert_key, insert_past, insert_tried, is_newer}
@@ -43,7 +43,7 @@ use Rattle.kw_world.specs.declared.rebalance.Afterwards.TheVariants.{TryAgain, R
 use Rattle.kw_world.specs.EngageTransitions.{again, refuse, is_alone, state_met, engaged, followed_by, link_marked, decided}
 use Rattle.kw_world.specs.FreezeTransitions.{to_scans, to_freeze_look, marking, freeze_met, entry_tried, to_scan_look, needing, scan_met, scan_helped}
 use Rattle.kw_world.specs.TakeTransitions.{to_take, left_of, take_met, keeping}
-use Rattle.kw_world.specs.SeekTransitions.{given_back, give_back, gave_back, at_infant, has_more, row_behind, to_seek, seek_met, seeking, seek_first_transition, with_row, take_row}
+use Rattle.kw_world.specs.SeekTransitions.{given_back, give_back, gave_back, at_infant, has_more, row_behind, to_seek, to_pass, retired_at, seek_met, pass_met, seeking, seek_first_transition, with_row, take_row}
 use Rattle.kw_world.specs.WriteTransitions.{infant_cells, row_written, to_write_cell, to_write_entry}
 use Rattle.kw_world.specs.ReplaceTransitions.{at_before, first_before, guess_before, before_transition, row_before, link_before, row_replaced, replaced}
 use Rattle.kw_world.specs.Table.{transition}
@@ -115,6 +115,7 @@ list_key_goes key l = either (nat_lt key (first_key l.call)) (list_past l) _ (re
 full_goes : (f : Form) (l : Local) → Goes l.number (full_in f l)
 full_goes Refused l = record { moved = refl; number = refl }
 full_goes Alone l = record { moved = refl; number = refl }
+full_goes Reused l = record { moved = refl; number = refl }
 
 stamp_goes : (z : Sizes) (e : Option Pend) (l : Local) → Goes l.number (stamp_met z e l)
 stamp_goes z (Some pend.Idle) l = full_goes z.form l
@@ -264,20 +265,32 @@ gave_back_goes l = either (has_more l) (to GiveBack (at_infant (l.rebalance.at +
 seeks : (rows : ℕ) (l : Local) → Goes l.number (to_seek rows l)
 seeks rows l = either (nat_lt l.rebalance.asked rows) (to Seek (record l { rebalance = record l.rebalance { sought = row_behind rows l.rebalance.sought; asked = l.rebalance.asked + 1 } })) (give_back Refuse l) (record { moved = refl; number = refl }) (give_back_goes Refuse l)
 
-seek_goes : (rows : ℕ) (state : Option State) (l : Local) → Goes l.number (seek_met rows state l)
-seek_goes rows (Some Free) l = record { moved = refl; number = refl }
-seek_goes rows (Some (Infant seat)) l = seeks rows l
-seek_goes rows (Some Normal) l = seeks rows l
-seek_goes rows (Some (Leader count)) l = seeks rows l
-seek_goes rows (Some (Follower leader)) l = seeks rows l
-seek_goes rows (Some (Retired number)) l = seeks rows l
-seek_goes rows None l = seeks rows l
+passes_then : (z : Sizes) (i : ℕ) (l : Local) → Goes l.number (to_pass z i l)
+passes_then z i l = either (nat_lt i z.seats) (to (SeekPass i) l) (to Reclaim l) (record { moved = refl; number = refl }) (record { moved = refl; number = refl })
 
-seek_first_goes : (choice : Choice) (l : Local) (rows told : ℕ) → Goes l.number ((seek_first_transition choice l).next rows told)
-seek_first_goes (Begin call) l rows told = seek_goes rows (state_of told) (seeking l.rebalance.sought l)
-seek_first_goes Go l rows told = seek_goes rows (state_of told) (seeking l.rebalance.sought l)
-seek_first_goes (Guess r) l rows told = seek_goes rows (state_of told) (seeking r l)
-seek_first_goes Stop l rows told = seek_goes rows (state_of told) (seeking l.rebalance.sought l)
+retired_goes : (f : Form) (rows number : ℕ) (l : Local) → Goes l.number (retired_at f rows number l)
+retired_goes Refused rows number l = record { moved = refl; number = refl }
+retired_goes Alone rows number l = seeks rows l
+retired_goes Reused rows number l = record { moved = refl; number = refl }
+
+seek_goes : (f : Form) (rows : ℕ) (state : Option State) (l : Local) → Goes l.number (seek_met f rows state l)
+seek_goes f rows (Some Free) l = record { moved = refl; number = refl }
+seek_goes f rows (Some (Infant seat)) l = seeks rows l
+seek_goes f rows (Some Normal) l = seeks rows l
+seek_goes f rows (Some (Leader count)) l = seeks rows l
+seek_goes f rows (Some (Follower leader)) l = seeks rows l
+seek_goes f rows (Some (Retired number)) l = retired_goes f rows number l
+seek_goes f rows None l = seeks rows l
+
+seek_first_goes : (f : Form) (choice : Choice) (l : Local) (rows told : ℕ) → Goes l.number ((seek_first_transition f choice l).next rows told)
+seek_first_goes f (Begin call) l rows told = seek_goes f rows (state_of told) (seeking l.rebalance.sought l)
+seek_first_goes f Go l rows told = seek_goes f rows (state_of told) (seeking l.rebalance.sought l)
+seek_first_goes f (Guess r) l rows told = seek_goes f rows (state_of told) (seeking r l)
+seek_first_goes f Stop l rows told = seek_goes f rows (state_of told) (seeking l.rebalance.sought l)
+
+pass_goes : (z : Sizes) (i rows : ℕ) (epoch : Option ℕ) (l : Local) → Goes l.number (pass_met z i rows epoch l)
+pass_goes z i rows (Some epoch) l = either (nat_le epoch l.rebalance.number) (to_seek rows l) (to_pass z (i + 1) l) (seeks rows l) (passes_then z (i + 1) l)
+pass_goes z i rows None l = passes_then z (i + 1) l
 
 take_row_goes : (rows : ℕ) (b : Bool) (l : Local) → Goes l.number (take_row rows b l)
 take_row_goes rows true l = either (nat_lt (length (with_row l).rebalance.taken) (length l.rebalance.starts)) (to_seek rows (with_row l)) (to WriteCount (at_infant 0 (with_row l))) (seeks rows (with_row l)) (record { moved = refl; number = refl })
@@ -396,8 +409,10 @@ goes_on z TakeVersion s choice l rows told e n = record { moved = refl; number =
 goes_on z TakeValue s choice l rows told e n = record { moved = refl; number = refl }
 goes_on z TakeRestKey s choice l rows told e n = record { moved = refl; number = refl }
 goes_on z TakeRestValue s choice l rows told e n = left_goes z (least_mark l.rebalance.marks) (keeping z (value_of_word told) l)
-goes_on z SeekFirst s choice l rows told e n = seek_first_goes choice l rows told
-goes_on z Seek s choice l rows told e n = seek_goes rows (state_of told) (seeking l.rebalance.sought l)
+goes_on z SeekFirst s choice l rows told e n = seek_first_goes z.form choice l rows told
+goes_on z Seek s choice l rows told e n = seek_goes z.form rows (state_of told) (seeking l.rebalance.sought l)
+goes_on z (SeekPass i) s choice l rows told e n = pass_goes z i rows (pass_of_word told) l
+goes_on z Reclaim s choice l rows told e n = record { moved = refl; number = refl }
 goes_on z TakeRow s choice l rows told e n = take_row_goes rows (told == state_word Free) l
 goes_on z GiveBack s choice l rows told e n = gave_back_goes l
 goes_on z WriteCount s choice l rows told e n = record { moved = refl; number = refl }

@@ -6,7 +6,7 @@ use Rattle.kw_words.specs.declared.count.Count.{Count as Counted}
 use Rattle.kw_words.specs.Layout.{IsWithin}
 use Rattle.kw_words.specs.Count.{count_of}
 use Rattle.kw_world.specs.declared.activity.Activity.{Activity}
-use Rattle.kw_world.specs.declared.activity.Activity.TheVariants.{Idle, Enter, ScanClock, ScanWait, ScanDraw, ScanSettle, Start, Head, GuessMin, Walk, WalkMin, Look, LookKey, LookClock, LookHelp, ListFrom, ListKey, ListVer, ListVal, RestKey, RestVal, ClearScan, PutCount, PutAdd, PutKey, PutValue, Announce, PutClock, Stamp, PutVersion, InsFrom, InsKey, InsVer, InsSet, Insert, PutClear, Leave, Again, AgainEpoch, BalClock, BalEpoch, BalState, BalNormal, Engage, MarkLink, Decide, FreezeCount, FreezeLook, Freeze, ScanLook, HelpDraw, HelpSettle, TakeFrom, TakeKey, TakeVersion, TakeValue, TakeRestKey, TakeRestValue, SeekFirst, Seek, TakeRow, GiveBack, WriteCount, WriteMin, WriteNext, WriteFirst, WritePend, WriteKey, WriteValue, WriteVersion, WriteAfter, Before, BeforeGuess, BeforeHead, BeforeLink, BeforeMin, Replace, Normalise, Number, Retire}
+use Rattle.kw_world.specs.declared.activity.Activity.TheVariants.{Idle, Enter, ScanClock, ScanWait, ScanDraw, ScanSettle, Start, Head, GuessMin, Walk, WalkMin, Look, LookKey, LookClock, LookHelp, ListFrom, ListKey, ListVer, ListVal, RestKey, RestVal, ClearScan, PutCount, PutAdd, PutKey, PutValue, Announce, PutClock, Stamp, PutVersion, InsFrom, InsKey, InsVer, InsSet, Insert, PutClear, Leave, Again, AgainEpoch, BalClock, BalEpoch, BalState, BalNormal, Engage, MarkLink, Decide, FreezeCount, FreezeLook, Freeze, ScanLook, HelpDraw, HelpSettle, TakeFrom, TakeKey, TakeVersion, TakeValue, TakeRestKey, TakeRestValue, SeekFirst, Seek, SeekPass, Reclaim, TakeRow, GiveBack, WriteCount, WriteMin, WriteNext, WriteFirst, WritePend, WriteKey, WriteValue, WriteVersion, WriteAfter, Before, BeforeGuess, BeforeHead, BeforeLink, BeforeMin, Replace, Normalise, Number, Retire}
 use Rattle.kw_world.specs.declared.local.Local.{Local}
 use Rattle.kw_world.specs.declared.event.Event.{Event}
 use Rattle.kw_world.specs.declared.event.Choice.{Choice}
@@ -147,12 +147,14 @@ within z TakeRestKey rows s choice l i b t o g = (b.row, i.place)
 within z TakeRestValue rows s choice l i b t o g = (b.row, i.place)
 within z SeekFirst rows s choice l i b t o g = seeks choice g
   where
-    seeks : (c : Choice) → IsOffered rows c → IsWithin z.seats z.cells rows (seek_first_transition c l).operation.name
+    seeks : (c : Choice) → IsOffered rows c → IsWithin z.seats z.cells rows (seek_first_transition z.form c l).operation.name
     seeks (Begin call) h = b.rebalance.sought
     seeks Go h = b.rebalance.sought
     seeks (Guess r) h = h
     seeks Stop h = b.rebalance.sought
 within z Seek rows s choice l i b t o g = b.rebalance.sought
+within z (SeekPass k) rows s choice l i b t o g = o
+within z Reclaim rows s choice l i b t o g = b.rebalance.sought
 within z TakeRow rows s choice l i b t o g = b.rebalance.sought
 within z GiveBack rows s choice l i b t o g = taken_within rows l.rebalance.taken l.rebalance.at (first_row rows l b) b.rebalance.taken
 within z WriteCount rows s choice l i b t o g = taken_within rows l.rebalance.taken l.rebalance.at (first_row rows l b) b.rebalance.taken
@@ -194,7 +196,7 @@ can_happen z (HelpDraw i) s choice l w o = omega (arith, o.1)
 can_happen z Number s choice l w o = omega (arith, o.1)
 can_happen z SeekFirst s choice l w o = seeks choice
   where
-    seeks : (c : Choice) → CanHappen (seek_first_transition c l).operation.action w
+    seeks : (c : Choice) → CanHappen (seek_first_transition z.form c l).operation.action w
     seeks (Begin call) = tt
     seeks Go = tt
     seeks (Guess r) = tt
@@ -301,12 +303,14 @@ store_blind z TakeRestKey s choice l v w h rows = absurd h
 store_blind z TakeRestValue s choice l v w h rows = absurd h
 store_blind z SeekFirst s choice l v w h rows = absurd (seeks choice h)
   where
-    seeks : (c : Choice) → IsStore (seek_first_transition c l).operation.action → ⊥
+    seeks : (c : Choice) → IsStore (seek_first_transition z.form c l).operation.action → ⊥
     seeks (Begin call) h = h
     seeks Go h = h
     seeks (Guess r) h = h
     seeks Stop h = h
 store_blind z Seek s choice l v w h rows = absurd h
+store_blind z (SeekPass k) s choice l v w h rows = absurd h
+store_blind z Reclaim s choice l v w h rows = absurd h
 store_blind z TakeRow s choice l v w h rows = absurd h
 store_blind z GiveBack s choice l v w h rows = refl
 store_blind z WriteCount s choice l v w h rows = refl

@@ -6,7 +6,7 @@ use Rattle.kw_words.specs.declared.count.Count.{Count}
 use Rattle.kw_world.specs.declared.answer.Answer.TheVariants.{NoRows}
 use Rattle.kw_world.specs.declared.activity.Activity.TheVariants.{PutVersion}
 use Rattle.kw_world.specs.declared.local.Local.{Local}
-use Rattle.kw_world.specs.Sizes.{Form, Refused, Alone, Sizes}
+use Rattle.kw_world.specs.Sizes.{Form, Refused, Alone, Reused, Sizes}
 use Rattle.kw_world.specs.Transition.{Outcome, to, leave}
 use Rattle.kw_world.specs.EngageTransitions.{to_rebalance}
 
@@ -14,6 +14,7 @@ use Rattle.kw_world.specs.EngageTransitions.{to_rebalance}
 abbrev pub full_in : Form → Local → Outcome
 full_in Refused l = leave NoRows l
 full_in Alone l = to_rebalance l
+full_in Reused l = to_rebalance l
 
 -- Full has no event of its own
 abbrev pub full : Sizes → Local → Outcome

@@ -22,7 +22,7 @@ use Rattle.kw_model.specs.declared.call.Call.TheVariants.{Put, Del, Get, Scan}
 use Rattle.kw_world.specs.declared.answer.Answer.{Answer}
 use Rattle.kw_world.specs.declared.answer.Answer.TheVariants.{Value}
 use Rattle.kw_world.specs.declared.activity.Activity.{Activity}
-use Rattle.kw_world.specs.declared.activity.Activity.TheVariants.{Idle, Look, LookKey, LookClock, LookHelp, ClearScan, Leave, BalNormal, MarkLink, Decide, FreezeLook, Freeze, ScanLook, HelpDraw, HelpSettle, SeekFirst, Seek, TakeRow, WritePend, WriteKey, WriteValue, WriteVersion, WriteAfter}
+use Rattle.kw_world.specs.declared.activity.Activity.TheVariants.{Idle, Look, LookKey, LookClock, LookHelp, ClearScan, Leave, BalNormal, MarkLink, Decide, FreezeLook, Freeze, ScanLook, HelpDraw, HelpSettle, SeekFirst, Seek, SeekPass, Reclaim, TakeRow, WritePend, WriteKey, WriteValue, WriteVersion, WriteAfter}
 use Rattle.kw_world.specs.declared.local.Local.{Local}
 use Rattle.kw_world.specs.declared.marks.Mark.{Mark}
 use Rattle.kw_world.specs.declared.rebalance.Rebalance.{Rebalance}
@@ -164,6 +164,7 @@ IsActivity z (Freeze i) = i < z.seats
 IsActivity z (ScanLook i) = i < z.seats
 IsActivity z (HelpDraw i) = i < z.seats
 IsActivity z (HelpSettle i) = i < z.seats
+IsActivity z (SeekPass i) = i < z.seats
 IsActivity z (WritePend i) = i < z.seats
 IsActivity z (WriteKey j) = j < z.cells
 IsActivity z (WriteValue j) = j < z.cells
@@ -271,6 +272,8 @@ needed_by z _ = z.seats
 abbrev pub IsTakingRows : Activity → Type 0
 IsTakingRows SeekFirst = Unit {0}
 IsTakingRows Seek = Unit {0}
+IsTakingRows (SeekPass i) = Unit {0}
+IsTakingRows Reclaim = Unit {0}
 IsTakingRows TakeRow = Unit {0}
 IsTakingRows _ = ⊥
 

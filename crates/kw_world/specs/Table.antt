@@ -32,10 +32,10 @@ use Rattle.kw_words.specs.State.{state_of, state_word}
 use Rattle.kw_cells.specs.Cells.{value_in}
 use Rattle.kw_words.specs.Pend.{pend_of, pend_word}
 use Rattle.kw_words.specs.Scan.{scan_of, scan_word}
-use Rattle.kw_words.specs.Plain.{key_word, key_of_word, value_word, value_of_word, version_word, version_of_word, pass_word, cell_link_word, cell_of_link_word}
+use Rattle.kw_words.specs.Plain.{key_word, key_of_word, value_word, value_of_word, version_word, version_of_word, pass_word, pass_of_word, cell_link_word, cell_of_link_word}
 use Rattle.kw_world.specs.declared.answer.Answer.TheVariants.{Done}
 use Rattle.kw_world.specs.declared.activity.Activity.{Activity}
-use Rattle.kw_world.specs.declared.activity.Activity.TheVariants.{Idle, Enter, ScanClock, ScanWait, ScanDraw, ScanSettle, Start, Head, GuessMin, Walk, WalkMin, Look, LookKey, LookClock, LookHelp, ListFrom, ListKey, ListVer, ListVal, RestKey, RestVal, ClearScan, PutCount, PutAdd, PutKey, PutValue, Announce, PutClock, Stamp, PutVersion, InsFrom, InsKey, InsVer, InsSet, Insert, PutClear, Leave, Again, AgainEpoch, BalClock, BalEpoch, BalState, BalNormal, Engage, MarkLink, Decide, FreezeCount, FreezeLook, Freeze, ScanLook, HelpDraw, HelpSettle, TakeFrom, TakeKey, TakeVersion, TakeValue, TakeRestKey, TakeRestValue, SeekFirst, Seek, TakeRow, GiveBack, WriteCount, WriteMin, WriteNext, WriteFirst, WritePend, WriteKey, WriteValue, WriteVersion, WriteAfter, Before, BeforeGuess, BeforeHead, BeforeLink, BeforeMin, Replace, Normalise, Number, Retire}
+use Rattle.kw_world.specs.declared.activity.Activity.TheVariants.{Idle, Enter, ScanClock, ScanWait, ScanDraw, ScanSettle, Start, Head, GuessMin, Walk, WalkMin, Look, LookKey, LookClock, LookHelp, ListFrom, ListKey, ListVer, ListVal, RestKey, RestVal, ClearScan, PutCount, PutAdd, PutKey, PutValue, Announce, PutClock, Stamp, PutVersion, InsFrom, InsKey, InsVer, InsSet, Insert, PutClear, Leave, Again, AgainEpoch, BalClock, BalEpoch, BalState, BalNormal, Engage, MarkLink, Decide, FreezeCount, FreezeLook, Freeze, ScanLook, HelpDraw, HelpSettle, TakeFrom, TakeKey, TakeVersion, TakeValue, TakeRestKey, TakeRestValue, SeekFirst, Seek, SeekPass, Reclaim, TakeRow, GiveBack, WriteCount, WriteMin, WriteNext, WriteFirst, WritePend, WriteKey, WriteValue, WriteVersion, WriteAfter, Before, BeforeGuess, BeforeHead, BeforeLink, BeforeMin, Replace, Normalise, Number, Retire}
 use Rattle.kw_world.specs.declared.local.Local.{Local}
 use Rattle.kw_world.specs.declared.event.Choice.{Choice}
 use Rattle.kw_world.specs.declared.operation.Action.TheVariants.{Load, Store, Add, Or, Exchange}
@@ -50,7 +50,7 @@ use Rattle.kw_world.specs.ListTransitions.{link_name, to_insert, insert_from, in
 use Rattle.kw_world.specs.EngageTransitions.{again, balance_clock, balance_epoch, state_met, engaged, link_marked, decided}
 use Rattle.kw_world.specs.FreezeTransitions.{count_frozen, freeze_met, entry_tried, scan_met, scan_helped}
 use Rattle.kw_world.specs.TakeTransitions.{take_met, take_version, keeping, take_past, to_left}
-use Rattle.kw_world.specs.SeekTransitions.{infant, gave_back, seek_transition, seek_first_transition, take_row}
+use Rattle.kw_world.specs.SeekTransitions.{infant, gave_back, seek_transition, seek_first_transition, pass_met, take_row}
 use Rattle.kw_world.specs.WriteTransitions.{infant_cells, infant_count, infant_least, infant_link, unmarked_link, first_listed, listed_after, key_in, version_in, to_write_entry, to_write_cell}
 use Rattle.kw_world.specs.ReplaceTransitions.{before_transition, before_head_transition, guess_least, link_before, least_before, replaced_link, first_infant, replaced, normalised}
 
@@ -128,8 +128,10 @@ transition z TakeValue s choice l = at kind.LoadValue (Value l.row l.place) Load
 transition z TakeRestKey s choice l = at kind.LoadKey (Key l.row l.place) Load (λ w. to TakeRestValue (record l { place_key = key_of_word w }))
 transition z TakeRestValue s choice l = at kind.LoadValue (Value l.row l.place) Load (λ w. to_left z (keeping z (value_of_word w) l))
 -- free rows are sought and taken
-transition z SeekFirst s choice l = seek_first_transition choice l
-transition z Seek s choice l = seek_transition l.rebalance.sought l
+transition z SeekFirst s choice l = seek_first_transition z.form choice l
+transition z Seek s choice l = seek_transition z.form l.rebalance.sought l
+transition z (SeekPass i) s choice l = at_rows kind.LoadPass (Pass i) Load (λ rows w. pass_met z i rows (pass_of_word w) l)
+transition z Reclaim s choice l = at kind.Reclaim (State l.rebalance.sought) (Exchange (state_word (state.Retired l.rebalance.number)) (state_word state.Free)) (λ _. to TakeRow l)
 transition z TakeRow s choice l = at_rows kind.TakeRow (State l.rebalance.sought) (Exchange (state_word state.Free) (state_word (state.Infant s))) (λ rows w. take_row rows (w == state_word state.Free) l)
 transition z GiveBack s choice l = at kind.GiveBack (State (infant l)) (Store (state_word state.Free)) (λ _. gave_back l)
 -- they are written

@@ -134,6 +134,10 @@ pub enum Activity {
     SeekFirst,
     /// Loads the state of the next row.
     Seek,
+    /// Loads the epoch that this seat has announced, below the number of seats, where that row was retired.
+    SeekPass(u32),
+    /// Exchanges the retired state of that row, with the number that was found, for the free one.
+    Reclaim,
     /// Exchanges the free state of that row for that of an infant of the seat.
     TakeRow,
     /// Stores that the row at hand, of those taken, is free again.

@@ -263,6 +263,8 @@ impl Local {
             | Activity::TakeRestValue
             | Activity::SeekFirst
             | Activity::Seek
+            | Activity::SeekPass(_)
+            | Activity::Reclaim
             | Activity::TakeRow
             | Activity::GiveBack
             | Activity::WriteCount

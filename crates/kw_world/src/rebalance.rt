@@ -56,7 +56,8 @@ pub struct Rebalance {
     pub before: Option<u32>,
     /// The least key that this row may hold.
     pub least: u32,
-    /// The number of the full row, once it is replaced; from 1 to below `NUMBER_END`.
+    /// The number of the retired row that it asks for, and then that of the full row, once it is replaced; from 1 to below
+    /// `NUMBER_END`.
     pub number: u64,
     /// What follows once the taken rows are given back.
     pub afterwards: Afterwards,

@@ -1,0 +1,195 @@
+-- The rows that a seat names. It is in a pass then, and may name them; a row that it may name is there for it; and whatever word of a row an event
+-- touches, but for its state, is one of a row that its seat names, or of an infant of it.
+use Rattle.std.proofs.Common.{ℕ, ◌≡◌, ◌⊎◌, inl, inr, ◌<◌, Bool, true, false, Option, Some, None, sym, ◌∙◌, ap, subst, length}
+use Rattle.kw_words.specs.declared.layout.Name.TheVariants as name
+use Rattle.kw_words.specs.declared.state.State.TheVariants as state
+use Rattle.kw_words.specs.State.{state_of}
+use Rattle.kw_rows.specs.Ledger.{Ledger, IsDead, IsFresh, IsLive}
+use Rattle.kw_rows.specs.RowState.{State}
+use Rattle.kw_rows.specs.Rows.{Chain}
+use Rattle.kw_rows.specs.States.{HasState, IsDeadState, IsLiveState, States}
+use Rattle.kw_rows.proofs.Framed.{dead_state}
+use Rattle.kw_world.specs.declared.activity.Activity.{Activity}
+use Rattle.kw_world.specs.declared.activity.Activity.TheVariants.{Idle, Enter, Start, GuessMin, Walk, WalkMin, Look, LookKey, LookHelp, ListFrom, ListKey, ListVer, ListVal, RestKey, RestVal, PutCount, PutAdd, PutKey, PutValue, Announce, Stamp, PutVersion, InsFrom, InsKey, InsVer, InsSet, Insert, PutClear, AgainEpoch, MarkLink, FreezeCount, FreezeLook, Freeze, TakeFrom, TakeKey, TakeVersion, TakeValue, TakeRestKey, TakeRestValue, SeekFirst, WriteCount, WriteMin, WriteNext, WriteFirst, WritePend, WriteKey, WriteValue, WriteVersion, WriteAfter, Before, BeforeGuess, BeforeLink, BeforeMin, Replace}
+use Rattle.kw_world.specs.declared.event.Choice.{Choice}
+use Rattle.kw_world.specs.declared.event.Choice.TheVariants.{Begin, Go, Guess, Stop}
+use Rattle.kw_world.specs.declared.local.Local.{Local}
+use Rattle.kw_world.specs.ListTransitions.{link_name}
+use Rattle.kw_world.specs.ReplaceTransitions.{before_transition, replaced_link}
+use Rattle.kw_world.specs.SeekTransitions.{infant, seek_first_transition}
+use Rattle.kw_world.specs.Sizes.{Sizes}
+use Rattle.kw_world.specs.Table.{transition}
+use Rattle.kw_world.specs.Transition.{row_or_first}
+use Rattle.kw_world.specs.WalkTransitions.{is_stopped, start_transition, walk_transition}
+use Rattle.kw_core.specs.Stages.{IsAtRow, IsBalancing, IsPassing}
+use Rattle.kw_core.specs.Words.{Words}
+use Rattle.kw_reads.specs.Contents.{HasRow, HasCandidate}
+use Rattle.kw_shape.proofs.FollowRows.{live_met}
+use Rattle.kw_shape.proofs.InfantsStay.{infant_at}
+use Rattle.kw_shape.specs.Balances.{Balances}
+use Rattle.kw_shape.specs.Infants.{HasAtHand, IsNursedRow, nursing_of}
+use Rattle.kw_shape.specs.MetRows.{IsMet}
+use Rattle.kw_shape.specs.RowsIn.{rows_in, state_met}
+use Rattle.kw_shape.specs.Search.{HasBefore, HasMetNext, IsSearching, Search}
+use Rattle.kw_shape.specs.Shape.{Walks}
+use Rattle.kw_shape.specs.Won.{IsNormalising, Won}
+use Rattle.kw_laws.specs.Reach.{IsNamed, IsRowWord, names_row, names_candidate, names_next, names_full, names_before, names_met, names_new}
+
+-- Which rows a seat names.
+
+-- an activity of a family that has none out of a pass is in one
+passing_by : (P : Activity → Type 0) → (P Idle → ⊥) → (P Enter → ⊥) → (P AgainEpoch → ⊥) → (a : Activity) → P a → IsPassing a
+passing_by P idle enter again Idle x = absurd (idle x)
+passing_by P idle enter again Enter x = absurd (enter x)
+passing_by P idle enter again AgainEpoch x = absurd (again x)
+passing_by P idle enter again _ x = tt
+
+-- a seat that names a row is in a pass
+pub named_passes : (a : Activity) (l : Local) (q : ℕ) → IsNamed a l q → IsPassing a
+named_passes a l q (names_row x e) = passing_by HasRow (λ y. y) (λ y. y) (λ y. y) a x
+named_passes a l q (names_candidate x e) = passing_by HasCandidate (λ y. y) (λ y. y) (λ y. y) a x
+named_passes a l q (names_next x e) = passing_by IsAtRow (λ y. y) (λ y. y) (λ y. y) a x
+named_passes a l q (names_full x e) = passing_by IsBalancing (λ y. y) (λ y. y) (λ y. y) a x
+named_passes a l q (names_before x e) = passing_by (λ b. IsSearching b l) (λ y. y) (λ y. y) (λ y. y) a x
+named_passes a l q (names_met x e) = passing_by HasMetNext (λ y. y) (λ y. y) (λ y. y) a x
+named_passes a l q (names_new x i e) = passing_by IsNormalising (λ y. y) (λ y. y) (λ y. y) a x
+
+-- it may name the row of its walk, or at which it is
+row_fresh : (v : Words) (g : Ledger) (t : ℕ) (a : Activity) (l : Local) → Walks v g t a l → HasRow a → IsFresh g t l.row
+row_fresh v g t GuessMin l w x = w.on
+row_fresh v g t Walk l w x = w.on.0
+row_fresh v g t WalkMin l w x = w.on.0
+row_fresh v g t _ l w x = (w.at x).fresh
+
+-- and the one that it has met next
+candidate_fresh : (v : Words) (g : Ledger) (t : ℕ) (a : Activity) (l : Local) → Walks v g t a l → HasCandidate a → IsFresh g t l.candidate
+candidate_fresh v g t WalkMin l w x = w.on.2
+candidate_fresh v g t _ l w x = absurd x
+
+-- whatever it names it may name
+pub named_fresh : (v : Words) (g : Ledger) (t : ℕ) (a : Activity) (l : Local) → Walks v g t a l → Balances v g t a l → Search v g t a l → Won g t a l → (q : ℕ) → IsNamed a l q → IsFresh g t q
+named_fresh v g t a l w b s n q (names_row x e) = subst (IsFresh g t) (sym e) (row_fresh v g t a l w x)
+named_fresh v g t a l w b s n q (names_candidate x e) = subst (IsFresh g t) (sym e) (candidate_fresh v g t a l w x)
+named_fresh v g t a l w b s n q (names_next x e) = ((w.at x).next q e).fresh
+named_fresh v g t a l w b s n q (names_full x e) = subst (IsFresh g t) (sym e) (b.fresh x)
+named_fresh v g t a l w b s n q (names_before x e) = s.fresh q x e
+named_fresh v g t a l w b s n q (names_met x e) = subst (IsFresh g t) (sym e) (s.met x)
+named_fresh v g t a l w b s n q (names_new x i e) = n.fresh x i q e
+
+-- What is there for a seat.
+
+module _ (v : Words) (g : Ledger) (states : States (rows_in v) g) (q : ℕ) where
+  -- the state of a row of the list, and of one that was in it
+  live_state : (s : State) → IsLive g q → (rows_in v).state q ≡ s → IsLiveState (rows_in v) g q s
+  live_state s a e = subst (IsLiveState (rows_in v) g q) e (subst (HasState (rows_in v) g q) a (states q))
+
+  gone_state : (s : State) → IsDead g q → (rows_in v).state q ≡ s → IsDeadState g q s
+  gone_state s a e = subst (IsDeadState g q) e (dead_state (rows_in v) g q states a)
+
+  -- a row that a seat may name is not free
+  pub fresh_taken : (t : ℕ) → IsFresh g t q → state_of (v (name.State q)) ≡ Some state.Free → ⊥
+  fresh_taken t (inl a) e = live_state _ a (ap state_met e)
+  fresh_taken t (inr a) e = gone_state _ a.dead (ap state_met e)
+
+  -- where it is an infant it is in the list
+  pub fresh_met : (t s : ℕ) → Chain (rows_in v) g → IsFresh g t q → state_of (v (name.State q)) ≡ Some (state.Infant s) → IsMet v q
+  fresh_met t s chain (inl a) e = live_met v g chain q a
+  fresh_met t s chain (inr a) e = absurd (gone_state _ a.dead (ap state_met e))
+
+-- Which words an event touches.
+
+-- a link between cells of a row is a word of that row
+link_row : (r q : ℕ) (link : Option ℕ) → IsRowWord (link_name r link) q → q ≡ r
+link_row r q (Some c) w = w
+link_row r q None w = w
+
+-- the row before, where there is one
+before_row : (b : Option ℕ) (q : ℕ) → (p : ℕ) × (b ≡ Some p) → q ≡ row_or_first b → b ≡ Some q
+before_row b q p w = p.1 ∙ ap Some (sym (w ∙ ap row_or_first p.1))
+
+-- the link that leads to the full row stands in the row before it
+replaced_row : (b : Option ℕ) (q : ℕ) → IsRowWord (replaced_link b) q → b ≡ Some q
+replaced_row (Some p) q w = ap Some (sym w)
+replaced_row None q w = absurd w
+
+-- the row at hand is one of the infants
+nursed_row : (a : Activity) (l : Local) (q : ℕ) → IsNursedRow a l (infant l) → q ≡ infant l → IsNursedRow a l q
+nursed_row a l q n w = subst (IsNursedRow a l) (sym w) n
+
+-- each line of the table touches words of a row that the seat names, of an infant of it, or states alone
+pub touched : (z : Sizes) (s : ℕ) (choice : Choice) (l : Local) (a : Activity) (q : ℕ) → (HasBefore a l → (p : ℕ) × (l.rebalance.before ≡ Some p)) → (HasAtHand (nursing_of a) → l.rebalance.at < length l.rebalance.taken) →
+    IsRowWord (transition z a s choice l).operation.name q → IsNamed a l q ⊎ IsNursedRow a l q
+touched z s choice l Start q some hand w = starts choice w
+  where
+    starts : (c : Choice) → IsRowWord (start_transition c l).operation.name q → IsNamed Start l q ⊎ IsNursedRow Start l q
+    starts (Begin call) x = absurd x
+    starts Go x = absurd x
+    starts (Guess r) x = absurd x
+    starts Stop x = absurd x
+touched z s choice l GuessMin q some hand w = inl (names_row tt w)
+touched z s choice l Walk q some hand w = walks (is_stopped choice l) w
+  where
+    walks : (b : Bool) → IsRowWord (walk_transition b s l).operation.name q → IsNamed Walk l q ⊎ IsNursedRow Walk l q
+    walks true x = absurd x
+    walks false x = inl (names_row tt x)
+touched z s choice l WalkMin q some hand w = inl (names_candidate tt w)
+touched z s choice l (Look i) q some hand w = inl (names_row tt w)
+touched z s choice l LookKey q some hand w = inl (names_row tt w)
+touched z s choice l LookHelp q some hand w = inl (names_row tt w)
+touched z s choice l ListFrom q some hand w = inl (names_row tt (link_row l.row q l.link w))
+touched z s choice l ListKey q some hand w = inl (names_row tt w)
+touched z s choice l ListVer q some hand w = inl (names_row tt w)
+touched z s choice l ListVal q some hand w = inl (names_row tt w)
+touched z s choice l RestKey q some hand w = inl (names_row tt w)
+touched z s choice l RestVal q some hand w = inl (names_row tt w)
+touched z s choice l PutCount q some hand w = inl (names_row tt w)
+touched z s choice l PutAdd q some hand w = inl (names_row tt w)
+touched z s choice l PutKey q some hand w = inl (names_row tt w)
+touched z s choice l PutValue q some hand w = inl (names_row tt w)
+touched z s choice l Announce q some hand w = inl (names_row tt w)
+touched z s choice l Stamp q some hand w = inl (names_row tt w)
+touched z s choice l PutVersion q some hand w = inl (names_row tt w)
+touched z s choice l InsFrom q some hand w = inl (names_row tt (link_row l.row q l.link w))
+touched z s choice l InsKey q some hand w = inl (names_row tt w)
+touched z s choice l InsVer q some hand w = inl (names_row tt w)
+touched z s choice l InsSet q some hand w = inl (names_row tt w)
+touched z s choice l Insert q some hand w = inl (names_row tt (link_row l.row q l.link w))
+touched z s choice l PutClear q some hand w = inl (names_row tt w)
+touched z s choice l (MarkLink count) q some hand w = inl (names_full tt w)
+touched z s choice l FreezeCount q some hand w = inl (names_full tt w)
+touched z s choice l (FreezeLook i) q some hand w = inl (names_full tt w)
+touched z s choice l (Freeze i) q some hand w = inl (names_full tt w)
+touched z s choice l TakeFrom q some hand w = inl (names_full tt (link_row l.row q l.link w))
+touched z s choice l TakeKey q some hand w = inl (names_full tt w)
+touched z s choice l TakeVersion q some hand w = inl (names_full tt w)
+touched z s choice l TakeValue q some hand w = inl (names_full tt w)
+touched z s choice l TakeRestKey q some hand w = inl (names_full tt w)
+touched z s choice l TakeRestValue q some hand w = inl (names_full tt w)
+touched z s choice l SeekFirst q some hand w = seeks choice w
+  where
+    seeks : (c : Choice) → IsRowWord (seek_first_transition z.form c l).operation.name q → IsNamed SeekFirst l q ⊎ IsNursedRow SeekFirst l q
+    seeks (Begin call) x = absurd x
+    seeks Go x = absurd x
+    seeks (Guess r) x = absurd x
+    seeks Stop x = absurd x
+touched z s choice l WriteCount q some hand w = inr (nursed_row WriteCount l q (l.rebalance.at, tt, infant_at l (hand tt)) w)
+touched z s choice l WriteMin q some hand w = inr (nursed_row WriteMin l q (l.rebalance.at, tt, infant_at l (hand tt)) w)
+touched z s choice l WriteNext q some hand w = inr (nursed_row WriteNext l q (l.rebalance.at, tt, infant_at l (hand tt)) w)
+touched z s choice l WriteFirst q some hand w = inr (nursed_row WriteFirst l q (l.rebalance.at, tt, infant_at l (hand tt)) w)
+touched z s choice l (WritePend i) q some hand w = inr (nursed_row (WritePend i) l q (l.rebalance.at, tt, infant_at l (hand tt)) w)
+touched z s choice l (WriteKey j) q some hand w = inr (nursed_row (WriteKey j) l q (l.rebalance.at, tt, infant_at l (hand tt)) w)
+touched z s choice l (WriteValue j) q some hand w = inr (nursed_row (WriteValue j) l q (l.rebalance.at, tt, infant_at l (hand tt)) w)
+touched z s choice l (WriteVersion j) q some hand w = inr (nursed_row (WriteVersion j) l q (l.rebalance.at, tt, infant_at l (hand tt)) w)
+touched z s choice l (WriteAfter j) q some hand w = inr (nursed_row (WriteAfter j) l q (l.rebalance.at, tt, infant_at l (hand tt)) w)
+touched z s choice l Before q some hand w = begins choice w
+  where
+    begins : (c : Choice) → IsRowWord (before_transition c l).operation.name q → IsNamed Before l q ⊎ IsNursedRow Before l q
+    begins (Begin call) x = absurd x
+    begins Go x = absurd x
+    begins (Guess r) x = absurd x
+    begins Stop x = absurd x
+touched z s choice l BeforeGuess q some hand w = inl (names_before tt (before_row l.rebalance.before q (some tt) w))
+touched z s choice l BeforeLink q some hand w = inl (names_before tt (before_row l.rebalance.before q (some tt) w))
+touched z s choice l BeforeMin q some hand w = inl (names_met tt w)
+touched z s choice l Replace q some hand w = inl (names_before tt (replaced_row l.rebalance.before q w))
+touched z s choice l _ q some hand w = absurd w

@@ -1,0 +1,464 @@
+-- Every event keeps what each seat knows of the retired row that it asks for, and that the full row which a seat has replaced is not retired
+-- before the seat does so.
+--
+-- A dead row that stays dead keeps its state, unless it is retired now: each exchange of a state expects one that no dead row has, but for the
+-- one that frees a retired row, after which the row is not dead.
+use Rattle.std.proofs.Common.{ℕ, ◌≡◌, ◌≢◌, ◌⊎◌, inl, inr, ◌+◌, ◌<◌, ◌≤◌, Option, Some, None, arith, refl, sym, ◌∙◌, ap, subst, length, length-set, get_or, slice_get}
+use Rattle.std.proofs.lemmas.Bool.{cases_eq, cases_lt}
+use Rattle.std.proofs.lemmas.Option.{same_Some, slice_get-get_or, slice_get_within}
+use Rattle.kw_words.specs.declared.layout.Name.TheVariants as name
+use Rattle.kw_words.specs.declared.state.State.{State}
+use Rattle.kw_words.specs.declared.state.State.TheVariants as state
+use Rattle.kw_words.specs.Link.{link_of}
+use Rattle.kw_words.specs.Plain.{pass_of_word}
+use Rattle.kw_words.specs.State.{IsState, state_of, state_word}
+use Rattle.kw_words.proofs.LinkWords.{link_word_of}
+use Rattle.kw_words.proofs.PlainWords.{number_of_word-number_word}
+use Rattle.kw_words.proofs.StateWords.{state_word_of}
+use Rattle.kw_rows.specs.Ledger.{Dead, Fate, IsDead, IsFresh, IsHeld, IsLive, Ledger, Live, WasHeld}
+use Rattle.kw_rows.specs.RowState as row
+use Rattle.kw_rows.specs.RowState.{IsEngaged}
+use Rattle.kw_rows.specs.Rows.{Rows}
+use Rattle.kw_rows.specs.States.{IsDeadState, IsNumbered, States}
+use Rattle.kw_rows.proofs.Framed as framed
+use Rattle.kw_rows.proofs.Named.{held_by}
+use Rattle.kw_world.specs.declared.activity.Activity.{Activity}
+use Rattle.kw_world.specs.declared.activity.Activity.TheVariants.{Enter, Leave, Again, BalNormal, Engage, Decide, SeekFirst, Seek, SeekPass, Reclaim, TakeRow, GiveBack, Replace, Normalise, Retire}
+use Rattle.kw_world.specs.declared.event.Choice.{Choice}
+use Rattle.kw_world.specs.declared.local.Local.{Local}
+use Rattle.kw_world.specs.declared.rebalance.Afterwards.{Afterwards}
+use Rattle.kw_world.specs.ReplaceTransitions.{replaced_link}
+use Rattle.kw_world.specs.Sane.{IsActivity}
+use Rattle.kw_world.specs.SeekTransitions.{infant}
+use Rattle.kw_world.specs.Sizes.{Sizes}
+use Rattle.kw_world.specs.Step.{word}
+use Rattle.kw_world.specs.WriteTransitions.{unmarked_link}
+use Rattle.kw_core.specs.Ledger as ledger
+use Rattle.kw_core.specs.Run.{Run}
+use Rattle.kw_core.specs.Stages.{IsPassing}
+use Rattle.kw_core.specs.Words.{Words}
+use Rattle.kw_core.proofs.Arrows.{Arrow}
+use Rattle.kw_core.proofs.Building.{Building, IsBuilding, IsYoung, first_is_free, first_is_retired, first_is_taken, sought_is_free, sought_is_retired, sought_is_taken, pass_is_old, pass_is_young, frees_row, takes_row, loses_row, gives_last_back, writes_first, writes_entry, writes_after, begins_before, takes_head_before, leads_on_marked, leads_nowhere, walks_past, is_marked_before, is_replaced}
+use Rattle.kw_core.proofs.Fates.{ChangesFate, DrawsNumber, fate_of_freed, fate_stays, none_freed, numbers_stay, others_stay}
+use Rattle.kw_core.proofs.Happens.{Happens, not_exchanged}
+use Rattle.kw_core.proofs.InfantFrames.{ChangesState, normal_lost, not_freed, taken_lost}
+use Rattle.kw_core.proofs.NextBuilt.{GivenBack, is_refused_rows, moves_left, tries_again, NextBack, gives_back, has_none, has_looked, looks_on, NextSeek, asks, has_asked, NextTaken, has_enough, wants_more, NextNewCell, empties, fills, has_cells, NextNewEntry, has_entries, writes_idle, NextNewRow, has_written, writes_row, NextBefore, is_behind, is_first}
+use Rattle.kw_shape.proofs.BuildEvents.{dead_by_state, free_by_state, seat_fits, state_kept, states_still, word_says}
+use Rattle.kw_shape.proofs.Comings.{Comes, comes, goes_on, seeks, stays_out, won_builds}
+use Rattle.kw_shape.proofs.InfantsRely.{linked_not_infant}
+use Rattle.kw_shape.proofs.LinkedRows.{GoesNow, balance_at, dead_before, full_live, hand_infant, held_dead, linked_keeps, linked_not_free, sought_at}
+use Rattle.kw_shape.proofs.PassesKeep.{old_number, passing_busy}
+use Rattle.kw_shape.proofs.RelyRows.{is_passing}
+use Rattle.kw_shape.proofs.RowsKeep.{others_kept, pass_begins, pass_ends, pass_taken_back, won_at}
+use Rattle.kw_shape.proofs.WonKeep.{WonBy, has_next, has_number, was_last, wins_now, won_balances, won_by}
+use Rattle.kw_shape.specs.Infants.{IsInfantOf}
+use Rattle.kw_shape.specs.RowsIn.{rows_in, state_met}
+use Rattle.kw_shape.specs.Shape.{Shape}
+use Rattle.kw_shape.specs.Sought.{HasLooked, IsAsking, IsTaking, Sought}
+use Rattle.kw_shape.specs.Won.{HasWon}
+
+-- a dead row has no other state
+not_dead_state : {A : Type 0} (w : Rows) (g : Ledger) (q : ℕ) (t : row.State) → States w g → IsDead g q → w.state q ≡ t → (IsDeadState g q t → ⊥) → A
+not_dead_state w g q t states d e n = absurd (n (subst (IsDeadState g q) e (framed.dead_state w g q states d)))
+
+-- a state that is read as retired is so
+retired_met : (x : Option State) (m : ℕ) → state_met x ≡ row.Retired m → x ≡ Some (state.Retired m)
+retired_met (Some state.Free) m e = absurd (cc)
+retired_met (Some (state.Infant seat)) m e = absurd (cc)
+retired_met (Some state.Normal) m e = absurd (cc)
+retired_met (Some (state.Leader count)) m e = absurd (cc)
+retired_met (Some (state.Follower leader)) m e = absurd (cc)
+retired_met (Some (state.Retired number)) m e = ap (λ n. Some (state.Retired n)) (same_number number m e)
+  where
+    same_number : (n m : ℕ) → row.Retired n ≡ row.Retired m → n ≡ m
+    same_number n m e = cc
+retired_met None m e = absurd (cc)
+
+-- Where a seat asks for a row.
+
+looking_asks : (a : Activity) (j : ℕ) → HasLooked a j → IsAsking a
+looking_asks (SeekPass i) j x = tt
+looking_asks Reclaim j x = tt
+looking_asks _ j x = absurd x
+
+asking_passes : (a : Activity) → IsAsking a → IsPassing a
+asking_passes (SeekPass i) x = tt
+asking_passes Reclaim x = tt
+asking_passes _ x = absurd x
+
+taking_passes : (a : Activity) → IsTaking a → IsPassing a
+taking_passes TakeRow x = tt
+taking_passes _ x = absurd x
+
+asking_builds : (a : Activity) → IsAsking a → IsBuilding a
+asking_builds (SeekPass i) x = tt
+asking_builds Reclaim x = tt
+asking_builds _ x = absurd x
+
+taking_builds : (a : Activity) → IsTaking a → IsBuilding a
+taking_builds TakeRow x = tt
+taking_builds _ x = absurd x
+
+-- Elsewhere it knows nothing.
+
+abbrev pub IsElsewhere : Activity → Type 0
+IsElsewhere a = (IsAsking a → ⊥) × (IsTaking a → ⊥)
+
+pub unsought : (z : Sizes) (v : Words) (g : Ledger) (t : ℕ) (a : Activity) (l : Local) → IsElsewhere a → Sought z v g t a l
+unsought z v g t a l n = record { drawn = λ x. absurd (n.0 x); young = λ j since at o x. absurd (n.0 (looking_asks a j x)); asked = λ x. absurd (n.0 x); taken = λ x. absurd (n.1 x) }
+
+given_elsewhere : (c : Afterwards) (k next : Local) → GivenBack k c next → IsElsewhere next.activity
+given_elsewhere c k next tries_again = (λ x. x, λ x. x)
+given_elsewhere c k next is_refused_rows = (λ x. x, λ x. x)
+given_elsewhere c k next moves_left = (λ x. x, λ x. x)
+
+back_elsewhere : (c : Afterwards) (k next : Local) → NextBack c k next → IsElsewhere next.activity
+back_elsewhere c k next (gives_back o) = (λ x. x, λ x. x)
+back_elsewhere c k next (has_none m o y) = given_elsewhere c k next y
+
+seek_elsewhere : (rows : ℕ) (k next : Local) → NextSeek rows k next → IsElsewhere next.activity
+seek_elsewhere rows k next (asks o) = (λ x. x, λ x. x)
+seek_elsewhere rows k next (has_asked m o y) = back_elsewhere _ k next y
+
+taken_elsewhere : (rows : ℕ) (k next : Local) → NextTaken rows k next → IsElsewhere next.activity
+taken_elsewhere rows k next (wants_more m o y) = seek_elsewhere rows k next y
+taken_elsewhere rows k next (has_enough o) = (λ x. x, λ x. x)
+
+row_elsewhere : (k next : Local) → NextNewRow k next → IsElsewhere next.activity
+row_elsewhere k next (writes_row o) = (λ x. x, λ x. x)
+row_elsewhere k next (has_written o) = (λ x. x, λ x. x)
+
+cell_elsewhere : (z : Sizes) (j : ℕ) (k next : Local) → NextNewCell z j k next → IsElsewhere next.activity
+cell_elsewhere z j k next (fills o p) = (λ x. x, λ x. x)
+cell_elsewhere z j k next (empties o p) = (λ x. x, λ x. x)
+cell_elsewhere z j k next (has_cells m o y) = row_elsewhere k next y
+
+entry_elsewhere : (z : Sizes) (j : ℕ) (k next : Local) → NextNewEntry z j k next → IsElsewhere next.activity
+entry_elsewhere z j k next (writes_idle o) = (λ x. x, λ x. x)
+entry_elsewhere z j k next (has_entries m o y) = cell_elsewhere z 0 k next y
+
+before_elsewhere : (q : ℕ) (k next : Local) → NextBefore q k next → IsElsewhere next.activity
+before_elsewhere q k next (is_first e) = (λ x. x, λ x. x)
+before_elsewhere q k next (is_behind d) = (λ x. x, λ x. x)
+
+-- a dead row is not the one whose word says another state
+other_row : (z : Sizes) (r : Run) → Shape z r → (x q : ℕ) (t : State) → IsState t → (IsDeadState r.ledger.rows q (state_met (Some t)) → ⊥) → IsDead r.ledger.rows q → word z r.world (name.State x) ≡ state_word t → q ≡ x → ⊥
+other_row z r i x q t small n d e c = not_dead_state (rows_in (word z r.world)) r.ledger.rows q (state_met (Some t)) i.rows.states d (word_says _ t small (ap (λ y. word z r.world (name.State y)) c ∙ e)) n
+
+-- a row that went in the pass of the seat did so, as long as its fate and the pass stay
+held_still : (g g' : Ledger) (t q : ℕ) → WasHeld g t q → g'.fates q ≡ g.fates q → g'.passes t ≡ g.passes t → WasHeld g' t q
+held_still g g' t q w e p = record { since = w.since; dead = ap (λ (f : Fate). f.status) e ∙ w.dead; passes = p ∙ w.passes; before = omega (arith, w.before, ap (λ (f : Fate). f.gone) e) }
+
+module _ {z : Sizes} {r r' : Run} {s : ℕ} {choice : Choice} {l l' : Local} where
+  -- an exchange of the state of the row x, which expects one that no dead row has
+  exchange_leaves : (a : Activity) → Happens z r r' s choice l l' a → Shape z r → (x q : ℕ) (t : State) → IsState t → (IsDeadState r.ledger.rows q (state_met (Some t)) → ⊥) → ((y : ℕ) → y ≢ x → ChangesState a s l y → ⊥) → ((y : ℕ) → ChangesState a s l y → y ≡ x) →
+      (word z r.world (name.State x) ≢ state_word t → word z r'.world (name.State x) ≡ word z r.world (name.State x)) → IsDead r.ledger.rows q → (rows_in (word z r'.world)).state q ≡ (rows_in (word z r.world)).state q
+  exchange_leaves a h i x q t small n others here lost d = which (cases_eq (word z r.world (name.State x)) (state_word t))
+    where
+      which : (word z r.world (name.State x) ≡ state_word t) ⊎ (word z r.world (name.State x) ≡ state_word t → ⊥) → (rows_in (word z r'.world)).state q ≡ (rows_in (word z r.world)).state q
+      which (inl e) = state_kept a h i.sane q (λ c. other_row z r i x q t small n d e (here q c))
+      which (inr f) = states_still a h i.sane x others (lost f) q
+
+  -- the state of a row that is dead before and after the event stays, unless the event retires it
+  pub dead_state : (a : Activity) → Happens z r r' s choice l l' a → Shape z r → (q : ℕ) → IsDead r.ledger.rows q → IsDead r'.ledger.rows q → (a ≡ Retire → q ≡ l.row → ⊥) → (rows_in (word z r'.world)).state q ≡ (rows_in (word z r.world)).state q
+  dead_state (BalNormal seat) h i q d o n = exchange_leaves (BalNormal seat) h i l.row q (state.Infant seat) small (λ c. c) (λ y e c. e c) (λ y c. c) (λ f. not_exchanged _ _ _ _ h.changed.same f) d
+    where
+      small : IsState (state.Infant seat)
+      small = let k = subst (λ b. IsActivity z b) h.activity (i.sane.locals s l h.knows).ranges.activity in omega (arith, k, i.sane.sized.few_seats)
+  dead_state Engage h i q d o n = exchange_leaves Engage h i l.row q state.Normal tt (λ c. c) (λ y e c. e c) (λ y c. c) (λ f. not_exchanged _ _ _ _ h.changed.same f) d
+  dead_state (Decide count) h i q d o n = exchange_leaves (Decide count) h i l.row q (state.Leader 0) (omega arith) (λ c. absurd (omega (arith, c))) (λ y e c. e c) (λ y c. c) (λ f. not_exchanged _ _ _ _ h.changed.same f) d
+  dead_state TakeRow h i q d o n = exchange_leaves TakeRow h i l.rebalance.sought q state.Free tt (λ c. c) (λ y e c. e c) (λ y c. c) (λ f. taken_lost h f) d
+  dead_state Reclaim h i q d o n = which (cases_eq (word z r.world (name.State l.rebalance.sought)) (state_word (state.Retired l.rebalance.number)))
+    where
+      -- a row that is freed is dead no more
+      free : word z r.world (name.State l.rebalance.sought) ≡ state_word (state.Retired l.rebalance.number) → q ≡ l.rebalance.sought → ⊥
+      free e c = linked_not_free r'.ledger.rows q (inr o) (ap (λ y. (r'.ledger.rows.fates y).status) c ∙ ap (λ (f : Fate). f.status) (fate_of_freed h e))
+
+      which : (word z r.world (name.State l.rebalance.sought) ≡ state_word (state.Retired l.rebalance.number)) ⊎ (word z r.world (name.State l.rebalance.sought) ≡ state_word (state.Retired l.rebalance.number) → ⊥) → (rows_in (word z r'.world)).state q ≡ (rows_in (word z r.world)).state q
+      which (inl e) = state_kept Reclaim h i.sane q (free e)
+      which (inr f) = states_still Reclaim h i.sane l.rebalance.sought (λ y d c. d c) (not_freed h f) q
+  dead_state Normalise h i q d o n = exchange_leaves Normalise h i (infant l) q (state.Infant s) (seat_fits Normalise h i.sane) (λ c. c) (λ y e c. e c) (λ y c. c) (λ f. normal_lost h f) d
+  dead_state GiveBack h i q d o n = state_kept GiveBack h i.sane q (λ c. linked_not_infant r.ledger.rows s q (inr d) (subst (IsInfantOf r.ledger.rows s) (sym c) (hand_infant GiveBack h i tt)))
+  dead_state Retire h i q d o n = state_kept Retire h i.sane q (λ c. n refl c)
+  dead_state a h i q d o n = state_kept a h i.sane q (λ c. c)
+
+  -- The full row that a seat has replaced.
+
+  -- one that is dead and held stays engaged, where the event does not retire it
+  stays_engaged : (a : Activity) → Happens z r r' s choice l l' a → Shape z r → (q : ℕ) → IsHeld r.ledger.rows q → IsDead r.ledger.rows q → (a ≡ Retire → q ≡ l.row → ⊥) → IsEngaged ((rows_in (word z r.world)).state q) → IsEngaged ((rows_in (word z r'.world)).state q)
+  stays_engaged a h i q held d n e =
+      let after : IsDead r'.ledger.rows q = ap (λ (f : Fate). f.status) (held_dead _ _ r.ledger.rows r'.ledger.rows q held d (linked_keeps a h i q (inr d))) ∙ d in
+      subst IsEngaged (sym (dead_state a h i q d after n)) e
+
+  -- what its winner has not retired is not retired: of two winners of one row the owner tells that they are one
+  pub unretired_other : (a : Activity) → Happens z r r' s choice l l' a → Shape z r → (t : ℕ) (k : Local) → t ≢ s → slice_get r.world.locals t ≡ Some k → HasWon k.activity → IsEngaged ((rows_in (word z r'.world)).state k.row)
+  unretired_other a h i t k d g x =
+      let w = i.won t k g in
+      stays_engaged a h i k.row (held_by r.ledger.rows t k.row ((i.balances t k g).fresh (won_balances k.activity x))) (w.dead x) retires (i.unretired t k g x)
+    where
+      retires : a ≡ Retire → k.row ≡ l.row → ⊥
+      retires e c =
+          let own = (won_at Retire (subst (Happens z r r' s choice l l') e h) i).owner tt in
+          d (sym ((i.won t k g).owner x) ∙ ap (λ q. (r.ledger.rows.fates q).owner) c ∙ own)
+
+  -- a row that is replaced is led, alone or not
+  replaced_engaged : Happens z r r' s choice l l' Replace → Shape z r → link_of (word z r.world (replaced_link l.rebalance.before)) ≡ Some (unmarked_link (Some l.row)) → IsEngaged ((rows_in (word z r'.world)).state l.row)
+  replaced_engaged h i e = subst IsEngaged (sym (state_kept Replace h i.sane l.row (λ c. c))) (which ((balance_at Replace h i).group.1 live).either)
+    where
+      live : IsLive r.ledger.rows l.row
+      live = full_live h i (sym (link_word_of (word z r.world (replaced_link l.rebalance.before)) (unmarked_link (Some l.row)) e))
+
+      which : {B : Type 0} → ((rows_in (word z r.world)).state l.row ≡ row.Leader 1) ⊎ ((rows_in (word z r.world)).state l.row ≡ row.Leader 2) × B → IsEngaged ((rows_in (word z r.world)).state l.row)
+      which (inl f) = subst IsEngaged (sym f) tt
+      which (inr f) = subst IsEngaged (sym f.0) tt
+
+  pub unretired_own : (a : Activity) → Arrow z (word z r.world) s choice l a l' → Happens z r r' s choice l l' a → Shape z r → HasWon l'.activity → IsEngaged ((rows_in (word z r'.world)).state l'.row)
+  unretired_own a b h i x = which (comes z (word z r.world) s choice l a l' b)
+    where
+      stays : HasWon a → (a ≢ Retire) → IsEngaged ((rows_in (word z r'.world)).state l.row)
+      stays w n =
+          let o = subst HasWon (sym h.activity) w in
+          stays_engaged a h i l.row (held_by r.ledger.rows s l.row ((i.balances s l h.knows).fresh (won_balances l.activity o))) ((i.won s l h.knows).dead o) (λ e c. n e) (i.unretired s l h.knows o)
+
+      by : (c : Activity) (k : Local) → WonBy (word z r.world) l c k → Happens z r r' s choice l l' c → (HasWon c → (c ≢ Retire) → IsEngaged ((rows_in (word z r'.world)).state l.row)) → IsEngaged ((rows_in (word z r'.world)).state k.row)
+      by c k (wins_now e) y f = replaced_engaged y i e
+      by c k (has_next o) y f = f tt (λ e. cc)
+      by c k was_last y f = f tt (λ e. cc)
+      by c k has_number y f = f tt (λ e. cc)
+
+      which : Comes z (word z r.world) choice l a l' → IsEngaged ((rows_in (word z r'.world)).state l'.row)
+      which (stays_out n) = absurd (n (won_builds l'.activity x))
+      which (seeks e t) = absurd (subst HasWon e x)
+      which (goes_on o t) = by a l' (won_by z (word z r.world) choice l a l' t x) h stays
+
+  -- A seat that the table does not have.
+
+  -- is in no pass still
+  pub outside_stays : (a : Activity) → Happens z r r' s choice l l' a → Shape z r → (t : ℕ) → length r'.world.locals ≤ t → r'.ledger.rows.passes t ≡ None
+  outside_stays a h i t o = others_kept a h t (λ e. absurd (omega (arith, e, o, here, seats))) ∙ i.outside t (omega (arith, o, seats))
+    where
+      seats : length r'.world.locals ≡ length r.world.locals
+      seats = ap length h.locals ∙ length-set r.world.locals s l'
+
+      here : s < length r.world.locals
+      here = slice_get_within r.world.locals s l h.knows
+
+  -- The pass of the next seat.
+
+  -- a seat that is in no pass, or whose word says an epoch above the number, has none that began before the number was drawn
+  pub looked : (j : ℕ) → Happens z r r' s choice l l' (SeekPass j) → Shape z r → IsYoung l.rebalance.number (pass_of_word (word z r.world (name.Pass j))) → (since at : ℕ) → r.ledger.rows.passes j ≡ Some since → r.ledger.rows.numbered l.rebalance.number ≡ Some at → at < since
+  looked j h i young since at p n = which (cases_lt j (length r.world.locals))
+    where
+      here : (k : Local) → slice_get r.world.locals j ≡ Some k → IsPassing k.activity ⊎ (IsPassing k.activity → ⊥) → at < since
+      here k g (inl x) =
+          let q = i.passes j k g in
+          let e : pass_of_word (word z r.world (name.Pass j)) ≡ Some k.epoch = ap pass_of_word (q.in_pass x).word ∙ number_of_word-number_word (Some k.epoch) (q.epoch (passing_busy k.activity x)).0 in
+          q.before l.rebalance.number at since (subst (IsYoung l.rebalance.number) e young) n p
+      here k g (inr o) = let x : None ≡ Some since = sym ((i.passes j k g).in_none o).passes ∙ p in absurd (cc)
+
+      none : length r.world.locals ≤ j → at < since
+      none o = let x : None ≡ Some since = sym (i.outside j o) ∙ p in absurd (cc)
+
+      which : (j < length r.world.locals) ⊎ (length r.world.locals ≤ j) → at < since
+      which (inl o) = here (get_or r.world.locals j l) (slice_get-get_or r.world.locals j l o) (is_passing (get_or r.world.locals j l).activity)
+      which (inr o) = none o
+
+  -- What a seat knows of the row that it asks for.
+
+  -- a row that goes now went in each pass that is on, and was so before the event
+  goes_held : (t q : ℕ) → (a : Activity) → Happens z r r' s choice l l' a → Shape z r → (since : ℕ) → r.ledger.rows.passes t ≡ Some since → r'.ledger.rows.passes t ≡ Some since → GoesNow r.ledger.rows r'.ledger.rows s (length r.history.log) q → WasHeld r'.ledger.rows t q
+  goes_held t q a h i since p p' y = record {
+    since = since;
+    dead = ap (λ (f : Fate). f.status) y.fate;
+    passes = p';
+    before = omega (arith, i.rows.past.begun t since p, ap (λ (f : Fate). f.gone) y.fate);
+  }
+
+  -- the row, if it is dead, is retired with the number or went in the pass of the seat: so it is after the event
+  asked_after : (a : Activity) → Happens z r r' s choice l l' a → Shape z r → (t q m since : ℕ) → r.ledger.rows.passes t ≡ Some since → r'.ledger.rows.passes t ≡ r.ledger.rows.passes t →
+      (IsDead r.ledger.rows q → ((rows_in (word z r.world)).state q ≡ row.Retired m) ⊎ WasHeld r.ledger.rows t q) → IsDead r'.ledger.rows q → ((rows_in (word z r'.world)).state q ≡ row.Retired m) ⊎ WasHeld r'.ledger.rows t q
+  asked_after a h i t q m since p same was d = which (dead_before a h i q d)
+    where
+      -- a row that is retired now was not retired before
+      retires : (rows_in (word z r.world)).state q ≡ row.Retired m → a ≡ Retire → q ≡ l.row → ⊥
+      retires e c f = let x : IsEngaged ((rows_in (word z r.world)).state l.row) = i.unretired s l h.knows (subst HasWon (sym (h.activity ∙ c)) tt) in subst IsEngaged (ap (rows_in (word z r.world)).state (sym f) ∙ e) x
+
+      stays : r'.ledger.rows.fates q ≡ r.ledger.rows.fates q → ((rows_in (word z r.world)).state q ≡ row.Retired m) ⊎ WasHeld r.ledger.rows t q → IsDead r.ledger.rows q → ((rows_in (word z r'.world)).state q ≡ row.Retired m) ⊎ WasHeld r'.ledger.rows t q
+      stays f (inl e) k = inl (dead_state a h i q k d (retires e) ∙ e)
+      stays f (inr w) k = inr (held_still r.ledger.rows r'.ledger.rows t q w f same)
+
+      which : IsDead r.ledger.rows q × (r'.ledger.rows.fates q ≡ r.ledger.rows.fates q) ⊎ GoesNow r.ledger.rows r'.ledger.rows s (length r.history.log) q → ((rows_in (word z r'.world)).state q ≡ row.Retired m) ⊎ WasHeld r'.ledger.rows t q
+      which (inl x) = stays x.1 (was x.0) x.0
+      which (inr y) = inr (goes_held t q a h i since p (same ∙ p) y)
+
+  -- the row, if it is dead, went in the pass of the seat: so it is after the event
+  taken_after : (a : Activity) → Happens z r r' s choice l l' a → Shape z r → (t q since : ℕ) → r.ledger.rows.passes t ≡ Some since → r'.ledger.rows.passes t ≡ r.ledger.rows.passes t → (IsDead r.ledger.rows q → WasHeld r.ledger.rows t q) → IsDead r'.ledger.rows q → WasHeld r'.ledger.rows t q
+  taken_after a h i t q since p same was d = which (dead_before a h i q d)
+    where
+      which : IsDead r.ledger.rows q × (r'.ledger.rows.fates q ≡ r.ledger.rows.fates q) ⊎ GoesNow r.ledger.rows r'.ledger.rows s (length r.history.log) q → WasHeld r'.ledger.rows t q
+      which (inl x) = held_still r.ledger.rows r'.ledger.rows t q (was x.0) x.1 same
+      which (inr y) = goes_held t q a h i since p (same ∙ p) y
+
+  -- a pass that is on after the event was on before, or begins now, after all numbers that were drawn
+  pass_now : (a : Activity) → Happens z r r' s choice l l' a → Shape z r → (j since m at : ℕ) → r'.ledger.rows.passes j ≡ Some since → r.ledger.rows.numbered m ≡ Some at → (r.ledger.rows.passes j ≡ Some since → at < since) → at < since
+  pass_now Enter h i j since m at p n f = which (cases_eq j s)
+    where
+      which : (j ≡ s) ⊎ (j ≡ s → ⊥) → at < since
+      which (inl c) = omega (arith, i.rows.past.drawn m at n, same_Some (length r.history.log) since (sym (pass_begins h) ∙ ap r'.ledger.rows.passes (sym c) ∙ p))
+      which (inr d) = f (sym (others_kept Enter h j d) ∙ p)
+  pass_now (Leave answer) h i j since m at p n f = which (cases_eq j s)
+    where
+      which : (j ≡ s) ⊎ (j ≡ s → ⊥) → at < since
+      which (inl c) = let x : None ≡ Some since = sym (pass_ends answer h) ∙ ap r'.ledger.rows.passes (sym c) ∙ p in absurd (cc)
+      which (inr d) = f (sym (others_kept (Leave answer) h j d) ∙ p)
+  pass_now Again h i j since m at p n f = which (cases_eq j s)
+    where
+      which : (j ≡ s) ⊎ (j ≡ s → ⊥) → at < since
+      which (inl c) = let x : None ≡ Some since = sym (pass_taken_back h) ∙ ap r'.ledger.rows.passes (sym c) ∙ p in absurd (cc)
+      which (inr d) = f (sym (others_kept Again h j d) ∙ p)
+  pass_now a h i j since m at p n f = f (sym (others_stay a h j (λ x e. x)) ∙ p)
+
+  -- What a seat knows that is in its pass before and after the event, and whose row and number stay.
+  stays_known : (a : Activity) → Happens z r r' s choice l l' a → Shape z r → (t since : ℕ) (b : Activity) (k : Local) → r.ledger.rows.passes t ≡ Some since → r'.ledger.rows.passes t ≡ r.ledger.rows.passes t → Sought z (word z r.world) r.ledger.rows t b k → Sought z (word z r'.world) r'.ledger.rows t b k
+  stays_known a h i t since b k p same x = record {
+    drawn = λ o. let y = x.drawn o in (y.0, kept o ∙ y.1);
+    young = λ j u at o c e n. let m = sym (kept (looking_asks b j c)) ∙ n in pass_now a h i j u k.rebalance.number at e m (λ f. x.young j u at o c f m);
+    asked = λ o. asked_after a h i t k.rebalance.sought k.rebalance.number since p same (x.asked o);
+    taken = λ o. taken_after a h i t k.rebalance.sought since p same (x.taken o);
+  }
+    where
+      kept : IsAsking b → r'.ledger.rows.numbered k.rebalance.number ≡ r.ledger.rows.numbered k.rebalance.number
+      kept o = let y = x.drawn o in old_number a h k.rebalance.number (i.numbers.below k.rebalance.number y.0 y.1)
+
+  -- another seat
+  pub sought_other : (a : Activity) → Happens z r r' s choice l l' a → Shape z r → (t : ℕ) (k : Local) → t ≢ s → slice_get r.world.locals t ≡ Some k → Sought z (word z r'.world) r'.ledger.rows t k.activity k
+  sought_other a h i t k d g = which (is_passing k.activity)
+    where
+      which : IsPassing k.activity ⊎ (IsPassing k.activity → ⊥) → Sought z (word z r'.world) r'.ledger.rows t k.activity k
+      which (inl x) = let p = (i.passes t k g).in_pass x in stays_known a h i t p.since k.activity k p.passes (others_kept a h t d) (i.sought t k g)
+      which (inr n) = unsought z (word z r'.world) r'.ledger.rows t k.activity k (λ o. n (asking_passes k.activity o), λ o. n (taking_passes k.activity o))
+
+  -- The acting seat.
+
+  -- it finds a row free
+  finds_free : (a : Activity) (q : ℕ) (k : Local) → Happens z r r' s choice l l' a → Shape z r → (ChangesFate a l q → ⊥) → state_of (word z r.world (name.State q)) ≡ Some state.Free → k.rebalance.sought ≡ q → Sought z (word z r'.world) r'.ledger.rows s TakeRow k
+  finds_free a q k h i n e c = record {
+    drawn = λ x. absurd x;
+    young = λ j since at o x. absurd x;
+    asked = λ x. absurd x;
+    taken = λ x d.
+        let free = free_by_state (rows_in (word z r.world)) r.ledger.rows q i.rows.states (ap state_met e) in
+        linked_not_free r'.ledger.rows q (inr (subst (IsDead r'.ledger.rows) c d)) (ap (λ (f : Fate). f.status) (fate_stays a h q n) ∙ free);
+  }
+
+  -- it finds one retired
+  finds_retired : (a : Activity) (q m : ℕ) (k : Local) → Happens z r r' s choice l l' a → Shape z r → (ChangesState a s l q → ⊥) → (DrawsNumber a → ⊥) → state_of (word z r.world (name.State q)) ≡ Some (state.Retired m) → k.rebalance.sought ≡ q → k.rebalance.number ≡ m → Sought z (word z r'.world) r'.ledger.rows s (SeekPass 0) k
+  finds_retired a q m k h i n o e c f = record {
+    drawn = λ x. (number.at, ap r'.ledger.rows.numbered f ∙ numbers_stay a h o m ∙ number.drawn);
+    young = λ j since at u x. absurd (omega (arith, x));
+    asked = λ x d. inl (ap (rows_in (word z r'.world)).state c ∙ state_kept a h i.sane q n ∙ ap state_met e ∙ ap row.Retired (sym f));
+    taken = λ x. absurd x;
+  }
+    where
+      number : IsNumbered r.ledger.rows q m
+      number =
+          let d = dead_by_state (rows_in (word z r.world)) r.ledger.rows q m i.rows.states (ap state_met e) in
+          subst (IsDeadState r.ledger.rows q) (ap state_met e) (framed.dead_state (rows_in (word z r.world)) r.ledger.rows q i.rows.states d)
+
+  -- it has looked at one pass more, which was none, or began after the number was drawn
+  looks_further : (j : ℕ) (b : Activity) → Happens z r r' s choice l l' (SeekPass j) → Shape z r → IsYoung l.rebalance.number (pass_of_word (word z r.world (name.Pass j))) → IsAsking b → (IsTaking b → ⊥) → ((u : ℕ) → u < z.seats → HasLooked b u → u < j + 1) → Sought z (word z r'.world) r'.ledger.rows s b (record l { activity = b })
+  looks_further j b h i y o n f = record {
+    drawn = λ c. known.drawn tt;
+    young = λ u since at w c p m. which u since at w p m (f u w c) (cases_eq u j);
+    asked = λ c. known.asked tt;
+    taken = λ c. absurd (n c);
+  }
+    where
+      on : (since : ℕ) × (r.ledger.rows.passes s ≡ Some since)
+      on = let q = (i.passes s l h.knows).in_pass (subst IsPassing (sym h.activity) tt) in (q.since, q.passes)
+
+      known : Sought z (word z r'.world) r'.ledger.rows s (SeekPass j) l
+      known = stays_known (SeekPass j) h i s on.0 (SeekPass j) l on.1 (others_stay (SeekPass j) h s (λ c e. c)) (sought_at (SeekPass j) h i)
+
+      kept : r'.ledger.rows.numbered l.rebalance.number ≡ r.ledger.rows.numbered l.rebalance.number
+      kept = numbers_stay (SeekPass j) h (λ c. c) l.rebalance.number
+
+      which : (u since at : ℕ) → u < z.seats → r'.ledger.rows.passes u ≡ Some since → r'.ledger.rows.numbered l.rebalance.number ≡ Some at → u < j + 1 → (u ≡ j) ⊎ (u ≡ j → ⊥) → at < since
+      which u since at w q m c (inl d) = looked j h i y since at (ap r.ledger.rows.passes (sym d) ∙ sym (others_stay (SeekPass j) h u (λ c e. c)) ∙ q) (sym kept ∙ m)
+      which u since at w q m c (inr d) = known.young u since at w (omega (arith, c, d)) q m
+
+  -- it has freed the row, or tried to
+  has_freed : Happens z r r' s choice l l' Reclaim → Shape z r → (k : Local) → k.rebalance.sought ≡ l.rebalance.sought → Sought z (word z r'.world) r'.ledger.rows s TakeRow k
+  has_freed h i k c = record {
+    drawn = λ x. absurd x;
+    young = λ j since at o x. absurd x;
+    asked = λ x. absurd x;
+    taken = λ x d. subst (WasHeld r'.ledger.rows s) (sym c) (which (cases_eq (word z r.world (name.State l.rebalance.sought)) (state_word (state.Retired l.rebalance.number))) (subst (IsDead r'.ledger.rows) c d));
+  }
+    where
+      lost : r'.ledger ≡ r.ledger → (word z r.world (name.State l.rebalance.sought) ≢ state_word (state.Retired l.rebalance.number)) → ((rows_in (word z r.world)).state l.rebalance.sought ≡ row.Retired l.rebalance.number) ⊎ WasHeld r.ledger.rows s l.rebalance.sought → WasHeld r'.ledger.rows s l.rebalance.sought
+      lost e n (inl f) = absurd (n (sym (state_word_of (word z r.world (name.State l.rebalance.sought)) (state.Retired l.rebalance.number) (retired_met (state_of (word z r.world (name.State l.rebalance.sought))) l.rebalance.number f))))
+      lost e n (inr w) = held_still r.ledger.rows r'.ledger.rows s l.rebalance.sought w (ap (λ (g : ledger.Ledger). g.rows.fates l.rebalance.sought) e) (ap (λ (g : ledger.Ledger). g.rows.passes s) e)
+
+      which : (word z r.world (name.State l.rebalance.sought) ≡ state_word (state.Retired l.rebalance.number)) ⊎ (word z r.world (name.State l.rebalance.sought) ≡ state_word (state.Retired l.rebalance.number) → ⊥) → IsDead r'.ledger.rows l.rebalance.sought → WasHeld r'.ledger.rows s l.rebalance.sought
+      which (inl e) d = linked_not_free r'.ledger.rows l.rebalance.sought (inr d) (ap (λ (f : Fate). f.status) (fate_of_freed h e))
+      which (inr n) d = let e = none_freed h n in lost e n ((sought_at Reclaim h i).asked tt (subst (λ (g : ledger.Ledger). IsDead g.rows l.rebalance.sought) e d))
+
+  -- by the event that it makes
+  sought_built : (a : Activity) (k : Local) → Building z (word z r.world) choice l a k → Happens z r r' s choice l l' a → Shape z r → Sought z (word z r'.world) r'.ledger.rows s k.activity k
+  sought_built a k (first_is_free q c e) h i = finds_free SeekFirst q _ h i (λ x. x) e refl
+  sought_built a k (sought_is_free e) h i = finds_free Seek l.rebalance.sought _ h i (λ x. x) e refl
+  sought_built a k (first_is_retired q m c e f) h i = finds_retired SeekFirst q m _ h i (λ x. x) (λ x. x) e refl refl
+  sought_built a k (sought_is_retired m e f) h i = finds_retired Seek l.rebalance.sought m _ h i (λ x. x) (λ x. x) e refl refl
+  sought_built a k (pass_is_young j next y (looks_on o)) h i = looks_further j (SeekPass (j + 1)) h i y tt (λ x. x) (λ u w c. c)
+  sought_built a k (pass_is_young j next y (has_looked o)) h i = looks_further j Reclaim h i y tt (λ x. x) (λ u w c. omega (arith, w, o))
+  sought_built a k frees_row h i = has_freed h i _ refl
+  sought_built a k (first_is_taken q rows next c n y) h i = unsought z _ r'.ledger.rows s _ next (seek_elsewhere rows _ next y)
+  sought_built a k (sought_is_taken rows next n y) h i = unsought z _ r'.ledger.rows s _ next (seek_elsewhere rows _ next y)
+  sought_built a k (pass_is_old j epoch rows next e o y) h i = unsought z _ r'.ledger.rows s _ next (seek_elsewhere rows _ next y)
+  sought_built a k (takes_row rows next e y) h i = unsought z _ r'.ledger.rows s _ next (taken_elsewhere rows _ next y)
+  sought_built a k (loses_row rows next d y) h i = unsought z _ r'.ledger.rows s _ next (seek_elsewhere rows _ next y)
+  sought_built a k (gives_last_back next o y) h i = unsought z _ r'.ledger.rows s _ next (given_elsewhere _ l next y)
+  sought_built a k (writes_first next y) h i = unsought z _ r'.ledger.rows s _ next (entry_elsewhere z 0 l next y)
+  sought_built a k (writes_entry j next y) h i = unsought z _ r'.ledger.rows s _ next (entry_elsewhere z (j + 1) l next y)
+  sought_built a k (writes_after j next y) h i = unsought z _ r'.ledger.rows s _ next (cell_elsewhere z (j + 1) l next y)
+  sought_built a k (begins_before next y) h i = unsought z _ r'.ledger.rows s _ next (before_elsewhere _ l next y)
+  sought_built a k (takes_head_before next y) h i = unsought z _ r'.ledger.rows s _ next (before_elsewhere _ l next y)
+  sought_built a k (leads_on_marked next f y) h i = unsought z _ r'.ledger.rows s _ next (back_elsewhere _ l next y)
+  sought_built a k (leads_nowhere next f y) h i = unsought z _ r'.ledger.rows s _ next (back_elsewhere _ l next y)
+  sought_built a k (walks_past next o y) h i = unsought z _ r'.ledger.rows s _ next (back_elsewhere _ l next y)
+  sought_built a k (is_marked_before next f y) h i = unsought z _ r'.ledger.rows s _ next (back_elsewhere _ l next y)
+  sought_built a k (is_replaced next d y) h i = unsought z _ r'.ledger.rows s _ next (back_elsewhere _ l next y)
+  sought_built a k _ h i = unsought z _ r'.ledger.rows s _ _ (λ x. x, λ x. x)
+
+  -- so it knows what it should
+  pub sought_own : (a : Activity) → Arrow z (word z r.world) s choice l a l' → Happens z r r' s choice l l' a → Shape z r → Sought z (word z r'.world) r'.ledger.rows s l'.activity l'
+  sought_own a b h i = which (comes z (word z r.world) s choice l a l' b)
+    where
+      which : Comes z (word z r.world) choice l a l' → Sought z (word z r'.world) r'.ledger.rows s l'.activity l'
+      which (stays_out n) = unsought z _ r'.ledger.rows s l'.activity l' (λ x. n (asking_builds l'.activity x), λ x. n (taking_builds l'.activity x))
+      which (seeks e t) = unsought z _ r'.ledger.rows s l'.activity l' (λ x. subst IsAsking e x, λ x. subst IsTaking e x)
+      which (goes_on o t) = sought_built a l' t h i
+
+-- What is so of a retired row that a seat may name.
+
+-- its number is not below the epoch of the seat
+pub fresh_late : (z : Sizes) (r : Run) → Shape z r → (t q n : ℕ) (k : Local) → slice_get r.world.locals t ≡ Some k → IsFresh r.ledger.rows t q → (rows_in (word z r.world)).state q ≡ row.Retired n → k.epoch ≤ n
+fresh_late z r i t q n k g f e = which f (cases_lt n k.epoch)
+  where
+    dead : IsDead r.ledger.rows q
+    dead = dead_by_state (rows_in (word z r.world)) r.ledger.rows q n i.rows.states e
+
+    number : IsNumbered r.ledger.rows q n
+    number = subst (IsDeadState r.ledger.rows q) e (framed.dead_state (rows_in (word z r.world)) r.ledger.rows q i.rows.states dead)
+
+    which : IsFresh r.ledger.rows t q → (n < k.epoch) ⊎ (k.epoch ≤ n) → k.epoch ≤ n
+    which (inl a) o = let x : Live ≡ Dead = sym a ∙ dead in absurd (cc)
+    which (inr w) (inl o) = absurd (omega (arith, w.before, number.after, (i.passes t k g).before n number.at w.since o number.drawn w.passes))
+    which (inr w) (inr o) = o
+
+-- so is that of a row that a seat tries to take
+pub retakes : (z : Sizes) (r : Run) → Shape z r → (t n : ℕ) (k : Local) → slice_get r.world.locals t ≡ Some k → k.activity ≡ TakeRow → (rows_in (word z r.world)).state k.rebalance.sought ≡ row.Retired n → k.epoch ≤ n
+retakes z r i t n k g e f =
+    let d = dead_by_state (rows_in (word z r.world)) r.ledger.rows k.rebalance.sought n i.rows.states f in
+    fresh_late z r i t k.rebalance.sought n k g (inr ((i.sought t k g).taken (subst IsTaking (sym e) tt) d)) f
