@@ -6,12 +6,13 @@ fault line.
   tools/check_program.py --program 'COMMAND'    another program, with the same words
 
 Each case has its words, its standard input and output, and what the process must print, say on standard error, and end with. It was
-worked out by hand, and the summaries by a generator in Python.
+worked out by hand, the summaries by a generator in Python, and which lines are refused on a map of few rows by a simulator of the
+map's events that was written apart from this program.
 
 Each script of the folder `scripts` beside this file is run three times: it must print its `.printed`, its record must be its `.record`, and
-that must be judged good. Its name says what it shows. Most of its lines name the kind of the one step that they make, and the positions in
-the record count all steps, so that together they tell each step of the calls. What is printed comes from a simulator of the same event
-table that was written apart from this program, and none is in the repository.
+that must be judged good. Its name says what it shows. Many of its lines name the kind of the one step that they make, and the positions in
+the record count all steps, so that together they tell how many steps each call makes. What is printed comes from that simulator too, and
+none is in the repository.
 
 The last line says how many cases passed; the status is 1 where one did not."""
 
@@ -37,6 +38,20 @@ TURNED = b"done 0.1 0 5 put 5 10: ok\ndone 1.1 6 9 get 5: 10\norder 1.1 0.1\n"
 # A put that was refused, and a get that finds nothing of it.
 REFUSED = b"done 0.1 0 5 put 5 10: no rows\ndone 0.2 6 9 get 5: none\norder 0.1 0.2"
 
+# A get that has announced its epoch and stands still, beside puts of one key: each full row is replaced by another, and none that was
+# retired is used again, so that rows run out. Once the get has left, one is, and the put is done. The first `until` gives up after 100,000
+# steps, in the 3,719th put.
+STILL = (
+    b"call 0 get 5\nuntil 0 load_head\nputs 1 4034 5 9\nuntil 1 reclaim\nuntil 1 reclaim\ngo 0 1000\n"
+    b"call 1 put 5 9\nuntil 1 reclaim\ngo 1 100000\n"
+)
+STILL_LINES = [b"1.%d put 5 9: ok" % number for number in range(1, 4034)]
+STILL_LINES[3718:3718] = [b"missed"]
+STILL_LINES += [b"1.4034 put 5 9: no rows", b"missed", b"0.1 get 5: 9", b"1.4035 put 5 9: ok"]
+STILL_NAMES = [b"1.%d" % number for number in range(1, 4036)]
+STILL_NAMES[64:64] = [b"0.1"]
+STILL_PRINTED = b"\n".join([*STILL_LINES, b" ".join([b"order", *STILL_NAMES]), b""])
+
 # Lines of `replay`: each form of a range; three of the greatest values and their sum; keys put out of order, and lists of them; many puts of
 # one key; and more keys than one row holds, with all pairs.
 RANGES = b"sum 1 3\ncount 1 3\nleast 1 3\ngreatest 1 3\nlist 1 3\n"
@@ -46,9 +61,26 @@ ONE = b"".join(b"put 7 %d\n" % value for value in range(1, 201)) + b"get 7\n"
 MANY = b"".join(b"put %d %d\n" % (key, key) for key in range(1, 66)) + b"sum 1 65\nlist 1 65\n"
 ALL = b" ".join(b"%d=%d" % (key, key) for key in range(1, 66))
 
-# The summaries of a thousand lines and of ten thousand.
+# More puts of one key than all rows of a small map have cells. Rising keys, which fill half of each row but the last, on a map whose rows
+# run out; and lines behind them, of which those are refused that would have to go into a row that is full.
+AGAIN = b"".join(b"put 7 %d\n" % value for value in range(1, 10001)) + b"get 7\n"
+RISING = b"".join(b"put %d %d\n" % (key, key) for key in range(1, 2050))
+RISING_PRINTED = 2048 * b"ok\n" + b"no rows\n"
+LATER = b"get 2049\nput 1 5\nget 1\nput 2049 1\ndel 2048\nget 2048\ncount 0 4294967295\n"
+LATER_PRINTED = b"none\nok\n5\nno rows\nno rows\n2048\n2048\n"
+
+# Many keys, which split rows, and few of them, of which rows are rebuilt: what is asked after all puts is the same for any workers.
+KEYS = b"".join(b"put %d %d\n" % (key * 7919 % 20011, key) for key in range(1, 20001)) + b"wait\nsum 0 20010\ncount 0 20010\nleast 0 20010\n"
+FEW = b"".join(b"put %d %d\n" % (number % 16, number) for number in range(8000)) + b"wait\nlist 0 15\nsum 0 15\n"
+FEW_LIST = b" ".join(b"%d=%d" % (key, 7984 + key) for key in range(16))
+
+# What is said where a line was refused.
+SOME = b"some calls were refused\n"
+
+# The summaries of a thousand lines and of ten thousand, and of these on a map of few rows, where 2,857 lines are refused.
 THOUSAND = b"puts 610\ndels 126\ngets 264\nfound 24\ncount 560\nsum 8968157\nleast 30\ngreatest 32724\n"
 TEN_THOUSAND = b"puts 6209\ndels 1273\ngets 2518\nfound 1140\ncount 2815\nsum 45459495\nleast 0\ngreatest 32724\n"
+FEW_ROWS = b"puts 6209\ndels 1273\ngets 2518\nfound 1026\ncount 2183\nsum 35749411\nleast 0\ngreatest 32757\n"
 
 Case = namedtuple("Case", "name words given output printed said status", defaults=(b"", None, b"", b"", 0))
 
@@ -66,10 +98,16 @@ CASES = (
     Case("pairs in the order of their keys", "replay", PAIRS, printed=6 * b"ok\n" + b"0=5 3=30 7=71 9=90 4294967295=1\n3=30 7=71\nempty\n"),
     Case("many puts of one key", "replay", ONE, printed=200 * b"ok\n" + b"200\n"),
     Case("more keys than one row holds", "replay", MANY, printed=65 * b"ok\n" + b"2145\n" + ALL + b"\n"),
+    Case("many keys by workers", "replay --workers 4", KEYS, printed=20000 * b"ok\n" + b"200010000\n20000\n1\n"),
+    Case("few keys by workers", "replay --workers 8", FEW, printed=8000 * b"ok\n" + FEW_LIST + b"\n127864\n"),
+    Case("rows that are used again", "replay --rows 64", AGAIN, printed=10000 * b"ok\n" + b"10000\n"),
+    Case("rows that run out", "replay --rows 64", RISING, printed=RISING_PRINTED, said=SOME, status=8),
+    Case("refused lines change nothing", "replay --rows 64", RISING + LATER, printed=RISING_PRINTED + LATER_PRINTED, said=SOME, status=8),
     Case("workers and rows", "replay --rows 64 --workers 8", b"put 5 50\nwait\nsum 0 9\n", printed=b"ok\n50\n"),
     Case("a script", "simulate", b"", printed=b"order none\n"),
     Case("a script with a flag before an option", "simulate --record --rows 64", b"", printed=b"order none\n"),
     Case("a script of more rows", "simulate --rows 70", b"guess 0 69\n", printed=b"order none\n"),
+    Case("no row is used again beside a get that stands still", "simulate", STILL, printed=STILL_PRINTED),
     Case("a script's record", "simulate --record", SCRIPT, printed=RECORD),
     Case("a good record", "judge", RECORD, printed=b"yes\n"),
     Case("a record with a call missing", "judge", RECORD.replace(b" 1.1\n", b"\n"), printed=b"no: missing 1.1\n", said=b"not legal\n", status=7),
@@ -81,7 +119,9 @@ CASES = (
     Case("a summary", "gen 7 3", printed=b"puts 3\ndels 0\ngets 0\nfound 0\ncount 3\nsum 22218\nleast 3365\ngreatest 10868\n"),
     Case("a summary of many lines", "gen 1 1000", printed=THOUSAND),
     Case("a summary of many lines by workers", "gen 1 1000 --workers 4", printed=THOUSAND),
-    Case("a summary of more lines", "gen --rows 64 1 10000", printed=TEN_THOUSAND),
+    Case("a summary of more lines", "gen 1 10000", printed=TEN_THOUSAND),
+    Case("a summary of more lines by workers", "gen 1 --workers 8 10000", printed=TEN_THOUSAND),
+    Case("a summary where rows run out", "gen --rows 64 1 10000", printed=FEW_ROWS, said=SOME, status=8),
     Case("no such command", "rollup", said=b"bad words\n", status=2),
     Case("a worker too many", "replay --workers 9", said=b"bad words\n", status=2),
     Case("a script recorded twice", "simulate --record --record", said=b"bad words\n", status=2),
@@ -99,6 +139,7 @@ CASES = (
     Case("an input that is too long", "replay", LONG, said=b"input too long\n", status=3),
     Case("an input that cannot be read", "replay", FOLDER, said=b"read fault\n", status=4),
     Case("an output that is full", "replay", b"get 1\n", FULL, said=b"write fault\n", status=5),
+    Case("an output that is full where a line is refused", "replay --rows 64", RISING, FULL, said=b"write fault\n", status=5),
     Case("an output that is full of a script's text", "simulate", b"", FULL, said=b"write fault\n", status=5),
     Case("an output that is full of a summary", "gen 1 3", b"", FULL, said=b"write fault\n", status=5),
     Case("an output that is full of what is wrong", "judge", TURNED, FULL, said=b"write fault\n", status=5),

@@ -5,8 +5,8 @@
   tools/compare_replay.py 200 --seed 7
   tools/compare_replay.py 1000 --with 'COMMAND' the command gets the input on standard input
 
-What the program writes to standard output and standard error and its status must all agree. Each input has up to 200 lines. The last line
-says how many agreed; the status is 1 where one did not."""
+What the program writes to standard output and standard error and its status must all agree. Most inputs have up to 200 lines, and one in
+ten has up to 3,000, whose updates fill rows. The last line says how many agreed; the status is 1 where one did not."""
 
 import argparse
 import random
@@ -17,9 +17,9 @@ from kiwi_map import KEY_MOST, KIWI, VALUE_MOST, ended, expected, line_of
 
 
 def random_input(rng):
-    keys = [rng.randrange(rng.choice((4, 40, KEY_MOST + 1))) for _ in range(12)]
+    keys = [rng.randrange(rng.choice((4, 40, KEY_MOST + 1))) for _ in range(rng.choice((12, 12, 300)))]
     lines = []
-    for _ in range(rng.randrange(201)):
+    for _ in range(rng.randrange(3001 if rng.random() < 0.1 else 201)):
         form = rng.choice(("put", "put", "put", "get", "del", "sum", "count", "least", "greatest", "list", "wait"))
         key, other = rng.choice(keys), rng.choice(keys)
         value = rng.choice((rng.randrange(100), rng.randrange(VALUE_MOST + 1)))

@@ -57,16 +57,13 @@ def first_difference(got, wanted):
     return f"one ends after line {min(len(ours), len(theirs))}"
 
 
-def script_options(description, forms=()):
-    """A parser with the options that say which scripts are run, and what with. Where there are forms, one is said first, and its stored
-    scripts stand for the rest."""
+def script_options(description):
+    """A parser with the options that say which scripts are run, and what with."""
     options = argparse.ArgumentParser(description=description, formatter_class=argparse.RawDescriptionHelpFormatter)
-    if forms:
-        options.add_argument("form", choices=forms)
     options.add_argument("count", nargs="?", type=int, default=500)
     options.add_argument("--seed", type=int, default=1)
-    options.add_argument("--with", dest="other", required=not forms, help="the command to compare with")
-    scripts = options.add_mutually_exclusive_group(required=not forms)
+    options.add_argument("--with", dest="other", required=True, help="the command to compare with")
+    scripts = options.add_mutually_exclusive_group(required=True)
     scripts.add_argument("--scripts", help="a command that writes the script of a {seed}")
     scripts.add_argument("--folder", help="a folder of scripts")
     options.add_argument("--without", help="a pattern of lines of scripts that are left out")

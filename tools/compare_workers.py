@@ -4,20 +4,30 @@
   tools/compare_workers.py                      1,000 inputs with 1, 2, 4 and 8 workers
   tools/compare_workers.py 200 --seed 7
   tools/compare_workers.py 200 --workers 3,8
-  tools/compare_workers.py 200 --crowded        one block of many range lines among as many updates as a row has cells
-  tools/compare_workers.py .. --program './kiwi replay --rows 64'   another command; --workers W is put after it
+  tools/compare_workers.py 200 --shape rows     inputs of another shape than `few`
+  tools/compare_workers.py .. --program './kiwi replay'   another command; the options of the shape and --workers W are put after it
 
-Inputs have up to 64 put and del lines, few keys, and blocks of all lengths. One worker must answer as a map of one thread.
-With more workers each put, del and get line must still, and each range line of a block without put and del lines. Any other
-range line may come before or after updates of other workers. Its reply must be that of the map after the own worker's earlier
-updates and, for each other worker, after some first ones of its updates in the block, no fewer than at an earlier line of the
-own worker. And of two range lines of a block, one must have seen all updates that the other saw: the calls fit one order. Where
-a reply leaves open how many updates the line saw, each worker's number is taken by itself, so that a few wrong runs pass; no
-right one fails.
+The shape says what the rows of the map go through. Of each, blocks are of all lengths, and some are empty.
 
-Before the last line stands, for each number of workers, how many runs did not answer as one thread, and in how many a range line
-saw a part of another worker's updates in its block: in these, workers ran beside each other, and not one after another. The last
-line says how many runs passed; the status is 1 where one did not."""
+  few      up to 16 keys and 600 updates: rows are rebuilt, with few new ones
+  many     up to 600 keys and 600 updates: rows are split
+  rows     thousands of keys on a map of 64 rows: rows run out, and puts and deletes are refused
+  crowded  16 keys, and 500 updates for each worker, many range lines among them: one row is rebuilt all the time
+
+One worker must answer as a map of one thread. With more workers each put, del and get line must still, and each range line of a
+block without put and del lines. Any other range line may come before or after updates of other workers. Its reply must be that of
+the map after the own worker's earlier updates and, for each other worker, after some first ones of its updates in the block, no
+fewer than at an earlier line of the own worker. And of two range lines of a block, one must have seen all updates that the other
+saw: the calls fit one order. Where a reply leaves open how many updates the line saw, each worker's number is taken by itself, so
+that a few wrong runs pass; no right one fails. Range lines stand in blocks of 64 updates at most, or of none, since what one of
+them may have seen takes long to look through.
+
+In the shape `rows` a put or del line may be refused with `no rows`; it is no update then, and changes nothing. Nowhere else is a
+line refused. The status must be 8 exactly where one was, and else 0.
+
+Before the last line stands, for each number of workers, how many runs did not answer as one thread, in how many a range line
+saw a part of another worker's updates in its block, and in how many a line was refused. In the second ones workers ran beside each
+other, and not one after another. The last line says how many runs passed; the status is 1 where one did not."""
 
 import argparse
 import bisect
@@ -28,12 +38,25 @@ import shlex
 import sys
 from collections import Counter, namedtuple
 
-from kiwi_map import KEY_MOST, KIWI, NUMBER, RANGES, VALUE_MOST, answered, ended, expected, inside, is_range, items_of, line_of, listed
+from kiwi_map import KEY_MOST, KIWI, NUMBER, RANGES, VALUE_MOST, answered, ended, inside, is_range, items_of, line_of, listed
 
-CELLS = 64  # of a row: with more updates than that, the program does not ask the concurrent map
 PAIR = re.compile(r"(\d+)=(\d+)")
 UPDATES = (b"put", b"del")
 LIST, SUM, COUNT = b"list", b"sum", b"count"
+REFUSAL = "no rows"
+NARROW = 64  # how many updates a block with range lines has at most
+READERS = ("sum", "count", "least", "greatest", "list", "list")
+
+# How many keys and updates an input has at most; how many puts for each delete; how many range lines a block has at most, and how
+# often a block may have some; whether each such block has as many updates as it may; the options of the command; and whether lines
+# may be refused.
+Shape = namedtuple("Shape", "keys updates puts ranges narrow full options refuses")
+SHAPES = {
+    "few": Shape(16, 600, 3, 60, 0.6, False, (), False),
+    "many": Shape(600, 600, 3, 60, 0.6, False, (), False),
+    "rows": Shape(3400, 4000, 12, 6, 0.4, False, ("--rows", "64"), True),
+    "crowded": Shape(16, 500, 3, 40, 1.0, True, (), False),
+}
 
 Line = namedtuple("Line", "number form numbers reply")
 # A worker's updates in a block: their line numbers, and the worker's pairs before the first of them and after each. What range
@@ -47,26 +70,62 @@ class Wrong(Exception):
     """A run that no map could give."""
 
 
-def random_forms(rng, crowded):
-    """The forms of an input's lines. Few waits leave long blocks, many leave short and empty ones."""
-    if crowded:
-        updates, reads, waits = CELLS, 1000, 0
+def random_block(rng, shape, left):
+    """The forms of a block of at most so many updates, and how many updates it has."""
+    if left and rng.random() >= shape.narrow:
+        updates, ranges = rng.randrange(1, left + 1), 0
+    elif left and (shape.full or rng.random() < 0.8):
+        updates = min(left, NARROW if shape.full else rng.randrange(1, NARROW + 1))
+        ranges = rng.randrange(shape.ranges + 1)
     else:
-        updates, reads = min(CELLS, rng.randrange(100)), rng.randrange(rng.choice((20, 240, 240)))
-        waits = rng.choice((0, 2, 10, 40))
-    readers = ("sum", "count", "least", "greatest", "list", "list") + ("get",) * (not crowded)
-    forms = rng.choices(("put", "put", "put", "del"), k=updates) + rng.choices(readers, k=reads) + ["wait"] * waits
+        updates, ranges = 0, rng.randrange(shape.ranges + 1)
+    forms = rng.choices(("put",) * shape.puts + ("del",), k=updates) + rng.choices(READERS, k=ranges)
+    forms += ["get"] * rng.randrange(1 + updates // 4)
     rng.shuffle(forms)
-    return forms + ["wait"] * (rng.random() < 0.3)
+    return forms, updates
 
 
-def random_input(rng, crowded):
-    keys = [rng.randrange(rng.choice((16, 16, KEY_MOST + 1))) for _ in range(16 if crowded else rng.randrange(1, 17))]
+def random_forms(rng, shape, workers):
+    """The forms of an input's lines. Few updates leave long blocks, and many blocks without any."""
+    left = shape.updates * workers if shape.full else shape.updates if shape.refuses else rng.randrange(shape.updates + 1)
+    forms, blocks = [], rng.choice((1, 3, 10))
+    while left or blocks > 0:
+        block, updates = random_block(rng, shape, left)
+        forms += block + ["wait"]
+        left, blocks = left - updates, blocks - 1
+    return forms if rng.random() < 0.3 else forms[:-1]
+
+
+def random_keys(rng, shape):
+    """The keys of an input: random ones, or neighbours that rise or fall."""
+    if not shape.refuses:
+        return [rng.randrange(rng.choice((2 * shape.keys, KEY_MOST + 1))) for _ in range(rng.choice((shape.keys, rng.randrange(1, shape.keys + 1))))]
+    order, first = rng.choice((None, 1, -1)), rng.randrange(KEY_MOST - shape.keys)
+    if order is None:
+        return rng.sample(range(KEY_MOST + 1), shape.keys)
+    return list(range(first, first + shape.keys))[::order]
+
+
+class Keys:
+    """Hands out the keys of an input: each in its turn, or one of those that were handed out."""
+
+    def __init__(self, rng, shape):
+        self.rng, self.keys, self.at, self.in_turn = rng, random_keys(rng, shape), 0, shape.refuses
+
+    def next(self, form):
+        if self.in_turn and form == "put" and self.at < len(self.keys) and self.rng.random() < 0.95:
+            self.at += 1
+            return self.keys[self.at - 1]
+        return self.keys[self.rng.randrange(max(1, self.at))] if self.in_turn else self.rng.choice(self.keys)
+
+
+def random_input(rng, shape, workers):
+    keys = Keys(rng, shape)
     most = rng.choice((3, 1000, VALUE_MOST))
     lines = []
-    for form in random_forms(rng, crowded):
+    for form in random_forms(rng, shape, workers):
         is_whole = is_range(form.encode()) and rng.random() < 0.5
-        key, other = (0, KEY_MOST) if is_whole else rng.choices(keys, k=2)
+        key, other = (0, KEY_MOST) if is_whole else (keys.next(form), keys.next("get"))
         lines.append(line_of(form, key, other, rng.randrange(most + 1)))
     text = "\n".join(lines)
     return (text + rng.choice(("", "\n")) if text else text).encode()
@@ -83,11 +142,16 @@ def blocks_of(items, replies):
     return blocks
 
 
+def is_update(line):
+    """Whether the line has changed the map, or taken away a key that had no value: it was not refused."""
+    return line.form in UPDATES and line.reply != REFUSAL
+
+
 def history_of(block, start, worker, workers):
     own = {key: value for key, value in start.items() if key % workers == worker}
     history = History([], [dict(own)], {})
     for line in block:
-        if line.form in UPDATES and line.numbers[0] % workers == worker:
+        if is_update(line) and line.numbers[0] % workers == worker:
             answered(own, line.form, line.numbers)
             history.numbers.append(line.number)
             history.states.append(dict(own))
@@ -214,8 +278,10 @@ def check_ranges(block, start, workers):
 def check_block(block, pairs, workers):
     """Checks a block that begins with these pairs, as `check_ranges` does. Afterwards the pairs are those at its end."""
     start = dict(pairs)
-    among_updates = any(line.form in UPDATES for line in block)
+    among_updates = any(map(is_update, block))
     for line in block:
+        if line.form in UPDATES and line.reply == REFUSAL:
+            continue
         wanted = str(answered(pairs, line.form, line.numbers))
         is_quiet = not among_updates or not is_range(line.form)
         if is_quiet and line.reply != wanted:
@@ -223,18 +289,35 @@ def check_block(block, pairs, workers):
     return among_updates and check_ranges(block, start, workers)
 
 
-def check(text, output, status, workers):
-    """Raises Wrong where such a run is, and says whether a range line saw a part of another worker's updates in its block."""
+def replies_alone(items, replies):
+    """What one thread replies, where the lines are refused that were refused here."""
+    pairs, lines = {}, (item for item in items if item[0] != b"wait")
+    return [reply if form in UPDATES and reply == REFUSAL else str(answered(pairs, form, numbers)) for (form, numbers), reply in zip(lines, replies)]
+
+
+# How a run went: whether a line was refused; whether it answered as one thread; and whether a range line saw a part of another worker's
+# updates in its block.
+Run = namedtuple("Run", "refused alone met")
+
+
+def check(text, output, status, workers, refuses):
+    """Raises Wrong where such a run is, and says how it went."""
     items = items_of(text)
     *replies, rest = output.decode(errors="replace").split("\n")
     wanted = sum(form != b"wait" for form, _ in items)
-    if status or rest or len(replies) != wanted:
-        raise Wrong(f"status {status}, {len(replies)} lines and {len(rest)} bytes after them, wanted status 0 and {wanted} lines")
+    if rest or len(replies) != wanted:
+        raise Wrong(f"{len(replies)} lines and {len(rest)} bytes after them, wanted {wanted} lines")
+    refused = REFUSAL in replies
+    if status != (8 if refused else 0):
+        raise Wrong(f"status {status}, where {'a' if refused else 'no'} line was refused")
+    if refused and not refuses:
+        raise Wrong("a line was refused, and rows were left")
     pairs = {}
     met = [check_block(block, pairs, workers) for block in blocks_of(items, replies)]
-    if workers == 1 and output != expected(text)[0]:
+    alone = replies == replies_alone(items, replies)
+    if workers == 1 and not alone:
         raise Wrong("not the replies of one thread")
-    return any(met)
+    return Run(refused, alone, any(met))
 
 
 def main():
@@ -242,26 +325,31 @@ def main():
     options.add_argument("inputs", nargs="?", type=int, default=1000)
     options.add_argument("--seed", type=int, default=1)
     options.add_argument("--workers", default="1,2,4,8", help="the numbers of workers, with commas between them")
-    options.add_argument("--crowded", action="store_true", help="inputs of one block with many range lines among updates")
+    options.add_argument("--shape", choices=sorted(SHAPES), default="few")
     options.add_argument("--program", help="the command that is checked, if not ./kiwi replay")
     options = options.parse_args()
-    program = shlex.split(options.program) if options.program else [KIWI, "replay"]
+    shape = SHAPES[options.shape]
+    program = [*(shlex.split(options.program) if options.program else [KIWI, "replay"]), *shape.options]
     every = [int(workers) for workers in options.workers.split(",")]
-    apart, beside = Counter(), Counter()
+    apart, beside, refused = Counter(), Counter(), Counter()
     rng = random.Random(options.seed)
     failed = 0
     for number in range(options.inputs):
-        text = random_input(rng, options.crowded)
+        text = random_input(rng, shape, max(every))
         for workers in every:
             output, _, status = ended([*program, "--workers", str(workers)], text)
-            apart[workers] += output != expected(text)[0]
             try:
-                beside[workers] += check(text, output, status, workers)
+                run = check(text, output, status, workers, shape.refuses)
             except Wrong as wrong:
                 failed += 1
                 print(f"input {number} with {workers} workers: {wrong}\n  input  {text!r}\n  output {output!r}")
+                continue
+            apart[workers] += not run.alone
+            beside[workers] += run.met
+            refused[workers] += run.refused
     for workers in every:
-        print(f"{workers} workers: of {options.inputs} runs {apart[workers]} not as one thread, {beside[workers]} with a part seen")
+        told = f"{apart[workers]} not as one thread, {beside[workers]} with a part seen, {refused[workers]} with a refusal"
+        print(f"{workers} workers: of {options.inputs} runs {told}")
     passed = options.inputs * len(every) - failed
     print(f"{passed} passed, {failed} failed")
     return 1 if failed or not passed else 0

@@ -25,7 +25,7 @@ use Rattle.kw_work.proofs.Merges.{answers_of_is}
 use Rattle.kw_work.proofs.Shares.{part-nil}
 use Rattle.kw_app.specs.declared.rounds.Job.{Job}
 use Rattle.kw_app.specs.declared.rounds.Done.{Done}
-use Rattle.kw_app.specs.Recorded.{AreReplies, HasCause, IsWithin, asked, asks, seat_calls}
+use Rattle.kw_app.specs.Recorded.{AreReplies, IsWithin, asked, asks, seat_calls}
 use Rattle.kw_app.specs.Working.{Works}
 use Rattle.kw_app.specs.Rounds.{IsJob, IsDone, IsSeated, AreTogether, Worked, WorkedEach, Grew, more_calls}
 use Rattle.kw_app.proofs.Each.{element_at}
@@ -79,7 +79,6 @@ grew m b ps qs rs parts E E' answers together same worked met is = record {
   asks_are = λ w lt. (one w lt).asks_are;
   within = λ w lt. (one w lt).within;
   are_replies = λ w lt. (one w lt).are_replies;
-  causes = λ w lt. (one w lt).causes;
   prints = is ∙ collected_is_printed b.workers (answers_of parts) (more_calls m.shared.opening E E') b.lines together.some (λ w lt. (one w lt).answers_are) (λ w lt. as_many (more_calls m.shared.opening E E' w) (part b.workers w b.lines) (one w lt).asks_are);
 }
   where
@@ -133,6 +132,5 @@ grew_by_none o n lines E answers none nothing =
       asks_are = λ w lt. ap asked (drops w) ∙ ap asks (sym (part-nil n w));
       within = λ w lt. All-same (IsWithin (length E) (length E)) (more_calls o E E w) [] (drops w) (All-nil (IsWithin (length E) (length E)));
       are_replies = λ w lt. subst (AreReplies (part n w [])) (sym (drops w)) (λ i l c e f. absurd (cc));
-      causes = λ w lt. All-same (HasCause o E w) (more_calls o E E w) [] (drops w) (All-nil (HasCause o E w));
       prints = refl;
     }))

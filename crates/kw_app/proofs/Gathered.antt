@@ -3,7 +3,6 @@ use Rattle.std.proofs.Common.{◌≡◌, ℕ, IsTrue, [], Option, Ok, refl, sym,
 use Rattle.kw_model.specs.declared.call.Call.{Call}
 use Rattle.kw_model.specs.declared.call.Call.TheVariants.{Put, Del, Get, Scan}
 use Rattle.kw_model.specs.Map.{Pairs}
-use Rattle.kw_model.specs.declared.call.Reply.TheVariants as reply
 use Rattle.kw_line.specs.declared.answer.Answer.{Answer}
 use Rattle.kw_line.specs.declared.item.Form.{Form}
 use Rattle.kw_line.specs.declared.item.Form.TheVariants as form
@@ -22,7 +21,6 @@ gathered last stands Counted Same p q from upto old new f answer range scan star
   calls = scan.calls;
   is_reply = subst (IsReplyOf f) (sym scan.gave.1) range;
   answer_is = gives scan.gave.0 (scan.gave.2.follows [] start) ∙ sym (ap (answer_for f) scan.gave.1);
-  cause = λ e. let bad : reply.Pairs scan.gave.0 ≡ reply.Spent = sym scan.gave.1 ∙ e in absurd (cc);
 }
 
 -- the form of a put's line

@@ -34,10 +34,11 @@ use Rattle.kw_table.specs.declared.pass.Pass.{Pass}
 use Rattle.kw_table.specs.declared.pass.View.{View}
 use Rattle.kw_table.specs.Passes.{view}
 use Rattle.kw_laws.specs.SeatCalls.{CallSeen}
+use Rattle.kw_map.proofs.Ordering.{pass_ordered}
 use Rattle.kw_app.specs.Recorded.{line_forms, no_call, recorded, reply_of, seat_calls}
 use Rattle.kw_app.specs.Running.{is_refused, Shows}
 use Rattle.kw_app.specs.Headline.{Headline, HasOneOrder, UpdatesServed, QuietAnswered, AreRefusals, line_calls}
-use Rattle.kw_app.specs.Answering.{some_refused}
+use Rattle.kw_app.specs.Answering.{IsRun, some_refused}
 use Rattle.kw_app.specs.OneThread.{answers_to}
 use Rattle.kw_app.proofs.AnswerForms.{MayBeRefused, answers_at, same_answers, unrefused, range_refused, right_refusal}
 use Rattle.kw_app.proofs.Shown.{IfFirst}
@@ -247,7 +248,7 @@ module _ (o : Opening) (items : List Item) (printed : List Answer) (v : View) (o
   pub headline : Headline o v.seen items printed
   headline = record { order = one_order; alone = alone; quiet = quiet_answered; refusals = refusals }
 
--- what the first of some passes shows is worth so much
-pub headline_first : (o : Opening) (items : List Item) (printed : List Answer) (ps : List Pass) → IsOpening product o → AllByRecursion IsItem items → IfFirst ps (λ p. Shows o items printed (view p)) → IfFirst ps (λ p. Headline o (view p).seen items printed)
-headline_first o items printed [] opening each shows = tt
-headline_first o items printed (p ∷ ps) opening each shows = headline o items printed (view p) opening each shows
+-- where the first of some passes shows a run, the answers are those of the run
+pub run_first : (o : Opening) (items : List Item) (printed : List Answer) (ps : List Pass) → IsOpening product o → AllByRecursion IsItem items → IfFirst ps (λ p. Shows o items printed (view p)) → IfFirst ps (IsRun o items printed)
+run_first o items printed [] opening each shows = tt
+run_first o items printed (p ∷ ps) opening each shows = record { shows = shows; ordered = pass_ordered p; headline = headline o items printed (view p) opening each shows }

@@ -1,13 +1,10 @@
-pub mod Asked
 pub mod Lines
 pub mod Scripts
 pub mod Records
 pub mod Ended
-pub mod Inputs
 pub mod Streams
 pub mod Each
 pub mod Gathered
-pub mod Spent
 pub mod Works
 pub mod Merging
 pub mod Seats

@@ -21,6 +21,7 @@ use Rattle.kw_core.specs.Events.{is_valid}
 use Rattle.kw_core.specs.Run.{history}
 use Rattle.kw_laws.specs.SeatCalls.{CallSeen, seen}
 use Rattle.kw_laws.proofs.LawProofs.{laws_hold}
+use Rattle.kw_map.specs.Refusals.{HasReason}
 use Rattle.kw_order.specs.Order.{IsOrder}
 use Rattle.kw_order.specs.OrderLaws.{OrderLaws}
 use Rattle.kw_order.specs.Legal.{IsLegalOrder, call_of}
@@ -36,7 +37,7 @@ use Rattle.kw_work.specs.LineOrder.{IsOrderOf, StandsBefore, IsLegalIn, AreOfLin
 use Rattle.kw_work.proofs.Asked.{element_at}
 use Rattle.kw_work.proofs.Collected.{map-merge}
 use Rattle.kw_work.proofs.MadeCalls.{lines_in_order, lines_legal, lines_before_by}
-use Rattle.kw_app.specs.Recorded.{asked, asks, AreReplies, EndsBefore, HasCause, IsWithin, no_call, recorded, reply_at, reply_of, seat_calls}
+use Rattle.kw_app.specs.Recorded.{asked, asks, AreReplies, EndsBefore, IsWithin, no_call, recorded, reply_at, reply_of, seat_calls}
 use Rattle.kw_app.specs.Running.{AreInBlocks}
 use Rattle.kw_app.specs.Headline.{HasTops, IsOrderOfCalls, KeepsPrecedence, line_calls}
 use Rattle.kw_app.proofs.Merging.{length-merge}
@@ -140,13 +141,13 @@ module _ (o : Opening) (E : List Event) (lines : List Line) (opening : IsOpening
   pub all_asked : asked (line_calls o E lines) ≡ calls_of lines
   all_asked = map-merge (λ (c : CallSeen). c.call) (λ (m : Line). m.call) o.seats (seat_calls o E) no_call [] lines (let some = opening.some_seats in omega arith) asks_are
 
-  -- the call of a line that was told as spent has its cause, where each seat's calls have
-  pub line_caused : ((w : ℕ) → w < o.seats → All (HasCause o E w) (seat_calls o E w)) → (i : ℕ) (l : Line) (c : CallSeen) → slice_get lines i ≡ Some l → slice_get (line_calls o E lines) i ≡ Some c → HasCause o E (worker_of o.seats l) c
+  -- the call of a line that was refused has its reason, where each seat's calls have
+  pub line_caused : ((w : ℕ) → w < o.seats → All (HasReason o E w) (seat_calls o E w)) → (i : ℕ) (l : Line) (c : CallSeen) → slice_get lines i ≡ Some l → slice_get (line_calls o E lines) i ≡ Some c → HasReason o E (worker_of o.seats l) c
   line_caused causes i l c e f =
       let w : ℕ = worker_of o.seats l in
       let k : ℕ = own_before o.seats w lines i in
       let d = across (λ (c : CallSeen). c.call) (λ (m : Line). m.call) (seat_calls o E w) (part o.seats w lines) k l (asks_are w (seated l)) (in_part o.seats i lines l e) in
-      subst (HasCause o E w) (same_Some (get_or (seat_calls o E w) k no_call) c (sym (merged_at o.seats (seat_calls o E) no_call lines i l e) ∙ f))
+      subst (HasReason o E w) (same_Some (get_or (seat_calls o E w) k no_call) c (sym (merged_at o.seats (seat_calls o E) no_call lines i l e) ∙ f))
       (causes w (seated l) k no_call (slice_get_within (seat_calls o E w) k d.0 d.1))
 
   -- the call of a line has a reply that the line may have, where each seat's calls have

@@ -1,5 +1,5 @@
 -- All generated lines are quiet, so where none is refused its answers are those of the map of one thread.
-use Rattle.std.proofs.Common.{ℕ, zero, suc, Bool, true, false, not, ◌≡◌, ◌<◌, ◌≤◌, ◌^◌, ◌%◌, cond, List, [], ◌∷◌, ◌++◌, length, map, Option, Some, None, refl, sym, ap, ◌∙◌, arith, length-append}
+use Rattle.std.proofs.Common.{ℕ, zero, suc, Bool, true, false, not, ◌≡◌, ◌<◌, ◌≤◌, ◌^◌, ◌%◌, cond, List, [], ◌∷◌, ◌++◌, length, map, Option, Some, refl, sym, ap, ◌∙◌, arith, length-append}
 use Rattle.std.specs.Prelude.{◌||◌, nat_lt, nat_eq}
 use Rattle.std.specs.List.{slice_get, flat_map, onto_first}
 use Rattle.std.specs.Option.{option_map}
@@ -82,9 +82,8 @@ generated_is_quiet start count i f e =
 -- so where none is refused the answers are those of the map of one thread
 pub generated_answers : (start count workers rows : ℕ) (answers : List Answer) (front : Option Pass) → IsOpening product (opening workers rows)
     → IsAnswered workers rows (generated start count) answers front → some_refused answers ≡ false → answers ≡ answers_to (generated start count)
-generated_answers start count workers rows answers None o are none = are.answers_are
-generated_answers start count workers rows answers (Some p) o are none =
-    all_quiet (opening workers rows) (generated start count) answers (view p) o (generated_are_items start count) are.shows (generated_is_quiet start count) none
+generated_answers start count workers rows answers front o are none =
+    all_quiet (opening workers rows) (generated start count) answers (view are.pass) o (generated_are_items start count) are.run.shows (generated_is_quiet start count) none
 
 length-lines_after : (n x : ℕ) → length (lines_after x n) ≡ n
 length-lines_after zero x = refl

@@ -18,12 +18,11 @@ use Rattle.kw_work.specs.Collecting.{merge}
 use Rattle.kw_work.proofs.Cuts.{lists, lists-push}
 use Rattle.kw_work.proofs.Merges.{merge-append}
 use Rattle.kw_work.proofs.Shares.{part-nil, part-append}
-use Rattle.kw_app.specs.Recorded.{AreReplies, HasCause, IsWithin, asked, asks, line_forms, no_call, printed, reply_of, seat_calls}
+use Rattle.kw_app.specs.Recorded.{AreReplies, IsWithin, asked, asks, line_forms, no_call, printed, reply_of, seat_calls}
 use Rattle.kw_app.specs.Rounds.{Grew, more_calls}
 use Rattle.kw_app.specs.Running.{joined, IsCut, Ran, AreInBlocks}
 use Rattle.kw_app.proofs.CutPlaces.{no_calls, cut_none, cut_longer, cut_end, cut_parts}
 use Rattle.kw_app.proofs.Merging.{answers_for-append, length-merge, merge_front, merge_rest}
-use Rattle.kw_app.proofs.Spent.{cause_later}
 use Rattle.kw_app.proofs.Works.{as_many, within_wider, prefix_length, replies_append}
 
 -- the lines of one block more
@@ -40,7 +39,6 @@ ran_none o n = record {
   asks_are = λ w lt. ap asked (calls-none product o w) ∙ ap asks (sym (part-nil n w));
   ended = λ w lt. no_calls o w (IsWithin 0 0);
   are_replies = λ w lt. subst (AreReplies (part n w [])) (sym (calls-none product o w)) (λ i l c e f. absurd (cc));
-  causes = λ w lt. no_calls o w (HasCause o [] w);
   prints = refl;
   cuts = λ j le. cut_none o n (joined (take j []));
 }
@@ -51,7 +49,6 @@ ran_more o n done b E E' old new some ran grew = record {
   asks_are = asks_are;
   ended = ended;
   are_replies = are_replies;
-  causes = causes;
   prints = prints;
   cuts = λ j le. ⊎_elim
       (λ (h : length done < j). subst (λ x. IsCut o n E' (joined x)) (sym (take_all j all (let e = length_push done b in omega arith))) (cut_end o n E' (joined all) (λ w lt. sym (as_many (seat_calls o E' w) (part n w (joined all)) (asks_are w lt))) ended))
@@ -86,12 +83,6 @@ ran_more o n done b E E' old new some ran grew = record {
     are_replies w lt =
         subst (λ ls. AreReplies ls (seat_calls o E' w)) (sym (whole w)) (subst (AreReplies (part n w (joined done) ++ part n w b)) (sym (grew.calls w lt))
         (replies_append (part n w (joined done)) (part n w b) (seat_calls o E w) (more_calls o E E' w) (many w lt) (ran.are_replies w lt) (grew.are_replies w lt)))
-
-    causes : (w : ℕ) → w < n → All (HasCause o E' w) (seat_calls o E' w)
-    causes w lt =
-        All-same (HasCause o E' w) (seat_calls o E' w) (seat_calls o E w ++ more_calls o E E' w) (grew.calls w lt)
-        (All-append (HasCause o E' w) (seat_calls o E w) (more_calls o E E' w)
-        (All-weaker (HasCause o E w) (HasCause o E' w) (λ x h. cause_later o E E' w x grew.longer h) (seat_calls o E w) (ran.causes w lt)) (grew.causes w lt))
 
     fits : (j w : ℕ) → w < n → length (part n w (joined (take j done))) ≤ length (seat_calls o E w)
     fits j w lt =

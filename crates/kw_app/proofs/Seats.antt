@@ -21,10 +21,9 @@ use Rattle.kw_map.specs.declared.kiwi.Kiwi.{Kiwi}
 use Rattle.kw_work.specs.declared.line.Line.{Line}
 use Rattle.kw_work.specs.declared.line.Answered.{Answered}
 use Rattle.kw_work.specs.Dealing.{Dealt, part}
-use Rattle.kw_app.specs.Recorded.{asked, asks, seat_calls, AreReplies, HasCause, IsWithin}
+use Rattle.kw_app.specs.Recorded.{asked, asks, seat_calls, AreReplies, IsWithin}
 use Rattle.kw_app.specs.Working.{Works, answered_by}
 use Rattle.kw_app.specs.Rounds.{IsSeated, Worked, more_calls}
-use Rattle.kw_app.proofs.Spent.{cause_later}
 use Rattle.kw_app.proofs.Works.{within_wider, prefix_length}
 
 -- a pass's calls are the same after a meeting
@@ -60,7 +59,6 @@ pub record OneGrew (o : Opening) (n : ℕ) (lines : List Line) (E E' : List Even
   pub asks_are : asked (more_calls o E E' w) ≡ asks (part n w lines)
   pub within : All (IsWithin (length E) (length E')) (more_calls o E E' w)
   pub are_replies : AreReplies (part n w lines) (more_calls o E E' w)
-  pub causes : All (HasCause o E' w) (more_calls o E E' w)
   pub answers_are : answers ≡ answered_by (part n w lines) (more_calls o E E' w)
 
 -- it is what the worker's pass knew when it had answered its lines
@@ -84,11 +82,5 @@ one_grew m b E E' w p q r answers at worked met =
       within = All-same (IsWithin (length E) (length E')) (more_calls o E E' w) made is
           (All-weaker (IsWithin (now_in p) (now_in q)) (IsWithin (length E) (length E')) (λ x h. within_wider (now_in p) (now_in q) (length E) (length E') (omega arith) (prefix_length (view q).seen E' last) x h) made works.within);
       are_replies = subst (AreReplies (part b.workers w b.lines)) (sym is) (subst (λ n. AreReplies (part b.workers n b.lines) made) at.number works.are_replies);
-      causes = All-same (HasCause o E' w) (more_calls o E E' w) made is (All-weaker (HasCause (view q).opening (view q).seen (view q).number) (HasCause o E' w) (λ x h. moved x h) made works.causes);
       answers_are = works.answers_are ∙ (ap (λ n. answered_by (part b.workers n b.lines) made) at.number ∙ ap (answered_by (part b.workers w b.lines)) (sym is));
     }
-  where
-    moved : (x : CallSeen) → HasCause (view q).opening (view q).seen (view q).number x → HasCause m.shared.opening E' w x
-    moved x h =
-        let last : IsPrefix (view q).seen E' = subst (IsPrefix (view q).seen) met.seen met.meets.seen in
-        subst (λ (y : Opening). HasCause y E' w x) worked.idle.of_map.1 (subst (λ k. HasCause (view q).opening E' k x) (worked.goes.number ∙ at.number) (cause_later (view q).opening (view q).seen E' (view q).number x last h))

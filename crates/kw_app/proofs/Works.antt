@@ -5,8 +5,7 @@ use Rattle.std.proofs.lemmas.Option.{same_Some}
 use mathlib.Core.List.{IsPrefix}
 use Rattle.std.proofs.lemmas.List.Elements.{All-nil, All-cons, All-append, All-weaker}
 use Rattle.kw_model.specs.declared.call.Reply.{Reply}
-use Rattle.kw_model.specs.declared.call.Reply.TheVariants.{Spent, Stopped}
-use Rattle.kw_world.specs.declared.opening.Opening.{Opening}
+use Rattle.kw_model.specs.declared.call.Reply.TheVariants.{Stopped}
 use Rattle.kw_core.specs.declared.history.End.{End}
 use Rattle.kw_laws.specs.SeatCalls.{CallSeen, begun_at, ended_at}
 use Rattle.kw_line.specs.declared.answer.Answer.{Answer}
@@ -18,13 +17,10 @@ use Rattle.kw_table.specs.Passes.{view}
 use Rattle.kw_table.proofs.Prefixes.{prefix_trans}
 use Rattle.kw_follow.specs.Following.{GoesTo}
 use Rattle.kw_follow.specs.Calling.{calls_in, now_in, Calls}
-use Rattle.kw_map.specs.declared.kiwi.Kiwi.{Kiwi}
-use Rattle.kw_map.specs.Kiwi.{IsIdle}
 use Rattle.kw_work.specs.declared.line.Line.{Line}
 use Rattle.kw_work.specs.declared.line.Answered.{Answered}
-use Rattle.kw_app.specs.Recorded.{asked, asks, line_forms, reply_of, AreReplies, EndsBefore, HasCause, IsWithin}
-use Rattle.kw_app.proofs.Spent.{caused, cause_later}
-use Rattle.kw_app.specs.Working.{LineAnswered, MetSpent, Works, answered, answered_by}
+use Rattle.kw_app.specs.Recorded.{asked, asks, line_forms, reply_of, AreReplies, EndsBefore, IsWithin}
+use Rattle.kw_app.specs.Working.{LineAnswered, Works, answered, answered_by}
 
 -- one line more, and its call
 pub answered_by-push : (ls : List Line) (cs : List CallSeen) (l : Line) (c : CallSeen) → length ls ≡ length cs → answered_by (ls ++ l ∷ []) (cs ++ c ∷ []) ≡ answered_by ls cs ++ answered l c ∷ []
@@ -77,13 +73,12 @@ prefix_length xs ys p = let e : length xs + length p.0 ≡ length ys = sym (leng
 -- no line is answered yet
 pub works_none : (p : Pass) → Works p p [] []
 unfolding answered_by
-works_none p = record { made = []; calls = sym (append-nil (calls_in p)); asks_are = refl; within = All-nil (IsWithin (now_in p) (now_in p)); are_replies = λ i l c e f. absurd (cc); causes = All-nil (HasCause (view p).opening (view p).seen (view p).number); answers_are = refl }
+works_none p = record { made = []; calls = sym (append-nil (calls_in p)); asks_are = refl; within = All-nil (IsWithin (now_in p) (now_in p)); are_replies = λ i l c e f. absurd (cc); answers_are = refl }
 
 -- one line more is answered
-pub works_more : (m : Kiwi) (p q r : Pass) (ls : List Line) (l : Line) (done : List Answered) (reply : Reply) → now_in p ≤ now_in q → now_in q ≤ now_in r → IsIdle m q → GoesTo m.shared q r
-    → Works p q ls done → Calls q r l.call reply → IsReplyOf l.form reply → (reply ≡ Spent → MetSpent q r)
+pub works_more : (p q r : Pass) (ls : List Line) (l : Line) (done : List Answered) (reply : Reply) → now_in p ≤ now_in q → now_in q ≤ now_in r → Works p q ls done → Calls q r l.call reply → IsReplyOf l.form reply
     → Works p r (ls ++ l ∷ []) (done ++ record { line = l.number; answer = answer_for l.form reply } ∷ [])
-works_more m p q r ls l done reply before later idle goes w c is_reply cause =
+works_more p q r ls l done reply before later w c is_reply =
     let one : CallSeen = ended_at c.last reply (begun_at c.first c.number l.call) in
     record {
       made = w.made ++ one ∷ [];
@@ -93,25 +88,18 @@ works_more m p q r ls l done reply before later idle goes w c is_reply cause =
           (All-weaker (IsWithin (now_in p) (now_in q)) (IsWithin (now_in p) (now_in r)) (λ x h. within_wider (now_in p) (now_in q) (now_in p) (now_in r) (omega arith) later x h) w.made w.within)
           (All-cons (IsWithin (now_in p) (now_in r)) one [] record { begins = let k = c.begins in omega arith; ends = c.ends; unstopped = reply_unstopped l.form reply is_reply } (All-nil (IsWithin (now_in p) (now_in r))));
       are_replies = replies_append ls (l ∷ []) w.made (one ∷ []) (as_many w.made ls w.asks_are) w.are_replies (replies_cons l one [] [] is_reply (λ i x y e f. absurd (cc)));
-      causes = All-append (HasCause (view r).opening (view r).seen (view r).number) w.made (one ∷ [])
-          (All-weaker (HasCause (view q).opening (view q).seen (view q).number) (HasCause (view r).opening (view r).seen (view r).number) (λ x h. moved x h) w.made w.causes)
-          (All-cons (HasCause (view r).opening (view r).seen (view r).number) one [] (caused m q r l.call reply idle goes c cause) (All-nil (HasCause (view r).opening (view r).seen (view r).number)));
       answers_are = ap (λ x. x ++ record { line = l.number; answer = answer_for l.form reply } ∷ []) w.answers_are ∙ sym (answered_by-push ls w.made l one (sym (as_many w.made ls w.asks_are)));
     }
-  where
-    moved : (x : CallSeen) → HasCause (view q).opening (view q).seen (view q).number x → HasCause (view r).opening (view r).seen (view r).number x
-    moved x h = subst (λ (o : Opening). HasCause o (view r).seen (view r).number x) (sym goes.opening)
-        (subst (λ n. HasCause (view q).opening (view r).seen n x) (sym goes.number) (cause_later (view q).opening (view q).seen (view r).seen (view q).number x goes.seen h))
 
 -- so goes the loop over the lines
-pub works_step : (m : Kiwi) (p q r : Pass) (lines : List Line) (i : ℕ) (d : Line) (done more : List Answered) (a : Answer) → i < length lines → now_in p ≤ now_in q → now_in q ≤ now_in r → IsIdle m q → GoesTo m.shared q r
+pub works_step : (p q r : Pass) (lines : List Line) (i : ℕ) (d : Line) (done more : List Answered) (a : Answer) → i < length lines → now_in p ≤ now_in q → now_in q ≤ now_in r
     → Works p q (take i lines) done → LineAnswered q r (get_or lines i d).call (get_or lines i d).form a → more ≡ done ++ record { line = (get_or lines i d).number; answer = a } ∷ []
     → Works p r (take (i + 1) lines) more
-works_step m p q r lines i d done more a lt before later idle goes w c push =
+works_step p q r lines i d done more a lt before later w c push =
     let l : Line = get_or lines i d in
     subst (λ x. Works p r x more) (sym (take_more lines i d lt))
     (subst (λ x. Works p r (take i lines ++ l ∷ []) x) (sym (push ∙ ap (λ (y : Answer). done ++ record { line = l.number; answer = y } ∷ []) c.answer_is))
-    (works_more m p q r (take i lines) l done c.reply before later idle goes w c.calls c.is_reply c.cause))
+    (works_more p q r (take i lines) l done c.reply before later w c.calls c.is_reply))
 
 -- a pass that went on twice went on
 pub goes_trans : (s : Shared) (p q r : Pass) → GoesTo s p q → GoesTo s q r → GoesTo s p r

@@ -10,6 +10,7 @@ use Rattle.kw_core.specs.HistoryLaws.{EndsWith, shows}
 use Rattle.kw_laws.specs.SeatCalls.{CallSeen, seen}
 use Rattle.kw_order.specs.Order.{IsOrder, IsTop}
 use Rattle.kw_map.specs.Kiwi.{happened}
+use Rattle.kw_map.specs.Refusals.{HasReason}
 use Rattle.kw_world.specs.declared.event.Event.{Event}
 use Rattle.kw_world.specs.declared.opening.Opening.{Opening}
 use Rattle.kw_line.specs.declared.answer.Answer.{Answer}
@@ -24,7 +25,7 @@ use Rattle.kw_work.specs.Collecting.{merge}
 use Rattle.kw_work.specs.Dealing.{lines_of, blocks_of, worker_of}
 use Rattle.kw_work.specs.LineOrder.{IsOrderOf, StandsBefore, IsLegalIn, KeepsWorkers}
 use Rattle.kw_app.specs.OneThread.{answers_to}
-use Rattle.kw_app.specs.Recorded.{asked, EndsBefore, HasCause, IsWithin, no_call, recorded, seat_calls}
+use Rattle.kw_app.specs.Recorded.{asked, EndsBefore, IsWithin, no_call, recorded, seat_calls}
 use Rattle.kw_app.specs.Running.{is_refused}
 
 -- the calls of the lines in line order, as the list of events shows them
@@ -63,8 +64,8 @@ pub record HasOneOrder (o : Opening) (E : List Event) (items : List Item) (print
   pub prints : printed ≡ answers_for (forms items) (recorded o.seats (seat_calls o E) (lines_of 1 items))
   -- each is a reply that a line of this form may have, so no call was stopped
   pub are_replies : (i : ℕ) (f : Form) (r : Reply) → slice_get (forms items) i ≡ Some f → slice_get (recorded o.seats (seat_calls o E) (lines_of 1 items)) i ≡ Some r → IsReplyOf f r
-  -- a line is told that it is spent only where its worker's seat, while it made the line's call, found the versions spent
-  pub causes : (i : ℕ) (l : Line) (c : CallSeen) → slice_get (lines_of 1 items) i ≡ Some l → slice_get (line_calls o E (lines_of 1 items)) i ≡ Some c → HasCause o E (worker_of o.seats l) c
+  -- a line is refused only for what its worker's seat found while it made the line's call: the versions or the epochs spent, or too few rows left
+  pub causes : (i : ℕ) (l : Line) (c : CallSeen) → slice_get (lines_of 1 items) i ≡ Some l → slice_get (line_calls o E (lines_of 1 items)) i ≡ Some c → HasReason o E (worker_of o.seats l) c
   -- the numbers of the lines in the order, counted from 0: each stands there once
   pub numbers : List ℕ
   pub order : IsOrderOf (length (calls items)) numbers

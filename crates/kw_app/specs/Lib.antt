@@ -1,5 +1,4 @@
 pub mod Status
-pub mod Shown
 pub mod OneThread
 pub mod Recorded
 pub mod Working

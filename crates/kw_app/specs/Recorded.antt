@@ -1,18 +1,14 @@
 -- What a list of events has recorded of the calls that lines make.
-use Rattle.std.specs.Prelude.{ℕ, ◌≡◌, ◌<◌, ◌≤◌, List, [], ◌∷◌, ◌++◌, map, slice_get, Option, Some, None}
-use Rattle.kw_words.specs.declared.sizes.TheConstants.{SPENT}
+use Rattle.std.specs.Prelude.{ℕ, ◌≡◌, ◌<◌, ◌≤◌, List, [], map, slice_get, Option, Some, None}
 use Rattle.kw_model.specs.declared.call.Call.{Call}
 use Rattle.kw_model.specs.declared.call.Call.TheVariants.{Get}
 use Rattle.kw_model.specs.declared.call.Reply.{Reply}
-use Rattle.kw_model.specs.declared.call.Reply.TheVariants.{Spent, Stopped}
-use Rattle.kw_world.specs.declared.activity.Activity.TheVariants.{ScanClock}
-use Rattle.kw_world.specs.declared.event.Choice.TheVariants.{Go}
+use Rattle.kw_model.specs.declared.call.Reply.TheVariants.{Stopped}
 use Rattle.kw_world.specs.declared.event.Event.{Event}
 use Rattle.kw_world.specs.declared.opening.Opening.{Opening}
 use Rattle.kw_world.specs.Sizes.{product}
 use Rattle.kw_core.specs.declared.history.End.{End}
-use Rattle.kw_laws.specs.SeatCalls.{CallSeen, calls_seen, begun_at}
-use Rattle.kw_follow.specs.OwnEvents.{MetIn}
+use Rattle.kw_laws.specs.SeatCalls.{CallSeen, calls_seen}
 use Rattle.kw_line.specs.declared.answer.Answer.{Answer}
 use Rattle.kw_line.specs.declared.item.Form.{Form}
 use Rattle.kw_line.specs.Answered.{IsReplyOf, answers_for}
@@ -53,19 +49,6 @@ pub record IsWithin (a b : ℕ) (c : CallSeen) : Type 0 where
   pub begins : a ≤ c.first
   pub ends : EndsBefore b c.end
   pub unstopped : reply_of c ≡ Stopped → ⊥
-
--- one of the events of the list is the seat's own, made while it makes this call: it loaded the clock, and was told that the versions are spent
-pub record FoundSpent (o : Opening) (E : List Event) (seat : ℕ) (c : CallSeen) : Type 0 where
-  pub clock : ℕ
-  pub met : MetIn o seat [] E ScanClock Go clock
-  pub spent : SPENT ≤ clock
-  -- before that event the seat has begun this call as its last one, and not ended it
-  pub earlier : List CallSeen
-  pub making : seat_calls o met.front seat ≡ earlier ++ begun_at c.first c.number c.call ∷ []
-
--- where the seat's call was answered as spent, it has found the versions spent
-abbrev pub HasCause : Opening → List Event → ℕ → CallSeen → Type 0
-HasCause o E seat c = reply_of c ≡ Spent → FoundSpent o E seat c
 
 -- each of these calls has a reply that the line in its place may have, which is one of the line's form
 abbrev pub AreReplies : List Line → List CallSeen → Type 0

@@ -17,7 +17,7 @@ use Rattle.kw_work.specs.Dealing.{Dealt, part}
 use Rattle.kw_work.specs.Collecting.{answers_of}
 use Rattle.kw_app.specs.declared.rounds.Job.{Job}
 use Rattle.kw_app.specs.declared.rounds.Done.{Done}
-use Rattle.kw_app.specs.Recorded.{asked, asks, AreReplies, HasCause, IsWithin, printed, seat_calls}
+use Rattle.kw_app.specs.Recorded.{asked, asks, AreReplies, IsWithin, printed, seat_calls}
 use Rattle.kw_app.specs.Working.{Works}
 
 -- the job of a pass: the lines of the block that are dealt to it
@@ -65,5 +65,4 @@ pub record Grew (o : Opening) (n : ℕ) (lines : List Line) (E E' : List Event) 
   pub asks_are : (w : ℕ) → w < n → asked (more_calls o E E' w) ≡ asks (part n w lines)
   pub within : (w : ℕ) → w < n → All (IsWithin (length E) (length E')) (more_calls o E E' w)
   pub are_replies : (w : ℕ) → w < n → AreReplies (part n w lines) (more_calls o E E' w)
-  pub causes : (w : ℕ) → w < n → All (HasCause o E' w) (more_calls o E E' w)
   pub prints : answers ≡ printed n (more_calls o E E') lines

@@ -11,10 +11,11 @@ use Rattle.kw_line.specs.declared.answer.Answer.TheVariants as answer
 use Rattle.kw_line.specs.declared.item.Item.{Item}
 use Rattle.kw_line.specs.Answered.{answers_for}
 use Rattle.kw_line.specs.Line.{forms}
+use Rattle.kw_map.specs.Refusals.{HasReason}
 use Rattle.kw_table.specs.declared.pass.View.{View}
 use Rattle.kw_work.specs.declared.line.Line.{Line}
 use Rattle.kw_work.specs.Dealing.{part, lines_of, blocks_of}
-use Rattle.kw_app.specs.Recorded.{asked, asks, AreReplies, EndsBefore, HasCause, IsWithin, printed, recorded, seat_calls}
+use Rattle.kw_app.specs.Recorded.{asked, asks, AreReplies, EndsBefore, IsWithin, printed, recorded, seat_calls}
 
 -- the lines of all these blocks
 abbrev pub joined : List (List Line) → List Line
@@ -33,7 +34,6 @@ pub record Ran (o : Opening) (n : ℕ) (blocks : List (List Line)) (E : List Eve
   pub asks_are : (w : ℕ) → w < n → asked (seat_calls o E w) ≡ asks (part n w (joined blocks))
   pub ended : (w : ℕ) → w < n → All (IsWithin 0 (length E)) (seat_calls o E w)
   pub are_replies : (w : ℕ) → w < n → AreReplies (part n w (joined blocks)) (seat_calls o E w)
-  pub causes : (w : ℕ) → w < n → All (HasCause o E w) (seat_calls o E w)
   pub prints : answers ≡ printed n (seat_calls o E) (joined blocks)
   pub cuts : (j : ℕ) → j ≤ length blocks → IsCut o n E (joined (take j blocks))
 
@@ -54,8 +54,8 @@ pub record Shows (o : Opening) (items : List Item) (answers : List Answer) (v : 
   pub ended : (w : ℕ) → w < o.seats → All (IsWithin 0 (length v.seen)) (seat_calls o v.seen w)
   -- each was answered by a reply that its line may have
   pub are_replies : (w : ℕ) → w < o.seats → AreReplies (part o.seats w (lines_of 1 items)) (seat_calls o v.seen w)
-  -- a call was told as spent only where its seat found the versions spent while it made it
-  pub causes : (w : ℕ) → w < o.seats → All (HasCause o v.seen w) (seat_calls o v.seen w)
+  -- a call was refused only for what its seat found while it made it: the versions or the epochs spent, or too few rows left
+  pub causes : (w : ℕ) → w < o.seats → All (HasReason o v.seen w) (seat_calls o v.seen w)
   -- the answers are those of the recorded replies, in line order
   pub prints : answers ≡ answers_for (forms items) (recorded o.seats (seat_calls o v.seen) (lines_of 1 items))
   pub blocks : AreInBlocks o o.seats (blocks_of 1 items) v.seen

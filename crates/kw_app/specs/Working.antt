@@ -1,35 +1,23 @@
 -- What a worker does with its lines.
-use Rattle.std.specs.Prelude.{◌≡◌, ◌≤◌, ℕ, List, [], ◌∷◌, ◌++◌, All}
-use Rattle.kw_words.specs.declared.sizes.TheConstants.{SPENT}
+use Rattle.std.specs.Prelude.{◌≡◌, List, [], ◌∷◌, ◌++◌, All}
 use Rattle.kw_model.specs.declared.call.Call.{Call}
 use Rattle.kw_model.specs.declared.call.Reply.{Reply}
-use Rattle.kw_model.specs.declared.call.Reply.TheVariants.{Spent}
 use Rattle.kw_laws.specs.SeatCalls.{CallSeen}
 use Rattle.kw_line.specs.declared.answer.Answer.{Answer}
 use Rattle.kw_line.specs.declared.item.Form.{Form}
 use Rattle.kw_line.specs.Answered.{IsReplyOf, answer_for}
 use Rattle.kw_table.specs.declared.pass.Pass.{Pass}
-use Rattle.kw_table.specs.Passes.{view}
 use Rattle.kw_follow.specs.Calling.{Calls, calls_in, now_in}
-use Rattle.kw_live.specs.Meeting.{MetClock}
 use Rattle.kw_work.specs.declared.line.Line.{Line}
 use Rattle.kw_work.specs.declared.line.Answered.{Answered}
-use Rattle.kw_app.specs.Recorded.{asked, asks, reply_of, AreReplies, HasCause, IsWithin}
+use Rattle.kw_app.specs.Recorded.{asked, asks, reply_of, AreReplies, IsWithin}
 
--- the pass found the clock at the end of the versions
-pub record MetSpent (p q : Pass) : Type 0 where
-  pub clock : ℕ
-  pub met : MetClock p q clock
-  pub spent : SPENT ≤ clock
-
--- the pass made this call, which was its next one, and had a reply that a line of this form may have; the answer is what such a line prints for
--- it, and it was told as spent only where the pass found the versions spent
+-- the pass made this call, which was its next one, and had a reply that a line of this form may have; the answer is what such a line prints for it
 pub record LineAnswered (p q : Pass) (call : Call) (form : Form) (answer : Answer) : Type 0 where
   pub reply : Reply
   pub calls : Calls p q call reply
   pub is_reply : IsReplyOf form reply
   pub answer_is : answer ≡ answer_for form reply
-  pub cause : reply ≡ Spent → MetSpent p q
 
 -- the answer to a line whose call this is
 abbrev pub answered : Line → CallSeen → Answered
@@ -49,5 +37,4 @@ pub record Works (p q : Pass) (lines : List Line) (answers : List Answered) : Ty
   pub asks_are : asked made ≡ asks lines
   pub within : All (IsWithin (now_in p) (now_in q)) made
   pub are_replies : AreReplies lines made
-  pub causes : All (HasCause (view q).opening (view q).seen (view q).number) made
   pub answers_are : answers ≡ answered_by lines made

@@ -66,6 +66,7 @@ fn put<R: Wait>(rt: &R, kiwi: &Kiwi, pass: &mut Pass, key: u32, value: u64) -> A
     match kiwi.put(rt, pass, key, value) {
         Ok(()) => Answer::Done,
         Err(PutEnd::NoRows) => Answer::NoRows,
+        Err(PutEnd::Spent) => Answer::Spent,
     }
 }
 
@@ -78,6 +79,7 @@ fn delete<R: Wait>(rt: &R, kiwi: &Kiwi, pass: &mut Pass, key: u32) -> Answer
     match kiwi.delete(rt, pass, key) {
         Ok(()) => Answer::Done,
         Err(PutEnd::NoRows) => Answer::NoRows,
+        Err(PutEnd::Spent) => Answer::Spent,
     }
 }
 

@@ -2,10 +2,10 @@
 ghost use Rattle.std.specs.Prelude.{◌≤◌, IfOk};
 ghost use Rattle.kw_app.specs.Gen.{IsSummaryOf};
 
-use crate::answering::{answered, some_refused};
 use crate::crew::Crew;
 use crate::generate::generate;
 use crate::printed::{Ending, Printed};
+use crate::running::run_on_map;
 use crate::summary::summary;
 use crate::working::Gate;
 use kw_command::command::MOST_LINES;
@@ -27,12 +27,12 @@ pub fn summarized<R: Threads + Wait + Sync, G: Gate + Sync>(
         printed.text.items printed.front printed.ending) }
 {
     let items = generate(alloc, start, count)?;
-    let (front, answers) = answered(rt, alloc, crew, &items)?;
+    let (front, answers) = run_on_map(rt, alloc, crew, &items)?;
     let text = summary(alloc, &items, &answers)?;
-    let ending = Ending::of_replies(some_refused(&answers));
+    let ending = Ending::of_answers(&answers);
     Ok(Printed {
         text,
         ending,
-        front,
+        front: Some(front),
     })
 }

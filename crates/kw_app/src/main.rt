@@ -8,14 +8,12 @@
 //! - `text`, `printed` and `replay` make the text of an input's replies, `simulating` that of a script,
 //!   and `judging` that of a verdict; `gen_command`, `generate` and `summary` the summary of the replies to
 //!   generated lines. `crew` has who answers them.
-//! - `answering` asks the lines, of the concurrent map or of the plain list (`plain`).
 //! - `running`, `rounds`, `working` and `asking` run lines on the concurrent map: all blocks, one block, one worker, one line. Block after
 //!   block, each worker answers in a thread of its own the lines that are dealt to it; then all passes meet, so that all have seen one list
-//!   of events, and the next block begins. That workers run beside each other is no clause: a test shows it.
+//!   of events, and the next block begins. That workers run beside each other is no clause, and that a put ends is none: tests show it.
 //! - `outcome` and `fault` say how a run ended.
 #![tactic(auto)]
 
-mod answering;
 mod asking;
 mod crew;
 mod fault;
@@ -23,7 +21,6 @@ mod gen_command;
 mod generate;
 mod judging;
 mod outcome;
-mod plain;
 mod printed;
 mod replay;
 mod rounds;

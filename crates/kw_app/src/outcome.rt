@@ -42,7 +42,7 @@ impl Status {
 pub struct Outcome {
     pub status: Status,
     pub line: u32,
-    /// The pass that has seen all events of the run, where the replies came from the concurrent map. No bytes of the text depend on it.
+    /// Where text of `replay` or `gen` was written, the pass that has seen all events of the run. No bytes of the text depend on it.
     pub front: Option<Pass>,
 }
 

@@ -2,8 +2,10 @@
 //!
 //! The types stand alone here, since each command makes a [`Printed`] and `run` takes one apart.
 ghost use Rattle.std.specs.Prelude.{◌≡◌, None};
+ghost use Rattle.kw_app.specs.Answering.{some_refused};
 ghost use Rattle.kw_app.specs.Ending.{refusal_ending};
 
+use kw_line::answer::Answer;
 use kw_table::Pass;
 
 /// What is to be said of a text once it was written whole.
@@ -18,16 +20,25 @@ pub enum Ending {
 }
 
 impl Ending {
-    /// How replies end, by whether some are refusals.
-    pub fn of_replies(refused: bool) -> Ending
-        ensures { result ≡ refusal_ending refused }
+    /// How a text of these answers ends, by whether some are refusals.
+    pub fn of_answers(answers: &[Answer]) -> Ending
+        ensures { result ≡ refusal_ending (some_refused answers.now) }
     {
-        if refused {
+        if some_refused(answers) {
             Ending::Refused
         } else {
             Ending::Done
         }
     }
+}
+
+/// Whether some answer is a refusal.
+fn some_refused(answers: &[Answer]) -> bool
+    ensures { result ≡ some_refused answers.now }
+{
+    answers
+        .iter()
+        .any(|answer| matches!(answer, Answer::NoRows | Answer::Spent))
 }
 
 /// The text that a command prints.
@@ -37,7 +48,7 @@ pub struct Printed {
     pub text: Vec<u8>,
     /// What is to be said of it.
     pub ending: Ending,
-    /// The pass that has seen all events of the run, where the replies came from the concurrent map.
+    /// The pass that has seen all events of the run, of `replay` and of `gen`.
     pub front: Option<Pass>,
 }
 

@@ -4,9 +4,9 @@ ghost use Rattle.std.specs.List.{AllByRecursion};
 ghost use Rattle.kw_line.specs.Line.{IfBadLine, IsItem};
 ghost use Rattle.kw_app.specs.Replay.{IsPrintedOf, IsReplayed};
 
-use crate::answering::{answered, some_refused};
 use crate::crew::Crew;
 use crate::printed::{Ending, Printed};
+use crate::running::run_on_map;
 use crate::working::Gate;
 use kw_line::item::{Item, LineError};
 use kw_line::parse::{MOST_BYTES, parse};
@@ -47,12 +47,12 @@ fn printed<R: Threads + Wait + Sync, G: Gate + Sync>(
     ensures { IfOk result (λ printed. IsPrintedOf crew.now.workers crew.now.rows
         items.now printed.text.items printed.front printed.ending) }
 {
-    let (front, answers) = answered(rt, alloc, crew, items)?;
+    let (front, answers) = run_on_map(rt, alloc, crew, items)?;
     let text = print(alloc, &answers)?;
-    let ending = Ending::of_replies(some_refused(&answers));
+    let ending = Ending::of_answers(&answers);
     Ok(Printed {
         text,
         ending,
-        front,
+        front: Some(front),
     })
 }

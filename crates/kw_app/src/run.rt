@@ -28,7 +28,8 @@ const READ_LIMIT: u32 = MOST_BYTES as u32;
 /// lines. A command that has an input reads the source to its end and, where each line is in the command's grammar, writes the text that it
 /// prints to the sink after the last call; `gen` reads nothing and writes its summary.
 ///
-/// The statuses are tested in the order of [`Status`]'s description. Want of memory is free, and leaves the sink as it was.
+/// The statuses are tested in the order of [`Status`]'s description. Want of memory is free, and leaves the sink as it was. A line that sets a
+/// value or takes a key away may come to wait for other workers, so all that is said here is said of a run that ends.
 pub fn run<R: Threads + Wait + Sync, S: Source, K: Sink, G: Gate + Sync>(
     rt: &R,
     alloc: Global,
@@ -38,9 +39,9 @@ pub fn run<R: Threads + Wait + Sync, S: Source, K: Sink, G: Gate + Sync>(
     gate: &G,
 ) -> Outcome
     // The text of the command was written, whole or up to a fault: for `replay` the replies to the lines in order, for `simulate` the
-    // output of the script or the record of its calls, for `judge` the verdict on the record, for `gen` the summary of the replies to the lines it made. The replies come
-    // from the concurrent map where the lines that set a value or take a key away fit one row. The pass in `front` then shows the run, for any
-    // number of workers, and the replies are those of one thread in an order of the lines that keeps what came before what. At every other
+    // output of the script or the record of its calls, for `judge` the verdict on the record, for `gen` the summary of the replies to the
+    // lines it made. The replies come from the concurrent map. The pass in `front` shows the run, for any number of workers, and the replies
+    // are those of one thread in an order of the lines that keeps what came before what, where a refusal changes nothing. At every other
     // status nothing was written.
     ensures writes { WritesText K.written K.faults (Means words.now) (S.left source.old)
         result sink.old sink.new }

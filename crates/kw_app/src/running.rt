@@ -1,18 +1,15 @@
 //! All blocks of an input, one after another, on one map.
 //!
 //! The contract of `run_on_map` says what the list of events of a whole run has, whatever the workers did beside each other, and what the
-//! answers are worth: `specs/Running.antt` and `specs/Headline.antt`. `answering` relies on it.
+//! answers are worth: `specs/Running.antt` and `specs/Headline.antt`. `replay` and `gen_command` print such answers.
 ghost use Rattle.std.specs.Prelude.{◌≡◌, ◌<◌, ◌^◌, [], length, map, All, IfOk};
 ghost use Rattle.std.specs.List.{AllByRecursion};
 ghost use Rattle.kw_line.specs.Line.{IsItem};
 ghost use Rattle.kw_table.specs.Meetings.{front_seen};
-ghost use Rattle.kw_table.specs.Passes.{view};
-ghost use Rattle.kw_map.specs.Kiwi.{IsOrdered};
 ghost use Rattle.kw_work.specs.Dealing.{IsLine};
-ghost use Rattle.kw_app.specs.Answering.{opening};
-ghost use Rattle.kw_app.specs.Headline.{Headline};
+ghost use Rattle.kw_app.specs.Answering.{IsRun, opening};
 ghost use Rattle.kw_app.specs.Rounds.{AreTogether};
-ghost use Rattle.kw_app.specs.Running.{Ran, Shows};
+ghost use Rattle.kw_app.specs.Running.{Ran};
 
 use crate::crew::Crew;
 use crate::rounds::play;
@@ -67,11 +64,8 @@ pub fn run_on_map<R: Threads + Wait + Sync, G: Gate + Sync>(
 ) -> Result<(Pass, Vec<Answer>), Memory>
     requires few { length items.now < 2 ^ 32 }
     requires items { AllByRecursion IsItem items.now }
-    ensures shows { IfOk result (λ both. Shows (opening crew.now.workers crew.now.rows)
-        items.now both.1.items (view both.0)) }
-    ensures ordered { IfOk result (λ both. IsOrdered (view both.0)) }
-    ensures headline { IfOk result (λ both. Headline (opening crew.now.workers crew.now.rows)
-        (view both.0).seen items.now both.1.items) }
+    ensures { IfOk result (λ both. IsRun (opening crew.now.workers crew.now.rows)
+        items.now both.1.items both.0) }
 {
     let (kiwi, passes) = Kiwi::open(alloc, crew.rows, crew.workers)?;
     let blocks = deal(alloc, items, crew.workers)?;

@@ -1,4 +1,5 @@
 //! Whole runs over streams in memory, by the public call alone. What is expected was worked out by hand or by a map in another language.
+use crate::fault::write_fault;
 use crate::outcome::{Outcome, Status};
 use crate::run::run;
 use crate::working::{Gate, NoGate};
@@ -10,7 +11,9 @@ use std::sync::Wait;
 use std::test::Fail;
 use std::thread::Threads;
 
+mod alone;
 mod generated;
+mod refusals;
 mod streams;
 mod workers;
 
@@ -71,6 +74,20 @@ fn expect_end(
     assert_eq!(rt; ended.outcome.status, status);
     assert_eq!(rt; ended.outcome.line, line);
     assert_eq!(rt; ended.written.as_slice(), text);
+    Ok(())
+}
+
+/// Expects that this is the fault line of a run that ended so.
+fn expect_fault_line(
+    rt: &impl Abort,
+    alloc: Global,
+    outcome: &Outcome,
+    text: &[u8],
+) -> Result<(), Fail> {
+    let mut sink = MemSink::new(alloc, ROOM, Vec::new(alloc))?;
+    let written = write_fault(outcome, &mut sink);
+    assert!(rt; written.is_ok());
+    assert_eq!(rt; sink.written(), text);
     Ok(())
 }
 

@@ -38,7 +38,7 @@ pub fn put_cells<R: Wait>(rt: &R, kiwi: &Kiwi, pass: Pass, load: Load) -> Pass
 {
     let mut pass = pass;
     for number in 0..load.cells {
-        // A row that is full refuses; the call is made all the same.
+        // A put may be refused; the call is made all the same.
         let _ = kiwi.put(rt, &mut pass, load.keys.of_cell(number), 1);
     }
     pass

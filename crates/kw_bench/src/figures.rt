@@ -16,7 +16,7 @@ pub fn given_calls(rt: &HostRuntime) -> io::Result<Option<u32>> {
 /// Says how the program is used.
 pub fn print_usage(rt: &HostRuntime) -> io::Result<()> {
     println!(rt;
-        "kw_bench N: makes N calls of each kind on maps of one row, reads and prints N lines, asks indexes for N keys, and prints what each took"
+        "kw_bench N: makes N calls of each kind on maps of one row and of many, reads and prints N lines, asks indexes N keys, prints what each took"
     )
 }
 

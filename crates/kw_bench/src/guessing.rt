@@ -151,8 +151,9 @@ fn publish_until(index: &Index, spare: Entries, over: &AtomicBool) -> u64
         if over.load(Ordering::SeqCst) {
             break;
         }
+        let number = index.number();
         index.copy(&mut spare);
-        let (done, back) = parts(index.publish(spare));
+        let (done, back) = parts(index.publish(spare, number));
         spare = back;
         published = published.wrapping_add(u64::from(done));
     }

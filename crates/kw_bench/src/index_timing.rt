@@ -38,7 +38,8 @@ fn open(alloc: Global, rows: u32) -> Result<(Index, Entries), Memory>
     ensures { IfOk result (λ made. made.1.rows ≡ made.0) }
 {
     let index = Index::new(alloc, rows)?;
-    index.publish(entries_of_all(alloc, rows)?);
+    let entries = entries_of_all(alloc, rows)?;
+    index.publish(entries, index.number());
     let spare = entries_of_all(alloc, rows)?;
     Ok((index, spare))
 }

@@ -30,7 +30,7 @@ impl Keys {
 /// How many cells a row has, and whose their keys are.
 #[derive(Clone, Copy, Debug, PartialEq, Eq)]
 pub struct Load {
-    /// The number of cells. A row refuses what is above `CELL_COUNT`.
+    /// The number of cells: those of one row are at most `CELL_COUNT`.
     pub cells: u32,
     /// Their keys.
     pub keys: Keys,

@@ -3,28 +3,45 @@
 //!
 //! With a number N the program makes N calls of each kind on maps of one row, for rows of a quarter of their cells to all, of different keys and
 //! of one key. It prints a table of what a call took, in nanoseconds, and of those that read what it took each of two threads and of four
-//! that made N at once, and how many calls they made in the time in which one made a hundred. Then it reads an input of N lines, or of as many as an input may have, and
-//! prints an answer to each, with no map. At last it asks an index of few entries, one of some and one of many for N keys, and plain slices
-//! of the same entries, by one thread and by four. All figures of a run come from that run, so its ratios can be
-//! compared where its times cannot. Without a number it says how it is used. Nothing is promised of the figures; the calls
-//! are those of `kw_map`, `kw_line` and `kw_index`, by their contracts.
+//! that made N at once, and how many calls they made in the time in which one made a hundred.
+//!
+//! Then it does the same on a map of many rows, whose full rows are replaced meanwhile: N puts, N gets, and N of both in turn, which threads
+//! share; and N sums of a thousand keys, alone and while three other threads put. It fills such a map by rising, falling and random keys,
+//! N at most, until a put is refused, and prints what a put took as more and more rows were in use.
+//!
+//! Then it reads an input of N lines, or of as many as an input may have, and prints an answer to each, with no map. At last it asks an index
+//! of few entries, one of some and one of many for N keys, and plain slices of the same entries, by one thread and by four.
+//!
+//! All figures of a run come from that run, so its ratios can be compared where its times cannot. Without a number it says how it is used.
+//! Nothing is promised of the figures; the calls are those of `kw_map`, `kw_line` and `kw_index`, by their contracts.
 #![tactic(auto)]
 
 mod asking;
 mod figures;
+mod fill_timing;
 mod guessing;
 mod index_timing;
 mod lines;
 mod load;
+mod map_calls;
+mod map_figures;
+mod map_load;
+mod map_timing;
+mod sum_timing;
 mod timing;
 
 use crate::asking::{Reading, Task};
 use crate::figures::{
     given_calls, print_guesses, print_heads, print_lines, print_puts, print_reads, print_usage,
 };
+use crate::fill_timing::time_fill;
 use crate::index_timing::time_guesses;
 use crate::lines::time_lines;
 use crate::load::{Keys, Load};
+use crate::map_figures::{print_fill, print_fill_heads, print_map, print_sums};
+use crate::map_load::Order;
+use crate::map_timing::time_map;
+use crate::sum_timing::time_sums;
 use crate::timing::{time_puts, time_reads};
 use kw_words::sizes::CELL_COUNT;
 use std::io;
@@ -49,6 +66,7 @@ fn run<T: Threads + Wait + Sync>(rt: &HostRuntime, threads: &T) -> io::Result<()
         time_load(rt, threads, Keys::Different, quarters, calls)?;
         time_load(rt, threads, Keys::One, quarters, calls)?;
     }
+    time_many_rows(rt, threads, calls)?;
     print_lines(rt, time_lines(rt, calls)?)?;
     print_guesses(rt, time_guesses(rt, threads, 10, calls)?)?;
     print_guesses(rt, time_guesses(rt, threads, 1_000, calls)?)?;
@@ -80,4 +98,18 @@ fn time_load<T: Threads + Wait + Sync>(
     print_reads(rt, "get", load, time_reads(rt, threads, gets)?)?;
     print_reads(rt, "scan", load, time_reads(rt, threads, scans)?)?;
     print_puts(rt, load, time_puts(rt, threads, load, calls)?)
+}
+
+// Takes the figures of maps of many rows, and prints them.
+fn time_many_rows<T: Threads + Wait + Sync>(
+    rt: &HostRuntime,
+    threads: &T,
+    calls: u32,
+) -> io::Result<()> {
+    print_map(rt, time_map(rt, threads, calls)?)?;
+    print_sums(rt, time_sums(rt, threads, calls)?)?;
+    print_fill_heads(rt)?;
+    print_fill(rt, time_fill(rt, threads, Order::Rising, calls)?)?;
+    print_fill(rt, time_fill(rt, threads, Order::Falling, calls)?)?;
+    print_fill(rt, time_fill(rt, threads, Order::Random, calls)?)
 }

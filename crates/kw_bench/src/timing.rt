@@ -1,6 +1,6 @@
 //! What calls take, by one thread and by several beside each other.
-ghost use Rattle.std.specs.Prelude.{◌≡◌, ◌<◌, ◌+◌, All, IfOk, vec_len};
-ghost use Rattle.kw_words.specs.declared.sizes.TheConstants.{SEATS};
+ghost use Rattle.std.specs.Prelude.{◌≡◌, ◌<◌, ◌≤◌, ◌+◌, All, IfOk, vec_len};
+ghost use Rattle.kw_words.specs.declared.sizes.TheConstants.{MOST_ROWS, SEATS};
 ghost use Rattle.kw_map.specs.Kiwi.{IsIdle};
 
 use crate::asking::{Task, put_cells, read_by_each};
@@ -41,28 +41,32 @@ pub(crate) fn no_memory<E: Drop>(_error: E) -> io::Error {
     io::Error::from(io::ErrorKind::OutOfMemory)
 }
 
-// A map of one row, a pass for each of so many threads, and one more, to fill the row.
-fn open(alloc: Global, threads: u32) -> Result<(Kiwi, Vec<Pass>, Pass), Memory>
-    requires { threads < SEATS }
+// A map of so many rows, a pass for each of so many threads, and one more, to fill the map.
+fn open(alloc: Global, rows: u32, threads: u32) -> Result<(Kiwi, Vec<Pass>, Pass), Memory>
+    requires some { 1 ≤ rows }
+    requires rows { rows ≤ MOST_ROWS }
+    requires threads { threads < SEATS }
     ensures len { IfOk result (λ made. vec_len made.1 ≡ threads) }
     ensures idle { IfOk result (λ made. All (IsIdle made.0) made.1.items) }
     ensures filling { IfOk result (λ made. IsIdle made.0 made.2) }
 {
-    let (kiwi, mut passes) = Kiwi::open(alloc, 1, threads + 1)?;
+    let (kiwi, mut passes) = Kiwi::open(alloc, rows, threads + 1)?;
     let Some(filling) = passes.pop() else {
         unreachable!()
     };
     Ok((kiwi, passes, filling))
 }
 
-// The same, with the program's own error.
-fn opened(alloc: Global, threads: u32) -> io::Result<(Kiwi, Vec<Pass>, Pass)>
-    requires { threads < SEATS }
+/// A map of so many rows, a pass for each of so many threads, and one more, to fill the map.
+pub(crate) fn opened(alloc: Global, rows: u32, threads: u32) -> io::Result<(Kiwi, Vec<Pass>, Pass)>
+    requires some { 1 ≤ rows }
+    requires rows { rows ≤ MOST_ROWS }
+    requires threads { threads < SEATS }
     ensures len { IfOk result (λ made. vec_len made.1 ≡ threads) }
     ensures idle { IfOk result (λ made. All (IsIdle made.0) made.1.items) }
     ensures filling { IfOk result (λ made. IsIdle made.0 made.2) }
 {
-    match open(alloc, threads) {
+    match open(alloc, rows, threads) {
         Ok(made) => Ok(made),
         Err(error) => Err(no_memory(error)),
     }
@@ -91,7 +95,7 @@ fn time_threads<T: Threads + Wait + Sync>(
 ) -> io::Result<u128>
     requires { count < SEATS }
 {
-    let (kiwi, passes, filling) = opened(rt.alloc(), count)?;
+    let (kiwi, passes, filling) = opened(rt.alloc(), 1, count)?;
     let _filling = put_cells(threads, &kiwi, filling, task.load);
     let start = Instant::now(rt)?;
     read_by_each(threads, &kiwi, passes, task).map_err(no_memory)?;
@@ -108,7 +112,7 @@ pub fn time_puts<T: Threads + Wait + Sync>(
     let maps = calls / load.cells.max(1);
     let mut one: u128 = 0;
     for _ in 0..maps {
-        let (kiwi, _, filling) = opened(rt.alloc(), 0)?;
+        let (kiwi, _, filling) = opened(rt.alloc(), 1, 0)?;
         let start = Instant::now(rt)?;
         put_cells(threads, &kiwi, filling, load);
         one = one.saturating_add(start.elapsed(rt)?.as_nanos());

@@ -1,7 +1,5 @@
 //! A map of one thread that keeps every entry it was given.
 //!
-//! It is there for now alone: the program asks it where an input has more updates than a row has cells, until full rows are rebalanced.
-//!
 //! The list of entries is the truth: a key has the value of its last entry, and a delete is an entry without a value.
 //! Beside it stands a tree from each key to the place of its last entry, so that a get and a scan need not walk the
 //! list. Contracts see the list alone; that the tree fits it is the invariant of the type, which `put` keeps.

@@ -9,3 +9,4 @@ pub mod Tokens
 pub mod Known
 pub mod Getters
 pub mod Means
+pub mod Rules

@@ -7,9 +7,9 @@
 ghost use Rattle.std.specs.Prelude.{◌≡◌, Some, IfOk, IsTrue, drop};
 ghost use Rattle.std.specs.Char.{is_ascii_digit};
 ghost use Rattle.std.specs.List.{list_all};
-ghost use Rattle.clap.specs.Words.{app_of};
+ghost use Rattle.clap.specs.Words.{app_of, with_rule};
 ghost use Rattle.kw_command.specs.Words.{is_digits, is_known};
-ghost use Rattle.kw_command.specs.Clap.{kiwi};
+ghost use Rattle.kw_command.specs.Clap.{kiwi, rule_for, flag_rule, start, count, workers, rows};
 ghost use Rattle.kw_command.specs.Reading.{no_arguments, reads};
 
 use crate::command::{FEWEST_ROWS, MOST_LINES, MOST_WORKERS};
@@ -90,24 +90,44 @@ pub fn arguments_of(alloc: Global, words: &[Word]) -> Result<Option<Arguments>, 
 fn parser<'a>(alloc: Global) -> Result<Command<'a>, AllocError>
     ensures { IfOk result (λ parser. app_of parser ≡ kiwi) }
 {
+    let program = Command::new(alloc, "kiwi").disable_help_flag(true);
+    let program = with_numbers(alloc, program)?;
+    let program = with_options(alloc, program)?;
+    with_flag(alloc, program)
+}
+
+/// Adds the two numbers.
+fn with_numbers<'a>(alloc: Global, program: Command<'a>) -> Result<Command<'a>, AllocError>
+    ensures { IfOk result (λ more. app_of more
+        ≡ with_rule (with_rule (app_of program.entry) (rule_for start)) (rule_for count)) }
+{
     let start = Arg::new(alloc, "start").value_parser(value_parser!(u32));
     let count = Arg::new(alloc, "count").value_parser(value_parser!(u32).range(
         1..=i64::from(MOST_LINES),
     ));
+    program.arg(start)?.arg(count)
+}
+
+/// Adds the two options.
+fn with_options<'a>(alloc: Global, program: Command<'a>) -> Result<Command<'a>, AllocError>
+    ensures { IfOk result (λ more. app_of more
+        ≡ with_rule (with_rule (app_of program.entry) (rule_for workers)) (rule_for rows)) }
+{
     let workers = Arg::new(alloc, "workers")
         .long("workers")
         .value_parser(value_parser!(u32).range(1..=i64::from(MOST_WORKERS)));
     let rows = Arg::new(alloc, "rows").long("rows").value_parser(value_parser!(u32).range(
         i64::from(FEWEST_ROWS)..=i64::from(MOST_ROWS),
     ));
+    program.arg(workers)?.arg(rows)
+}
+
+/// Adds the flag.
+fn with_flag<'a>(alloc: Global, program: Command<'a>) -> Result<Command<'a>, AllocError>
+    ensures { IfOk result (λ more. app_of more ≡ with_rule (app_of program.entry) flag_rule) }
+{
     let recorded = Arg::new(alloc, "record")
         .long("record")
         .action(ArgAction::SetTrue);
-    Command::new(alloc, "kiwi")
-        .disable_help_flag(true)
-        .arg(start)?
-        .arg(count)?
-        .arg(workers)?
-        .arg(rows)?
-        .arg(recorded)
+    program.arg(recorded)
 }

@@ -1,8 +1,7 @@
 -- The arrows of the table: from an activity, with the words that are there, to what the seat knows next.
 --
--- There is one constructor for each arrow, from activities to which a seat may come. It carries what the event found, so that a law by
--- cases on the arrow splits no test of the table again; where a law does not matter for most arrows, one catch-all serves them. The words
--- are a function of names.
+-- There is one constructor for each arrow. It carries what the event found, so that a law by cases on the arrow splits no test of the
+-- table again; where a law does not matter for most arrows, one catch-all serves them. The words are a function of names.
 -- What follows where the end of the looks, or of a row's cells, has no event of its own is an arrow of its own type, `NextLook` and
 -- `NextRest`. In a rebalance there are two arrows in its place, so that each says outright what the seat knows next.
 use Rattle.std.proofs.Common.{ℕ, ◌≡◌, ◌≢◌, ◌⊎◌, inl, inr, ◌+◌, ◌<◌, ◌≤◌, ◌==◌, Option, Some, None, Bool, true, false, nat_lt, nat_le, [], arith, refl, sym, ◌∙◌, ap, subst, if◌then◌else◌, unwrap_or}
@@ -26,7 +25,7 @@ use Rattle.kw_cells.specs.Cells.{shown_at}
 use Rattle.kw_model.specs.declared.call.Call.{Call}
 use Rattle.kw_model.specs.declared.call.Call.TheVariants.{Put, Del, Get, Scan}
 use Rattle.kw_world.specs.declared.answer.Answer.{Answer}
-use Rattle.kw_world.specs.declared.answer.Answer.TheVariants.{Done, Pairs, NoRows, Spent, Stopped}
+use Rattle.kw_world.specs.declared.answer.Answer.TheVariants.{Done, Pairs, Spent, Stopped}
 use Rattle.kw_world.specs.Answers.{answer_found}
 use Rattle.kw_world.specs.declared.activity.Activity.{Activity}
 use Rattle.kw_world.specs.declared.activity.Activity.TheVariants.{Idle, Enter, ScanClock, ScanWait, ScanDraw, ScanSettle, Start, Head, GuessMin, Walk, WalkMin, Look, LookKey, LookClock, LookHelp, ListFrom, ListKey, ListVer, ListVal, RestKey, RestVal, ClearScan, PutCount, PutAdd, PutKey, PutValue, Announce, PutClock, Stamp, PutVersion, InsFrom, InsKey, InsVer, InsSet, Insert, PutClear, Leave, Again, AgainEpoch, BalClock, BalEpoch, BalState, BalNormal, Engage, MarkLink, Decide, FreezeCount, FreezeLook, Freeze, ScanLook, HelpDraw, HelpSettle, TakeFrom, TakeKey, TakeVersion, TakeValue, TakeRestKey, TakeRestValue, SeekFirst, Seek, SeekPass, Reclaim, TakeRow, GiveBack, WriteCount, WriteMin, WriteNext, WriteFirst, WritePend, WriteKey, WriteValue, WriteVersion, WriteAfter, Before, BeforeGuess, BeforeHead, BeforeLink, BeforeMin, Replace, Normalise, Number, Retire}
@@ -34,7 +33,7 @@ use Rattle.kw_world.specs.declared.local.Local.{Local}
 use Rattle.kw_world.specs.declared.limits.TheConstants.{NEWEST}
 use Rattle.kw_world.specs.declared.event.Choice.{Choice}
 use Rattle.kw_world.specs.declared.event.Choice.TheVariants.{Begin, Go, Guess, Stop}
-use Rattle.kw_world.specs.Sizes.{Form, Refused, Alone, Reused, IsRebalancing, Sizes}
+use Rattle.kw_world.specs.Sizes.{Sizes}
 use Rattle.kw_world.specs.Local.{resting}
 use Rattle.kw_world.specs.Calls.{first_key, last_key, is_in_range, is_scan, is_range_empty}
 use Rattle.kw_world.specs.Transition.{Outcome, to, leave, row_linked, row_or_first}
@@ -43,7 +42,7 @@ use Rattle.kw_world.specs.WalkTransitions.{start_transition, guess_met, arrive, 
 use Rattle.kw_world.specs.declared.marks.Mark.{Mark}
 use Rattle.kw_world.specs.Marks.{unmarked, least_mark}
 use Rattle.kw_world.specs.ReadTransitions.{to_look, look_met, help_met, remembering, reaching, rest_of, to_rest, list_met, list_past, row_read, get_answered, scan_ended, scan_on, with_pairs, row_scanned, gathering}
-use Rattle.kw_world.specs.PutTransitions.{full_in, full, has_room, given_of, stamp_met}
+use Rattle.kw_world.specs.PutTransitions.{has_room, given_of, stamp_met}
 use Rattle.kw_world.specs.EngageTransitions.{to_rebalance, again, refuse, state_met, engaged, followed_by, decided}
 use Rattle.kw_world.specs.FreezeTransitions.{count_frozen, to_scans, to_freeze_look, marking, freezing, freeze_met, entry_tried, to_scan_look, needing, scan_met, scan_helped}
 use Rattle.kw_world.specs.TakeTransitions.{to_take, planned, left_of, to_left, taking, take_met, take_version, keeping, take_past}
@@ -51,7 +50,7 @@ use Rattle.kw_world.specs.ListTransitions.{link_name, meeting, losing, to_insert
 use Rattle.kw_world.specs.Table.{transition}
 use Rattle.kw_world.specs.Step.{followed, is_skipped}
 use Rattle.kw_core.specs.Words.{Words, next_in, least_in}
-use Rattle.kw_core.specs.Stages.{is_put, IsReached}
+use Rattle.kw_core.specs.Stages.{is_put}
 use Rattle.kw_core.proofs.Events.{IsBegun}
 use Rattle.kw_core.proofs.Building.{Building, IsBuilding, building}
 
@@ -140,21 +139,17 @@ pub data Arrow (z : Sizes) (v : Words) (s : ℕ) (choice : Choice) (l : Local) :
   clears_scan : (answer : Answer) → Arrow z v s choice l (ClearScan answer) (leave (answer_or_stopped answer choice) l).local
   -- a put or a delete
   finds_room : has_room z (count_of (v (name.Count l.row))) ≡ true → Arrow z v s choice l PutCount (record l { activity = PutAdd })
-  finds_none : has_room z (count_of (v (name.Count l.row))) ≡ false → z.form ≡ Refused → Arrow z v s choice l PutCount (leave NoRows l).local
-  finds_full : has_room z (count_of (v (name.Count l.row))) ≡ false → IsRebalancing z.form → Arrow z v s choice l PutCount (to_rebalance l).local
+  finds_full : has_room z (count_of (v (name.Count l.row))) ≡ false → Arrow z v s choice l PutCount (to_rebalance l).local
   takes_cell : has_room z (count_of (v (name.Count l.row))) ≡ true → Arrow z v s choice l PutAdd (record l { cell = given_of (count_of (v (name.Count l.row))); activity = PutKey })
-  takes_none : has_room z (count_of (v (name.Count l.row))) ≡ false → z.form ≡ Refused → Arrow z v s choice l PutAdd (leave NoRows l).local
-  takes_full : has_room z (count_of (v (name.Count l.row))) ≡ false → IsRebalancing z.form → Arrow z v s choice l PutAdd (to_rebalance l).local
+  takes_full : has_room z (count_of (v (name.Count l.row))) ≡ false → Arrow z v s choice l PutAdd (to_rebalance l).local
   stores_key : Arrow z v s choice l PutKey (record l { activity = PutValue })
   stores_value : Arrow z v s choice l PutValue (record l { activity = Announce })
   announces : v (name.Pend l.row s) ≡ pend_word pend.Idle → Arrow z v s choice l Announce (record l { activity = PutClock })
-  is_refused : v (name.Pend l.row s) ≢ pend_word pend.Idle → z.form ≡ Refused → Arrow z v s choice l Announce (leave NoRows l).local
-  announces_full : v (name.Pend l.row s) ≢ pend_word pend.Idle → IsRebalancing z.form → Arrow z v s choice l Announce (to_rebalance l).local
+  announces_full : v (name.Pend l.row s) ≢ pend_word pend.Idle → Arrow z v s choice l Announce (to_rebalance l).local
   loads_clock : Arrow z v s choice l PutClock (record l { version = v name.Clock; activity = Stamp })
   stamps : pend_of (v (name.Pend l.row s)) ≡ Some (pend.Pending l.cell) → Arrow z v s choice l Stamp (record l { activity = PutVersion })
   is_stamped : (version : ℕ) → pend_of (v (name.Pend l.row s)) ≡ Some (pend.Stamped l.cell version) → Arrow z v s choice l Stamp (record l { version = version; activity = PutVersion })
-  is_not_own : IsNotOwn l.cell (v (name.Pend l.row s)) → z.form ≡ Refused → Arrow z v s choice l Stamp (leave NoRows l).local
-  stamps_full : IsNotOwn l.cell (v (name.Pend l.row s)) → IsRebalancing z.form → Arrow z v s choice l Stamp (to_rebalance l).local
+  stamps_full : IsNotOwn l.cell (v (name.Pend l.row s)) → Arrow z v s choice l Stamp (to_rebalance l).local
   stores_version : Arrow z v s choice l PutVersion (to_insert l).local
   -- its cell is inserted
   meets_cell : (c : ℕ) → cell_of_link_word (v (link_name l.row l.link)) ≡ Some c → Arrow z v s choice l InsFrom (record (meeting z c l) { activity = InsKey })
@@ -224,7 +219,7 @@ pub data Arrow (z : Sizes) (v : Words) (s : ℕ) (choice : Choice) (l : Local) :
   keeps_left : (m : Mark) → least_mark l.rebalance.marks ≡ Some m → Arrow z v s choice l TakeRestValue (record (keeping z (value_of_word (v (name.Value l.row l.place))) l) { place = m.cell; place_version = m.version; rebalance = record (keeping z (value_of_word (v (name.Value l.row l.place))) l).rebalance { marks = unmarked m.cell l.rebalance.marks }; activity = TakeRestKey })
   keeps_no_more : least_mark l.rebalance.marks ≡ None → Arrow z v s choice l TakeRestValue (record (planned z (keeping z (value_of_word (v (name.Value l.row l.place))) l)) { activity = SeekFirst })
   -- new rows are taken, written, linked and made normal, and the full one is retired: a type of its own has the ways that these may go
-  builds : (c : Activity) (next : Local) → IsBuilding c → IsReached z c → Building z v choice l c next → Arrow z v s choice l c next
+  builds : (c : Activity) (next : Local) → IsBuilding c → Building z v choice l c next → Arrow z v s choice l c next
 
 -- Tests of the table.
 
@@ -292,15 +287,6 @@ next_rest l = met (least_mark l.remembered) refl
     met : (o : Option Mark) → least_mark l.remembered ≡ o → NextRest l (rest_of o l).local
     met (Some m) e = rests m e
     met None e = read_arrow l l.call e refl
-
--- what follows at a full row, in each form
-full_arrow : (z : Sizes) (v : Words) (s : ℕ) (choice : Choice) (l : Local) (a : Activity) → (z.form ≡ Refused → Arrow z v s choice l a (leave NoRows l).local) → (IsRebalancing z.form → Arrow z v s choice l a (to_rebalance l).local) → Arrow z v s choice l a (full z l).local
-full_arrow z v s choice l a refuses rebalances = by z.form refl
-  where
-    by : (f : Form) → z.form ≡ f → Arrow z v s choice l a (full_in f l).local
-    by Refused e = refuses e
-    by Alone e = rebalances (subst IsRebalancing (sym e) tt)
-    by Reused e = rebalances (subst IsRebalancing (sym e) tt)
 
 -- the next entry, or the scans
 next_entry : (z : Sizes) (j : ℕ) (l : Local) (P : Local → Type 0) → (j < z.seats → P (record l { activity = FreezeLook j })) → (z.seats ≤ j → P (to_scans l).local) → P (to_freeze_look z j l).local
@@ -405,23 +391,20 @@ module _ (z : Sizes) (rows : ℕ) (v : Words) (s : ℕ) (choice : Choice) (l : L
   list_arrow (Some c) e = list_leads c e
   list_arrow None e = list_ends _ e (next_rest l)
 
-  not_own_arrow : IsNotOwn l.cell (v (name.Pend l.row s)) → Arrow z v s choice l Stamp (full z l).local
-  not_own_arrow n = full_arrow z v s choice l Stamp (is_not_own n) (stamps_full n)
-
-  stamp_arrow : (x : Option Pend) → pend_of (v (name.Pend l.row s)) ≡ x → Arrow z v s choice l Stamp (stamp_met z x l).local
-  stamp_arrow (Some pend.Idle) e = not_own_arrow (record { pending = λ q. let y : Some pend.Idle ≡ Some (pend.Pending l.cell) = sym e ∙ q in cc; stamped = λ u q. let y : Some pend.Idle ≡ Some (pend.Stamped l.cell u) = sym e ∙ q in cc })
+  stamp_arrow : (x : Option Pend) → pend_of (v (name.Pend l.row s)) ≡ x → Arrow z v s choice l Stamp (stamp_met x l).local
+  stamp_arrow (Some pend.Idle) e = stamps_full (record { pending = λ q. let y : Some pend.Idle ≡ Some (pend.Pending l.cell) = sym e ∙ q in cc; stamped = λ u q. let y : Some pend.Idle ≡ Some (pend.Stamped l.cell u) = sym e ∙ q in cc })
   stamp_arrow (Some (pend.Pending cell)) e = met (cell == l.cell) refl
     where
-      met : (b : Bool) → (cell == l.cell) ≡ b → Arrow z v s choice l Stamp (let x : Outcome = if b then to PutVersion l else full z l in x).local
+      met : (b : Bool) → (cell == l.cell) ≡ b → Arrow z v s choice l Stamp (let x : Outcome = if b then to PutVersion l else to_rebalance l in x).local
       met true h = stamps (e ∙ ap (λ c. Some (pend.Pending c)) (eq_from cell l.cell h))
-      met false h = not_own_arrow (record { pending = λ q. let y : Some (pend.Pending cell) ≡ Some (pend.Pending l.cell) = sym e ∙ q in eq_not cell l.cell h (cc); stamped = λ u q. let y : Some (pend.Pending cell) ≡ Some (pend.Stamped l.cell u) = sym e ∙ q in cc })
+      met false h = stamps_full (record { pending = λ q. let y : Some (pend.Pending cell) ≡ Some (pend.Pending l.cell) = sym e ∙ q in eq_not cell l.cell h (cc); stamped = λ u q. let y : Some (pend.Pending cell) ≡ Some (pend.Stamped l.cell u) = sym e ∙ q in cc })
   stamp_arrow (Some (pend.Stamped cell version)) e = met (cell == l.cell) refl
     where
-      met : (b : Bool) → (cell == l.cell) ≡ b → Arrow z v s choice l Stamp (let x : Outcome = if b then to PutVersion (record l { version = version }) else full z l in x).local
+      met : (b : Bool) → (cell == l.cell) ≡ b → Arrow z v s choice l Stamp (let x : Outcome = if b then to PutVersion (record l { version = version }) else to_rebalance l in x).local
       met true h = is_stamped version (e ∙ ap (λ c. Some (pend.Stamped c version)) (eq_from cell l.cell h))
-      met false h = not_own_arrow (record { pending = λ q. let y : Some (pend.Stamped cell version) ≡ Some (pend.Pending l.cell) = sym e ∙ q in cc; stamped = λ u q. let y : Some (pend.Stamped cell version) ≡ Some (pend.Stamped l.cell u) = sym e ∙ q in eq_not cell l.cell h (cc) })
-  stamp_arrow (Some pend.Frozen) e = not_own_arrow (record { pending = λ q. let y : Some pend.Frozen ≡ Some (pend.Pending l.cell) = sym e ∙ q in cc; stamped = λ u q. let y : Some pend.Frozen ≡ Some (pend.Stamped l.cell u) = sym e ∙ q in cc })
-  stamp_arrow None e = not_own_arrow (record { pending = λ q. let y : None ≡ Some (pend.Pending l.cell) = sym e ∙ q in cc; stamped = λ u q. let y : None ≡ Some (pend.Stamped l.cell u) = sym e ∙ q in cc })
+      met false h = stamps_full (record { pending = λ q. let y : Some (pend.Stamped cell version) ≡ Some (pend.Pending l.cell) = sym e ∙ q in cc; stamped = λ u q. let y : Some (pend.Stamped cell version) ≡ Some (pend.Stamped l.cell u) = sym e ∙ q in eq_not cell l.cell h (cc) })
+  stamp_arrow (Some pend.Frozen) e = stamps_full (record { pending = λ q. let y : Some pend.Frozen ≡ Some (pend.Pending l.cell) = sym e ∙ q in cc; stamped = λ u q. let y : Some pend.Frozen ≡ Some (pend.Stamped l.cell u) = sym e ∙ q in cc })
+  stamp_arrow None e = stamps_full (record { pending = λ q. let y : None ≡ Some (pend.Pending l.cell) = sym e ∙ q in cc; stamped = λ u q. let y : None ≡ Some (pend.Stamped l.cell u) = sym e ∙ q in cc })
 
   balance_arrow : (x : Option State) → state_of (v (name.State l.row)) ≡ x → Arrow z v s choice l BalState (state_met x l).local
   balance_arrow (Some Free) e = finds_other_state
@@ -483,159 +466,159 @@ module _ (z : Sizes) (rows : ℕ) (v : Words) (s : ℕ) (choice : Choice) (l : L
   insert_arrow (Some c) e = meets_cell c e
   insert_arrow None e = meets_none e
 
-  -- every event that is not skipped, of a seat that may come to its activity, takes an arrow
-  pub arrow : (a : Activity) → IsReached z a → IsBegun a choice → is_skipped a choice ≡ false → Arrow z v s choice l a (followed rows (transition z a s choice l) (v (transition z a s choice l).operation.name)).local
-  arrow Idle o b m = begin_arrow choice refl b m
-  arrow Enter o b m = enter_arrow l.call refl
-  arrow ScanClock o b m = met (nat_le SPENT (v name.Clock)) refl
+  -- every event that is not skipped takes an arrow
+  pub arrow : (a : Activity) → IsBegun a choice → is_skipped a choice ≡ false → Arrow z v s choice l a (followed rows (transition z a s choice l) (v (transition z a s choice l).operation.name)).local
+  arrow Idle b m = begin_arrow choice refl b m
+  arrow Enter b m = enter_arrow l.call refl
+  arrow ScanClock b m = met (nat_le SPENT (v name.Clock)) refl
     where
       met : (b : Bool) → nat_le SPENT (v name.Clock) ≡ b → Arrow z v s choice l ScanClock (let x : Outcome = if b then leave Spent l else to ScanWait (record l { waiting = v name.Clock }) in x).local
       met true e = is_spent (at_most _ _ e)
       met false e = waits (above _ _ e)
-  arrow ScanWait o b m = stores_waiting
-  arrow ScanDraw o b m = draws
-  arrow ScanSettle o b m = met (is_range_empty l.call) refl
+  arrow ScanWait b m = stores_waiting
+  arrow ScanDraw b m = draws
+  arrow ScanSettle b m = met (is_range_empty l.call) refl
     where
       met : (b : Bool) → is_range_empty l.call ≡ b → Arrow z v s choice l ScanSettle (let x : Outcome = if b then to (ClearScan Pairs) (record l { version = version_settled (scan_of (v (name.Scan s))) l.drawn }) else to Start (record l { version = version_settled (scan_of (v (name.Scan s))) l.drawn; want = first_key l.call }) in x).local
       met true e = settles_empty e
       met false e = settles e
-  arrow Start o b m = start_arrow choice refl
-  arrow Head o b m = takes_head
-  arrow GuessMin o b m = met (nat_le (least_in v l.row) l.want) refl
+  arrow Start b m = start_arrow choice refl
+  arrow Head b m = takes_head
+  arrow GuessMin b m = met (nat_le (least_in v l.row) l.want) refl
     where
       met : (b : Bool) → nat_le (least_in v l.row) l.want ≡ b → Arrow z v s choice l GuessMin (let x : Outcome = if b then to Walk (record l { lower = least_in v l.row }) else to Head l in x).local
       met true e = guess_serves (at_most _ _ e)
       met false e = guess_is_above (above _ _ e)
-  arrow Walk o b m = walk_arrow (is_stopped choice l) refl
-  arrow WalkMin o b m = min_arrow (nat_le (least_in v l.candidate) l.want) refl
-  arrow (Look i) o b m = look_arrow i (pend_of (v (name.Pend l.row i))) refl
-  arrow LookKey o b m = met (is_in_range l.call (key_of_word (v (name.Key l.row l.met)))) refl
+  arrow Walk b m = walk_arrow (is_stopped choice l) refl
+  arrow WalkMin b m = min_arrow (nat_le (least_in v l.candidate) l.want) refl
+  arrow (Look i) b m = look_arrow i (pend_of (v (name.Pend l.row i))) refl
+  arrow LookKey b m = met (is_in_range l.call (key_of_word (v (name.Key l.row l.met)))) refl
     where
       met : (b : Bool) → is_in_range l.call (key_of_word (v (name.Key l.row l.met))) ≡ b → Arrow z v s choice l LookKey (let x : Outcome = if b then to LookClock l else to_look z (l.looked + 1) l in x).local
       met true e = is_wanted e
       met false e = next_look z (l.looked + 1) l (Arrow z v s choice l LookKey) (λ a n. is_passed a e n)
-  arrow LookClock o b m = loads_to_help
-  arrow LookHelp o b m = help_arrow (pend_of (v (name.Pend l.row l.looked))) refl
-  arrow ListFrom o b m = list_arrow (cell_of_link_word (v (link_name l.row l.link))) refl
-  arrow ListKey o b m = met (nat_lt (key_of_word (v (name.Key l.row l.place))) (first_key l.call)) (nat_le (key_of_word (v (name.Key l.row l.place))) (last_key l.call)) refl refl
+  arrow LookClock b m = loads_to_help
+  arrow LookHelp b m = help_arrow (pend_of (v (name.Pend l.row l.looked))) refl
+  arrow ListFrom b m = list_arrow (cell_of_link_word (v (link_name l.row l.link))) refl
+  arrow ListKey b m = met (nat_lt (key_of_word (v (name.Key l.row l.place))) (first_key l.call)) (nat_le (key_of_word (v (name.Key l.row l.place))) (last_key l.call)) refl refl
     where
       met : (b c : Bool) → nat_lt (key_of_word (v (name.Key l.row l.place))) (first_key l.call) ≡ b → nat_le (key_of_word (v (name.Key l.row l.place))) (last_key l.call) ≡ c →
           Arrow z v s choice l ListKey (let x : Outcome = if b then list_past l else if c then to ListVer (record l { place_key = key_of_word (v (name.Key l.row l.place)) }) else to_rest l in x).local
       met true c e f = key_below (below _ _ e)
       met false true e f = key_within (not_below _ _ e) (at_most _ _ f)
       met false false e f = key_above _ (above _ _ f) (next_rest l)
-  arrow ListVer o b m = loads_version
-  arrow ListVal o b m = gathers_listed
-  arrow RestKey o b m = met (is_in_range l.call (key_of_word (v (name.Key l.row l.place)))) refl
+  arrow ListVer b m = loads_version
+  arrow ListVal b m = gathers_listed
+  arrow RestKey b m = met (is_in_range l.call (key_of_word (v (name.Key l.row l.place)))) refl
     where
       met : (b : Bool) → is_in_range l.call (key_of_word (v (name.Key l.row l.place))) ≡ b → Arrow z v s choice l RestKey (let x : Outcome = if b then to RestVal (record l { place_key = key_of_word (v (name.Key l.row l.place)) }) else to_rest l in x).local
       met true e = rest_wanted e
       met false e = rest_passed _ e (next_rest l)
-  arrow RestVal o b m = gathers_rest _ (next_rest (gathering z (value_of_word (v (name.Value l.row l.place))) l))
-  arrow (ClearScan answer) o b m = clears_scan answer
-  arrow PutCount o b m = met (has_room z (count_of (v (name.Count l.row)))) refl
+  arrow RestVal b m = gathers_rest _ (next_rest (gathering z (value_of_word (v (name.Value l.row l.place))) l))
+  arrow (ClearScan answer) b m = clears_scan answer
+  arrow PutCount b m = met (has_room z (count_of (v (name.Count l.row)))) refl
     where
-      met : (b : Bool) → has_room z (count_of (v (name.Count l.row))) ≡ b → Arrow z v s choice l PutCount (let x : Outcome = if b then to PutAdd l else full z l in x).local
+      met : (b : Bool) → has_room z (count_of (v (name.Count l.row))) ≡ b → Arrow z v s choice l PutCount (let x : Outcome = if b then to PutAdd l else to_rebalance l in x).local
       met true e = finds_room e
-      met false e = full_arrow z v s choice l PutCount (finds_none e) (finds_full e)
-  arrow PutAdd o b m = met (has_room z (count_of (v (name.Count l.row)))) refl
+      met false e = finds_full e
+  arrow PutAdd b m = met (has_room z (count_of (v (name.Count l.row)))) refl
     where
-      met : (b : Bool) → has_room z (count_of (v (name.Count l.row))) ≡ b → Arrow z v s choice l PutAdd (let x : Outcome = if b then to PutKey (record l { cell = given_of (count_of (v (name.Count l.row))) }) else full z l in x).local
+      met : (b : Bool) → has_room z (count_of (v (name.Count l.row))) ≡ b → Arrow z v s choice l PutAdd (let x : Outcome = if b then to PutKey (record l { cell = given_of (count_of (v (name.Count l.row))) }) else to_rebalance l in x).local
       met true e = takes_cell e
-      met false e = full_arrow z v s choice l PutAdd (takes_none e) (takes_full e)
-  arrow PutKey o b m = stores_key
-  arrow PutValue o b m = stores_value
-  arrow Announce o b m = met (v (name.Pend l.row s) == pend_word pend.Idle) refl
+      met false e = takes_full e
+  arrow PutKey b m = stores_key
+  arrow PutValue b m = stores_value
+  arrow Announce b m = met (v (name.Pend l.row s) == pend_word pend.Idle) refl
     where
-      met : (b : Bool) → (v (name.Pend l.row s) == pend_word pend.Idle) ≡ b → Arrow z v s choice l Announce (let x : Outcome = if b then to PutClock l else full z l in x).local
+      met : (b : Bool) → (v (name.Pend l.row s) == pend_word pend.Idle) ≡ b → Arrow z v s choice l Announce (let x : Outcome = if b then to PutClock l else to_rebalance l in x).local
       met true e = announces (eq_from _ _ e)
-      met false e = full_arrow z v s choice l Announce (is_refused (eq_not _ _ e)) (announces_full (eq_not _ _ e))
-  arrow PutClock o b m = loads_clock
-  arrow Stamp o b m = stamp_arrow (pend_of (v (name.Pend l.row s))) refl
-  arrow PutVersion o b m = stores_version
-  arrow InsFrom o b m = insert_arrow (cell_of_link_word (v (link_name l.row l.link))) refl
-  arrow InsKey o b m = met (nat_lt (key_of_word (v (name.Key l.row l.place))) (first_key l.call)) (key_of_word (v (name.Key l.row l.place)) == first_key l.call) refl refl
+      met false e = announces_full (eq_not _ _ e)
+  arrow PutClock b m = loads_clock
+  arrow Stamp b m = stamp_arrow (pend_of (v (name.Pend l.row s))) refl
+  arrow PutVersion b m = stores_version
+  arrow InsFrom b m = insert_arrow (cell_of_link_word (v (link_name l.row l.link))) refl
+  arrow InsKey b m = met (nat_lt (key_of_word (v (name.Key l.row l.place))) (first_key l.call)) (key_of_word (v (name.Key l.row l.place)) == first_key l.call) refl refl
     where
       met : (b c : Bool) → nat_lt (key_of_word (v (name.Key l.row l.place))) (first_key l.call) ≡ b → (key_of_word (v (name.Key l.row l.place)) == first_key l.call) ≡ c →
           Arrow z v s choice l InsKey (let x : Outcome = if b then insert_past l else if c then to InsVer l else to InsSet l in x).local
       met true c e f = key_before (below _ _ e)
       met false true e f = key_same (eq_from _ _ f)
       met false false e f = key_after (apart_above _ _ e f)
-  arrow InsVer o b m = rw (unwrap_or-version_of_word (v (name.Version l.row l.place))) (met (is_newer (v (name.Version l.row l.place)) l.place l) refl)
+  arrow InsVer b m = rw (unwrap_or-version_of_word (v (name.Version l.row l.place))) (met (is_newer (v (name.Version l.row l.place)) l.place l) refl)
     where
       met : (b : Bool) → is_newer (v (name.Version l.row l.place)) l.place l ≡ b → Arrow z v s choice l InsVer (let x : Outcome = if b then insert_past l else to InsSet l in x).local
       met true e = version_before e
       met false e = version_after e
-  arrow InsSet o b m = stores_after
-  arrow Insert o b m = met (v (link_name l.row l.link) == cell_link_word l.held) refl
+  arrow InsSet b m = stores_after
+  arrow Insert b m = met (v (link_name l.row l.link) == cell_link_word l.held) refl
     where
       met : (b : Bool) → (v (link_name l.row l.link) == cell_link_word l.held) ≡ b → Arrow z v s choice l Insert (insert_tried z b l).local
       met true e = inserts (eq_from _ _ e)
       met false e = loses (eq_not _ _ e)
-  arrow PutClear o b m = clears
-  arrow (Leave answer) o b m = leaves answer
-  arrow Again o b m = retries
-  arrow AgainEpoch o b m = enters_again
-  arrow BalClock o b m = met (nat_le SPENT (v name.Clock)) refl
+  arrow PutClear b m = clears
+  arrow (Leave answer) b m = leaves answer
+  arrow Again b m = retries
+  arrow AgainEpoch b m = enters_again
+  arrow BalClock b m = met (nat_le SPENT (v name.Clock)) refl
     where
       met : (b : Bool) → nat_le SPENT (v name.Clock) ≡ b → Arrow z v s choice l BalClock (let x : Outcome = if b then refuse Spent l else to BalEpoch l in x).local
       met true e = clock_is_spent (at_most _ _ e)
       met false e = clock_serves (above _ _ e)
-  arrow BalEpoch o b m = met (nat_le SPENT (v name.Epoch)) refl
+  arrow BalEpoch b m = met (nat_le SPENT (v name.Epoch)) refl
     where
       met : (b : Bool) → nat_le SPENT (v name.Epoch) ≡ b → Arrow z v s choice l BalEpoch (let x : Outcome = if b then refuse Spent l else to BalState l in x).local
       met true e = epoch_is_spent (at_most _ _ e)
       met false e = epoch_serves (above _ _ e)
-  arrow BalState o b m = balance_arrow (state_of (v (name.State l.row))) refl
-  arrow (BalNormal seat) o b m = normalises seat
-  arrow Engage o b m = met (v (name.State l.row) == state_word Normal) refl
+  arrow BalState b m = balance_arrow (state_of (v (name.State l.row))) refl
+  arrow (BalNormal seat) b m = normalises seat
+  arrow Engage b m = met (v (name.State l.row) == state_word Normal) refl
     where
       met : (b : Bool) → (v (name.State l.row) == state_word Normal) ≡ b → Arrow z v s choice l Engage (engaged b l).local
       met true e = engages (eq_from _ _ e)
       met false e = is_engaged (eq_not _ _ e)
-  arrow (MarkLink count) o b m = met (count == 0) refl
+  arrow (MarkLink count) b m = met (count == 0) refl
     where
       met : (b : Bool) → (count == 0) ≡ b → Arrow z v s choice l (MarkLink count) (let x : Outcome = if b then to (Decide 1) (followed_by (next_in v l.row) l) else to FreezeCount (followed_by (next_in v l.row) l) in x).local
       met true e = marks_link count (eq_from _ _ e)
       met false e = marks_led count (eq_not _ _ e)
-  arrow (Decide count) o b m = decide_arrow count (state_of (v (name.State l.row))) refl
-  arrow FreezeCount o b m = freezes_count
-  arrow (FreezeLook i) o b m = freeze_arrow i (pend_of (v (name.Pend l.row i))) refl
-  arrow (Freeze i) o b m = met (v (name.Pend l.row i) == pend_word l.rebalance.entry) refl
+  arrow (Decide count) b m = decide_arrow count (state_of (v (name.State l.row))) refl
+  arrow FreezeCount b m = freezes_count
+  arrow (FreezeLook i) b m = freeze_arrow i (pend_of (v (name.Pend l.row i))) refl
+  arrow (Freeze i) b m = met (v (name.Pend l.row i) == pend_word l.rebalance.entry) refl
     where
       met : (b : Bool) → (v (name.Pend l.row i) == pend_word l.rebalance.entry) ≡ b → Arrow z v s choice l (Freeze i) (entry_tried z i b l).local
       met true e = next_entry z (i + 1) l (Arrow z v s choice l (Freeze i)) (freezes_entry i (eq_from _ _ e)) (freezes_last i (eq_from _ _ e))
       met false e = looks_again i (eq_not _ _ e)
-  arrow (ScanLook i) o b m = scan_arrow i (scan_of (v (name.Scan i))) refl
-  arrow (HelpDraw i) o b m = draws_for i
-  arrow (HelpSettle i) o b m = settle_arrow i (scan_of (v (name.Scan i))) refl
-  arrow TakeFrom o b m = take_arrow (cell_of_link_word (v (link_name l.row l.link))) refl
-  arrow TakeKey o b m = takes_key
-  arrow TakeVersion o b m = takes_version
-  arrow TakeValue o b m = keeps_taken
-  arrow TakeRestKey o b m = takes_left_key
-  arrow TakeRestValue o b m = next_left z (keeping z (value_of_word (v (name.Value l.row l.place))) l) (Arrow z v s choice l TakeRestValue) keeps_left keeps_no_more
-  arrow SeekFirst o b m = builds SeekFirst _ tt o (building z rows v s choice l SeekFirst tt)
-  arrow Seek o b m = builds Seek _ tt o (building z rows v s choice l Seek tt)
-  arrow (SeekPass i) o b m = builds (SeekPass i) _ tt o (building z rows v s choice l (SeekPass i) tt)
-  arrow Reclaim o b m = builds Reclaim _ tt o (building z rows v s choice l Reclaim tt)
-  arrow TakeRow o b m = builds TakeRow _ tt o (building z rows v s choice l TakeRow tt)
-  arrow GiveBack o b m = builds GiveBack _ tt o (building z rows v s choice l GiveBack tt)
-  arrow WriteCount o b m = builds WriteCount _ tt o (building z rows v s choice l WriteCount tt)
-  arrow WriteMin o b m = builds WriteMin _ tt o (building z rows v s choice l WriteMin tt)
-  arrow WriteNext o b m = builds WriteNext _ tt o (building z rows v s choice l WriteNext tt)
-  arrow WriteFirst o b m = builds WriteFirst _ tt o (building z rows v s choice l WriteFirst tt)
-  arrow (WritePend i) o b m = builds (WritePend i) _ tt o (building z rows v s choice l (WritePend i) tt)
-  arrow (WriteKey j) o b m = builds (WriteKey j) _ tt o (building z rows v s choice l (WriteKey j) tt)
-  arrow (WriteValue j) o b m = builds (WriteValue j) _ tt o (building z rows v s choice l (WriteValue j) tt)
-  arrow (WriteVersion j) o b m = builds (WriteVersion j) _ tt o (building z rows v s choice l (WriteVersion j) tt)
-  arrow (WriteAfter j) o b m = builds (WriteAfter j) _ tt o (building z rows v s choice l (WriteAfter j) tt)
-  arrow Before o b m = builds Before _ tt o (building z rows v s choice l Before tt)
-  arrow BeforeGuess o b m = builds BeforeGuess _ tt o (building z rows v s choice l BeforeGuess tt)
-  arrow BeforeHead o b m = builds BeforeHead _ tt o (building z rows v s choice l BeforeHead tt)
-  arrow BeforeLink o b m = builds BeforeLink _ tt o (building z rows v s choice l BeforeLink tt)
-  arrow BeforeMin o b m = builds BeforeMin _ tt o (building z rows v s choice l BeforeMin tt)
-  arrow Replace o b m = builds Replace _ tt o (building z rows v s choice l Replace tt)
-  arrow Normalise o b m = builds Normalise _ tt o (building z rows v s choice l Normalise tt)
-  arrow Number o b m = builds Number _ tt o (building z rows v s choice l Number tt)
-  arrow Retire o b m = builds Retire _ tt o (building z rows v s choice l Retire tt)
+  arrow (ScanLook i) b m = scan_arrow i (scan_of (v (name.Scan i))) refl
+  arrow (HelpDraw i) b m = draws_for i
+  arrow (HelpSettle i) b m = settle_arrow i (scan_of (v (name.Scan i))) refl
+  arrow TakeFrom b m = take_arrow (cell_of_link_word (v (link_name l.row l.link))) refl
+  arrow TakeKey b m = takes_key
+  arrow TakeVersion b m = takes_version
+  arrow TakeValue b m = keeps_taken
+  arrow TakeRestKey b m = takes_left_key
+  arrow TakeRestValue b m = next_left z (keeping z (value_of_word (v (name.Value l.row l.place))) l) (Arrow z v s choice l TakeRestValue) keeps_left keeps_no_more
+  arrow SeekFirst b m = builds SeekFirst _ tt (building z rows v s choice l SeekFirst tt)
+  arrow Seek b m = builds Seek _ tt (building z rows v s choice l Seek tt)
+  arrow (SeekPass i) b m = builds (SeekPass i) _ tt (building z rows v s choice l (SeekPass i) tt)
+  arrow Reclaim b m = builds Reclaim _ tt (building z rows v s choice l Reclaim tt)
+  arrow TakeRow b m = builds TakeRow _ tt (building z rows v s choice l TakeRow tt)
+  arrow GiveBack b m = builds GiveBack _ tt (building z rows v s choice l GiveBack tt)
+  arrow WriteCount b m = builds WriteCount _ tt (building z rows v s choice l WriteCount tt)
+  arrow WriteMin b m = builds WriteMin _ tt (building z rows v s choice l WriteMin tt)
+  arrow WriteNext b m = builds WriteNext _ tt (building z rows v s choice l WriteNext tt)
+  arrow WriteFirst b m = builds WriteFirst _ tt (building z rows v s choice l WriteFirst tt)
+  arrow (WritePend i) b m = builds (WritePend i) _ tt (building z rows v s choice l (WritePend i) tt)
+  arrow (WriteKey j) b m = builds (WriteKey j) _ tt (building z rows v s choice l (WriteKey j) tt)
+  arrow (WriteValue j) b m = builds (WriteValue j) _ tt (building z rows v s choice l (WriteValue j) tt)
+  arrow (WriteVersion j) b m = builds (WriteVersion j) _ tt (building z rows v s choice l (WriteVersion j) tt)
+  arrow (WriteAfter j) b m = builds (WriteAfter j) _ tt (building z rows v s choice l (WriteAfter j) tt)
+  arrow Before b m = builds Before _ tt (building z rows v s choice l Before tt)
+  arrow BeforeGuess b m = builds BeforeGuess _ tt (building z rows v s choice l BeforeGuess tt)
+  arrow BeforeHead b m = builds BeforeHead _ tt (building z rows v s choice l BeforeHead tt)
+  arrow BeforeLink b m = builds BeforeLink _ tt (building z rows v s choice l BeforeLink tt)
+  arrow BeforeMin b m = builds BeforeMin _ tt (building z rows v s choice l BeforeMin tt)
+  arrow Replace b m = builds Replace _ tt (building z rows v s choice l Replace tt)
+  arrow Normalise b m = builds Normalise _ tt (building z rows v s choice l Normalise tt)
+  arrow Number b m = builds Number _ tt (building z rows v s choice l Number tt)
+  arrow Retire b m = builds Retire _ tt (building z rows v s choice l Retire tt)

@@ -21,8 +21,8 @@ use Rattle.kw_world.specs.declared.local.Local.{Local}
 use Rattle.kw_world.specs.declared.rebalance.Afterwards.TheVariants.{TryAgain, MoveLeft}
 use Rattle.kw_world.specs.EngageTransitions.{again}
 use Rattle.kw_world.specs.ReplaceTransitions.{at_before, before_transition, guess_before, link_before, replaced, replaced_link, row_before, row_replaced}
-use Rattle.kw_world.specs.SeekTransitions.{at_infant, give_back, given_back, has_more, numbered, pass_met, retired_at, seek_first_transition, seek_met, seeking, take_row, to_pass, to_seek, with_row}
-use Rattle.kw_world.specs.Sizes.{Sizes, Form, Refused, Alone, Reused, IsRebalancing, IsReusing}
+use Rattle.kw_world.specs.SeekTransitions.{at_infant, give_back, given_back, has_more, numbered, pass_met, seek_first_transition, seek_met, seeking, take_row, to_pass, to_seek, with_row}
+use Rattle.kw_world.specs.Sizes.{Sizes}
 use Rattle.kw_world.specs.Step.{followed}
 use Rattle.kw_world.specs.Table.{transition}
 use Rattle.kw_world.specs.Transition.{Outcome, row_linked, row_or_first, to}
@@ -67,10 +67,6 @@ abbrev pub IsYoung : ℕ → Option ℕ → Type 0
 IsYoung m (Some epoch) = m < epoch
 IsYoung m None = Unit {0}
 
--- rows are used again in this form, if it rebalances any
-abbrev pub MayReuse : Form → Type 0
-MayReuse f = IsRebalancing f → IsReusing f
-
 -- from such an activity to what the seat knows next
 pub data Building (z : Sizes) (v : Words) (choice : Choice) (l : Local) : Activity → Local → Type 0 where
   -- free rows are sought and taken. A search begins at the row that the seat guesses, or else where it stands
@@ -78,9 +74,9 @@ pub data Building (z : Sizes) (v : Words) (choice : Choice) (l : Local) : Activi
   first_is_taken : (q rows : ℕ) (next : Local) → (choice ≡ Guess q) ⊎ (q ≡ l.rebalance.sought) → state_of (v (name.State q)) ≢ Some Free → NextSeek rows (seeking q l) next → Building z v choice l SeekFirst next
   sought_is_free : state_of (v (name.State l.rebalance.sought)) ≡ Some Free → Building z v choice l Seek (record l { activity = TakeRow })
   sought_is_taken : (rows : ℕ) (next : Local) → state_of (v (name.State l.rebalance.sought)) ≢ Some Free → NextSeek rows l next → Building z v choice l Seek next
-  -- a retired one may be used again: the passes of all seats are looked at, and then it is freed, or was not as it was found. It is tried then
-  first_is_retired : (q m : ℕ) → (choice ≡ Guess q) ⊎ (q ≡ l.rebalance.sought) → state_of (v (name.State q)) ≡ Some (Retired m) → MayReuse z.form → Building z v choice l SeekFirst (record (numbered m (seeking q l)) { activity = SeekPass 0 })
-  sought_is_retired : (m : ℕ) → state_of (v (name.State l.rebalance.sought)) ≡ Some (Retired m) → MayReuse z.form → Building z v choice l Seek (record (numbered m l) { activity = SeekPass 0 })
+  -- at a retired one the passes of all seats are looked at, and then it is freed, or was not as it was found. It is tried then
+  first_is_retired : (q m : ℕ) → (choice ≡ Guess q) ⊎ (q ≡ l.rebalance.sought) → state_of (v (name.State q)) ≡ Some (Retired m) → Building z v choice l SeekFirst (record (numbered m (seeking q l)) { activity = SeekPass 0 })
+  sought_is_retired : (m : ℕ) → state_of (v (name.State l.rebalance.sought)) ≡ Some (Retired m) → Building z v choice l Seek (record (numbered m l) { activity = SeekPass 0 })
   pass_is_old : (i epoch rows : ℕ) (next : Local) → pass_of_word (v (name.Pass i)) ≡ Some epoch → epoch ≤ l.rebalance.number → NextSeek rows l next → Building z v choice l (SeekPass i) next
   pass_is_young : (i : ℕ) (next : Local) → IsYoung l.rebalance.number (pass_of_word (v (name.Pass i))) → NextPass z (i + 1) l next → Building z v choice l (SeekPass i) next
   frees_row : Building z v choice l Reclaim (record l { activity = TakeRow })
@@ -138,29 +134,22 @@ not_below x y e = grind (arith, nat_tests)
 -- The table goes one of these ways.
 
 module _ (z : Sizes) (rows : ℕ) (v : Words) (s : ℕ) (choice : Choice) (l : Local) where
-  -- a retired row q is found: the passes are looked at, or it is passed over
-  retired_arrow : (q m : ℕ) (a : Activity) (f : Form) (k : Local) → state_of (v (name.State q)) ≡ Some (Retired m) → (MayReuse f → Building z v choice l a (record (numbered m k) { activity = SeekPass 0 })) →
-      ((next : Local) → state_of (v (name.State q)) ≢ Some Free → NextSeek rows k next → Building z v choice l a next) → Building z v choice l a (retired_at f rows m k).local
-  retired_arrow q m a Refused k e retired taken = retired (λ x. absurd x)
-  retired_arrow q m a Alone k e retired taken = taken _ (λ c. let y : Some (Retired m) ≡ Some Free = sym e ∙ c in cc) (next_seek rows k)
-  retired_arrow q m a Reused k e retired taken = retired (λ x. tt)
-
   -- a search at the row q, whose state is met
   seek_arrow : (q : ℕ) (a : Activity) (x : Option State) (k : Local) → state_of (v (name.State q)) ≡ x → (state_of (v (name.State q)) ≡ Some Free → Building z v choice l a (record k { activity = TakeRow })) →
-      ((m : ℕ) → state_of (v (name.State q)) ≡ Some (Retired m) → MayReuse z.form → Building z v choice l a (record (numbered m k) { activity = SeekPass 0 })) →
-      ((next : Local) → state_of (v (name.State q)) ≢ Some Free → NextSeek rows k next → Building z v choice l a next) → Building z v choice l a (seek_met z.form rows x k).local
+      ((m : ℕ) → state_of (v (name.State q)) ≡ Some (Retired m) → Building z v choice l a (record (numbered m k) { activity = SeekPass 0 })) →
+      ((next : Local) → state_of (v (name.State q)) ≢ Some Free → NextSeek rows k next → Building z v choice l a next) → Building z v choice l a (seek_met rows x k).local
   seek_arrow q a (Some Free) k e free retired taken = free e
   seek_arrow q a (Some (Infant seat)) k e free retired taken = taken _ (λ c. let y : Some (Infant seat) ≡ Some Free = sym e ∙ c in cc) (next_seek rows k)
   seek_arrow q a (Some Normal) k e free retired taken = taken _ (λ c. let y : Some Normal ≡ Some Free = sym e ∙ c in cc) (next_seek rows k)
   seek_arrow q a (Some (Leader count)) k e free retired taken = taken _ (λ c. let y : Some (Leader count) ≡ Some Free = sym e ∙ c in cc) (next_seek rows k)
   seek_arrow q a (Some (Follower leader)) k e free retired taken = taken _ (λ c. let y : Some (Follower leader) ≡ Some Free = sym e ∙ c in cc) (next_seek rows k)
-  seek_arrow q a (Some (Retired number)) k e free retired taken = retired_arrow q number a z.form k e (retired number e) taken
+  seek_arrow q a (Some (Retired number)) k e free retired taken = retired number e
   seek_arrow q a None k e free retired taken = taken _ (λ c. let y : None ≡ Some Free = sym e ∙ c in cc) (next_seek rows k)
 
-  first_arrow : (q : ℕ) → (choice ≡ Guess q) ⊎ (q ≡ l.rebalance.sought) → Building z v choice l SeekFirst (seek_met z.form rows (state_of (v (name.State q))) (seeking q l)).local
-  first_arrow q c = seek_arrow q SeekFirst (state_of (v (name.State q))) (seeking q l) refl (first_is_free q c) (λ m e f. first_is_retired q m c e f) (λ next n k. first_is_taken q rows next c n k)
+  first_arrow : (q : ℕ) → (choice ≡ Guess q) ⊎ (q ≡ l.rebalance.sought) → Building z v choice l SeekFirst (seek_met rows (state_of (v (name.State q))) (seeking q l)).local
+  first_arrow q c = seek_arrow q SeekFirst (state_of (v (name.State q))) (seeking q l) refl (first_is_free q c) (λ m e. first_is_retired q m c e) (λ next n k. first_is_taken q rows next c n k)
 
-  seek_first_arrow : (c : Choice) → choice ≡ c → Building z v choice l SeekFirst (followed rows (seek_first_transition z.form c l) (v (seek_first_transition z.form c l).operation.name)).local
+  seek_first_arrow : (c : Choice) → choice ≡ c → Building z v choice l SeekFirst (followed rows (seek_first_transition c l) (v (seek_first_transition c l).operation.name)).local
   seek_first_arrow (Begin call) e = first_arrow l.rebalance.sought (inr refl)
   seek_first_arrow Go e = first_arrow l.rebalance.sought (inr refl)
   seek_first_arrow (Guess r) e = first_arrow r (inl e)

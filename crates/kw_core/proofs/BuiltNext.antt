@@ -127,8 +127,8 @@ module _ (z : Sizes) (v : Words) (choice : Choice) (l : Local) where
   follows a k (first_is_taken q rows next c d n) = seek_follows rows (seeking q l) next n
   follows a k (sought_is_free e) = record { call = refl; plan = λ o. refl; next = tt }
   follows a k (sought_is_taken rows next d n) = seek_follows rows l next n
-  follows a k (first_is_retired q m c e f) = record { call = refl; plan = λ o. refl; next = tt }
-  follows a k (sought_is_retired m e f) = record { call = refl; plan = λ o. refl; next = tt }
+  follows a k (first_is_retired q m c e) = record { call = refl; plan = λ o. refl; next = tt }
+  follows a k (sought_is_retired m e) = record { call = refl; plan = λ o. refl; next = tt }
   follows a k (pass_is_old i epoch rows next e o n) = seek_follows rows l next n
   follows a k (pass_is_young i next y n) = pass_follows z _ l next n
   follows a k frees_row = record { call = refl; plan = λ o. refl; next = tt }

@@ -1,5 +1,4 @@
--- What an event leaves of the attempts for which cells stand, and of which cells are listed. As in `InfantFrames`, no lemma here asks whether a seat
--- may come to the activity.
+-- What an event leaves of the attempts for which cells stand, and of which cells are listed.
 use Rattle.std.proofs.Common.{ℕ, ◌≡◌, ◌≢◌, ◌⊎◌, inl, inr, ◌<◌, ◌≤◌, ◌==◌, Bool, true, false, nat_lt, Option, arith, refl, ◌∙◌, ap, length, slice_get, if◌then◌else◌, eq-eqb, ne_eqb}
 use Rattle.std.proofs.lemmas.Bool.{cases_eq}
 use Rattle.std.proofs.lemmas.Bool.Decides.{nat_tests}

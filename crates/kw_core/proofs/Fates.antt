@@ -1,5 +1,4 @@
--- What an event leaves of the ledger: which fates change, by which activities, and to what. As in `InfantFrames`, no lemma here asks whether a
--- seat may come to the activity.
+-- What an event leaves of the ledger: which fates change, by which activities, and to what.
 use Rattle.std.proofs.Common.{ℕ, ◌≡◌, ◌≢◌, ◌⊎◌, inl, inr, ◌==◌, true, false, Some, None, List, [], ◌∷◌, refl, ◌∙◌, ap, length, if◌then◌else◌}
 use Rattle.std.proofs.lemmas.Bool.{cases_eq}
 use Rattle.kw_words.specs.declared.layout.Name.TheVariants as name

@@ -105,7 +105,7 @@ written_is z Walk s choice l = walks (is_stopped choice l)
     walks false = refl
 written_is z SeekFirst s choice l = seeks choice
   where
-    seeks : (c : Choice) → written_by (seek_first_transition z.form c l).operation.action (seek_first_transition z.form c l).operation.name ≡ None
+    seeks : (c : Choice) → written_by (seek_first_transition c l).operation.action (seek_first_transition c l).operation.name ≡ None
     seeks (Begin call) = refl
     seeks Go = refl
     seeks (Guess q) = refl

@@ -34,7 +34,6 @@ use Rattle.kw_core.specs.Words.{Words}
 use Rattle.kw_world.proofs.Skipping.{skipped_offered}
 use Rattle.kw_core.proofs.Events.{IsBegun}
 use Rattle.kw_core.proofs.Arrows.{Arrow, arrow}
-use Rattle.kw_core.specs.Stages.{IsReached}
 use Rattle.kw_core.specs.Ledger.{ledger_after}
 use Rattle.kw_core.specs.Listed.{listed_after}
 
@@ -60,7 +59,6 @@ change_at z r a s choice l = change_of z a s choice l (found_at z (word z r.worl
 pub record Happens (z : Sizes) (r r' : Run) (s : ℕ) (choice : Choice) (l l' : Local) (a : Activity) : Type 0 where
   -- the seat, what it knows, and what it chooses
   pub activity : l.activity ≡ a
-  pub reached : IsReached z a
   pub knows : slice_get r.world.locals s ≡ Some l
   pub seat : s < z.seats
   pub begins : IsBegun a choice
@@ -96,16 +94,15 @@ begun_offered Idle rows (Guess q) h = met (nat_lt q rows)
 begun_offered Idle rows Stop h = tt
 begun_offered _ rows choice h = tt
 
-pub happens : (z : Sizes) (r : Run) (e : Event) (l : Local) → IsSane z r.world → IsReached z l.activity → IsBegun l.activity e.choice → slice_get r.world.locals e.seat ≡ Some l → is_skipped l.activity e.choice ≡ false →
+pub happens : (z : Sizes) (r : Run) (e : Event) (l : Local) → IsSane z r.world → IsBegun l.activity e.choice → slice_get r.world.locals e.seat ≡ Some l → is_skipped l.activity e.choice ≡ false →
     Happens z r (noted_by z r e l) e.seat (offered r.world.rows e.choice) l (followed r.world.rows (transition z l.activity e.seat (offered r.world.rows e.choice) l) (found_at z (word z r.world) l.activity e.seat (offered r.world.rows e.choice) l)).local l.activity
 unfolding transition_of
-happens z r e l sane reached begins knows moves =
+happens z r e l sane begins knows moves =
     let inside = slice_get_within r.world.locals e.seat l knows in
     let within = in_table z r.world e l sane inside knows in
     let it = transition_at z r.world e l in
     record {
       activity = refl;
-      reached = reached;
       knows = knows;
       seat = omega (arith, inside, sane.seats);
       begins = begun_offered l.activity r.world.rows e.choice begins;
@@ -120,7 +117,7 @@ happens z r e l sane reached begins knows moves =
         other = λ n i d. word-other z r.world e.seat it n i within d;
         loaded = λ q n. word-loaded z r.world e.seat it n q;
       };
-      arrow = arrow z r.world.rows (word z r.world) e.seat (offered r.world.rows e.choice) l l.activity reached (begun_offered l.activity r.world.rows e.choice begins) (skipped_offered l.activity r.world.rows e.choice moves);
+      arrow = arrow z r.world.rows (word z r.world) e.seat (offered r.world.rows e.choice) l l.activity (begun_offered l.activity r.world.rows e.choice begins) (skipped_offered l.activity r.world.rows e.choice moves);
       next = refl;
       history = refl;
       log = rw (eq-eqb e.seat e.seat refl) refl;

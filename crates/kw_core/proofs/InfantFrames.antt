@@ -1,5 +1,5 @@
 -- What an event leaves of the words of rows, whichever activity it is of: also of those that write new rows, link them, and retire the row
--- that they replace. No lemma here asks whether a seat may come to the activity.
+-- that they replace.
 --
 -- For each family of words a type says of which row, and at which place there, the event of an activity changes the word; everywhere else
 -- the word stays. `row_stays` says so of all words of a row at once, for a row that is none of those on which the seat acts. The last

@@ -11,7 +11,6 @@ pub mod Runs
 pub mod NextBuilt
 pub mod Building
 pub mod BuiltNext
-pub mod BuiltReached
 pub mod Arrows
 pub mod Happens
 pub mod Frame

@@ -6,7 +6,6 @@ use Rattle.kw_model.specs.declared.call.Call.{Call}
 use Rattle.kw_model.specs.declared.call.Call.TheVariants.{Put, Del, Get, Scan}
 use Rattle.kw_world.specs.declared.answer.Answer.TheVariants.{Done, Pairs}
 use Rattle.kw_world.specs.declared.activity.Activity.{Activity}
-use Rattle.kw_world.specs.Sizes.{Sizes, IsRebalancing, IsReusing}
 use Rattle.kw_core.specs.declared.stage.Stage.{Stage}
 use Rattle.kw_core.specs.declared.stage.Stage.TheVariants.{Resting, Entering, Drawing, Walking, Looking, Taking, Clearing, Putting, Rebalancing, Retrying, Leaving}
 use Rattle.kw_world.specs.declared.activity.Activity.TheVariants.{Idle, Enter, ScanClock, ScanWait, ScanDraw, ScanSettle, Start, Head, GuessMin, Walk, WalkMin, Look, LookKey, LookClock, LookHelp, ListFrom, ListKey, ListVer, ListVal, RestKey, RestVal, ClearScan, PutCount, PutAdd, PutKey, PutValue, Announce, PutClock, Stamp, PutVersion, InsFrom, InsKey, InsVer, InsSet, Insert, PutClear, Leave, Again, AgainEpoch, BalClock, BalEpoch, BalState, BalNormal, Engage, MarkLink, Decide, FreezeCount, FreezeLook, Freeze, ScanLook, HelpDraw, HelpSettle, TakeFrom, TakeKey, TakeVersion, TakeValue, TakeRestKey, TakeRestValue, SeekFirst, Seek, SeekPass, Reclaim, TakeRow, GiveBack, WriteCount, WriteMin, WriteNext, WriteFirst, WritePend, WriteKey, WriteValue, WriteVersion, WriteAfter, Before, BeforeGuess, BeforeHead, BeforeLink, BeforeMin, Replace, Normalise, Number, Retire}
@@ -123,56 +122,6 @@ is_putting_stage _ = false
 
 abbrev pub is_putting : Activity → Bool
 is_putting a = is_putting_stage (stage_of a)
-
--- a seat may come to this activity in a table of these sizes and this form: it rebalances no row where a full one refuses its puts, and
--- frees no retired one where rows are not used again
-abbrev pub IsReached : Sizes → Activity → Type 0
-IsReached z Again = IsRebalancing z.form
-IsReached z AgainEpoch = IsRebalancing z.form
-IsReached z BalClock = IsRebalancing z.form
-IsReached z BalEpoch = IsRebalancing z.form
-IsReached z BalState = IsRebalancing z.form
-IsReached z (BalNormal seat) = IsRebalancing z.form
-IsReached z Engage = IsRebalancing z.form
-IsReached z (MarkLink count) = IsRebalancing z.form
-IsReached z (Decide count) = IsRebalancing z.form
-IsReached z FreezeCount = IsRebalancing z.form
-IsReached z (FreezeLook i) = IsRebalancing z.form
-IsReached z (Freeze i) = IsRebalancing z.form
-IsReached z (ScanLook i) = IsRebalancing z.form
-IsReached z (HelpDraw i) = IsRebalancing z.form
-IsReached z (HelpSettle i) = IsRebalancing z.form
-IsReached z TakeFrom = IsRebalancing z.form
-IsReached z TakeKey = IsRebalancing z.form
-IsReached z TakeVersion = IsRebalancing z.form
-IsReached z TakeValue = IsRebalancing z.form
-IsReached z TakeRestKey = IsRebalancing z.form
-IsReached z TakeRestValue = IsRebalancing z.form
-IsReached z SeekFirst = IsRebalancing z.form
-IsReached z Seek = IsRebalancing z.form
-IsReached z (SeekPass i) = IsReusing z.form
-IsReached z Reclaim = IsReusing z.form
-IsReached z TakeRow = IsRebalancing z.form
-IsReached z GiveBack = IsRebalancing z.form
-IsReached z WriteCount = IsRebalancing z.form
-IsReached z WriteMin = IsRebalancing z.form
-IsReached z WriteNext = IsRebalancing z.form
-IsReached z WriteFirst = IsRebalancing z.form
-IsReached z (WritePend i) = IsRebalancing z.form
-IsReached z (WriteKey j) = IsRebalancing z.form
-IsReached z (WriteValue j) = IsRebalancing z.form
-IsReached z (WriteVersion j) = IsRebalancing z.form
-IsReached z (WriteAfter j) = IsRebalancing z.form
-IsReached z Before = IsRebalancing z.form
-IsReached z BeforeGuess = IsRebalancing z.form
-IsReached z BeforeHead = IsRebalancing z.form
-IsReached z BeforeLink = IsRebalancing z.form
-IsReached z BeforeMin = IsRebalancing z.form
-IsReached z Replace = IsRebalancing z.form
-IsReached z Normalise = IsRebalancing z.form
-IsReached z Number = IsRebalancing z.form
-IsReached z Retire = IsRebalancing z.form
-IsReached z _ = Unit {0}
 
 abbrev IsBusyStage : Stage → Type 0
 IsBusyStage Resting = ⊥

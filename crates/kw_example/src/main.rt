@@ -46,7 +46,7 @@ fn work<R: Wait>(rt: &R, kiwi: &Kiwi, pass: Pass) -> &'static str
     if pass.number() < PUTTING {
         return match put_readings(rt, kiwi, &mut pass) {
             Ok(()) => "a thread put its readings",
-            Err(PutEnd::NoRows) => "a put was refused",
+            Err(PutEnd::NoRows | PutEnd::Spent) => "a put was refused",
         };
     }
     let mut sum = SumGather::new();

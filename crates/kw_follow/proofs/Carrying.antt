@@ -26,13 +26,13 @@ use Rattle.kw_world.specs.declared.local.Local.{Local}
 use Rattle.kw_world.specs.Calls.{first_key, is_in_range, is_range_empty, is_scan}
 use Rattle.kw_world.specs.Transition.{row_linked, leave}
 use Rattle.kw_world.specs.ListTransitions.{insert_from, insert_tried, is_newer}
-use Rattle.kw_world.specs.PutTransitions.{has_room, full_in, stamp_met}
+use Rattle.kw_world.specs.PutTransitions.{has_room, stamp_met}
 use Rattle.kw_world.specs.ReadTransitions.{to_look, look_met, help_met, remembering}
 use Rattle.kw_world.specs.ScanTransitions.{entered, answer_or_stopped, settled, version_settled}
 use Rattle.kw_world.specs.WalkTransitions.{arrive, guess_met, is_stop, is_stopped, link_met, start_transition, walk_min, walk_transition}
 use Rattle.kw_world.specs.SeekTransitions.{seek_first_transition}
 use Rattle.kw_world.specs.ReplaceTransitions.{before_transition}
-use Rattle.kw_world.specs.Sizes.{Form, Refused, Alone, Reused, Sizes}
+use Rattle.kw_world.specs.Sizes.{Sizes}
 use Rattle.kw_world.specs.Table.{transition}
 use Rattle.kw_follow.specs.Following.{carried}
 use Rattle.kw_follow.proofs.Carries.{Carries, either}
@@ -111,17 +111,12 @@ module _ (c : Choice) where
 
   -- A put at its row.
 
-  fulls : (f : Form) (l : Local) → Carries c l.pairs (full_in f l) (full_in f (carried l))
-  fulls Refused l = record { local = refl; done = refl; held = λ g. refl }
-  fulls Alone l = record { local = refl; done = refl; held = λ g. refl }
-  fulls Reused l = record { local = refl; done = refl; held = λ g. refl }
-
-  stamps : (z : Sizes) (e : Option Pend) (l : Local) → Carries c l.pairs (stamp_met z e l) (stamp_met z e (carried l))
-  stamps z (Some pend.Idle) l = fulls z.form l
-  stamps z (Some (pend.Pending cell)) l = either c (cell == l.cell) l.pairs _ _ _ _ (record { local = refl; done = refl; held = λ g. refl }) (fulls z.form l)
-  stamps z (Some (pend.Stamped cell version)) l = either c (cell == l.cell) l.pairs _ _ _ _ (record { local = refl; done = refl; held = λ g. refl }) (fulls z.form l)
-  stamps z (Some pend.Frozen) l = fulls z.form l
-  stamps z None l = fulls z.form l
+  stamps : (e : Option Pend) (l : Local) → Carries c l.pairs (stamp_met e l) (stamp_met e (carried l))
+  stamps (Some pend.Idle) l = record { local = refl; done = refl; held = λ g. refl }
+  stamps (Some (pend.Pending cell)) l = either c (cell == l.cell) l.pairs _ _ _ _ (record { local = refl; done = refl; held = λ g. refl }) (record { local = refl; done = refl; held = λ g. refl })
+  stamps (Some (pend.Stamped cell version)) l = either c (cell == l.cell) l.pairs _ _ _ _ (record { local = refl; done = refl; held = λ g. refl }) (record { local = refl; done = refl; held = λ g. refl })
+  stamps (Some pend.Frozen) l = record { local = refl; done = refl; held = λ g. refl }
+  stamps None l = record { local = refl; done = refl; held = λ g. refl }
 
   -- the walk of a put along the row's list, and its exchange
   inserts_from : (z : Sizes) (cell : Option ℕ) (l : Local) → Carries c l.pairs (insert_from z cell l) (insert_from z cell (carried l))
@@ -179,13 +174,13 @@ carries z ListVal s c l rows told u = absurd u
 carries z RestKey s c l rows told u = absurd u
 carries z RestVal s c l rows told u = absurd u
 carries z (ClearScan answer) s c l rows told u = clears c answer l
-carries z PutCount s c l rows told u = either c (has_room z (count_of told)) l.pairs _ _ _ _ (record { local = refl; done = refl; held = λ g. refl }) (fulls c z.form l)
-carries z PutAdd s c l rows told u = either c (has_room z (count_of told)) l.pairs _ _ _ _ (record { local = refl; done = refl; held = λ g. refl }) (fulls c z.form l)
+carries z PutCount s c l rows told u = either c (has_room z (count_of told)) l.pairs _ _ _ _ (record { local = refl; done = refl; held = λ g. refl }) (record { local = refl; done = refl; held = λ g. refl })
+carries z PutAdd s c l rows told u = either c (has_room z (count_of told)) l.pairs _ _ _ _ (record { local = refl; done = refl; held = λ g. refl }) (record { local = refl; done = refl; held = λ g. refl })
 carries z PutKey s c l rows told u = record { local = refl; done = refl; held = λ g. refl }
 carries z PutValue s c l rows told u = record { local = refl; done = refl; held = λ g. refl }
-carries z Announce s c l rows told u = either c (told == pend_word pend.Idle) l.pairs _ _ _ _ (record { local = refl; done = refl; held = λ g. refl }) (fulls c z.form l)
+carries z Announce s c l rows told u = either c (told == pend_word pend.Idle) l.pairs _ _ _ _ (record { local = refl; done = refl; held = λ g. refl }) (record { local = refl; done = refl; held = λ g. refl })
 carries z PutClock s c l rows told u = record { local = refl; done = refl; held = λ g. refl }
-carries z Stamp s c l rows told u = stamps c z (pend_of told) l
+carries z Stamp s c l rows told u = stamps c (pend_of told) l
 carries z PutVersion s c l rows told u = record { local = refl; done = refl; held = λ g. refl }
 carries z InsFrom s c l rows told u = inserts_from c z (cell_of_link_word told) l
 carries z InsKey s c l rows told u = either c (nat_lt (key_of_word told) (first_key l.call)) l.pairs _ _ _ _ (record { local = refl; done = refl; held = λ g. refl }) (either c (key_of_word told == first_key l.call) l.pairs _ _ _ _ (record { local = refl; done = refl; held = λ g. refl }) (record { local = refl; done = refl; held = λ g. refl }))
@@ -256,7 +251,7 @@ operates z Walk s c l = walking (is_stopped c l)
     walking false = refl
 operates z SeekFirst s c l = seeking c
   where
-    seeking : (x : Choice) → (seek_first_transition z.form x (carried l)).operation ≡ (seek_first_transition z.form x l).operation
+    seeking : (x : Choice) → (seek_first_transition x (carried l)).operation ≡ (seek_first_transition x l).operation
     seeking (Begin call) = refl
     seeking Go = refl
     seeking (Guess r) = refl

@@ -22,13 +22,13 @@ use Rattle.kw_world.specs.declared.marks.Mark.{Mark}
 use Rattle.kw_world.specs.declared.rebalance.Afterwards.{Afterwards}
 use Rattle.kw_world.specs.declared.rebalance.Afterwards.TheVariants.{TryAgain, Refuse, MoveLeft}
 use Rattle.kw_world.specs.Marks.{least_mark}
-use Rattle.kw_world.specs.Sizes.{Sizes, Form, Refused, Alone, Reused}
+use Rattle.kw_world.specs.Sizes.{Sizes}
 use Rattle.kw_world.specs.Table.{transition}
 use Rattle.kw_world.specs.Transition.{row_linked, row_or_first}
 use Rattle.kw_world.specs.EngageTransitions.{is_alone, state_met, engaged, link_marked, decided}
 use Rattle.kw_world.specs.FreezeTransitions.{to_freeze_look, marking, freeze_met, entry_tried, to_scan_look, needing, scan_met, scan_helped}
 use Rattle.kw_world.specs.TakeTransitions.{left_of, take_met, keeping}
-use Rattle.kw_world.specs.SeekTransitions.{given_back, give_back, gave_back, has_more, to_seek, to_pass, retired_at, seek_met, pass_met, seeking, seek_first_transition, with_row, take_row}
+use Rattle.kw_world.specs.SeekTransitions.{given_back, give_back, gave_back, has_more, to_seek, to_pass, seek_met, pass_met, seeking, seek_first_transition, with_row, take_row}
 use Rattle.kw_world.specs.WriteTransitions.{infant_cells, row_written, to_write_cell, to_write_entry}
 use Rattle.kw_world.specs.ReplaceTransitions.{first_before, guess_before, before_transition, row_before, link_before, row_replaced, replaced}
 use Rattle.kw_follow.specs.Following.{carried}
@@ -171,25 +171,20 @@ module _ (c : Choice) where
   pass_carries z i rows (Some epoch) l = either c (nat_le epoch l.rebalance.number) l.pairs _ _ _ _ (seeks rows l) (passes_carry z (i + 1) l)
   pass_carries z i rows None l = passes_carry z (i + 1) l
 
-  retired_carries : (f : Form) (rows number : ℕ) (l : Local) → Carries c l.pairs (retired_at f rows number l) (retired_at f rows number (carried l))
-  retired_carries Refused rows number l = record { local = refl; done = refl; held = λ g. refl }
-  retired_carries Alone rows number l = seeks rows l
-  retired_carries Reused rows number l = record { local = refl; done = refl; held = λ g. refl }
+  seek_carries : (rows : ℕ) (state : Option State) (l : Local) → Carries c l.pairs (seek_met rows state l) (seek_met rows state (carried l))
+  seek_carries rows (Some Free) l = record { local = refl; done = refl; held = λ g. refl }
+  seek_carries rows (Some (Infant seat)) l = seeks rows l
+  seek_carries rows (Some Normal) l = seeks rows l
+  seek_carries rows (Some (Leader count)) l = seeks rows l
+  seek_carries rows (Some (Follower leader)) l = seeks rows l
+  seek_carries rows (Some (Retired number)) l = record { local = refl; done = refl; held = λ g. refl }
+  seek_carries rows None l = seeks rows l
 
-  seek_carries : (f : Form) (rows : ℕ) (state : Option State) (l : Local) → Carries c l.pairs (seek_met f rows state l) (seek_met f rows state (carried l))
-  seek_carries f rows (Some Free) l = record { local = refl; done = refl; held = λ g. refl }
-  seek_carries f rows (Some (Infant seat)) l = seeks rows l
-  seek_carries f rows (Some Normal) l = seeks rows l
-  seek_carries f rows (Some (Leader count)) l = seeks rows l
-  seek_carries f rows (Some (Follower leader)) l = seeks rows l
-  seek_carries f rows (Some (Retired number)) l = retired_carries f rows number l
-  seek_carries f rows None l = seeks rows l
-
-  seek_first_carries : (f : Form) (choice : Choice) (l : Local) (rows told : ℕ) → Carries c l.pairs ((seek_first_transition f choice l).next rows told) ((seek_first_transition f choice (carried l)).next rows told)
-  seek_first_carries f (Begin call) l rows told = seek_carries f rows (state_of told) (seeking l.rebalance.sought l)
-  seek_first_carries f Go l rows told = seek_carries f rows (state_of told) (seeking l.rebalance.sought l)
-  seek_first_carries f (Guess r) l rows told = seek_carries f rows (state_of told) (seeking r l)
-  seek_first_carries f Stop l rows told = seek_carries f rows (state_of told) (seeking l.rebalance.sought l)
+  seek_first_carries : (choice : Choice) (l : Local) (rows told : ℕ) → Carries c l.pairs ((seek_first_transition choice l).next rows told) ((seek_first_transition choice (carried l)).next rows told)
+  seek_first_carries (Begin call) l rows told = seek_carries rows (state_of told) (seeking l.rebalance.sought l)
+  seek_first_carries Go l rows told = seek_carries rows (state_of told) (seeking l.rebalance.sought l)
+  seek_first_carries (Guess r) l rows told = seek_carries rows (state_of told) (seeking r l)
+  seek_first_carries Stop l rows told = seek_carries rows (state_of told) (seeking l.rebalance.sought l)
 
   take_row_carries : (rows : ℕ) (b : Bool) (l : Local) → Carries c l.pairs (take_row rows b l) (take_row rows b (carried l))
   take_row_carries rows true l = either c (nat_lt (length (with_row l).rebalance.taken) (length l.rebalance.starts)) l.pairs _ _ _ _ (seeks rows (with_row l)) (record { local = refl; done = refl; held = λ g. refl })
@@ -261,8 +256,8 @@ module _ (c : Choice) where
   rebalance_carries z TakeValue s l rows told u = record { local = refl; done = refl; held = λ g. refl }
   rebalance_carries z TakeRestKey s l rows told u = record { local = refl; done = refl; held = λ g. refl }
   rebalance_carries z TakeRestValue s l rows told u = left_carries z (least_mark l.rebalance.marks) (keeping z (value_of_word told) l)
-  rebalance_carries z SeekFirst s l rows told u = seek_first_carries z.form c l rows told
-  rebalance_carries z Seek s l rows told u = seek_carries z.form rows (state_of told) (seeking l.rebalance.sought l)
+  rebalance_carries z SeekFirst s l rows told u = seek_first_carries c l rows told
+  rebalance_carries z Seek s l rows told u = seek_carries rows (state_of told) (seeking l.rebalance.sought l)
   rebalance_carries z (SeekPass i) s l rows told u = pass_carries z i rows (pass_of_word told) l
   rebalance_carries z Reclaim s l rows told u = record { local = refl; done = refl; held = λ g. refl }
   rebalance_carries z TakeRow s l rows told u = take_row_carries rows (told == state_word Free) l

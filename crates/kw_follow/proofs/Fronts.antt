@@ -1,10 +1,12 @@
 -- Where a pass made one of its events: the laws hold there of all that came before, and what the event was told is what it found.
-use Rattle.std.proofs.Common.{◌≡◌, ℕ, ◌<◌, ◌++◌, [], ◌∷◌, true, Some, List, arith, sym, ◌∙◌, ap, subst, slice_get}
+use Rattle.std.proofs.Common.{◌≡◌, ℕ, ◌<◌, ◌≤◌, ◌++◌, [], ◌∷◌, true, Some, List, arith, refl, sym, ◌∙◌, ap, subst, length, append_assoc, slice_get}
+use Rattle.std.proofs.lemmas.List.{take-append-le, take_all}
 use Rattle.kw_world.specs.declared.activity.Activity.{Activity}
 use Rattle.kw_world.specs.declared.event.Choice.{Choice}
 use Rattle.kw_world.specs.declared.event.Event.{Event}
 use Rattle.kw_world.specs.declared.local.Local.{Local}
 use Rattle.kw_world.specs.declared.opening.Opening.{Opening}
+use Rattle.kw_world.specs.declared.operation.Operation.{Operation}
 use Rattle.kw_world.specs.Operation.{told_by}
 use Rattle.kw_world.specs.Transition.{Transition}
 use Rattle.kw_world.specs.WalkTransitions.{offered}
@@ -14,11 +16,12 @@ use Rattle.kw_world.specs.Table.{transition}
 use Rattle.kw_world.specs.WorldView.{WorldView}
 use Rattle.kw_core.specs.Events.{local_of, world, is_valid, event}
 use Rattle.kw_laws.specs.Laws.{KeepsLaws}
+use Rattle.kw_laws.specs.Mirror.{Acts}
 use Rattle.kw_core.specs.Run.{history}
 use Rattle.kw_core.proofs.Events.{valid_front}
 use Rattle.kw_laws.proofs.LawProofs.{laws_hold}
 use Rattle.kw_core.proofs.Runs.{history-world}
-use Rattle.kw_laws.proofs.Worlds.{world-local}
+use Rattle.kw_laws.proofs.Worlds.{world-local, world-rows}
 use Rattle.kw_table.specs.declared.pass.Pass.{Pass}
 use Rattle.kw_table.specs.declared.shared.Shared.{Shared}
 use Rattle.kw_table.specs.Passes.{view}
@@ -68,3 +71,41 @@ met_told p q a c told m r is =
 -- its row is one of the table's
 pub met_row_below : (s : Shared) (p q : Pass) (a : Activity) (c : Choice) (told : ℕ) → GoesTo s p q → (m : Met p q a c told) → (local_at p m.front).row < (history product (view p).opening m.front).world.rows
 met_row_below s p q a c told goes m = ((met_laws s p q a c told goes m).sane.locals (view p).number (local_at p m.front) (met_local p q a c told m)).below.row
+
+-- what stands behind the first part of a list is at its length
+get_behind : {A : Type 0} (xs : List A) (y : A) (ys : List A) → slice_get (xs ++ y ∷ ys) (length xs) ≡ Some y
+get_behind [] y ys = refl
+get_behind (x ∷ xs) y ys = get_behind xs y ys
+
+-- an event of a seat acts at its place in each list that goes on from it
+acts_behind : (o : Opening) (n : ℕ) (front rest : List Event) (a : Activity) (c : Choice) → n < o.seats → (local_of (world product o front) n).activity ≡ a
+    → Acts product o (front ++ event n c ∷ rest) (length front) n a (transition_after o front n c).operation (word product (world product o front) (transition_after o front n c).operation.name)
+acts_behind o n front rest a c seat is =
+    let le : length front ≤ length front = omega arith in
+    record {
+      before = world product o front;
+      choice = c;
+      local = local_of (world product o front) n;
+      occurs = record {
+        stands = get_behind front (event n c) rest;
+        before = ap (world product o) (take-append-le (length front) front (event n c ∷ rest) le ∙ take_all (length front) front le);
+      };
+      knows = world-local product o front n seat;
+      activity = is;
+      operates = ap (λ rows. (transition_of product n (offered rows c) (local_of (world product o front) n)).operation) (world-rows product o front);
+      finds = refl;
+    }
+
+-- so it acts at its place among all that the pass has then seen
+pub acts_of_met : (s : Shared) (p q : Pass) (a : Activity) (c : Choice) (told : ℕ) → GoesTo s p q → (m : Met p q a c told)
+    → Acts product (view q).opening (view q).seen (length m.front) (view q).number a (transition_after (view p).opening m.front (view p).number c).operation
+    (word product (world product (view p).opening m.front) (transition_after (view p).opening m.front (view p).number c).operation.name)
+acts_of_met s p q a c told goes m =
+    let o : Opening = (view p).opening in
+    let n : ℕ = (view p).number in
+    let op : Operation = (transition_after o m.front n c).operation in
+    let found : ℕ = word product (world product o m.front) op.name in
+    let es : m.front ++ event n c ∷ m.here.0 ≡ (view q).seen = sym (append_assoc m.front (event n c ∷ []) m.here.0) ∙ m.here.1 in
+    let there : Acts product o (view q).seen (length m.front) n a op found = subst (λ ys. Acts product o ys (length m.front) n a op found) es (acts_behind o n m.front m.here.0 a c (seat_within p) m.activity) in
+    subst (λ k. Acts product (view q).opening (view q).seen (length m.front) k a op found) (sym goes.number)
+    (subst (λ x. Acts product x (view q).seen (length m.front) n a op found) (sym goes.opening) there)

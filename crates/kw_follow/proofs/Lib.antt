@@ -9,5 +9,6 @@ pub mod DrawEvents
 pub mod ReadEvents
 pub mod Ends
 pub mod Fronts
+pub mod CallStays
 pub mod OwnEvents
 pub mod WayEvents

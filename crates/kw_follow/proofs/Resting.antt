@@ -50,7 +50,7 @@ after_rests _ k x = tt
 -- so it is after every event
 arrow_rests : (z : Sizes) (v : Words) (s : ℕ) (choice : Choice) (l : Local) (a : Activity) (k : Local) → Arrow z v s choice l a k → Rests k.activity k
 arrow_rests z v s choice l a k (leaves answer) = refl
-arrow_rests z v s choice l a k (builds b next y o t) = after_rests k.activity k (built_next z v choice l b k t)
+arrow_rests z v s choice l a k (builds b next y t) = after_rests k.activity k (built_next z v choice l b k t)
 arrow_rests z v s choice l a k (meets_stamped i c version next e n) = look_rests z _ next _ n
 arrow_rests z v s choice l a k (meets_neither i next e n) = look_rests z _ next _ n
 arrow_rests z v s choice l a k (is_passed next e n) = look_rests z _ next _ n
@@ -71,7 +71,7 @@ pub record AllRest (z : Sizes) (r : Run) : Type 0 where
 rest_goes_on : (z : Sizes) (o : Opening) (r : Run) (e : Event) → may_step o r.world e ≡ true → AllRest z r → AllRest z (goes_on z r e)
 rest_goes_on z o r e may i =
     let c = may_come o r.world e may in
-    let h = happens z r e c.local i.inv.shape.sane (i.inv.shape.kinds e.seat c.local c.knows).reached c.begins c.knows c.moves in
+    let h = happens z r e c.local i.inv.shape.sane c.begins c.knows c.moves in
     record {
       inv = inv_goes_on z o r e may i.inv;
       rest = subst (λ (x : Run). (t : ℕ) (l : Local) → slice_get x.world.locals t ≡ Some l → Rests l.activity l) (sym (goes_on-moved z r e c.local c.knows c.moves))

@@ -16,6 +16,10 @@ use Rattle.kw_table.specs.declared.pass.Pass.{Pass}
 use Rattle.kw_table.specs.Passes.{view}
 use Rattle.kw_follow.specs.Following.{known}
 
+-- what the pass's seat knew after these events
+abbrev pub knew : Pass → List Event → Local
+knew p es = local_of (world product (view p).opening es) (view p).number
+
 -- the line of the table of events by which this seat makes its event with this choice, after these events
 abbrev pub transition_after : Opening → List Event → ℕ → Choice → Transition
 transition_after o es n c = transition_of product n (offered o.rows c) (local_of (world product o es) n)

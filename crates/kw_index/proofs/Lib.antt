@@ -2,3 +2,4 @@ pub mod Filtered
 pub mod Lawful
 pub mod Placed
 pub mod Guessed
+pub mod Marked

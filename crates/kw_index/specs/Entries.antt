@@ -1,5 +1,5 @@
 -- The entries of an index as a list: what they keep, what an edit leaves of them, and which row they name for a key.
-use Rattle.std.specs.Prelude.{ℕ, ◌≡◌, ◌≢◌, ◌≤◌, ◌<◌, ◌==◌, nat_lt, not, List, ◌∷◌, ◌++◌, Option, Some, None, All, AllPairs, Contains, filter, length, slice_index_or}
+use Rattle.std.specs.Prelude.{ℕ, ◌≡◌, ◌≢◌, ◌≤◌, ◌<◌, ◌==◌, nat_lt, not, if◌then◌else◌, Bool, true, List, ◌∷◌, ◌++◌, Option, Some, None, All, AllPairs, Contains, filter, length, slice_index_or}
 use Rattle.kw_index.specs.declared.entries.Entry.{Entry}
 
 -- what callers see of entries: the number of rows of the map, and the entries
@@ -18,10 +18,16 @@ pub record IsOf (rows : ℕ) (shown : Listing) : Type 0 where
   pub of_map : shown.rows ≡ rows
   pub lawful : IsLawful shown.rows shown.list
 
--- lawful entries, with room for as many as the map has rows
-pub record IsHeld (rows : ℕ) (list : List Entry) (capacity : ℕ) : Type 0 where
+-- the rows of entries are marked
+abbrev pub AreMarked : List Bool → List Entry → Type 0
+AreMarked marks list = All (λ e. (d : Bool) → slice_index_or marks e.row d ≡ true) list
+
+-- lawful entries, with room for as many as the map has rows, and a mark for each row
+pub record IsHeld (rows : ℕ) (list : List Entry) (capacity : ℕ) (marks : List Bool) : Type 0 where
   pub lawful : IsLawful rows list
   pub room : rows ≤ capacity
+  pub sized : length marks ≡ rows
+  pub marked : AreMarked marks list
 
 -- the entries of other rows
 abbrev pub without : ℕ → List Entry → List Entry
@@ -30,6 +36,10 @@ without row list = filter (λ e. not (e.row == row)) list
 -- those with a lesser minimum, then this one, then those with a greater minimum
 abbrev pub with_entry : Entry → List Entry → List Entry
 with_entry new list = filter (λ e. nat_lt e.min new.min) list ++ new ∷ filter (λ e. nat_lt new.min e.min) list
+
+-- this one in place of its row's own and of the one with its minimum, where its row is one of the map
+abbrev pub with_own : ℕ → Entry → List Entry → List Entry
+with_own rows new list = if nat_lt new.row rows then with_entry new (without new.row list) else list
 
 -- of the entries whose minimum is at most the key, the one with the greatest
 pub record IsNearest (list : List Entry) (key : ℕ) (e : Entry) : Type 0 where

@@ -3,9 +3,13 @@
 //! An entry names a row and the least key of its range. Entries are a list by strictly rising minima in which no row comes twice, so the
 //! row for a key is found by binary search. Their room is taken when they are made: as the rows differ and are rows of the map, there are
 //! never more entries than rows, and no edit takes memory. `index` publishes them.
-ghost use Rattle.std.specs.Prelude.{MatchBool, ◌≡◌, ◌≢◌, ◌≤◌, ◌<◌, ◌==◌, nat_lt, true, false, [], length, position, IfOk, All, AllPairs};
+//!
+//! What an edit searches for by a key it finds by binary search. For a row it goes through the entries, but only where the row is marked as one
+//! that may have an entry. So whoever replaces rows places the new ones first: a replaced row whose least key the first of them takes has then
+//! lost its entry and its mark, and a row that is newly taken has none.
+ghost use Rattle.std.specs.Prelude.{MatchBool, IsTrue, ◌≡◌, ◌≢◌, ◌≤◌, ◌<◌, ◌==◌, nat_lt, true, false, [], length, position, IfOk, All, AllPairs};
 ghost use Rattle.std.specs.List.Sorted.{IsPartitionPoint};
-ghost use Rattle.kw_index.specs.Entries.{IsLawful, IsGuess, HasMinAt, HasNotMinAt, without, with_entry};
+ghost use Rattle.kw_index.specs.Entries.{IsLawful, IsGuess, HasMinAt, HasNotMinAt, without, with_entry, with_own};
 
 use crate::memory::Memory;
 use std::alloc::Global;
@@ -27,6 +31,8 @@ pub struct Entry {
 pub struct Entries {
     rows: u32,
     list: Vec<Entry>,
+    // For each row whether it may have an entry: one that has is marked, so that nothing is searched for the others.
+    marks: Vec<bool>,
 }
 
 impl Model for Entries {
@@ -37,7 +43,7 @@ impl Model for Entries {
 
     ghost view = { λ e. record { rows = e.rows; list = e.list.items } };
 
-    ghost invariant = { λ e. IsHeld e.rows e.list.items (vec_capacity e.list) };
+    ghost invariant = { λ e. IsHeld e.rows e.list.items (vec_capacity e.list) e.marks.items };
 }
 
 impl Entries {
@@ -46,7 +52,8 @@ impl Entries {
         ensures { IfOk result (λ made. made ≡ record { rows = rows; list = [] }) }
     {
         let list = Vec::with_capacity(alloc, rows as usize)?;
-        Ok(Entries { rows, list })
+        let marks = vec![in alloc; false; rows as usize]?;
+        Ok(Entries { rows, list, marks })
     }
 
     /// The number of rows of the map, which is how many entries there is room for. Takes no memory.
@@ -77,14 +84,26 @@ impl Entries {
         Some(self.list[at - 1].row)
     }
 
-    /// Drops the entry of a row, if there is one. Takes no memory.
+    /// Drops the entry of a row, if there is one. Takes no memory, and no search where the row's entry is gone already.
     pub fn remove(&mut self, row: u32)
         ensures list { self.new ≡ record { rows = self.old.rows; list = without row self.old.list } }
         ensures absent { All (λ e. e.row ≢ row) self.new.list }
     {
+        if self.is_absent(row) {
+            return;
+        }
+        self.marks[row as usize] = false;
         if let Some(at) = place_of(&self.list, row) {
             self.list.remove(at);
         }
+    }
+
+    // Whether the marks tell that no entry has the row.
+    fn is_absent(&self, row: u32) -> bool
+        ensures absent { IsTrue result → All (λ e. e.row ≢ row) self.now.list }
+        ensures in_range { result ≡ false → row < self.now.rows }
+    {
+        row >= self.rows || !self.marks[row as usize]
     }
 
     /// Puts an entry in its place, in place of the one with the same minimum, if there is one.
@@ -95,12 +114,28 @@ impl Entries {
         requires new_row { All (λ e. e.row ≢ entry.row) self.old.list }
         ensures { self.new ≡ record { rows = self.old.rows; list = with_entry entry self.old.list } }
     {
+        self.marks[entry.row as usize] = true;
         let at = count_below(&self.list, entry.min);
         if has_min_at(&self.list, at, entry.min) {
+            let over = self.list[at].row;
+            self.marks[over as usize] = false;
             self.list[at] = entry;
         } else if self.list.insert(at, entry).is_err() {
             unreachable!()
         }
+    }
+
+    /// Makes this the one entry of its row, in place of the row's own and of the one with the same minimum, if there are such.
+    ///
+    /// Nothing changes where the row is none of the map. Takes no memory.
+    pub fn place(&mut self, entry: Entry)
+        ensures { self.new ≡ record { rows = self.old.rows; list = with_own self.old.rows entry self.old.list } }
+    {
+        if entry.row >= self.rows {
+            return;
+        }
+        self.remove(entry.row);
+        self.insert(entry);
     }
 
     /// Makes these entries those of another of as many rows. Takes no memory.
@@ -108,6 +143,7 @@ impl Entries {
         requires { from.now.rows ≡ self.old.rows }
         ensures { self.new ≡ from.now }
     {
+        self.marks.copy_from_slice(&from.marks);
         self.list.clear();
         if self.list.extend_from_slice(&from.list).is_err() {
             unreachable!()

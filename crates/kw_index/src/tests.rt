@@ -3,7 +3,7 @@ ghost use Rattle.std.specs.Prelude.{◌≡◌, ◌<◌, IfOk};
 ghost use Rattle.kw_index.specs.Turns.{handed_back};
 
 use crate::entries::{Entries, Entry};
-use crate::index::{Copied, Index, Published, TRIES};
+use crate::index::{Copied, Index, Published, TRIES, WRITE_TRIES};
 use crate::memory::Memory;
 use std::alloc::Global;
 use std::sync::atomic::{AtomicBool, Ordering};
@@ -70,6 +70,27 @@ fn an_entry_stands_at_its_minimum(rt: HostRuntime) -> Result<(), Fail> {
 }
 
 #[test]
+fn a_placed_row_stands_once(rt: HostRuntime) -> Result<(), Fail> {
+    let mut entries = Entries::new(rt.alloc(), 4)?;
+    entries.place(entry(0, 0));
+    entries.place(entry(20, 3));
+    entries.place(entry(10, 2));
+    entries.place(entry(20, 3));
+    let three = [entry(0, 0), entry(10, 2), entry(20, 3)];
+    assert_eq!(rt; entries.list(), three.as_slice());
+    entries.place(entry(5, 3));
+    let moved = [entry(0, 0), entry(5, 3), entry(10, 2)];
+    assert_eq!(rt; entries.list(), moved.as_slice());
+    entries.place(entry(0, 2));
+    let over_another = [entry(0, 2), entry(5, 3)];
+    assert_eq!(rt; entries.list(), over_another.as_slice());
+    entries.place(entry(7, 4));
+    entries.place(entry(7, u32::MAX));
+    assert_eq!(rt; entries.list(), over_another.as_slice());
+    Ok(())
+}
+
+#[test]
 fn there_is_room_for_an_entry_of_each_row(rt: HostRuntime) -> Result<(), Fail> {
     let mut entries = Entries::new(rt.alloc(), 3)?;
     put(&mut entries, 9, 2);
@@ -98,7 +119,7 @@ fn a_guess_is_the_nearest_row_to_the_left(rt: HostRuntime) -> Result<(), Fail> {
 
 #[test]
 fn the_tries_of_a_turn(rt: HostRuntime) {
-    assert_eq!(rt; TRIES, 64);
+    assert_eq!(rt; (TRIES, WRITE_TRIES), (64, 4_096));
 }
 
 #[test]
@@ -108,7 +129,7 @@ fn a_new_index_shows_the_first_row(rt: HostRuntime) -> Result<(), Fail> {
     assert_eq!(rt; index.copy(&mut entries), Copied::Done);
     assert_eq!(rt; entries.list(), [entry(0, 0)].as_slice());
     assert_eq!(rt; (index.rows(), index.guess(7)), (4, Some(0)));
-    let (done, _) = parts(index.publish(entries));
+    let (done, _) = parts(index.publish(entries, index.number()));
     assert_eq!(rt; done, true);
     Ok(())
 }
@@ -117,14 +138,43 @@ fn a_new_index_shows_the_first_row(rt: HostRuntime) -> Result<(), Fail> {
 fn what_is_published_is_guessed_and_copied(rt: HostRuntime) -> Result<(), Fail> {
     let index = Index::new(rt.alloc(), 4)?;
     let entries = two_rows(rt.alloc(), 3)?;
-    let (done, mut spare) = parts(index.publish(entries));
+    let (done, mut spare) = parts(index.publish(entries, index.number()));
     assert_eq!(rt; (done, spare.list()), (true, [entry(0, 0)].as_slice()));
     let guesses = (index.guess(0), index.guess(99), index.guess(100));
     assert_eq!(rt; guesses, (Some(0), Some(0), Some(3)));
     assert_eq!(rt; index.copy(&mut spare), Copied::Done);
     assert_eq!(rt; spare.list(), [entry(0, 0), entry(100, 3)].as_slice());
-    let (done, _) = parts(index.publish(Entries::new(rt.alloc(), 4)?));
+    let none = Entries::new(rt.alloc(), 4)?;
+    let (done, _) = parts(index.publish(none, index.number()));
     assert_eq!(rt; (done, index.guess(LAST_KEY)), (true, None));
+    Ok(())
+}
+
+#[test]
+fn a_publication_between_copy_and_publish_is_kept(rt: HostRuntime) -> Result<(), Fail> {
+    let index = Index::new(rt.alloc(), 4)?;
+    let mut mine = Entries::new(rt.alloc(), 4)?;
+    let mut other = Entries::new(rt.alloc(), 4)?;
+    let number = index.number();
+    assert_eq!(rt; number, 1);
+    assert_eq!(rt;
+        (index.copy(&mut mine), index.copy(&mut other)),
+        (Copied::Done, Copied::Done)
+    );
+    mine.place(entry(50, 1));
+    other.place(entry(100, 2));
+    let (others_done, _) = parts(index.publish(other, number));
+    let (mine_done, mut mine) = parts(index.publish(mine, number));
+    assert_eq!(rt; (others_done, mine_done, index.number()), (true, false, 2));
+    assert_eq!(rt; mine.list(), [entry(0, 0), entry(50, 1)].as_slice());
+    assert_eq!(rt; (index.guess(50), index.guess(100)), (Some(0), Some(2)));
+    let number = index.number();
+    assert_eq!(rt; index.copy(&mut mine), Copied::Done);
+    mine.place(entry(50, 1));
+    let (mine_done, _) = parts(index.publish(mine, number));
+    assert_eq!(rt; (mine_done, index.number()), (true, 3));
+    let guesses = (index.guess(0), index.guess(50), index.guess(100));
+    assert_eq!(rt; guesses, (Some(0), Some(1), Some(2)));
     Ok(())
 }
 
@@ -165,7 +215,7 @@ fn publish_in_turn(index: &Index, entries: Entries, flag: &AtomicBool) -> bool
         if flag.load(Ordering::SeqCst) {
             break;
         }
-        let (done, back) = parts(index.publish(spare));
+        let (done, back) = parts(index.publish(spare, index.number()));
         spare = back;
         ever = ever || done;
         thread::yield_now();
@@ -178,7 +228,7 @@ fn one_thread_guesses_what_another_publishes(rt: HostRuntime) -> Result<(), Fail
     let index = Index::new(rt.alloc(), 4)?;
     let first = two_rows(rt.alloc(), 1)?;
     let second = two_rows(rt.alloc(), 2)?;
-    let (opened, _) = parts(index.publish(first));
+    let (opened, _) = parts(index.publish(first, index.number()));
     let flag = AtomicBool::new(false);
     let (published, seen) = thread::join(
         &rt,

@@ -1,6 +1,7 @@
 -- Names that are looked up by their numbers.
-use Rattle.std.proofs.Common.{ℕ, ◌≡◌, ◌+◌, ◌<◌, ◌≤◌, List, Option, Some, None, is_some, Bool, true, false, slice_get, sym, ap, ◌∙◌, arith, nat_cmp, inl, inr}
+use Rattle.std.proofs.Common.{ℕ, ◌≡◌, ◌+◌, ◌<◌, ◌≤◌, List, [], ◌∷◌, ◌++◌, map, take, length, get_or, Option, Some, None, is_some, Bool, true, false, slice_get, sym, ap, ◌∙◌, arith, nat_cmp, inl, inr}
 use Rattle.std.proofs.lemmas.Bool.{cases_eq, cases_lt}
+use Rattle.std.proofs.lemmas.List.{map_more, map_push}
 use Rattle.std.proofs.lemmas.Bool.Decides.{nat_tests}
 use Rattle.std.specs.BTreeMap.{BTreeMap, get, Updates}
 use Rattle.kw_judge.specs.declared.record.Name.{Name}
@@ -69,3 +70,7 @@ each_more names n name there h new k a l w = elim (cases_lt k n) [
       let same : name ≡ a = cc in
       λ j m v. new j (omega arith) (v ∙ ap Some (sym same)))
 ]
+
+-- one more place, at which the next name stands
+pub place_more : (lines order : List Name) (places : List ℕ) (i p : ℕ) (name : Name) → i < length order → map (slice_get lines) places ≡ map Some (take i order) → slice_get lines p ≡ Some (get_or order i name) → map (slice_get lines) (places ++ p ∷ []) ≡ map Some (take (i + 1) order)
+place_more lines order places i p name l h found = map_push (slice_get lines) places p ∙ (ap (λ t. t ++ slice_get lines p ∷ []) h ∙ (ap (λ o. map Some (take i order) ++ o ∷ []) found ∙ sym (map_more Some order i name l)))

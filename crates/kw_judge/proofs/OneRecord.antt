@@ -1,5 +1,5 @@
 -- Bytes are the text of one record at most.
-use Rattle.std.proofs.Common.{ℕ, ◌≡◌, ◌≢◌, ◌<◌, ◌≤◌, ◌^◌, ◌⊎◌, inl, inr, Option, Some, None, Result, IfOk, MatchOption, cond, List, [], ◌∷◌, ◌++◌, map, codes, get_or, length, refl, sym, ap, ◌∙◌, arith, append_assoc}
+use Rattle.std.proofs.Common.{ℕ, ◌≡◌, ◌≢◌, ◌<◌, ◌≤◌, ◌^◌, Option, Some, None, Result, IfOk, MatchOption, cond, List, [], ◌∷◌, ◌++◌, map, codes, get_or, length, refl, sym, ap, ◌∙◌, arith, append_assoc}
 use Rattle.std.specs.Fmt.{decimal}
 use Rattle.std.specs.Option.{ok_or}
 use Rattle.std.specs.Str.{bytes_eq}
@@ -25,53 +25,57 @@ use Rattle.kw_judge.specs.declared.record.Name.{Name}
 use Rattle.kw_judge.specs.declared.record.DoneCall.{DoneCall}
 use Rattle.kw_judge.specs.declared.record.OpenCall.{OpenCall}
 use Rattle.kw_judge.specs.declared.record.RecordError.{RecordError}
-use Rattle.kw_judge.specs.Record.{RecordView, IsRecord, IsRecordText, IsName, IsPair, FitsReply, IsDone, IsOpen, Begins, IsBadAfter, IsFirstBad, record_lines}
+use Rattle.kw_judge.specs.Record.{RecordView, IsRecord, IsRecordText, IsName, IsPair, FitsReply, IsDone, IsOpen, IsBadAfter, IsFirstBad, record_lines}
 use Rattle.kw_judge.specs.Written.{plain_text, plain_reply, head_words}
 use Rattle.kw_judge.specs.Texts.{call_verb_of, call_verb_word, call_words, reply_text, name_text, done_head, done_text, open_text, order_text}
 use Rattle.kw_judge.proofs.Marks.{no_mark, no_mark_decimal}
 use Rattle.kw_judge.proofs.Calls.{call_word_injective}
 use Rattle.kw_judge.proofs.Readers.{one_cut, no_cut}
 use Rattle.kw_judge.proofs.LineTexts.{no_mark_two, no_mark_join, words-pairs, words-order, words-head, words-open, head_of, no_names, no_colon_in_head}
-use Rattle.kw_judge.proofs.Prefixes.{name_injective, done_not_open, done_not_order, open_not_order, not_done}
+use Rattle.kw_judge.proofs.Prefixes.{name_injective, open_not_order, not_done}
 
 -- Calls.
 
-put_same : (k v l w : ℕ) → k ≡ l → v ≡ w → call.Put k v ≡ call.Put l w
-put_same k v l w e f = cc
+-- the call of a verb and numbers
+abbrev made : CallVerb → List ℕ → Option Call
+made call_verb.Put (k ∷ v ∷ []) = Some (call.Put k v)
+made call_verb.Del (k ∷ []) = Some (call.Del k)
+made call_verb.Get (k ∷ []) = Some (call.Get k)
+made call_verb.Scan (a ∷ b ∷ []) = Some (call.Scan a b)
+made _ _ = None
 
-scan_same : (k v l w : ℕ) → k ≡ l → v ≡ w → call.Scan k v ≡ call.Scan l w
-scan_same k v l w e f = cc
+made-call : (c : Call) → made (call_verb_of c) (arguments c) ≡ Some c
+made-call (call.Put k v) = refl
+made-call (call.Del k) = refl
+made-call (call.Get k) = refl
+made-call (call.Scan a b) = refl
 
-verb_same : (c d : Call) → call_words c ≡ call_words d → call_verb_of c ≡ call_verb_of d
-verb_same c d e = let w : call_verb_word (call_verb_of c) ≡ call_verb_word (call_verb_of d) = cc in call_word_injective (call_verb_of c) (call_verb_of d) w
+fits_arguments : (c : Call) → FitsCall c → AllByRecursion (λ n. n < 2 ^ 64) (arguments c)
+fits_arguments (call.Put k v) h = (omega (arith, h.0), (omega (arith, h.1), tt))
+fits_arguments (call.Del k) h = (omega (arith, h), tt)
+fits_arguments (call.Get k) h = (omega (arith, h), tt)
+fits_arguments (call.Scan a b) h = (omega (arith, h.0), (omega (arith, h.1), tt))
+
+decimals_injective : (ms ns : List ℕ) → AllByRecursion (λ n. n < 2 ^ 64) ms → AllByRecursion (λ n. n < 2 ^ 64) ns → map decimal ms ≡ map decimal ns → ms ≡ ns
+decimals_injective [] [] h j e = refl
+decimals_injective [] (n ∷ ns) h j e = cc
+decimals_injective (m ∷ ms) [] h j e = cc
+decimals_injective (m ∷ ms) (n ∷ ns) h j e =
+    let a : decimal m ≡ decimal n = cc in
+    let b : map decimal ms ≡ map decimal ns = cc in
+    let same = decimal_injective m n h.0 j.0 a in
+    let rest = decimals_injective ms ns h.1 j.1 b in
+    cc
+
+same_call : (c d : Call) → call_verb_of c ≡ call_verb_of d → arguments c ≡ arguments d → c ≡ d
+same_call c d u v = let s : Some c ≡ Some d = sym (made-call c) ∙ (ap (λ w. made w (arguments c)) u ∙ (ap (made (call_verb_of d)) v ∙ made-call d)) in cc
 
 call_injective : (c d : Call) → FitsCall c → FitsCall d → call_words c ≡ call_words d → c ≡ d
-call_injective (call.Put k v) (call.Put l w) h j e =
-    let a : decimal k ≡ decimal l = cc in
-    let b : decimal v ≡ decimal w = cc in
-    put_same k v l w (decimal_injective k l (omega (arith, h.0)) (omega (arith, j.0)) a) (decimal_injective v w (omega (arith, h.1)) (omega (arith, j.1)) b)
-call_injective (call.Del k) (call.Del l) h j e =
-    let a : decimal k ≡ decimal l = cc in
-    ap call.Del (decimal_injective k l (omega (arith, h)) (omega (arith, j)) a)
-call_injective (call.Get k) (call.Get l) h j e =
-    let a : decimal k ≡ decimal l = cc in
-    ap call.Get (decimal_injective k l (omega (arith, h)) (omega (arith, j)) a)
-call_injective (call.Scan k v) (call.Scan l w) h j e =
-    let a : decimal k ≡ decimal l = cc in
-    let b : decimal v ≡ decimal w = cc in
-    scan_same k v l w (decimal_injective k l (omega (arith, h.0)) (omega (arith, j.0)) a) (decimal_injective v w (omega (arith, h.1)) (omega (arith, j.1)) b)
-call_injective (call.Put k v) (call.Del l) h j e = let z = verb_same (call.Put k v) (call.Del l) e in cc
-call_injective (call.Put k v) (call.Get l) h j e = let z = verb_same (call.Put k v) (call.Get l) e in cc
-call_injective (call.Put k v) (call.Scan l w) h j e = let z = verb_same (call.Put k v) (call.Scan l w) e in cc
-call_injective (call.Del k) (call.Put l w) h j e = let z = verb_same (call.Del k) (call.Put l w) e in cc
-call_injective (call.Del k) (call.Get l) h j e = let z = verb_same (call.Del k) (call.Get l) e in cc
-call_injective (call.Del k) (call.Scan l w) h j e = let z = verb_same (call.Del k) (call.Scan l w) e in cc
-call_injective (call.Get k) (call.Put l w) h j e = let z = verb_same (call.Get k) (call.Put l w) e in cc
-call_injective (call.Get k) (call.Del l) h j e = let z = verb_same (call.Get k) (call.Del l) e in cc
-call_injective (call.Get k) (call.Scan l w) h j e = let z = verb_same (call.Get k) (call.Scan l w) e in cc
-call_injective (call.Scan k v) (call.Put l w) h j e = let z = verb_same (call.Scan k v) (call.Put l w) e in cc
-call_injective (call.Scan k v) (call.Del l) h j e = let z = verb_same (call.Scan k v) (call.Del l) e in cc
-call_injective (call.Scan k v) (call.Get l) h j e = let z = verb_same (call.Scan k v) (call.Get l) e in cc
+call_injective c d h j e =
+    let x : call_verb_word (call_verb_of c) ∷ map decimal (arguments c) ≡ call_verb_word (call_verb_of d) ∷ map decimal (arguments d) = e in
+    let word : call_verb_word (call_verb_of c) ≡ call_verb_word (call_verb_of d) = cc in
+    let numbers : map decimal (arguments c) ≡ map decimal (arguments d) = cc in
+    same_call c d (call_word_injective (call_verb_of c) (call_verb_of d) word) (decimals_injective (arguments c) (arguments d) (fits_arguments c h) (fits_arguments d j) numbers)
 
 -- Replies: some are words, and the others are numbers with other marks between them.
 

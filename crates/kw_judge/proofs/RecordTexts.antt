@@ -1,11 +1,11 @@
 -- The text of a record: cut into lines it has the record's lines.
-use Rattle.std.proofs.Common.{ℕ, ◌≡◌, ◌≢◌, ◌<◌, ◌≤◌, ◌^◌, List, [], ◌∷◌, ◌++◌, map, codes, refl, sym, ap, ◌∙◌, arith, append_assoc}
+use Rattle.std.proofs.Common.{ℕ, ◌≡◌, ◌≢◌, List, [], ◌∷◌, ◌++◌, map, codes, refl, ap, ◌∙◌, arith, append_assoc}
 use Rattle.std.specs.Fmt.{decimal}
 use Rattle.std.specs.List.{AllByRecursion, join_with_byte, flat_map}
 use Rattle.std.proofs.lemmas.List.Elements.{All-append, All-cons}
 use Rattle.kw_line.specs.declared.words.TheConstants.{LINE_FEED, SPACE}
 use Rattle.kw_line.specs.declared.print.TheConstants.{EQUALS}
-use Rattle.kw_line.specs.Answered.{pair_text, pairs_text}
+use Rattle.kw_line.specs.Answered.{pair_text}
 use Rattle.kw_line.specs.Cut.{lines}
 use Rattle.kw_line.proofs.Parts.{HasNo, lines_none, lines_cut}
 use Rattle.kw_model.specs.declared.call.Reply.{Reply}

@@ -8,7 +8,7 @@ ghost use Rattle.kw_line.specs.Line.{FitsCall, arguments};
 ghost use Rattle.kw_judge.specs.declared.parse.CallVerb.{CallVerb as AnyCallVerb};
 ghost use Rattle.kw_judge.specs.Texts.{call_words, call_verb_of, call_verb_word};
 
-use kw_line::words::Words;
+use kw_line::words::{Words, is_same};
 use kw_model::call::Call;
 
 /// The first word of a call.
@@ -40,12 +40,16 @@ fn call_verb_named(word: &[u8]) -> Option<CallVerb>
         ((verb : AnyCallVerb) → word.now ≢ call_verb_word verb)
         (λ verb. word.now ≡ call_verb_word verb) }
 {
-    match word {
-        b"put" => Some(CallVerb::Put),
-        b"del" => Some(CallVerb::Del),
-        b"get" => Some(CallVerb::Get),
-        b"scan" => Some(CallVerb::Scan),
-        _ => None,
+    if is_same(word, b"put") {
+        Some(CallVerb::Put)
+    } else if is_same(word, b"del") {
+        Some(CallVerb::Del)
+    } else if is_same(word, b"get") {
+        Some(CallVerb::Get)
+    } else if is_same(word, b"scan") {
+        Some(CallVerb::Scan)
+    } else {
+        None
     }
 }
 

@@ -22,7 +22,7 @@ use crate::print::{COLON, DOT};
 use crate::record::{DoneCall, MOST_NUMBER, Name, OpenCall, RECORD_SEATS};
 use kw_line::number;
 use kw_line::print::EQUALS;
-use kw_line::words::{MOST_VALUE, SPACE, Words};
+use kw_line::words::{MOST_VALUE, SPACE, Words, is_same};
 use kw_model::call::{Call, Reply};
 use kw_model::memory::Memory;
 use kw_model::pair_list::PairList;
@@ -169,14 +169,14 @@ fn order(alloc: Global, line: &[u8]) -> Result<Option<Vec<Name>>, Memory>
         (λ names. AllByRecursion IsName names.items × (line.now ≡ order_text names.items))) }
 {
     let mut names = Vec::new(alloc);
-    if line == b"order none".as_slice() {
+    if is_same(line, b"order none") {
         return Ok(Some(names));
     }
     let mut words = Words::new(line);
     let Some(first) = words.next() else {
         return Ok(None);
     };
-    if first != b"order".as_slice() {
+    if !is_same(first, b"order") {
         return Ok(None);
     }
     for word in words {
@@ -227,14 +227,20 @@ fn plain_named(text: &[u8]) -> Option<Plain>
         ((plain : AnyPlain) → text.now ≢ plain_text plain)
         (λ plain. text.now ≡ plain_text plain) }
 {
-    match text {
-        b"ok" => Some(Plain::Done),
-        b"none" => Some(Plain::Absent),
-        b"empty" => Some(Plain::Empty),
-        b"no rows" => Some(Plain::NoRows),
-        b"spent" => Some(Plain::Spent),
-        b"stopped" => Some(Plain::Stopped),
-        _ => None,
+    if is_same(text, b"ok") {
+        Some(Plain::Done)
+    } else if is_same(text, b"none") {
+        Some(Plain::Absent)
+    } else if is_same(text, b"empty") {
+        Some(Plain::Empty)
+    } else if is_same(text, b"no rows") {
+        Some(Plain::NoRows)
+    } else if is_same(text, b"spent") {
+        Some(Plain::Spent)
+    } else if is_same(text, b"stopped") {
+        Some(Plain::Stopped)
+    } else {
+        None
     }
 }
 

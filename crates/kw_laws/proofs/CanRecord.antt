@@ -180,7 +180,7 @@ can_settle z k r e l i inv begins knows moves = record {
     known = inv.shape.sane.locals e.seat l knows
 
     may : MayNote r.history at (change_of z l.activity e.seat (offered r.world.rows e.choice) l (found_by z r.world e l) (r.seats e.seat) r.origin)
-    may = may_note z r (noted_by z r e l) e.seat (offered r.world.rows e.choice) l l.activity _ (happens z r e l inv.shape.sane (inv.shape.kinds e.seat l knows).reached begins knows moves) inv
+    may = may_note z r (noted_by z r e l) e.seat (offered r.world.rows e.choice) l l.activity _ (happens z r e l inv.shape.sane begins knows moves) inv
 
     taken : Gathering l.activity → (length (log_of k e.seat).ids < z.cells) × (length l.gathered ≡ length (log_of k e.seat).ids)
     taken is =

@@ -4,22 +4,17 @@ use Rattle.std.proofs.lemmas.Bool.Decides.{nat_tests}
 use Rattle.std.proofs.lemmas.Option.{same_Some}
 use Rattle.kw_words.specs.declared.kind.Kind.TheVariants as kind
 use Rattle.kw_words.specs.declared.layout.Name.TheVariants as name
-use Rattle.kw_words.specs.declared.pend.Pend.{Pend}
-use Rattle.kw_words.specs.declared.pend.Pend.TheVariants as pend
 use Rattle.kw_words.specs.declared.sizes.TheConstants.{SPENT}
 use Rattle.kw_words.specs.declared.state.State.{State}
 use Rattle.kw_words.specs.declared.state.State.TheVariants.{Free, Infant, Normal, Leader, Follower, Retired}
-use Rattle.kw_words.specs.Count.{count_of}
-use Rattle.kw_words.specs.Pend.{pend_of, pend_word}
 use Rattle.kw_words.specs.Plain.{IsCounted, number_word, pass_of_word}
 use Rattle.kw_words.specs.State.{state_of, state_word}
-use Rattle.kw_words.proofs.PendWords.{pend_word_of}
 use Rattle.kw_words.proofs.PlainWords.{IsCounted-number_of_word, number_word-number_of_word}
 use Rattle.kw_words.proofs.StateWords.{state_of-Free}
 use Rattle.kw_model.specs.declared.call.Call.{Call}
 use Rattle.kw_model.specs.declared.call.Call.TheVariants.{Put, Del, Get, Scan}
 use Rattle.kw_world.specs.declared.activity.Activity.{Activity}
-use Rattle.kw_world.specs.declared.activity.Activity.TheVariants.{Leave, ClearScan, ScanClock, PutCount, PutAdd, Announce, Stamp, BalClock, BalEpoch, SeekFirst, Seek, SeekPass, Reclaim, TakeRow, GiveBack, WriteCount}
+use Rattle.kw_world.specs.declared.activity.Activity.TheVariants.{Leave, ClearScan, ScanClock, BalClock, BalEpoch, SeekFirst, Seek, SeekPass, Reclaim, TakeRow, GiveBack, WriteCount}
 use Rattle.kw_world.specs.declared.answer.Answer.{Answer}
 use Rattle.kw_world.specs.declared.answer.Answer.TheVariants.{Pairs, NoRows, Spent}
 use Rattle.kw_world.specs.declared.event.Choice.{Choice}
@@ -32,10 +27,9 @@ use Rattle.kw_world.specs.declared.operation.Operation.{Operation}
 use Rattle.kw_world.specs.declared.rebalance.Afterwards.{Afterwards}
 use Rattle.kw_world.specs.declared.rebalance.Afterwards.TheVariants.{TryAgain, Refuse, MoveLeft}
 use Rattle.kw_world.specs.Answers.{answer_found}
-use Rattle.kw_world.specs.PutTransitions.{has_room}
 use Rattle.kw_world.specs.ScanTransitions.{answer_or_stopped}
-use Rattle.kw_world.specs.SeekTransitions.{at_infant, has_more, row_behind, given_back, give_back, numbered, pass_met, retired_at, to_pass, to_seek, seek_met, seeking, seek_first_transition, with_row, take_row}
-use Rattle.kw_world.specs.Sizes.{Form, Refused, Alone, Reused, IsRebalancing, IsReusing, Sizes}
+use Rattle.kw_world.specs.SeekTransitions.{at_infant, has_more, row_behind, given_back, give_back, pass_met, to_pass, to_seek, seek_met, seeking, seek_first_transition, with_row, take_row}
+use Rattle.kw_world.specs.Sizes.{Sizes}
 use Rattle.kw_world.specs.Table.{transition}
 use Rattle.kw_world.specs.Transition.{Transition, Outcome, to}
 use Rattle.kw_world.specs.WalkTransitions.{offered}
@@ -45,30 +39,28 @@ use Rattle.kw_world.specs.Step.{word, followed, transition_at}
 use Rattle.kw_world.proofs.Steps.{transition_of-transition}
 use Rattle.kw_core.specs.Events.{event, world}
 use Rattle.kw_core.specs.Run.{Run}
-use Rattle.kw_core.specs.Stages.{IsBusy, IsReached}
+use Rattle.kw_core.specs.Stages.{IsBusy}
 use Rattle.kw_core.specs.Words.{Words}
-use Rattle.kw_core.proofs.Arrows.{Arrow, NextLook, looks, lists, NextRest, rests, answers, ends_scan, scans_on, IsNotOwn, is_spent, meets_stamped, meets_neither, is_passed, helps, finds_stamped, finds_other, list_ends, key_above, rest_passed, gathers_rest, clears_scan, finds_none, takes_none, is_refused, is_not_own, clock_is_spent, epoch_is_spent, takes_no_more, keeps_no_more, builds}
+use Rattle.kw_core.proofs.Arrows.{Arrow, NextLook, looks, lists, NextRest, rests, answers, ends_scan, scans_on, is_spent, meets_stamped, meets_neither, is_passed, helps, finds_stamped, finds_other, list_ends, key_above, rest_passed, gathers_rest, clears_scan, clock_is_spent, epoch_is_spent, takes_no_more, keeps_no_more, builds}
 use Rattle.kw_core.proofs.Building.{Building, first_is_free, first_is_taken, first_is_retired, sought_is_free, sought_is_taken, sought_is_retired, pass_is_old, pass_is_young, frees_row, takes_row, loses_row, gives_one_back, gives_last_back, writes_first, writes_entry, writes_after, begins_before, takes_head_before, leads_on_marked, leads_nowhere, walks_past, is_marked_before, is_replaced}
 use Rattle.kw_core.proofs.NextBuilt.{tries_again, moves_left, NextBack, gives_back, has_none, NextNewRow, writes_row, has_written, NextNewCell, fills, empties, has_cells, NextNewEntry, writes_idle, has_entries, NextBefore, is_first, is_behind}
-use Rattle.kw_core.proofs.BuiltReached.{reusing_rebalances}
 use Rattle.kw_core.proofs.Happens.{Happens, found_at}
 use Rattle.kw_reads.specs.Inv.{Inv}
 use Rattle.kw_rows.specs.Events.{IsIn}
 use Rattle.kw_shape.specs.RowsIn.{state_met}
 use Rattle.kw_shape.proofs.SoughtKeep.{retakes}
 use Rattle.kw_shape.specs.Shape.{IsKind, IsPutCall, IsScanCall, IsPairs}
-use Rattle.kw_laws.specs.Causes.{IsAsking, IsSpentBy, IsAskingRow, IsTrying, MayBeNamed, MetPass, FoundTaken, TookRow, asking, asking_pass, reclaiming, taking}
+use Rattle.kw_laws.specs.Causes.{AskedAll, IsAsking, IsSpentBy, IsTrying, MayBeNamed, MetPass, FoundTaken, TookRow, asking, asking_pass, reclaiming, taking}
 use Rattle.kw_laws.specs.Mirror.{Occurs, Acts}
-use Rattle.kw_laws.specs.Unfrozen.{RebalancesNone, HasCellOfOwn, IsUnfrozen}
-use Rattle.kw_laws.proofs.CausesLast.{WhyNoRows, IsSearching, trying_searches, spent_lasts, why_lasts}
+use Rattle.kw_laws.proofs.CausesLast.{IsSearching, asked_lasts, spent_lasts, trying_searches}
 use Rattle.kw_laws.proofs.CausesSearch.{none_passed, in_front, in_last, in_was, some_start, IsBeforeSearch, Searching, searching_begun, searching_lasts, searching_number, AsksPasses, asks_lasts, asks_taken, asked_all, next_row}
 use Rattle.kw_laws.proofs.Occurs.{occurs_now, occurs_was, occurs_within}
 
 -- what the events of the call, which began at this position, say of its seat
 abbrev pub Since : Activity → Sizes → Opening → List Event → ℕ → ℕ → Call → Local → Type 0
 Since (Leave Spent) z o es s first call l = IsSpentBy z o es call s first (length es)
-Since (Leave NoRows) z o es s first call l = WhyNoRows z o es s first (length es)
-Since GiveBack z o es s first call l = l.rebalance.afterwards ≡ Refuse → WhyNoRows z o es s first (length es)
+Since (Leave NoRows) z o es s first call l = AskedAll z o es s o.rows first (length es)
+Since GiveBack z o es s first call l = l.rebalance.afterwards ≡ Refuse → AskedAll z o es s o.rows first (length es)
 Since SeekFirst z o es s first call l = IsBeforeSearch l.rebalance
 Since Seek z o es s first call l = Searching z o es s first l.rebalance
 Since (SeekPass i) z o es s first call l = (w : Searching z o es s first l.rebalance) × AsksPasses z o es s w.begun l.rebalance.sought l.rebalance.number
@@ -84,8 +76,8 @@ since_lasts z o es e s first call l a w idle p = by a p
     inside : length es ≤ length es
     inside = omega arith
 
-    rows : WhyNoRows z o es s first (length es) → WhyNoRows z o (es ++ e ∷ []) s first (length (es ++ e ∷ []))
-    rows = why_lasts z o es e s (length es) (length (es ++ e ∷ [])) w inside idle first
+    rows : AskedAll z o es s o.rows first (length es) → AskedAll z o (es ++ e ∷ []) s o.rows first (length (es ++ e ∷ []))
+    rows = asked_lasts z o es e s (length es) (length (es ++ e ∷ [])) w inside idle o.rows first
 
     search : Searching z o es s first l.rebalance → Searching z o (es ++ e ∷ []) s first l.rebalance
     search = searching_lasts z o es e s first l.rebalance w (λ u found op f g c. idle u found SeekFirst op tt f g c) (λ q u found b op n f g d c. idle u found b op (trying_searches s q b op d) f g c)
@@ -126,14 +118,6 @@ asks_epoch (Del key) k = refl
 asks_epoch (Get key) k = absurd k
 asks_epoch (Scan from upto) k = absurd k
 
--- an entry that is this put's is not another one
-not_own : (own w : ℕ) (x : Option Pend) → pend_of w ≡ x → HasCellOfOwn own x → IsNotOwn own w → ⊥
-not_own own w (Some pend.Idle) e h n = h
-not_own own w (Some (pend.Pending cell)) e h n = n.pending (e ∙ ap (λ c. Some (pend.Pending c)) h)
-not_own own w (Some (pend.Stamped cell version)) e h n = n.stamped version (e ∙ ap (λ c. Some (pend.Stamped c version)) h)
-not_own own w (Some pend.Frozen) e h n = h
-not_own own w None e h n = h
-
 -- a state that is not free is not the word of a free one
 not_free : (w : ℕ) (x : Option State) → state_of w ≡ x → x ≢ Some Free → w ≢ state_word Free
 not_free w x e n f = n (sym e ∙ ap state_of f ∙ state_of-Free)
@@ -150,7 +134,7 @@ IsOffSearch _ = Unit {0}
 
 -- One more event, of a seat that makes this call and knows l.
 
-module _ (z : Sizes) (o : Opening) (es : List Event) (e : Event) (r r' : Run) (l l' : Local) (a : Activity) (h : Happens z r r' e.seat (offered r.world.rows e.choice) l l' a) (i : Inv z r) (unfrozen : RebalancesNone z → IsUnfrozen z r.world) (led : world z o es ≡ r.world) (rows : r.world.rows ≡ o.rows) (first : ℕ) (call : Call) (asked : l.call ≡ Some call) (past : first < length es) where
+module _ (z : Sizes) (o : Opening) (es : List Event) (e : Event) (r r' : Run) (l l' : Local) (a : Activity) (h : Happens z r r' e.seat (offered r.world.rows e.choice) l l' a) (i : Inv z r) (led : world z o es ≡ r.world) (rows : r.world.rows ≡ o.rows) (first : ℕ) (call : Call) (asked : l.call ≡ Some call) (past : first < length es) where
   -- the words, and the choice
   abbrev v : Words
   v = word z r.world
@@ -182,33 +166,6 @@ module _ (z : Sizes) (o : Opening) (es : List Event) (e : Event) (r r' : Run) (l
 
   spent_here : (b : Activity) (op : Operation) → a ≡ b → (transition z b e.seat (offered r.world.rows e.choice) l).operation ≡ op → IsAsking call b op → SPENT ≤ word z r.world op.name → IsSpentBy z o (es ++ e ∷ []) call e.seat first (length (es ++ e ∷ []))
   spent_here b op is f asks w = record { at = length es; after = past; before = longer; activity = b; op = op; asks = asks; found = word z r.world op.name; acts = acts_here b op (word z r.world op.name) is f refl; spent = w }
-
-  none_frozen : z.form ≡ Refused → IsUnfrozen z r.world
-  none_frozen f = unfrozen (λ x. subst IsRebalancing f x)
-
-  room_here : (b : Activity) (op : Operation) → a ≡ b → (transition z b e.seat (offered r.world.rows e.choice) l).operation ≡ op → IsAskingRow l.row b op → op.name ≡ name.Count l.row → has_room z (count_of (word z r.world (name.Count l.row))) ≡ false → z.form ≡ Refused → WhyNoRows z o (es ++ e ∷ []) e.seat first (length (es ++ e ∷ []))
-  room_here b op is f asks n g c = inl (
-    c,
-    record {
-      at = length es;
-      after = past;
-      before = longer;
-      row = l.row;
-      activity = b;
-      op = op;
-      asks = asks;
-      found = word z r.world (name.Count l.row);
-      acts = acts_here b op (word z r.world (name.Count l.row)) is f (ap (word z r.world) n);
-      given = (none_frozen c).full l.row (i.shape.sane.locals e.seat l h.knows).below.row g;
-    },
-  )
-
-  -- no entry refuses a put where no row is frozen
-  no_frozen_entry : {A : Type 0} → a ≡ Announce → word z r.world (name.Pend l.row e.seat) ≢ pend_word pend.Idle → z.form ≡ Refused → A
-  no_frozen_entry is n c = absurd (n (sym (pend_word_of _ pend.Idle ((none_frozen c).announces e.seat l h.knows (h.activity ∙ is)))))
-
-  no_other_entry : {A : Type 0} → a ≡ Stamp → IsNotOwn l.cell (word z r.world (name.Pend l.row e.seat)) → z.form ≡ Refused → A
-  no_other_entry is n c = absurd (not_own l.cell (word z r.world (name.Pend l.row e.seat)) (pend_of (word z r.world (name.Pend l.row e.seat))) refl ((none_frozen c).stamps e.seat l h.knows (h.activity ∙ is)) n)
 
   -- What follows without an event of its own.
 
@@ -267,10 +224,10 @@ module _ (z : Sizes) (o : Opening) (es : List Event) (e : Event) (r r' : Run) (l
   built : (b : Activity) (k : Local) → Building z v choice l b k → IsOffSearch b → Then k
   built b k (first_is_free q c f) x = absurd x
   built b k (first_is_taken q n next c f t) x = absurd x
-  built b k (first_is_retired q m c f y) x = absurd x
+  built b k (first_is_retired q m c f) x = absurd x
   built b k (sought_is_free f) x = absurd x
   built b k (sought_is_taken n next f t) x = absurd x
-  built b k (sought_is_retired m f y) x = absurd x
+  built b k (sought_is_retired m f) x = absurd x
   built b k (pass_is_old j epoch n next f w t) x = absurd x
   built b k (pass_is_young j next f t) x = absurd x
   built b k frees_row x = absurd x
@@ -291,7 +248,7 @@ module _ (z : Sizes) (o : Opening) (es : List Event) (e : Event) (r r' : Run) (l
   built b k _ x = tt
 
   by_arrow : (b : Activity) (k : Local) → a ≡ b → Arrow z v e.seat choice l b k → IsOffSearch b → Then k
-  by_arrow b k is (builds c next y n t) x = built c next t x
+  by_arrow b k is (builds c next y t) x = built c next t x
   by_arrow b k is (is_spent w) x = spent_here ScanClock _ is refl (asks_scan call (subst IsScanCall asked (kind_here ScanClock is))) w
   by_arrow b k is (clock_is_spent w) x = spent_here BalClock _ is refl (asks_clock call (subst IsPutCall asked (kind_here BalClock is))) w
   by_arrow b k is (epoch_is_spent w) x = spent_here BalEpoch _ is refl (asks_epoch call (subst IsPutCall asked (kind_here BalEpoch is))) w
@@ -306,10 +263,6 @@ module _ (z : Sizes) (o : Opening) (es : List Event) (e : Event) (r r' : Run) (l
   by_arrow b k is (rest_passed next f n) x = next_rest _ k n
   by_arrow b k is (gathers_rest next n) x = next_rest _ k n
   by_arrow b k is (clears_scan answer) x = cleared answer choice _ (kind_here (ClearScan answer) is).1
-  by_arrow b k is (finds_none n f) x = room_here PutCount _ is refl refl refl n f
-  by_arrow b k is (takes_none n f) x = room_here PutAdd _ is refl refl refl n f
-  by_arrow b k is (is_refused n f) x = no_frozen_entry is n f
-  by_arrow b k is (is_not_own n f) x = no_other_entry is n f
   by_arrow b k is (takes_no_more f n) x = record { sought = refl; asked = refl; taken = refl; some = some_start z.built _ }
   by_arrow b k is (keeps_no_more n) x = record { sought = refl; asked = refl; taken = refl; some = some_start z.built _ }
   by_arrow b k is _ x = tt
@@ -334,9 +287,9 @@ module _ (z : Sizes) (o : Opening) (es : List Event) (e : Event) (r r' : Run) (l
   abbrev IsTakenNow : ℕ → Type 0
   IsTakenNow q = (begun : ℕ) → begun ≤ length es → FoundTaken z o (es ++ e ∷ []) e.seat begun (length (es ++ e ∷ [])) q
 
-  -- where rows are used again, one that is found in this state, and is retired, may be named in a pass that is on
+  -- one that is found in this state, and is retired, may be named in a pass that is on
   abbrev IsPassedNow : Option State → Type 0
-  IsPassedNow x = IsReusing z.form → (number : ℕ) → x ≡ Some (Retired number) → MayBeNamed z o (es ++ e ∷ []) e.seat (length es) (length (es ++ e ∷ [])) number l
+  IsPassedNow x = (number : ℕ) → x ≡ Some (Retired number) → MayBeNamed z o (es ++ e ∷ []) e.seat (length es) (length (es ++ e ∷ [])) number l
 
   taken_here : (b : Activity) (op : Operation) (q : ℕ) → a ≡ b → (transition z b e.seat (offered r.world.rows e.choice) l).operation ≡ op → IsTrying e.seat q b op → op.name ≡ name.State q → word z r.world (name.State q) ≢ state_word Free → IsPassedNow (state_of (word z r.world (name.State q))) → IsTakenNow q
   taken_here b op q is f tries n free passed begun w = record { at = length es; after = w; before = longer; activity = b; op = op; tries = tries; found = word z r.world (name.State q); acts = acts_here b op (word z r.world (name.State q)) is f (ap (word z r.world) n); taken = free; passed = passed; final = λ u x c y g d t k. omega (arith, g, d, length-append es (e ∷ [])) }
@@ -346,7 +299,7 @@ module _ (z : Sizes) (o : Opening) (es : List Event) (e : Event) (r r' : Run) (l
   asks_here b q number is f tries retired begun w = record { at = length es; after = w; before = longer; activity = b; tries = tries; found = word z r.world (name.State q); retired = retired; acts = acts_here b (asking q) (word z r.world (name.State q)) is f refl; final = λ u x c y g d t k. omega (arith, g, d, length-append es (e ∷ [])) }
 
   -- rows that are given back for want of others
-  gives_up : (k : Local) → WhyNoRows z o (es ++ e ∷ []) e.seat first (length (es ++ e ∷ [])) → Then (give_back Refuse k).local
+  gives_up : (k : Local) → AskedAll z o (es ++ e ∷ []) e.seat o.rows first (length (es ++ e ∷ [])) → Then (give_back Refuse k).local
   gives_up k p = met (nat_lt 0 (length k.rebalance.taken))
     where
       met : (b : Bool) → Then (let x : Outcome = if b then to GiveBack (record k { rebalance = record k.rebalance { at = 0; afterwards = Refuse } }) else given_back Refuse k in x).local
@@ -354,34 +307,26 @@ module _ (z : Sizes) (o : Opening) (es : List Event) (e : Event) (r r' : Run) (l
       met false = p
 
   -- the next row is asked, or all were
-  goes_on : (k : Local) → IsRebalancing z.form → (p : Searching z o (es ++ e ∷ []) e.seat first k.rebalance) → IsIn k.rebalance.taken k.rebalance.sought ⊎ FoundTaken z o (es ++ e ∷ []) e.seat p.begun (length (es ++ e ∷ [])) k.rebalance.sought → Then (to_seek o.rows k).local
-  goes_on k c p here = met (nat_lt k.rebalance.asked o.rows) refl
+  goes_on : (k : Local) → (p : Searching z o (es ++ e ∷ []) e.seat first k.rebalance) → IsIn k.rebalance.taken k.rebalance.sought ⊎ FoundTaken z o (es ++ e ∷ []) e.seat p.begun (length (es ++ e ∷ [])) k.rebalance.sought → Then (to_seek o.rows k).local
+  goes_on k p here = met (nat_lt k.rebalance.asked o.rows) refl
     where
       met : (b : Bool) → nat_lt k.rebalance.asked o.rows ≡ b → Then (let x : Outcome = if b then to Seek (record k { rebalance = record k.rebalance { sought = row_behind o.rows k.rebalance.sought; asked = k.rebalance.asked + 1 } }) else give_back Refuse k in x).local
       met true y = let more : k.rebalance.asked < o.rows = grind (arith, nat_tests) in next_row z o (es ++ e ∷ []) e.seat first k.rebalance more p here
-      met false y = let all : o.rows ≤ k.rebalance.asked = grind (arith, nat_tests) in gives_up k (inr (c, asked_all z o (es ++ e ∷ []) e.seat first k.rebalance all p here))
+      met false y = let all : o.rows ≤ k.rebalance.asked = grind (arith, nat_tests) in gives_up k (asked_all z o (es ++ e ∷ []) e.seat first k.rebalance all p here)
 
   -- the row was found taken now
-  goes_past : (k : Local) → IsRebalancing z.form → Searching z o (es ++ e ∷ []) e.seat first k.rebalance → IsTakenNow k.rebalance.sought → Then (to_seek o.rows k).local
-  goes_past k c p t = goes_on k c p (inr (t p.begun (omega (arith, p.before, length-append es (e ∷ [])))))
+  goes_past : (k : Local) → Searching z o (es ++ e ∷ []) e.seat first k.rebalance → IsTakenNow k.rebalance.sought → Then (to_seek o.rows k).local
+  goes_past k p t = goes_on k p (inr (t p.begun (omega (arith, p.before, length-append es (e ∷ [])))))
 
   -- a row whose state is met
-  meets : (k : Local) (x : Option State) → IsRebalancing z.form → Searching z o (es ++ e ∷ []) e.seat first k.rebalance → (x ≢ Some Free → IsPassedNow x → IsTakenNow k.rebalance.sought) → ((number : ℕ) → x ≡ Some (Retired number) → (begun : ℕ) → begun ≤ length es → AsksPasses z o (es ++ e ∷ []) e.seat begun k.rebalance.sought number) → Then (seek_met z.form o.rows x k).local
-  meets k (Some Free) c p t asks = p
-  meets k (Some (Infant seat)) c p t asks = goes_past k c p (t (λ f. let y : Some (Infant seat) ≡ Some Free = f in cc) (λ u n f. let y : Some (Infant seat) ≡ Some (Retired n) = f in absurd (cc)))
-  meets k (Some Normal) c p t asks = goes_past k c p (t (λ f. let y : Some Normal ≡ Some Free = f in cc) (λ u n f. let y : Some Normal ≡ Some (Retired n) = f in absurd (cc)))
-  meets k (Some (Leader count)) c p t asks = goes_past k c p (t (λ f. let y : Some (Leader count) ≡ Some Free = f in cc) (λ u n f. let y : Some (Leader count) ≡ Some (Retired n) = f in absurd (cc)))
-  meets k (Some (Follower leader)) c p t asks = goes_past k c p (t (λ f. let y : Some (Follower leader) ≡ Some Free = f in cc) (λ u n f. let y : Some (Follower leader) ≡ Some (Retired n) = f in absurd (cc)))
-  meets k (Some (Retired number)) c p t asks = retired z.form refl
-    where
-      looks_at : Then (record (numbered number k) { activity = SeekPass 0 })
-      looks_at = (searching_number z o (es ++ e ∷ []) e.seat first number k.rebalance p, asks number refl p.begun (omega (arith, p.before, length-append es (e ∷ []))))
-
-      retired : (f : Form) → z.form ≡ f → Then (retired_at f o.rows number k).local
-      retired Refused y = looks_at
-      retired Reused y = looks_at
-      retired Alone y = goes_past k c p (t (λ f. let y : Some (Retired number) ≡ Some Free = f in cc) (λ u n f. absurd (subst IsReusing y u)))
-  meets k None c p t asks = goes_past k c p (t (λ f. let y : None ≡ Some Free = f in cc) (λ u n f. let y : None ≡ Some (Retired n) = f in absurd (cc)))
+  meets : (k : Local) (x : Option State) → Searching z o (es ++ e ∷ []) e.seat first k.rebalance → (x ≢ Some Free → IsPassedNow x → IsTakenNow k.rebalance.sought) → ((number : ℕ) → x ≡ Some (Retired number) → (begun : ℕ) → begun ≤ length es → AsksPasses z o (es ++ e ∷ []) e.seat begun k.rebalance.sought number) → Then (seek_met o.rows x k).local
+  meets k (Some Free) p t asks = p
+  meets k (Some (Infant seat)) p t asks = goes_past k p (t (λ f. let y : Some (Infant seat) ≡ Some Free = f in cc) (λ n f. let y : Some (Infant seat) ≡ Some (Retired n) = f in absurd (cc)))
+  meets k (Some Normal) p t asks = goes_past k p (t (λ f. let y : Some Normal ≡ Some Free = f in cc) (λ n f. let y : Some Normal ≡ Some (Retired n) = f in absurd (cc)))
+  meets k (Some (Leader count)) p t asks = goes_past k p (t (λ f. let y : Some (Leader count) ≡ Some Free = f in cc) (λ n f. let y : Some (Leader count) ≡ Some (Retired n) = f in absurd (cc)))
+  meets k (Some (Follower leader)) p t asks = goes_past k p (t (λ f. let y : Some (Follower leader) ≡ Some Free = f in cc) (λ n f. let y : Some (Follower leader) ≡ Some (Retired n) = f in absurd (cc)))
+  meets k (Some (Retired number)) p t asks = (searching_number z o (es ++ e ∷ []) e.seat first number k.rebalance p, asks number refl p.begun (omega (arith, p.before, length-append es (e ∷ []))))
+  meets k None p t asks = goes_past k p (t (λ f. let y : None ≡ Some Free = f in cc) (λ n f. let y : None ≡ Some (Retired n) = f in absurd (cc)))
 
   -- what the seat knows next, by its line
   next_is : (b : Activity) → a ≡ b → l' ≡ (followed o.rows (transition z b e.seat (offered r.world.rows e.choice) l) (found_at z (word z r.world) b e.seat (offered r.world.rows e.choice) l)).local
@@ -389,9 +334,6 @@ module _ (z : Sizes) (o : Opening) (es : List Event) (e : Event) (r r' : Run) (l
 
   then_so : (k : Local) → l' ≡ k → Then k → Then l'
   then_so k f p = subst Then (sym f) p
-
-  rebalancing : (b : Activity) → a ≡ b → IsReached z b
-  rebalancing b is = subst (IsReached z) is h.reached
 
   -- a search begins at this row
   begins_search : (q : ℕ) → a ≡ SeekFirst → q < o.rows → (transition z SeekFirst e.seat (offered r.world.rows e.choice) l).operation ≡ asking q → IsBeforeSearch l.rebalance → Searching z o (es ++ e ∷ []) e.seat first (seeking q l).rebalance
@@ -412,10 +354,9 @@ module _ (z : Sizes) (o : Opening) (es : List Event) (e : Event) (r r' : Run) (l
     passed = λ d x y. none_passed q d y;
   }
 
-  first_row : (q : ℕ) → a ≡ SeekFirst → q < o.rows → (transition z SeekFirst e.seat (offered r.world.rows e.choice) l).operation ≡ asking q → l' ≡ (seek_met z.form o.rows (state_of (word z r.world (name.State q))) (seeking q l)).local → IsBeforeSearch l.rebalance → Then l'
+  first_row : (q : ℕ) → a ≡ SeekFirst → q < o.rows → (transition z SeekFirst e.seat (offered r.world.rows e.choice) l).operation ≡ asking q → l' ≡ (seek_met o.rows (state_of (word z r.world (name.State q))) (seeking q l)).local → IsBeforeSearch l.rebalance → Then l'
   first_row q is w f n p =
-      let c : IsRebalancing z.form = rebalancing SeekFirst is in
-      then_so _ n (meets (seeking q l) (state_of (word z r.world (name.State q))) c (begins_search q is w f p) (λ x. taken_here SeekFirst (asking q) q is f refl refl (not_free _ _ refl x)) (λ number x. asks_here SeekFirst q number is f refl x))
+      then_so _ n (meets (seeking q l) (state_of (word z r.world (name.State q))) (begins_search q is w f p) (λ x. taken_here SeekFirst (asking q) q is f refl refl (not_free _ _ refl x)) (λ number x. asks_here SeekFirst q number is f refl x))
 
   at_first : a ≡ SeekFirst → IsBeforeSearch l.rebalance → Then l'
   at_first is p = chosen (offered r.world.rows e.choice) refl h.offers
@@ -423,11 +364,11 @@ module _ (z : Sizes) (o : Opening) (es : List Event) (e : Event) (r r' : Run) (l
       some_rows : l.rebalance.sought < o.rows
       some_rows = omega (arith, p.sought, rows, i.shape.sane.sized.some_rows)
 
-      line : (d : Choice) → offered r.world.rows e.choice ≡ d → (transition z SeekFirst e.seat (offered r.world.rows e.choice) l).operation ≡ (seek_first_transition z.form d l).operation
-      line d c = ap (λ x. (seek_first_transition z.form x l).operation) c
+      line : (d : Choice) → offered r.world.rows e.choice ≡ d → (transition z SeekFirst e.seat (offered r.world.rows e.choice) l).operation ≡ (seek_first_transition d l).operation
+      line d c = ap (λ x. (seek_first_transition x l).operation) c
 
-      next : (d : Choice) → offered r.world.rows e.choice ≡ d → l' ≡ (followed o.rows (seek_first_transition z.form d l) (word z r.world (seek_first_transition z.form d l).operation.name)).local
-      next d c = next_is SeekFirst is ∙ ap (λ x. (followed o.rows (seek_first_transition z.form x l) (word z r.world (seek_first_transition z.form x l).operation.name)).local) c
+      next : (d : Choice) → offered r.world.rows e.choice ≡ d → l' ≡ (followed o.rows (seek_first_transition d l) (word z r.world (seek_first_transition d l).operation.name)).local
+      next d c = next_is SeekFirst is ∙ ap (λ x. (followed o.rows (seek_first_transition x l) (word z r.world (seek_first_transition x l).operation.name)).local) c
 
       chosen : (d : Choice) → offered r.world.rows e.choice ≡ d → IsOffered r.world.rows (offered r.world.rows e.choice) → Then l'
       chosen (Begin x) c y = first_row l.rebalance.sought is some_rows (line (Begin x) c) (next (Begin x) c) p
@@ -463,8 +404,7 @@ module _ (z : Sizes) (o : Opening) (es : List Event) (e : Event) (r r' : Run) (l
 
   at_seek : a ≡ Seek → Searching z o es e.seat first l.rebalance → Then l'
   at_seek is p =
-      let c : IsRebalancing z.form = rebalancing Seek is in
-      then_so _ (next_is Seek is) (meets (seeking l.rebalance.sought l) (state_of (word z r.world (name.State l.rebalance.sought))) c (still_asking is p)
+      then_so _ (next_is Seek is) (meets (seeking l.rebalance.sought l) (state_of (word z r.world (name.State l.rebalance.sought))) (still_asking is p)
       (λ x. taken_here Seek (asking l.rebalance.sought) l.rebalance.sought is refl refl refl (not_free _ _ refl x)) (λ number x. asks_here Seek l.rebalance.sought number is refl refl x))
 
   -- The passes.
@@ -485,9 +425,6 @@ module _ (z : Sizes) (o : Opening) (es : List Event) (e : Event) (r r' : Run) (l
   at_pass : (j : ℕ) → a ≡ SeekPass j → (w : Searching z o es e.seat first l.rebalance) → AsksPasses z o es e.seat w.begun l.rebalance.sought l.rebalance.number → Then l'
   at_pass j is w q = then_so _ (next_is (SeekPass j) is) (passed (pass_of_word (word z r.world (name.Pass j))) refl)
     where
-      c : IsRebalancing z.form
-      c = reusing_rebalances z.form (rebalancing (SeekPass j) is)
-
       tries_none : (d : ℕ) → d ≢ l.rebalance.sought → IsTrying e.seat d (SeekPass j) (asking_pass j) → ⊥
       tries_none d n f = f
 
@@ -511,7 +448,7 @@ module _ (z : Sizes) (o : Opening) (es : List Event) (e : Event) (r r' : Run) (l
       found m = subst (λ x. FoundTaken z o (es ++ e ∷ []) e.seat x (length (es ++ e ∷ [])) l.rebalance.sought) (sym begun) (asks_taken z o es e e.seat w.begun l.rebalance.sought l.rebalance.number idle q m)
 
       met : (epoch : ℕ) → pass_of_word (word z r.world (name.Pass j)) ≡ Some epoch → (b : Bool) → nat_le epoch l.rebalance.number ≡ b → Then (let x : Outcome = if b then to_seek o.rows l else to_pass z (j + 1) l in x).local
-      met epoch f true y = let old : epoch ≤ l.rebalance.number = grind (arith, nat_tests) in goes_on l c search (inr (found (meets_pass j epoch is f q.at q.before l.rebalance.number old)))
+      met epoch f true y = let old : epoch ≤ l.rebalance.number = grind (arith, nat_tests) in goes_on l search (inr (found (meets_pass j epoch is f q.at q.before l.rebalance.number old)))
       met epoch f false y = looks_on (nat_lt (j + 1) z.seats)
 
       passed : (x : Option ℕ) → pass_of_word (word z r.world (name.Pass j)) ≡ x → Then (pass_met z j o.rows x l).local
@@ -560,32 +497,29 @@ module _ (z : Sizes) (o : Opening) (es : List Event) (e : Event) (r r' : Run) (l
   at_take : a ≡ TakeRow → Searching z o es e.seat first l.rebalance → Then l'
   at_take is p = then_so _ (next_is TakeRow is) (met (word z r.world (name.State l.rebalance.sought) == state_word Free) refl)
     where
-      c : IsRebalancing z.form
-      c = rebalancing TakeRow is
-
       -- a row that is found retired there went in the pass of the seat
       retaken : IsPassedNow (state_of (word z r.world (name.State l.rebalance.sought)))
-      retaken u n f = inl (((i.shape.passes e.seat l h.knows).epoch (subst IsBusy (sym (h.activity ∙ is)) tt)).0, retakes z r i.shape e.seat n l h.knows (h.activity ∙ is) (ap state_met f))
+      retaken n f = inl (((i.shape.passes e.seat l h.knows).epoch (subst IsBusy (sym (h.activity ∙ is)) tt)).0, retakes z r i.shape e.seat n l h.knows (h.activity ∙ is) (ap state_met f))
 
       more : word z r.world (name.State l.rebalance.sought) ≡ state_word Free → (b : Bool) → nat_lt (length (with_row l).rebalance.taken) (length l.rebalance.starts) ≡ b →
           Then (let x : Outcome = if b then to_seek o.rows (with_row l) else to WriteCount (at_infant 0 (with_row l)) in x).local
-      more won true y = let w : length (with_row l).rebalance.taken < length l.rebalance.starts = grind (arith, nat_tests) in goes_on (with_row l) c (with_taken p is won w) (inl (in_last l.rebalance.taken l.rebalance.sought))
+      more won true y = let w : length (with_row l).rebalance.taken < length l.rebalance.starts = grind (arith, nat_tests) in goes_on (with_row l) (with_taken p is won w) (inl (in_last l.rebalance.taken l.rebalance.sought))
       more won false y = tt
 
       met : (b : Bool) → (word z r.world (name.State l.rebalance.sought) == state_word Free) ≡ b → Then (take_row o.rows b l).local
       met true y = let won : word z r.world (name.State l.rebalance.sought) ≡ state_word Free = grind (arith, nat_tests) in more won (nat_lt (length (with_row l).rebalance.taken) (length l.rebalance.starts)) refl
       met false y =
           let lost : word z r.world (name.State l.rebalance.sought) ≢ state_word Free = grind (arith, nat_tests) in
-          goes_past l c (still_taking is p) (taken_here TakeRow (taking e.seat l.rebalance.sought) l.rebalance.sought is refl refl refl lost retaken)
+          goes_past l (still_taking is p) (taken_here TakeRow (taking e.seat l.rebalance.sought) l.rebalance.sought is refl refl refl lost retaken)
 
-  at_give_back : a ≡ GiveBack → (l.rebalance.afterwards ≡ Refuse → WhyNoRows z o es e.seat first (length es)) → Then l'
+  at_give_back : a ≡ GiveBack → (l.rebalance.afterwards ≡ Refuse → AskedAll z o es e.seat o.rows first (length es)) → Then l'
   at_give_back is p = then_so _ (next_is GiveBack is) (met (has_more l))
     where
-      later : l.rebalance.afterwards ≡ Refuse → WhyNoRows z o (es ++ e ∷ []) e.seat first (length (es ++ e ∷ []))
+      later : l.rebalance.afterwards ≡ Refuse → AskedAll z o (es ++ e ∷ []) e.seat o.rows first (length (es ++ e ∷ []))
       later x =
           let w : length es ≤ length (es ++ e ∷ []) = omega (arith, longer) in
           let inside : length es ≤ length es = omega arith in
-          why_lasts z o es e e.seat (length es) (length (es ++ e ∷ [])) w inside (λ u found b op y f g t. subst IsSearching (sym (acts_same u found b op f g t).0 ∙ is) y) first (p x)
+          asked_lasts z o es e e.seat (length es) (length (es ++ e ∷ [])) w inside (λ u found b op y f g t. subst IsSearching (sym (acts_same u found b op f g t).0 ∙ is) y) o.rows first (p x)
 
       given : (f : Afterwards) → l.rebalance.afterwards ≡ f → Then (given_back f l).local
       given TryAgain x = tt

@@ -19,7 +19,7 @@ use Rattle.kw_world.specs.declared.operation.Operation.{Operation}
 use Rattle.kw_world.specs.Answers.{reply_of}
 use Rattle.kw_world.specs.Opening.{IsOpening}
 use Rattle.kw_world.specs.Operation.{told_by}
-use Rattle.kw_world.specs.Sizes.{Refused, IsRebalancing, Sizes}
+use Rattle.kw_world.specs.Sizes.{Sizes}
 use Rattle.kw_world.specs.Step.{word, step, Stepped, is_skipped, followed}
 use Rattle.kw_world.specs.Table.{transition}
 use Rattle.kw_world.specs.Transition.{Transition}
@@ -41,15 +41,13 @@ use Rattle.kw_core.proofs.Runs.{goes_on-moved, history-nil, history-snoc, histor
 use Rattle.kw_reads.specs.Inv.{Inv}
 use Rattle.kw_reads.proofs.Keeps.{inv_holds}
 use Rattle.kw_shape.proofs.NextCalls.{arrow_call}
-use Rattle.kw_laws.specs.Causes.{IsSpentBy, HasNoRows, FoundNoRoom, AskedAll, HaveCauses}
+use Rattle.kw_laws.specs.Causes.{IsSpentBy, AskedAll, HaveCauses, AsksWhereItStands}
 use Rattle.kw_laws.specs.Mirror.{Occurs, Acts, BeginsCall, EndsCall, NoEnd}
-use Rattle.kw_laws.specs.Unfrozen.{RebalancesNone, IsUnfrozen}
 use Rattle.kw_laws.proofs.Along.{holds_along}
 use Rattle.kw_laws.proofs.CausesArrows.{Since, since_lasts, since_own}
-use Rattle.kw_laws.proofs.CausesLast.{WhyNoRows, IsSearching, spent_lasts, why_lasts}
+use Rattle.kw_laws.proofs.CausesLast.{IsSearching, asked_lasts, spent_lasts}
 use Rattle.kw_laws.proofs.MirrorKeeps.{mirrors_hold}
 use Rattle.kw_laws.proofs.Occurs.{ends_lasts, ends_was, occurs_now, occurs_was, occurs_within}
-use Rattle.kw_laws.proofs.Unfrozen.{unfrozen_holds}
 use Rattle.kw_laws.proofs.Worlds.{world-rows}
 
 -- What is kept.
@@ -67,7 +65,7 @@ AllMake z o es = (x t : ℕ) (call : Call) (l : Local) → BeginsCall z o es x t
 -- the cause of a call that ended with this reply
 abbrev pub CauseOf : Reply → Sizes → Opening → List Event → Call → ℕ → ℕ → ℕ → Type 0
 CauseOf reply.Spent z o es call t first last = IsSpentBy z o es call t first last
-CauseOf reply.NoRows z o es call t first last = WhyNoRows z o es t first last
+CauseOf reply.NoRows z o es call t first last = AskedAll z o es t o.rows first last
 CauseOf _ z o es call t first last = Unit {0}
 
 -- each call that has ended has it
@@ -98,7 +96,7 @@ after_busy Idle x = absurd x
 after_busy _ x = tt
 
 arrow_busy : (z : Sizes) (v : Words) (s : ℕ) (choice : Choice) (l : Local) (a : Activity) (k : Local) → Arrow z v s choice l a k → IsUnderway a → IsBusy k.activity
-arrow_busy z v s choice l a k (builds b next y o t) u = after_busy k.activity (built_next z v choice l a k t)
+arrow_busy z v s choice l a k (builds b next y t) u = after_busy k.activity (built_next z v choice l a k t)
 arrow_busy z v s choice l a k (begins call e b) u = absurd u
 arrow_busy z v s choice l a k (leaves answer) u = absurd u
 arrow_busy z v s choice l a k (meets_stamped j c version next f n) u = next_look_busy z _ next n
@@ -115,7 +113,7 @@ arrow_busy z v s choice l a k _ u = tt
 
 -- One more event.
 
-module _ (z : Sizes) (o : Opening) (es : List Event) (e : Event) (r r' : Run) (l l' : Local) (a : Activity) (h : Happens z r r' e.seat (offered r.world.rows e.choice) l l' a) (moves : is_skipped l.activity e.choice ≡ false) (i : Inv z r) (unfrozen : RebalancesNone z → IsUnfrozen z r.world) (led : world z o es ≡ r.world) (led' : world z o (es ++ e ∷ []) ≡ r'.world) (make : AllMake z o es) (caused : AllCaused z o es) where
+module _ (z : Sizes) (o : Opening) (es : List Event) (e : Event) (r r' : Run) (l l' : Local) (a : Activity) (h : Happens z r r' e.seat (offered r.world.rows e.choice) l l' a) (moves : is_skipped l.activity e.choice ≡ false) (i : Inv z r) (led : world z o es ≡ r.world) (led' : world z o (es ++ e ∷ []) ≡ r'.world) (make : AllMake z o es) (caused : AllCaused z o es) where
   longer : length es < length (es ++ e ∷ [])
   longer = omega (arith, length-append es (e ∷ []))
 
@@ -171,7 +169,7 @@ module _ (z : Sizes) (o : Opening) (es : List Event) (e : Event) (r r' : Run) (l
       record {
         busy = arrow_busy z (word z r.world) e.seat (offered r.world.rows e.choice) l a l' h.arrow u;
         asked = (arrow_call z (word z r.world) e.seat (offered r.world.rows e.choice) l a l' h.arrow u).0 ∙ k.asked;
-        since = since_own z o es e r r' l l' a h i unfrozen led rows x call k.asked inside (subst (λ c. Since c z o es e.seat x call l) h.activity k.since);
+        since = since_own z o es e r r' l l' a h i led rows x call k.asked inside (subst (λ c. Since c z o es e.seat x call l) h.activity k.since);
       }
 
   makes_other : (t : ℕ) (m : Local) → t ≢ e.seat → slice_get r.world.locals t ≡ Some m → GoesOn t m
@@ -211,7 +209,7 @@ module _ (z : Sizes) (o : Opening) (es : List Event) (e : Event) (r r' : Run) (l
 
   cause_lasts : (x y t : ℕ) (call : Call) (answer : Reply) → y ≤ length es → CauseOf answer z o es call t x y → CauseOf answer z o (es ++ e ∷ []) call t x y
   cause_lasts x y t call reply.Spent w c = let same : y ≤ y = omega arith in spent_lasts z o es e t y y same call x c
-  cause_lasts x y t call reply.NoRows w c = let same : y ≤ y = omega arith in why_lasts z o es e t y y same w (λ u found a op i f g d. omega (arith, f, g)) x c
+  cause_lasts x y t call reply.NoRows w c = let same : y ≤ y = omega arith in asked_lasts z o es e t y y same w (λ u found a op i f g d. omega (arith, f, g)) o.rows x c
   cause_lasts x y t call _ w c = tt
 
   cause_now : (x : ℕ) (call : Call) (answer : Answer) (pairs : List (ℕ × ℕ)) → Since (Leave answer) z o es e.seat x call l → CauseOf (reply_of answer pairs) z o es call e.seat x (length es)
@@ -253,13 +251,12 @@ causes_on z o opening es e r may k =
     let noted : goes_on z r e ≡ noted_by z r e c.local = goes_on-moved z r e c.local c.knows c.moves in
     let next : history z o (es ++ e ∷ []) ≡ goes_on z r e = history-snoc z o es e ∙ ap (λ x. goes_on z x e) k.led in
     let led' : world z o (es ++ e ∷ []) ≡ (noted_by z r e c.local).world = sym (history-world z o (es ++ e ∷ [])) ∙ ap (λ (x : Run). x.world) (next ∙ noted) in
-    let h = happens z r e c.local i.shape.sane (i.shape.kinds e.seat c.local c.knows).reached c.begins c.knows c.moves in
-    let unfrozen : RebalancesNone z → IsUnfrozen z r.world = λ n. subst (λ (x : Run). IsUnfrozen z x.world) k.led (unfrozen_holds z n o opening es k.valid) in
+    let h = happens z r e c.local i.shape.sane c.begins c.knows c.moves in
     record {
       valid = valid-snoc z o es e k.valid (subst (λ w. may_step o w e ≡ true) (sym led) may);
       led = next;
-      make = makes_on z o es e r (noted_by z r e c.local) c.local _ c.local.activity h c.moves i unfrozen led led' k.make k.caused;
-      caused = caused_on z o es e r (noted_by z r e c.local) c.local _ c.local.activity h c.moves i unfrozen led led' k.make k.caused;
+      make = makes_on z o es e r (noted_by z r e c.local) c.local _ c.local.activity h c.moves i led led' k.make k.caused;
+      caused = caused_on z o es e r (noted_by z r e c.local) c.local _ c.local.activity h c.moves i led led' k.make k.caused;
     }
 
 -- no event
@@ -280,23 +277,11 @@ causes_along z o opening = holds_along z o (Causes z o) (causes_on z o opening) 
 
 -- The record.
 
--- a form refuses a put at once, or it rebalances the row, and none does both
-refused_why : (z : Sizes) (o : Opening) (es : List Event) (s first last : ℕ) → WhyNoRows z o es s first last → HasNoRows z o es s first last
-refused_why z o es s first last c = record { refused = refused c; replaced = replaced c }
-  where
-    refused : WhyNoRows z o es s first last → z.form ≡ Refused → FoundNoRoom z o es s first last
-    refused (inl x) e = x.1
-    refused (inr x) e = absurd (subst IsRebalancing e x.0)
-
-    replaced : WhyNoRows z o es s first last → IsRebalancing z.form → AskedAll z o es s o.rows first last
-    replaced (inl x) e = absurd (subst IsRebalancing x.0 e)
-    replaced (inr x) e = x.1
-
 -- each call of the record that was refused has its cause
 pub causes_hold : (z : Sizes) (o : Opening) → IsOpening z o → (es : List Event) → is_valid z o es ≡ true → HaveCauses z o es (history z o es).history
 causes_hold z o opening es v = record {
   spent = λ x e w f g. cause x e w f reply.Spent g;
-  no_rows = λ x e w f g. refused_why z o es _ _ _ (cause x e w f reply.NoRows g);
+  no_rows = λ x e w f g. cause x e w f reply.NoRows g;
 }
   where
     cause : (x : ℕ) (e : End) → x < length (history z o es).history.calls → (called (history z o es).history x).end ≡ Some e → (answer : Reply) → e.reply ≡ answer →
@@ -305,3 +290,17 @@ causes_hold z o opening es v = record {
         let m = (mirrors_hold z o opening es v).calls x w in
         let first = ((inv_holds z o opening es v).history.laws.ends x e f).0 in
         (causes_along z o opening es v).caused _ _ _ _ answer first m.begins (m.ends_first e f) (subst (λ q. EndsCall z o es e.at (called (history z o es).history x).seat q) g (m.ends e f))
+
+-- a seat that is about to leave for want of rows has its cause already
+pub standing_holds : (z : Sizes) (o : Opening) → IsOpening z o → (es : List Event) → is_valid z o es ≡ true → AsksWhereItStands z o es
+standing_holds z o opening es v t l g is =
+    let r : Run = history z o es in
+    let k : slice_get r.world.locals t ≡ Some l = subst (λ (w : WorldView). slice_get w.locals t ≡ Some l) (sym (history-world z o es)) g in
+    let c = (inv_holds z o opening es v).positions.calling t l k (subst IsBusy (sym is) tt) in
+    let m = (mirrors_hold z o opening es v).calls (r.seats t).call c.within in
+    let first : ℕ = (called r.history (r.seats t).call).first in
+    let call : Call = (called r.history (r.seats t).call).call in
+    let began : BeginsCall z o es first t call = subst (λ q. BeginsCall z o es first q call) c.seat m.begins in
+    let runs : NoEnd z o es t first (length es) = subst (λ q. NoEnd z o es q first (length es)) c.seat (m.runs c.runs) in
+    let made : MakesCall z o es t first call l = (causes_along z o opening es v).make first t call l began runs g in
+    (first, subst (λ b. Since b z o es t first call l) is made.since)

@@ -7,16 +7,12 @@ use Rattle.kw_world.specs.declared.activity.Activity.TheVariants.{SeekFirst, See
 use Rattle.kw_world.specs.declared.event.Event.{Event}
 use Rattle.kw_world.specs.declared.opening.Opening.{Opening}
 use Rattle.kw_world.specs.declared.operation.Operation.{Operation}
-use Rattle.kw_world.specs.Sizes.{Refused, IsRebalancing, Sizes}
+use Rattle.kw_world.specs.Sizes.{Sizes}
 use Rattle.kw_core.specs.Events.{event, world}
 use Rattle.kw_rows.specs.Events.{IsIn}
-use Rattle.kw_laws.specs.Causes.{IsSpentBy, FoundNoRoom, IsTrying, NotTried, MayBeNamed, FoundTaken, TookRow, NoSearch, AskedAll}
+use Rattle.kw_laws.specs.Causes.{IsSpentBy, IsTrying, NotTried, MayBeNamed, FoundTaken, TookRow, NoSearch, AskedAll}
 use Rattle.kw_laws.specs.Mirror.{Occurs, Acts}
 use Rattle.kw_laws.proofs.Occurs.{occurs_lasts, occurs_was}
-
--- why a call is refused for want of rows, in any form
-abbrev pub WhyNoRows : Sizes → Opening → List Event → ℕ → ℕ → ℕ → Type 0
-WhyNoRows z o es s first last = ((z.form ≡ Refused) × FoundNoRoom z o es s first last) ⊎ (IsRebalancing z.form × AskedAll z o es s o.rows first last)
 
 -- a seat at this activity asks for rows
 abbrev pub IsSearching : Activity → Type 0
@@ -52,9 +48,6 @@ module _ (z : Sizes) (o : Opening) (es : List Event) (e : Event) (s last last' :
   pub spent_lasts : (call : Call) (first : ℕ) → IsSpentBy z o es call s first last → IsSpentBy z o (es ++ e ∷ []) call s first last'
   spent_lasts call first t = record { at = t.at; after = t.after; before = omega (arith, w, t.before); activity = t.activity; op = t.op; asks = t.asks; found = t.found; acts = acts_on z o es e t.at s t.activity t.op t.found t.acts; spent = t.spent }
 
-  pub room_lasts : (first : ℕ) → FoundNoRoom z o es s first last → FoundNoRoom z o (es ++ e ∷ []) s first last'
-  room_lasts first t = record { at = t.at; after = t.after; before = omega (arith, w, t.before); row = t.row; activity = t.activity; op = t.op; asks = t.asks; found = t.found; acts = acts_on z o es e t.at s t.activity t.op t.found t.acts; given = t.given }
-
   pub took_lasts : (first q : ℕ) → TookRow z o es s first last q → TookRow z o (es ++ e ∷ []) s first last' q
   took_lasts first q t = record { at = t.at; after = t.after; before = omega (arith, w, t.before); acts = acts_on z o es e t.at s _ _ _ t.acts }
 
@@ -78,7 +71,7 @@ module _ (z : Sizes) (o : Opening) (es : List Event) (e : Event) (s last last' :
     found = t.found;
     acts = acts_on z o es e t.at s t.activity t.op t.found t.acts;
     taken = t.taken;
-    passed = λ u n f. named n (t.passed u n f);
+    passed = λ n f. named n (t.passed n f);
     final = not_tried_lasts inside t.at q untried t.final;
   }
     where
@@ -115,7 +108,3 @@ module _ (z : Sizes) (o : Opening) (es : List Event) (e : Event) (s last last' :
         either : (q : ℕ) → IsIn t.taken q ⊎ FoundTaken z o es s t.begun last q → IsIn t.taken q ⊎ FoundTaken z o (es ++ e ∷ []) s t.begun last' q
         either q (inl x) = inl x
         either q (inr x) = inr (taken_lasts inside t.begun q (λ u found a op f g d c. idle u found a op (trying_searches s q a op d) f g c) x)
-
-    pub why_lasts : (first : ℕ) → WhyNoRows z o es s first last → WhyNoRows z o (es ++ e ∷ []) s first last'
-    why_lasts first (inl x) = inl (x.0, room_lasts first x.1)
-    why_lasts first (inr x) = inr (x.0, asked_lasts o.rows first x.1)

@@ -220,7 +220,7 @@ module _ (z : Sizes) (o : Opening) (es : List Event) (e : Event) (s begun row nu
     found = t.found;
     acts = acts_on z o es e t.at s _ _ t.found t.acts;
     taken = not_free;
-    passed = λ u n f. inr (subst (MetPass z o (es ++ e ∷ []) s t.at (length (es ++ e ∷ []))) (same_number n f) m);
+    passed = λ n f. inr (subst (MetPass z o (es ++ e ∷ []) s t.at (length (es ++ e ∷ []))) (same_number n f) m);
     final = final;
   }
     where

@@ -43,7 +43,7 @@ over_step h h' e x d is w (ends reply answer draw v n f a b m) = absurd (none_so
 ended_goes_on : (z : Sizes) (o : Opening) (r : Run) (e : Event) → may_step o r.world e ≡ true → Inv z r → (x : ℕ) (d : End) → (called r.history x).end ≡ Some d → called (goes_on z r e).history x ≡ called r.history x
 ended_goes_on z o r e may i x d is =
     let c = may_come o r.world e may in
-    let s = history_step z r (noted_by z r e c.local) e.seat (offered r.world.rows e.choice) c.local c.local.activity _ (happens z r e c.local i.shape.sane (i.shape.kinds e.seat c.local c.knows).reached c.begins c.knows c.moves) i in
+    let s = history_step z r (noted_by z r e c.local) e.seat (offered r.world.rows e.choice) c.local c.local.activity _ (happens z r e c.local i.shape.sane c.begins c.knows c.moves) i in
     let w = ended_within r.history x d is in
     ap (λ (q : Run). called q.history x) (goes_on-moved z r e c.local c.knows c.moves) ∙ over_step r.history (noted_by z r e c.local).history _ x d is w (s.calls x (omega (arith, w, s.more_calls)))
 

@@ -38,16 +38,14 @@ use Rattle.kw_reads.specs.Readers.{IsDue, ReadsList, IsCopyOf, AreCopies}
 use Rattle.kw_reads.proofs.WalksKeep.{has_met}
 use Rattle.kw_reads.specs.Replies.{RisesBelow}
 use Rattle.kw_reads.specs.Inv.{Inv}
-use Rattle.kw_laws.specs.Unfrozen.{RebalancesNone, ReusesNone, IsUnfrozen}
 use Rattle.kw_laws.specs.Laws.{IsWaitingOrDrawn, IsGathered, KeepsLaws}
 use Rattle.kw_core.proofs.Attempts.{in_range}
 use Rattle.kw_reads.proofs.Keeps.{inv_holds}
 use Rattle.kw_shape.proofs.Walking.{past}
-use Rattle.kw_shape.proofs.RowsStay.{next_known}
 use Rattle.kw_shape.proofs.SoughtKeep.{retakes}
-use Rattle.kw_laws.proofs.Unfrozen.{finds_own, finds_idle, unfrozen_holds, uncopied_holds}
-use Rattle.kw_laws.proofs.HereHolds.{AllHere, here_holds}
-use Rattle.kw_laws.proofs.Uncopied.{AreUncopied}
+use Rattle.kw_laws.proofs.FoundEntries.{finds_idle, finds_own}
+use Rattle.kw_laws.proofs.BeforeRows.{EndsBefore, PassesFull, ends_before_holds, passes_full_holds}
+use Rattle.kw_laws.proofs.SoloStates.{AreStated, stated_holds}
 use Rattle.kw_core.specs.Stages.{HasDrawn, IsPublished}
 use Rattle.kw_reads.specs.Replies.{IsCovered}
 use Rattle.kw_puts.proofs.OwnScans.{covering_draws}
@@ -106,18 +104,19 @@ reader_less z row l c s e w =
     omega (arith, walked_most z.cells row (Some c) (l.walked + 1) (walk_goes_on z.cells row l.link l.walked c (s.below c next.listed) next.listed next.behind w))
 
 -- the laws of a run in which all of it holds
-laws_from : (z : Sizes) (r : Run) → Inv z r → (RebalancesNone z → IsUnfrozen z r.world) → (RebalancesNone z → AreUncopied r) → (ReusesNone z → AllHere r) → KeepsLaws z r
-laws_from z r i u own here = record {
+laws_from : (z : Sizes) (r : Run) → Inv z r → AreStated z r → EndsBefore z r → PassesFull z r → KeepsLaws z r
+laws_from z r i stated ends passes = record {
   sane = i.shape.sane;
   rows = i.shape.rows;
   beyond = i.shape.beyond;
-  still = i.shape.still;
   passes = i.shape.passes;
   numbers = i.shape.numbers;
   retakes = λ t l g a n e. retakes z r i.shape t n l g a (ap state_met e);
+  stated = stated;
+  ends_before = ends;
+  passes_full = passes;
   links = λ q n. i.shape.rows.closed.rises q n;
   walks = i.shape.walks;
-  after = λ n t l g y. next_known z r i.shape n t l ((i.shape.walks t l g).at y);
   climbs = λ t l g a. let x = subst (λ q. Walks (word z r.world) r.ledger.rows t q l) a (i.shape.walks t l g) in omega (arith, x.lower tt, above l.row (least_in (word z r.world) l.candidate) t x.on.0 x.on.3);
   climbs_on = λ t l g y n e.
       let x = i.shape.walks t l g in
@@ -128,8 +127,6 @@ laws_from z r i u own here = record {
   covers = λ t l g s c. let d = i.positions.draws t l g in let x = covering_draws l.activity c in record { drawn = d.drawn s x; drawn_first = d.drawn_first s x; covers = (i.replies.pairs t l g).covers s c };
   covered = λ t l g s a. let d = i.positions.draws t l g in let x : HasDrawn l.activity = subst HasDrawn (sym a) tt in record { drawn = d.drawn s x; drawn_first = d.drawn_first s x; covers = subst (λ q. IsCovered q r.history l (r.seats t)) a (i.replies.pairs t l g).covered };
   early = λ t l g. (i.replies.pairs t l g).early;
-  unfrozen = u;
-  uncopied = λ n q c p e. let k = own n q c p e in (k.within, k.row, k.cell);
   announces = finds_idle z r i;
   stamps = λ t l g a. finds_own z r i t l g (subst IsPublished (sym a) tt);
   settles = settles;
@@ -139,7 +136,6 @@ laws_from z r i u own here = record {
   reader_meets = λ t l g m. reader_behind z _ l.activity l m (i.readers.walks t l g);
   reads_on = λ t l g a c e. reader_less z _ l c (i.lists.leads l.row (fresh_linked r.ledger.rows t l.row ((i.shape.walks t l g).at (subst IsAtRow (sym a) tt)).fresh)) (link_is (word z r.world) l.row l.link ∙ e) (subst (λ q. ReadsList z.cells (list_in (word z r.world) r.listed l.row) q l) a (i.readers.walks t l g));
   stamped = λ p h. let a = i.history.laws.attempted p (in_range r.history p h) in record { announced = a.load h; load = a.at h; found = i.history.laws.loaded p h };
-  here = here;
   given = λ p w n. (i.puts.given p w n).origin;
   seen = seen;
   kept = i.contents.kept;
@@ -169,4 +165,4 @@ laws_from z r i u own here = record {
 pub laws_hold : (z : Sizes) (o : Opening) → IsOpening z o → (es : List Event) → is_valid z o es ≡ true → KeepsLaws z (history z o es)
 laws_hold z o i es v =
     let all = inv_holds z o i es v in
-    laws_from z (history z o es) all (λ n. unfrozen_holds z n o i es v) (λ n. uncopied_holds z n o i es v) (λ n. here_holds z n o i es v)
+    laws_from z (history z o es) all (stated_holds z o i es v) (ends_before_holds z o i es v) (passes_full_holds z o i es v)

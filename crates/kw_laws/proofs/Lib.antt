@@ -3,9 +3,9 @@ pub mod Recorded
 pub mod CanRecord
 pub mod Records
 pub mod EndedCalls
-pub mod Uncopied
-pub mod HereHolds
-pub mod Unfrozen
+pub mod FoundEntries
+pub mod SoloStates
+pub mod BeforeRows
 pub mod LawProofs
 pub mod Worlds
 pub mod Occurs

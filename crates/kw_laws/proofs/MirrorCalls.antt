@@ -77,7 +77,7 @@ draw_line z Walk s choice l d = absurd (walks (is_stopped choice l) d)
 draw_line z (HelpDraw i) s choice l d = refl
 draw_line z SeekFirst s choice l d = absurd (seeks choice d)
   where
-    seeks : (c : Choice) → IsDraw (seek_first_transition z.form c l).operation.kind → ⊥
+    seeks : (c : Choice) → IsDraw (seek_first_transition c l).operation.kind → ⊥
     seeks (Begin call) x = x
     seeks Go x = x
     seeks (Guess q) x = x

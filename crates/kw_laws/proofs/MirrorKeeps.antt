@@ -66,7 +66,7 @@ kept_goes_on z o es e r may k =
     let c = may_come o r.world e may in
     let noted : goes_on z r e ≡ noted_by z r e c.local = goes_on-moved z r e c.local c.knows c.moves in
     let w : world z o (es ++ e ∷ []) ≡ (goes_on z r e).world = world-snoc z o es e ∙ ap (λ (x : WorldView). (step z x e).world) k.kept.world ∙ sym (goes_on-world z r e) in
-    let h = happens z r e c.local i.shape.sane (i.shape.kinds e.seat c.local c.knows).reached c.begins c.knows c.moves in
+    let h = happens z r e c.local i.shape.sane c.begins c.knows c.moves in
     subst (Whole z o (es ++ e ∷ [])) (sym noted) (record {
       inv = subst (Inv z) noted j;
       kept = kept z o es e r (noted_by z r e c.local) c.local _ c.local.activity h i (subst (λ (x : Run). Keeps x.history) noted j.history) k.kept (w ∙ ap (λ (x : Run). x.world) noted);

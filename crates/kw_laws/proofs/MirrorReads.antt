@@ -171,7 +171,7 @@ building_underway _ y = tt
 
 -- a seat that makes a call before and after its event is in it
 stays_busy : (z : Sizes) (v : Words) (s : ℕ) (choice : Choice) (l : Local) (a : Activity) (k : Local) → Arrow z v s choice l a k → IsBusy a → IsBusy k.activity → IsUnderway a
-stays_busy z v s choice l a k (builds act next y o t) b c = building_underway act y
+stays_busy z v s choice l a k (builds act next y t) b c = building_underway act y
 stays_busy z v s choice l a k (begins call e m) b c = absurd b
 stays_busy z v s choice l a k (leaves answer) b c = absurd c
 stays_busy z v s choice l a k _ b c = tt

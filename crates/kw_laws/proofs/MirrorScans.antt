@@ -129,7 +129,7 @@ after_helps_none v a k (HelpSettle j) x = absurd x
 after_helps_none v a k _ x = tt
 
 helper_drew : (z : Sizes) (v : Words) (s : ℕ) (choice : Choice) (l : Local) (a : Activity) (k : Local) → Arrow z v s choice l a k → DrewFor v a k k.activity
-helper_drew z v s choice l a k (builds b next y o t) = after_helps_none v a k k.activity (built_next z v choice l b k t)
+helper_drew z v s choice l a k (builds b next y t) = after_helps_none v a k k.activity (built_next z v choice l b k t)
 helper_drew z v s choice l a k (draws_for j) = (refl, refl)
 helper_drew z v s choice l a k (meets_stamped i c version next e n) = look_helps_none v a k z _ next n
 helper_drew z v s choice l a k (meets_neither i next e n) = look_helps_none v a k z _ next n
@@ -155,7 +155,7 @@ settling_builds _ y x = absurd x
 
 -- it takes the version that its word has, or its own
 settled_version : (z : Sizes) (v : Words) (s : ℕ) (choice : Choice) (l : Local) (a : Activity) (k : Local) → Arrow z v s choice l a k → IsSettling a → k.version ≡ version_settled (scan_of (v (name.Scan s))) l.drawn
-settled_version z v s choice l a k (builds b next y o t) x = settling_builds b y x
+settled_version z v s choice l a k (builds b next y t) x = settling_builds b y x
 settled_version z v s choice l a k (settles_empty e) x = refl
 settled_version z v s choice l a k (settles e) x = refl
 settled_version z v s choice l a k _ x = absurd x

@@ -81,7 +81,7 @@ built_begins_none _ choice y = refl
 
 -- a seat counts the calls that it begins
 arrow_counts : (z : Sizes) (v : Words) (s : ℕ) (choice : Choice) (l : Local) (a : Activity) (k : Local) → Arrow z v s choice l a k → k.number ≡ l.number + (if is_begun a choice then 1 else 0)
-arrow_counts z v s choice l a k (builds b next y o t) = let x = (built_goes z v choice l b k t).number in rw (built_begins_none b choice y) (omega (arith, x))
+arrow_counts z v s choice l a k (builds b next y t) = let x = (built_goes z v choice l b k t).number in rw (built_begins_none b choice y) (omega (arith, x))
 arrow_counts z v s choice l a k (begins call e b) = rw e refl
 arrow_counts z v s choice l a k (list_ends next e n) = let x = cell_call _ _ n in omega (arith, x.1)
 arrow_counts z v s choice l a k (key_above next e n) = let x = cell_call _ _ n in omega (arith, x.1)
@@ -118,7 +118,7 @@ after_stamp _ x (inr u) = absurd u
 
 -- a seat that does not leave is in a call afterwards
 pub arrow_busy : (z : Sizes) (v : Words) (s : ℕ) (choice : Choice) (l : Local) (a : Activity) (k : Local) → Arrow z v s choice l a k → IsStaying a → IsBusy k.activity
-arrow_busy z v s choice l a k (builds b next y o t) u = after_busy k.activity (built_next z v choice l b k t)
+arrow_busy z v s choice l a k (builds b next y t) u = after_busy k.activity (built_next z v choice l b k t)
 arrow_busy z v s choice l a k (leaves answer) u = absurd u
 arrow_busy z v s choice l a k (meets_stamped i c version next e n) u = next_look_busy z _ next n
 arrow_busy z v s choice l a k (meets_neither i next e n) u = next_look_busy z _ next n
@@ -150,7 +150,7 @@ rest_stamp l k (scans_on q w e f g) (inr x) = absurd x
 
 -- a seat that is to stamp has just loaded its version
 arrow_stamp : (z : Sizes) (v : Words) (s : ℕ) (choice : Choice) (l : Local) (a : Activity) (k : Local) → Arrow z v s choice l a k → IsStamp k.activity → (a ≡ PutClock) × (k.version ≡ v name.Clock)
-arrow_stamp z v s choice l a k (builds b next y o t) u = after_stamp k.activity (built_next z v choice l b k t) (inl u)
+arrow_stamp z v s choice l a k (builds b next y t) u = after_stamp k.activity (built_next z v choice l b k t) (inl u)
 arrow_stamp z v s choice l a k loads_clock u = (refl, refl)
 arrow_stamp z v s choice l a k (meets_stamped i c version next e n) u = look_stamp z _ next n (inl u)
 arrow_stamp z v s choice l a k (meets_neither i next e n) u = look_stamp z _ next n (inl u)
@@ -166,7 +166,7 @@ arrow_stamp z v s choice l a k _ u = absurd u
 
 -- so has a seat that is to help
 arrow_help : (z : Sizes) (v : Words) (s : ℕ) (choice : Choice) (l : Local) (a : Activity) (k : Local) → Arrow z v s choice l a k → IsHelp k.activity → (a ≡ LookClock) × (k.helping ≡ v name.Clock)
-arrow_help z v s choice l a k (builds b next y o t) u = after_stamp k.activity (built_next z v choice l b k t) (inr u)
+arrow_help z v s choice l a k (builds b next y t) u = after_stamp k.activity (built_next z v choice l b k t) (inr u)
 arrow_help z v s choice l a k loads_to_help u = (refl, refl)
 arrow_help z v s choice l a k (meets_stamped i c version next e n) u = look_stamp z _ next n (inr u)
 arrow_help z v s choice l a k (meets_neither i next e n) u = look_stamp z _ next n (inr u)
@@ -219,7 +219,7 @@ loaded_over z s choice l found next g o h settled ScanSettle = inl (settled_same
 loaded_over z s choice l found next g o h settled BalClock = inr refl
 loaded_over z s choice l found next g o h settled SeekFirst = inl (refl, seeks choice)
   where
-    seeks : (c : Choice) → (seek_first_transition z.form c l).operation.kind ≢ kind.LoadClock
+    seeks : (c : Choice) → (seek_first_transition c l).operation.kind ≢ kind.LoadClock
     seeks (Begin call) e = cc
     seeks Go e = cc
     seeks (Guess q) e = cc

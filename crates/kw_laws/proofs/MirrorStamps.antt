@@ -96,7 +96,7 @@ stamp_line z v s choice l Reclaim q t c u n x f = let y : name.State l.rebalance
 stamp_line z v s choice l TakeRow q t c u n x f = let y : name.State l.rebalance.sought ≡ name.Pend q t = n in absurd (cc)
 stamp_line z v s choice l SeekFirst q t c u n x f = absurd (seeks choice x)
   where
-    seeks : (d : Choice) → (seek_first_transition z.form d l).operation.action ≡ Exchange (pend_word (pend.Pending c)) (pend_word (pend.Stamped c u)) → ⊥
+    seeks : (d : Choice) → (seek_first_transition d l).operation.action ≡ Exchange (pend_word (pend.Pending c)) (pend_word (pend.Stamped c u)) → ⊥
     seeks (Begin call) y = cc
     seeks Go y = cc
     seeks (Guess d) y = cc
@@ -141,7 +141,7 @@ announce_line z v s choice l Reclaim q t c n x f = let y : name.State l.rebalanc
 announce_line z v s choice l TakeRow q t c n x f = let y : name.State l.rebalance.sought ≡ name.Pend q t = n in absurd (cc)
 announce_line z v s choice l SeekFirst q t c n x f = absurd (seeks choice x)
   where
-    seeks : (d : Choice) → (seek_first_transition z.form d l).operation.action ≡ Exchange (pend_word pend.Idle) (pend_word (pend.Pending c)) → ⊥
+    seeks : (d : Choice) → (seek_first_transition d l).operation.action ≡ Exchange (pend_word pend.Idle) (pend_word (pend.Pending c)) → ⊥
     seeks (Begin call) y = cc
     seeks Go y = cc
     seeks (Guess d) y = cc

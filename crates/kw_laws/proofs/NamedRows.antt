@@ -167,7 +167,7 @@ touched z s choice l TakeRestKey q some hand w = inl (names_full tt w)
 touched z s choice l TakeRestValue q some hand w = inl (names_full tt w)
 touched z s choice l SeekFirst q some hand w = seeks choice w
   where
-    seeks : (c : Choice) → IsRowWord (seek_first_transition z.form c l).operation.name q → IsNamed SeekFirst l q ⊎ IsNursedRow SeekFirst l q
+    seeks : (c : Choice) → IsRowWord (seek_first_transition c l).operation.name q → IsNamed SeekFirst l q ⊎ IsNursedRow SeekFirst l q
     seeks (Begin call) x = absurd x
     seeks Go x = absurd x
     seeks (Guess r) x = absurd x

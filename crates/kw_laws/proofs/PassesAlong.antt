@@ -312,7 +312,7 @@ passes_on z o es e r may k =
     let c = may_come o r.world e may in
     let noted : goes_on z r e ≡ noted_by z r e c.local = goes_on-moved z r e c.local c.knows c.moves in
     let w : world z o (es ++ e ∷ []) ≡ (goes_on z r e).world = world-snoc z o es e ∙ ap (λ (x : WorldView). (step z x e).world) k.world ∙ sym (goes_on-world z r e) in
-    let h = happens z r e c.local k.inv.shape.sane (k.inv.shape.kinds e.seat c.local c.knows).reached c.begins c.knows c.moves in
+    let h = happens z r e c.local k.inv.shape.sane c.begins c.knows c.moves in
     subst (KeepsPasses z o (es ++ e ∷ [])) (sym noted) (passes_next z o es e r (noted_by z r e c.local) c.local _ c.local.activity h (subst (Inv z) noted (inv_goes_on z o r e may k.inv)) (w ∙ ap (λ (x : Run). x.world) noted) k)
 
 -- no event

@@ -55,7 +55,7 @@ module _ (z : Sizes) (o : Opening) (r : Run) (e : Event) (may : may_step o r.wor
 
   it : Happens z r (noted_by z r e come.local) e.seat (offered r.world.rows e.choice) come.local next come.local.activity
   unfolding next
-  it = happens z r e come.local x.inv.shape.sane (x.inv.shape.kinds e.seat come.local come.knows).reached come.begins come.knows come.moves
+  it = happens z r e come.local x.inv.shape.sane come.begins come.knows come.moves
 
   turns_go_on : Turns z (goes_on z r e)
   turns_go_on = subst (Turns z) (sym is_noted) (record {

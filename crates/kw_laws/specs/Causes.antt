@@ -1,28 +1,27 @@
 -- Why a call was refused, in the words of the events: what its seat found within the call.
 --
 -- A scan loads the clock before it waits, and a put or a delete loads the clock and the epoch before it rebalances a row: each is refused as
--- spent where it finds one of them at its bound. For want of rows a put or a delete is refused, where a full row refuses its puts, as its
--- row has given all its cells, and, where a full row is replaced, as it has asked each row of the table in one search, and was left without
--- as many as it needs. Where rows are used again, a row that was retired is such a one only if a pass was on in which it may be named.
-use Rattle.std.specs.Prelude.{ℕ, ◌≡◌, ◌≢◌, ◌⊎◌, ◌<◌, ◌≤◌, Some, List, length}
+-- spent where it finds one of them at its bound. For want of rows a put or a delete is refused as it has asked each row of the table in
+-- one search, and was left without as many as it needs. A row that was retired is such a one only if a pass was on in which it may be named.
+use Rattle.std.specs.Prelude.{ℕ, ◌≡◌, ◌≢◌, ◌⊎◌, ◌<◌, ◌≤◌, Some, List, length, slice_get}
 use Rattle.kw_words.specs.declared.kind.Kind.TheVariants as kind
 use Rattle.kw_words.specs.declared.layout.Name.TheVariants as name
 use Rattle.kw_words.specs.declared.sizes.TheConstants.{SPENT}
 use Rattle.kw_words.specs.declared.state.State.TheVariants as state
-use Rattle.kw_words.specs.Count.{count_of}
 use Rattle.kw_words.specs.State.{state_of, state_word}
 use Rattle.kw_model.specs.declared.call.Call.{Call}
 use Rattle.kw_model.specs.declared.call.Call.TheVariants.{Put, Del, Scan}
 use Rattle.kw_model.specs.declared.call.Reply.TheVariants.{NoRows, Spent}
 use Rattle.kw_world.specs.declared.activity.Activity.{Activity}
-use Rattle.kw_world.specs.declared.activity.Activity.TheVariants.{ScanClock, PutCount, PutAdd, BalClock, BalEpoch, SeekFirst, Seek, SeekPass, Reclaim, TakeRow}
+use Rattle.kw_world.specs.declared.activity.Activity.TheVariants.{ScanClock, Leave, BalClock, BalEpoch, SeekFirst, Seek, SeekPass, Reclaim, TakeRow}
+use Rattle.kw_world.specs.declared.answer.Answer.TheVariants as answer
 use Rattle.kw_world.specs.declared.event.Event.{Event}
 use Rattle.kw_world.specs.declared.local.Local.{Local}
 use Rattle.kw_world.specs.declared.opening.Opening.{Opening}
-use Rattle.kw_world.specs.declared.operation.Action.TheVariants.{Load, Add, Exchange}
+use Rattle.kw_world.specs.declared.operation.Action.TheVariants.{Load, Exchange}
 use Rattle.kw_world.specs.declared.operation.Operation.{Operation}
-use Rattle.kw_world.specs.PutTransitions.{given_of}
-use Rattle.kw_world.specs.Sizes.{Refused, IsRebalancing, IsReusing, Sizes}
+use Rattle.kw_world.specs.Sizes.{Sizes}
+use Rattle.kw_core.specs.Events.{world}
 use Rattle.kw_core.specs.History.{History, called}
 use Rattle.kw_core.specs.declared.history.End.{End}
 use Rattle.kw_rows.specs.Events.{IsIn}
@@ -50,27 +49,6 @@ pub record IsSpentBy (z : Sizes) (o : Opening) (es : List Event) (call : Call) (
   pub found : ℕ
   pub acts : Acts z o es at s activity op found
   pub spent : SPENT ≤ found
-
--- No cell is left in the row.
-
--- by this operation a put or a delete asks the row at this activity for a cell: it looks whether there is one, or takes it
-abbrev pub IsAskingRow : ℕ → Activity → Operation → Type 0
-IsAskingRow row PutCount op = op ≡ operation kind.LoadCount (name.Count row) Load
-IsAskingRow row PutAdd op = op ≡ operation kind.AddCount (name.Count row) (Add 1)
-IsAskingRow row _ op = ⊥
-
--- after the first position and before the last the seat asked a row for a cell, and found that the row had given all
-pub record FoundNoRoom (z : Sizes) (o : Opening) (es : List Event) (s first last : ℕ) : Type 0 where
-  pub at : ℕ
-  pub after : first < at
-  pub before : at < last
-  pub row : ℕ
-  pub activity : Activity
-  pub op : Operation
-  pub asks : IsAskingRow row activity op
-  pub found : ℕ
-  pub acts : Acts z o es at s activity op found
-  pub given : z.cells ≤ given_of (count_of found)
 
 -- No row is left in the table.
 
@@ -118,8 +96,8 @@ pub record MetPass (z : Sizes) (o : Opening) (es : List Event) (s first last num
 abbrev pub MayBeNamed : Sizes → Opening → List Event → ℕ → ℕ → ℕ → ℕ → Local → Type 0
 MayBeNamed z o es s at last number l = (1 ≤ l.epoch) × (l.epoch ≤ number) ⊎ MetPass z o es s at last number
 
--- from the first position on and before the last the seat asked for the row, or tried to take it, and did not find it free; where rows are used again, it
--- found it retired only if the row may be named in a pass that is on; and it asked for the row no more
+-- from the first position on and before the last the seat asked for the row, or tried to take it, and did not find it free; it found it retired only
+-- if the row may be named in a pass that is on; and it asked for the row no more
 pub record FoundTaken (z : Sizes) (o : Opening) (es : List Event) (s first last row : ℕ) : Type 0 where
   pub at : ℕ
   pub after : first ≤ at
@@ -130,7 +108,7 @@ pub record FoundTaken (z : Sizes) (o : Opening) (es : List Event) (s first last 
   pub found : ℕ
   pub acts : Acts z o es at s activity op found
   pub taken : found ≢ state_word state.Free
-  pub passed : IsReusing z.form → (number : ℕ) → state_of found ≡ Some (state.Retired number) → MayBeNamed z o es s at last number acts.local
+  pub passed : (number : ℕ) → state_of found ≡ Some (state.Retired number) → MayBeNamed z o es s at last number acts.local
   pub final : NotTried z o es s at last row
 
 -- from the first position on and before the last the seat took the row
@@ -159,12 +137,11 @@ pub record AskedAll (z : Sizes) (o : Opening) (es : List Event) (s rows first la
   pub fewer : length taken < length begins.local.rebalance.starts
   pub asked : (q : ℕ) → q < rows → IsIn taken q ⊎ FoundTaken z o es s begun last q
 
--- what a call that was refused for want of rows found, where a full row refuses its puts, and where it is replaced
-pub record HasNoRows (z : Sizes) (o : Opening) (es : List Event) (s first last : ℕ) : Type 0 where
-  pub refused : z.form ≡ Refused → FoundNoRoom z o es s first last
-  pub replaced : IsRebalancing z.form → AskedAll z o es s o.rows first last
-
 -- each call of the record that was refused has its cause: it was found after the call's first event and before its last
 pub record HaveCauses (z : Sizes) (o : Opening) (es : List Event) (h : History) : Type 0 where
   pub spent : (x : ℕ) (e : End) → x < length h.calls → (called h x).end ≡ Some e → e.reply ≡ Spent → IsSpentBy z o es (called h x).call (called h x).seat (called h x).first e.at
-  pub no_rows : (x : ℕ) (e : End) → x < length h.calls → (called h x).end ≡ Some e → e.reply ≡ NoRows → HasNoRows z o es (called h x).seat (called h x).first e.at
+  pub no_rows : (x : ℕ) (e : End) → x < length h.calls → (called h x).end ≡ Some e → e.reply ≡ NoRows → AskedAll z o es (called h x).seat o.rows (called h x).first e.at
+
+-- so it is with each seat that is about to leave for want of rows: after some event of its own it has found why
+abbrev pub AsksWhereItStands : Sizes → Opening → List Event → Type 0
+AsksWhereItStands z o es = (t : ℕ) (l : Local) → slice_get (world z o es).locals t ≡ Some l → l.activity ≡ Leave answer.NoRows → (first : ℕ) × AskedAll z o es t o.rows first (length es)

@@ -7,18 +7,21 @@ use Rattle.kw_words.specs.declared.scan.ScanWord.{ScanWord}
 use Rattle.kw_words.specs.declared.scan.ScanWord.TheVariants.{Quiet, Waiting, Drawn}
 use Rattle.kw_words.specs.Pend.{pend_of}
 use Rattle.kw_words.specs.Plain.{cell_of_link_word}
+use Rattle.kw_words.specs.declared.state.State.{State}
 use Rattle.kw_words.specs.declared.state.State.TheVariants as state
 use Rattle.kw_words.specs.Scan.{scan_of}
 use Rattle.kw_words.specs.State.{state_of}
 use Rattle.kw_cells.specs.declared.cell.Cell as kw_cell
 use Rattle.kw_model.specs.Map.{IsRising}
-use Rattle.kw_world.specs.declared.activity.Activity.TheVariants.{WalkMin, ListFrom, Announce, Stamp, InsFrom, ScanSettle, ClearScan, TakeRow}
+use Rattle.kw_world.specs.declared.activity.Activity.{Activity}
+use Rattle.kw_world.specs.declared.activity.Activity.TheVariants.{WalkMin, ListFrom, Announce, Stamp, InsFrom, ScanSettle, ClearScan, BalState, Decide, TakeRow, BeforeLink, BeforeMin}
 use Rattle.kw_world.specs.declared.local.Local.{Local}
 use Rattle.kw_world.specs.ListTransitions.{link_name}
 use Rattle.kw_world.specs.Sizes.{Sizes}
 use Rattle.kw_world.specs.Calls.{first_key, last_key, is_scan}
 use Rattle.kw_world.specs.Sane.{IsSane}
 use Rattle.kw_world.specs.Step.{word}
+use Rattle.kw_world.specs.Transition.{row_or_first}
 use Rattle.kw_core.specs.History.{History, LoadClock, attempt, called, Stands}
 use Rattle.kw_core.specs.HistoryLaws.{HistoryLaws, IsPut}
 use Rattle.kw_core.specs.Run.{Run}
@@ -29,16 +32,16 @@ use Rattle.kw_puts.specs.Lists.{list_in}
 use Rattle.kw_core.specs.Words.{next_in, least_in}
 use Rattle.kw_rows.specs.Ledger.{Free, IsFresh, IsHeld}
 use Rattle.kw_rows.specs.Structure.{Structure}
+use Rattle.kw_shape.specs.MetRows.{IsMet}
 use Rattle.kw_shape.specs.Passes.{Numbers, Passes}
 use Rattle.kw_shape.specs.RowsIn.{rows_in}
-use Rattle.kw_shape.specs.Shape.{HoldsKey, IsStill, Walks}
+use Rattle.kw_shape.specs.Shape.{HoldsKey, Walks}
 use Rattle.kw_puts.specs.Positions.{IsDrawnAt}
 use Rattle.kw_kept.specs.Kept.{Kept}
 use Rattle.kw_reads.specs.Contents.{Needed, puts_of, rows_of}
 use Rattle.kw_reads.specs.Readers.{IsDue, IsCopyOf}
 use Rattle.kw_reads.specs.Replies.{RisesBelow, Covers}
 use Rattle.kw_world.specs.declared.answer.Answer.TheVariants.{Pairs}
-use Rattle.kw_laws.specs.Unfrozen.{IsUnfrozen, RebalancesNone, ReusesNone}
 
 -- the entry is idle or frozen
 abbrev pub IsIdleOrFrozen : Option Pend → Type 0
@@ -90,6 +93,23 @@ pub record IsDrawnCover (r : Run) (t : ℕ) (l : Local) (bound : ℕ) (pairs : L
   pub drawn_first : (called r.history (r.seats t).call).first < (r.seats t).drawn
   pub covers : Covers r.history (first_key l.call) l.version (r.seats t).drawn bound pairs
 
+-- here a seat looks at the state of the row that it is about to rebalance, or at whose link it has put the mark
+abbrev pub IsStated : Activity → Type 0
+IsStated BalState = Unit {0}
+IsStated (Decide count) = Unit {0}
+IsStated _ = ⊥
+
+-- the states that it may find: at first the row is one that a seat has built, or normal, or led alone, or retired; once its link is marked, it is led
+-- alone, or retired
+abbrev pub IsMetState : Activity → Option State → Type 0
+IsMetState BalState (Some (state.Infant seat)) = Unit {0}
+IsMetState BalState (Some state.Normal) = Unit {0}
+IsMetState BalState (Some (state.Leader count)) = count ≤ 1
+IsMetState BalState (Some (state.Retired number)) = Unit {0}
+IsMetState (Decide c) (Some (state.Leader count)) = count ≤ 1
+IsMetState (Decide c) (Some (state.Retired number)) = Unit {0}
+IsMetState _ _ = ⊥
+
 -- what every valid list keeps
 pub record KeepsLaws (z : Sizes) (r : Run) : Type 0 where
   -- every word is one that may stand under its name, and all that a seat knows is in range
@@ -98,20 +118,22 @@ pub record KeepsLaws (z : Sizes) (r : Run) : Type 0 where
   -- rows, and states and marks say what has become of a row. A row that the table does not have is free
   pub rows : Structure (rows_in (word z r.world)) r.ledger.rows (length r.history.log)
   pub beyond : (q : ℕ) → r.world.rows ≤ q → (r.ledger.rows.fates q).status ≡ Free
-  -- in a table of a form in which no row is rebalanced none comes or goes: a row is in the list, or free
-  pub still : RebalancesNone z → (q : ℕ) → IsStill r.ledger.rows q
   -- a seat is in a pass as long as its word says so, of an epoch that is not above the present one; numbers are drawn in order
   pub passes : (t : ℕ) (l : Local) → slice_get r.world.locals t ≡ Some l → Passes (word z r.world) r.ledger.rows t l.activity l
   pub numbers : Numbers (word z r.world) r.ledger.rows
   -- a row that a seat tries to take, and that is retired, was retired in its pass: its number is not below the epoch of the pass
   pub retakes : (t : ℕ) (l : Local) → slice_get r.world.locals t ≡ Some l → l.activity ≡ TakeRow → (n : ℕ) → state_of (word z r.world (name.State l.rebalance.sought)) ≡ Some (state.Retired n) → l.epoch ≤ n
+  -- a seat that is to rebalance a row finds it in one of few states: no row goes along with another
+  pub stated : (t : ℕ) (l : Local) → slice_get r.world.locals t ≡ Some l → IsStated l.activity → IsMetState l.activity (state_of (word z r.world (name.State l.row)))
+  -- where the walk to the row before a full one meets the end of the list, the full row is in the list no more
+  pub ends_before : (t : ℕ) (l : Local) → slice_get r.world.locals t ≡ Some l → l.activity ≡ BeforeLink → next_in (word z r.world) (row_or_first l.rebalance.before) ≡ None → IsMet (word z r.world) l.row → ⊥
+  -- nor is it where that walk meets a row whose least key is not below that of the full one
+  pub passes_full : (t : ℕ) (l : Local) → slice_get r.world.locals t ≡ Some l → l.activity ≡ BeforeMin → l.lower ≤ least_in (word z r.world) l.candidate → IsMet (word z r.world) l.row → ⊥
   -- a row that is met along the link of one that a seat may name has a greater minimum than that one
   pub links : (q n : ℕ) → IsHeld r.ledger.rows q → next_in (word z r.world) q ≡ Some n → least_in (word z r.world) q < least_in (word z r.world) n
   -- each seat is where its call has it: on its walk at a row that is in the list, or was so in its pass, whose minimum it knows, and at
   -- the row of its key with the row after it, which begins where the row's range ends
   pub walks : (t : ℕ) (l : Local) → slice_get r.world.locals t ≡ Some l → Walks (word z r.world) r.ledger.rows t l.activity l
-  -- in such a table that is the row to which the link of its row leads
-  pub after : RebalancesNone z → (t : ℕ) (l : Local) → slice_get r.world.locals t ≡ Some l → IsAtRow l.activity → l.next ≡ next_in (word z r.world) l.row
   -- a walk goes up: the row after the one that it is at has a greater minimum than the seat knows of its own, and so has the row
   -- after that of its key
   pub climbs : (t : ℕ) (l : Local) → slice_get r.world.locals t ≡ Some l → l.activity ≡ WalkMin → l.lower < least_in (word z r.world) l.candidate
@@ -127,10 +149,6 @@ pub record KeepsLaws (z : Sizes) (r : Run) : Type 0 where
   pub covered : (t : ℕ) (l : Local) → slice_get r.world.locals t ≡ Some l → is_scan l.call ≡ true → l.activity ≡ ClearScan Pairs → IsDrawnCover r t l (last_key l.call + 1) l.pairs
   -- a call that has read no row has no pairs
   pub early : (t : ℕ) (l : Local) → slice_get r.world.locals t ≡ Some l → IsEarly l.activity → l.pairs ≡ []
-  -- no count is frozen and no entry, in a table of a form in which no row is rebalanced
-  pub unfrozen : RebalancesNone z → IsUnfrozen z r.world
-  -- in such a table no cell is a copy: each cell that stands for an attempt stands for one that was added, and is its own
-  pub uncopied : RebalancesNone z → (q c p : ℕ) → r.origin q c ≡ Some p → (p < length r.history.attempts) × ((attempt r.history p).row ≡ q) × ((attempt r.history p).cell ≡ c)
   -- a seat that is to announce a cell finds its entry idle or frozen
   pub announces : (t : ℕ) (l : Local) → slice_get r.world.locals t ≡ Some l → l.activity ≡ Announce → IsIdleOrFrozen (pend_of (word z r.world (name.Pend l.row t)))
   -- a seat that is to stamp its cell finds its entry pending or stamped with it, or frozen
@@ -149,8 +167,6 @@ pub record KeepsLaws (z : Sizes) (r : Run) : Type 0 where
   pub reads_on : (t : ℕ) (l : Local) → slice_get r.world.locals t ≡ Some l → l.activity ≡ ListFrom → (c : ℕ) → cell_of_link_word (word z r.world (link_name l.row l.link)) ≡ Some c → l.walked < z.cells
   -- each stamped put loaded its clock between its announcement and its stamp
   pub stamped : (p : ℕ) → IsPut r.history p → IsStampedInOrder r.history p
-  -- in a table of a form in which no row is used again the row of each attempt was not
-  pub here : ReusesNone z → (p : ℕ) → p < length r.history.attempts → IsHere r.ledger.rows r.history p
   -- the cell of each attempt whose row was not used again stands for it
   pub given : (p : ℕ) → p < length r.history.attempts → IsHere r.ledger.rows r.history p → r.origin (attempt r.history p).row (attempt r.history p).cell ≡ Some p
   -- of a row that a seat has read, each attempt for which a cell of the row stands, its own cell or a copy, and which was announced before the

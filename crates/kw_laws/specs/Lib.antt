@@ -1,5 +1,4 @@
 pub mod Recorder
-pub mod Unfrozen
 pub mod Laws
 pub mod Example
 pub mod Mirror

@@ -15,7 +15,7 @@ ghost use Rattle.kw_world.specs.Opening.{IsOpening};
 ghost use Rattle.kw_world.specs.Sizes.{Sizes};
 ghost use Rattle.kw_core.specs.Events.{is_valid, world, local_of, of_seat, event};
 ghost use Rattle.kw_core.specs.Run.{history};
-ghost use Rattle.kw_laws.specs.Causes.{HaveCauses};
+ghost use Rattle.kw_laws.specs.Causes.{AsksWhereItStands, HaveCauses};
 ghost use Rattle.kw_laws.specs.Laws.{KeepsLaws};
 ghost use Rattle.kw_laws.specs.Live.{AreLive};
 ghost use Rattle.kw_laws.specs.Mirror.{Mirrors};
@@ -55,12 +55,13 @@ pub fn mirror_laws()
 
 /// Each call of the record of a valid list from an opening that was refused has its cause among the events of its seat after its first
 /// one and before its last. As spent it is refused where its seat found the clock or the epoch at its bound. For want of rows it is
-/// refused, where a full row refuses its puts, as its row had given all its cells, and, where a full row is replaced, as one search asked
-/// for each row of the table, and found too few that were free. Where rows are used again, a retired row was passed over only if a pass
-/// was on in which it may be named.
+/// refused as one search asked for each row of the table, and found too few that were free. A retired row was passed over only if a pass
+/// was on in which it may be named. So a seat has found already that is about to leave for want of rows.
 pub fn cause_laws()
     ensures causes { (z : Sizes) (o : Opening) (events : List Event) → IsOpening z o →
         is_valid z o events ≡ true → HaveCauses z o events (history z o events).history }
+    ensures standing { (z : Sizes) (o : Opening) (events : List Event) → IsOpening z o →
+        is_valid z o events ≡ true → AsksWhereItStands z o events }
 {}
 
 /// No row is used again while a seat may read it. When a retired row is given free, each pass that is on was announced after the

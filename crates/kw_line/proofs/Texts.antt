@@ -8,7 +8,6 @@ use Rattle.std.proofs.lemmas.List.{append-nil, get_or_default, length-append, le
 use Rattle.std.proofs.lemmas.List.Splits.{join_with_byte-slice_split}
 use Rattle.std.proofs.lemmas.List.Elements.{All-from_recursion}
 use Rattle.std.proofs.lemmas.Bool.{false≢true, eqb-false, and_parts, not-true}
-use Rattle.std.proofs.lemmas.Slice.Eq.{bytes_eq-Decides}
 use Rattle.std.proofs.lemmas.Str.Parse.{not_in_digits}
 use Rattle.std.proofs.lemmas.Fmt.{digits_decimal}
 use Rattle.kw_model.specs.declared.call.Call.{Call}
@@ -174,12 +173,9 @@ call_is_read line word f c rest after false e w of fits n h = λ t.
     let lengths : length after ≡ 0 = omega (arith, simp (length-append, length-map) at long, length-arguments f c of, length-arguments f s.0 s.1) in
     false≢true (h.1 (nil_from_length after lengths))
 
--- what `==` says of bytes
-pub same_bytes : (xs ys : List ℕ) (b : Bool) → b ≡ bytes_eq xs ys → b ≡ true → xs ≡ ys
-same_bytes xs ys b e t = (bytes_eq-Decides xs ys).0 (sym e ∙ t)
-
-pub other_bytes : (xs ys : List ℕ) (b : Bool) → b ≡ bytes_eq xs ys → b ≡ false → xs ≢ ys
-other_bytes xs ys b e f same = false≢true (sym f ∙ (e ∙ (bytes_eq-Decides xs ys).1 same))
+-- what a comparison that fails says
+pub not_same : {X : Type 0} {b : Bool} → (b ≡ true) ↔ X → b ≡ false → X → ⊥
+not_same h f same = false≢true (sym f ∙ h.1 same)
 
 -- a range line whose second number is missing or is no key
 pub no_end : (f : Form) (from : ℕ) (rest after : List (List ℕ)) → IsTrue (is_range f) → rest ≡ decimal from ∷ after → ((k : ℕ) (more : List (List ℕ)) → k < 2 ^ 32 → after ≢ decimal k ∷ more) → (c : Call) (more : List (List ℕ)) → IsCallOf f c → FitsCall c → rest ≢ map decimal (arguments c) ++ more

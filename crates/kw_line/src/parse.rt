@@ -9,7 +9,7 @@ ghost use Rattle.kw_line.specs.declared.item.Item.{Item as AnyItem};
 ghost use Rattle.kw_line.specs.Line.{IsCallOf, FitsCall, IsItem, IsText, AreLinesOf, IfBadLine, arguments, form_word, item_text};
 
 use crate::item::{Form, Item, LineError};
-use crate::words::{Lines, Words};
+use crate::words::{Lines, Words, is_same};
 use kw_model::call::Call;
 use std::alloc::Global;
 
@@ -42,7 +42,7 @@ pub fn item(line: &[u8]) -> Option<Item>
 {
     let mut words = Words::new(line);
     let word = words.next()?;
-    if word == b"wait".as_slice() {
+    if is_same(word, b"wait") {
         return words.is_empty().then_some(Item::Wait);
     }
     let form = form(word)?;
@@ -56,16 +56,24 @@ pub fn form(word: &[u8]) -> Option<Form>
         ((form : AnyForm) → word.now ≢ form_word form)
         (λ form. word.now ≡ form_word form) }
 {
-    match word {
-        b"put" => Some(Form::Put),
-        b"del" => Some(Form::Del),
-        b"get" => Some(Form::Get),
-        b"sum" => Some(Form::Sum),
-        b"count" => Some(Form::Count),
-        b"least" => Some(Form::Least),
-        b"greatest" => Some(Form::Greatest),
-        b"list" => Some(Form::List),
-        _ => None,
+    if is_same(word, b"put") {
+        Some(Form::Put)
+    } else if is_same(word, b"del") {
+        Some(Form::Del)
+    } else if is_same(word, b"get") {
+        Some(Form::Get)
+    } else if is_same(word, b"sum") {
+        Some(Form::Sum)
+    } else if is_same(word, b"count") {
+        Some(Form::Count)
+    } else if is_same(word, b"least") {
+        Some(Form::Least)
+    } else if is_same(word, b"greatest") {
+        Some(Form::Greatest)
+    } else if is_same(word, b"list") {
+        Some(Form::List)
+    } else {
+        None
     }
 }
 

@@ -19,6 +19,13 @@ pub const SPACE: u8 = b' ';
 /// The greatest value that a key may have.
 pub const MOST_VALUE: u64 = 9_223_372_036_854_775_807;
 
+/// Whether both are the same bytes: `==`, by a contract that says so of the bytes.
+pub fn is_same(one: &[u8], other: &[u8]) -> bool
+    ensures { IsTrue result ↔ (one.now ≡ other.now) }
+{
+    one == other
+}
+
 /// What stands before the first byte of this kind, and what stands after it.
 fn cut_at(bytes: &[u8], mark: u8) -> Option<(&[u8], &[u8])>
     ensures { MatchOption result

@@ -47,7 +47,7 @@ met_clock_earlier {s} {p} {q} {r} goes m = record { met = met_earlier s p q r go
 abbrev pub IsLine : ℕ → Choice → Local → Local → ℕ → Type 0
 IsLine rows c l m told = outcome m Moved ≡ next_of product rows c l told
 
-by_transition : (rows : ℕ) (a : Activity) (c : Choice) (l m : Local) (told : ℕ) → l.activity ≡ a → IsLine rows c l m told → m ≡ ((transition product a 0 c l).next rows told).local
+pub by_transition : (rows : ℕ) (a : Activity) (c : Choice) (l m : Local) (told : ℕ) → l.activity ≡ a → IsLine rows c l m told → m ≡ ((transition product a 0 c l).next rows told).local
 unfolding transition_of
 by_transition rows a c l m told is line = ap (λ (x : Outcome). x.local) (line ∙ ap (λ b. (transition product b 0 c l).next rows told) is)
 

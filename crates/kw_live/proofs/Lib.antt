@@ -1,4 +1,3 @@
-pub mod Asking
 pub mod ReadEvent
 pub mod ReadStages
 pub mod LookStages
@@ -6,3 +5,4 @@ pub mod PutStages
 pub mod WalkStages
 pub mod Drawing
 pub mod Starting
+pub mod Anew

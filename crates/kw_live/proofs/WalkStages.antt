@@ -30,7 +30,7 @@ use Rattle.kw_table.proofs.Prefixes.{prefix_trans}
 use Rattle.kw_follow.specs.Calling.{KeepsCalls}
 use Rattle.kw_follow.specs.Following.{Follows, GoesTo, held}
 use Rattle.kw_follow.specs.OwnEvents.{Met, MetAs}
-use Rattle.kw_live.specs.Meeting.{AsksNone, BeginsWith}
+use Rattle.kw_live.specs.Meeting.{BeginsWith}
 use Rattle.kw_live.specs.Stages.{arrived, guessing}
 use Rattle.kw_live.specs.Walking.{IsUnderWay, WalksOn}
 use Rattle.kw_follow.proofs.Fronts.{met_laws, met_local, met_told, local_at}
@@ -147,7 +147,6 @@ pub record IsWalkingOn (s : Shared) (o : Pass) (l : Local) (p : Pass) (m : Local
   pub calls : KeepsCalls o p
   pub held : held p ≡ held o
   pub walks : WalksOn l m
-  pub none : AsksNone o p
 
 -- what a pass began with it has begun with later too
 pub begins_on : (s : Shared) (p q r : Pass) (c : Choice) → GoesTo s q r → BeginsWith p q c → BeginsWith p r c

@@ -1,14 +1,15 @@
-//! How a call begins, how a scan gets its version and is over, and how a call ends.
+//! How a call begins, how a put begins anew, how a scan gets its version and is over, and how a call ends.
 ghost use Rattle.std.specs.Prelude.{◌≡◌, ◌↔◌, ◌⊎◌, ◌≤◌, false, true, [], Some, IfSome};
 ghost use Rattle.kw_words.specs.declared.sizes.TheConstants.{SPENT};
 ghost use Rattle.kw_world.specs.Answers.{reply_of};
 ghost use Rattle.kw_world.specs.Calls.{is_scan};
 ghost use Rattle.kw_world.specs.Local.{resting};
 ghost use Rattle.kw_core.specs.Events.{is_call_in_range};
+ghost use Rattle.kw_core.specs.Stages.{is_put};
 ghost use Rattle.kw_table.specs.Passes.{view, IsPassOf};
 ghost use Rattle.kw_follow.specs.Calling.{KeepsCalls, Opens, Closes};
 ghost use Rattle.kw_follow.specs.Following.{Follows, GoesTo, activity_in, held};
-ghost use Rattle.kw_live.specs.Meeting.{AsksNone, MetClock};
+ghost use Rattle.kw_live.specs.Meeting.{MetClock};
 ghost use Rattle.kw_live.specs.Stages.{HasEntered};
 
 use kw_follow::{begin, clear, end, go, go_along, go_draw};
@@ -36,7 +37,6 @@ pub fn enter(shared: &Shared, pass: &mut Pass, local: &mut Local, call: Call)
     ensures unread { local.new.has_read ≡ false }
     ensures opens { Opens pass.old pass.new call }
     ensures held { held pass.new ≡ [] }
-    ensures none { AsksNone pass.old pass.new }
     ensures spent { is_scan (Some call) ≡ true → (clock : _) × MetClock pass.old pass.new clock
         × ((local.new.activity ≡ Activity.Leave Answer.Spent) ↔ (SPENT ≤ clock)) }
 {
@@ -45,6 +45,26 @@ pub fn enter(shared: &Shared, pass: &mut Pass, local: &mut Local, call: Call)
     if let Activity::ScanClock = local.activity {
         draw(shared, pass, local);
     }
+}
+
+/// Takes the announced epoch back, and begins the same put or delete anew, after a rebalance: it announces an epoch again, and is to begin
+/// its walk.
+///
+/// It is the same call: what the pass has seen has no new one. Takes no memory.
+pub fn enter_anew(shared: &Shared, pass: &mut Pass, local: &mut Local)
+    requires follows { Follows shared.now pass.old local.old }
+    requires again { local.old.activity ≡ Activity.Again }
+    requires update { is_put local.old.call ≡ true }
+    ensures goes { GoesTo shared.now pass.old pass.new }
+    ensures follows { Follows shared.now pass.new local.new }
+    ensures starts { local.new.activity ≡ Activity.Start }
+    ensures call { local.new.call ≡ local.old.call }
+    ensures calls { KeepsCalls pass.old pass.new }
+    ensures held { held pass.new ≡ held pass.old }
+{
+    go(shared, pass, local, Choice::Go);
+    go(shared, pass, local, Choice::Go); // its epoch
+    go_along(shared, pass, local);
 }
 
 // A scan gets its version.
@@ -59,7 +79,6 @@ fn draw(shared: &Shared, pass: &mut Pass, local: &mut Local)
     ensures unread { local.new.has_read ≡ local.old.has_read }
     ensures calls { KeepsCalls pass.old pass.new }
     ensures held { held pass.new ≡ held pass.old }
-    ensures none { AsksNone pass.old pass.new }
     ensures spent { (clock : _) × MetClock pass.old pass.new clock
         × ((local.new.activity ≡ Activity.Leave Answer.Spent) ↔ (SPENT ≤ clock)) }
 {
@@ -117,7 +136,6 @@ pub fn leave(shared: &Shared, pass: &mut Pass, local: &mut Local) -> Reply
     ensures rests { local.new ≡ resting 0 }
     ensures closes { (answer : Answer) → activity_in pass.old ≡ Activity.Leave answer →
         Closes pass.old pass.new (reply_of answer (held pass.old)) × (result ≡ reply_of answer []) }
-    ensures none { AsksNone pass.old pass.new }
 {
     end(shared, pass, local)
 }

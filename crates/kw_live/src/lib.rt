@@ -4,9 +4,9 @@
 //! seen go on, which of them it found what it answers by, and which pairs a scan has. Single events are `kw_follow`'s, whose `Local`
 //! follows the pass's seat; no call takes memory.
 //!
-//! `entering` begins calls, gives a scan its version, and ends both; `walking` finds the row of a key; `putting` puts a cell into it, and
-//! `reading` reads it. Whoever stands above puts whole calls together from these, by their
-//! contracts, and knows no event.
+//! `entering` begins calls, begins a put anew after a rebalance, gives a scan its version, and ends both; `walking` finds the row of a key;
+//! `putting` puts a cell into it, and `reading` reads it. Whoever stands above puts whole calls together from these, by their contracts, and
+//! knows no event.
 #![tactic(auto)]
 
 mod entering;
@@ -14,7 +14,7 @@ mod putting;
 mod reading;
 mod walking;
 
-pub use entering::{end_scan, enter, leave, stop_scan};
+pub use entering::{end_scan, enter, enter_anew, leave, stop_scan};
 pub use putting::{TryPut, try_put};
 pub use reading::read_row;
 pub use walking::locate;

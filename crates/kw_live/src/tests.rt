@@ -1,5 +1,5 @@
 //! Whole calls put together from the functions of this crate, between the events of another pass's put.
-ghost use Rattle.std.specs.Prelude.{◌≡◌, true, IfSome};
+ghost use Rattle.std.specs.Prelude.{◌≡◌, true, IfOk, IfSome};
 ghost use Rattle.kw_core.specs.Events.{is_call_in_range};
 ghost use Rattle.kw_table.specs.Passes.{IsPassOf};
 ghost use Rattle.kw_follow.specs.Following.{Follows, activity_in};
@@ -17,6 +17,19 @@ use kw_world::event::Choice;
 use kw_world::local::Local;
 use std::alloc::Global;
 use std::test::Fail;
+
+// A table of 64 rows, and its two passes.
+fn open_two(alloc: Global) -> Result<(Shared, Pass, Pass), Memory>
+    ensures table { IfOk result (λ made. IsPassOf made.0 made.1 × IsPassOf made.0 made.2) }
+    ensures idle { IfOk result (λ made. (activity_in made.1 ≡ Activity.Idle)
+        × (activity_in made.2 ≡ Activity.Idle)) }
+{
+    let (shared, mut passes) = Shared::open(alloc, 64, 2, 1, 1)?;
+    let (Some(second), Some(first)) = (passes.pop(), passes.pop()) else {
+        unreachable!()
+    };
+    Ok((shared, first, second))
+}
 
 // Begins a put, and makes at most this many of its events at its row. Gives what the seat knows.
 fn begin_put(
@@ -44,7 +57,7 @@ fn begin_put(
     local
 }
 
-// The reply of a whole put, whose walk has this guess.
+// The reply of a whole put, whose walk has this guess. None where its row is full; the pass is then in the middle of the put.
 pub(crate) fn put(
     alloc: Global,
     shared: &Shared,
@@ -52,18 +65,20 @@ pub(crate) fn put(
     key: u32,
     value: u64,
     guess: Option<u32>,
-) -> Reply
+) -> Option<Reply>
     requires table { IsPassOf shared.now pass.old }
     requires idle { activity_in pass.old ≡ Activity.Idle }
     requires range { is_call_in_range (Call.Put key value) ≡ true }
     ensures table { IsPassOf shared.now pass.new }
-    ensures idle { activity_in pass.new ≡ Activity.Idle }
+    ensures idle { IfSome result (λ reply. activity_in pass.new ≡ Activity.Idle) }
 {
     let mut local = Local::idle(alloc);
     enter(shared, pass, &mut local, Call::Put(key, value));
     locate(shared, pass, &mut local, guess);
-    try_put(shared, pass, &mut local);
-    leave(shared, pass, &mut local)
+    if let TryPut::RowFull(_) = try_put(shared, pass, &mut local) {
+        return None;
+    }
+    Some(leave(shared, pass, &mut local))
 }
 
 // The reply of a whole get, whose walk has this guess.
@@ -89,10 +104,7 @@ pub(crate) fn get(
 
 // The get's reply, where the put of another pass has made this many events at its row.
 fn get_within_a_put(alloc: Global, events: u32) -> Result<Option<Reply>, Memory> {
-    let (shared, mut passes) = Shared::open(alloc, 64, 2, 1, 1)?;
-    let (Some(mut reader), Some(mut putter)) = (passes.pop(), passes.pop()) else {
-        return Ok(None);
-    };
+    let (shared, mut putter, mut reader) = open_two(alloc)?;
     begin_put(alloc, &shared, &mut putter, 5, 50, events);
     Ok(Some(get(alloc, &shared, &mut reader, 5, None)))
 }
@@ -151,12 +163,11 @@ fn a_get_helps_a_put_that_has_announced_its_cell(rt: HostRuntime) -> Result<(), 
 // A put of key 5 has made this many events at its row when another pass puts key 3, and then goes on. How many exchanges it lost, its reply,
 // and what a get of its key then finds.
 fn put_around_a_put(alloc: Global, events: u32) -> Result<Option<(u32, Reply, Reply)>, Memory> {
-    let (shared, mut passes) = Shared::open(alloc, 64, 2, 1, 1)?;
-    let (Some(mut first), Some(mut second)) = (passes.pop(), passes.pop()) else {
+    let (shared, mut first, mut second) = open_two(alloc)?;
+    let mut local = begin_put(alloc, &shared, &mut first, 5, 50, events);
+    let Some(Reply::Done) = put(alloc, &shared, &mut second, 3, 30, None) else {
         return Ok(None);
     };
-    let mut local = begin_put(alloc, &shared, &mut first, 5, 50, events);
-    put(alloc, &shared, &mut second, 3, 30, None);
     for _ in 0..20 {
         if Stage::of(&local.activity).is_putting() {
             go_put(&shared, &mut first, &mut local);
@@ -184,22 +195,16 @@ fn a_put_that_loses_its_insert_goes_again(rt: HostRuntime) -> Result<(), Fail> {
 // The table has one row, so that a scan is at its end once it has read it.
 #[test]
 fn a_scan_gathers_the_cells_of_its_row(rt: HostRuntime) -> Result<(), Fail> {
-    let (shared, mut passes) = Shared::open(rt.alloc(), 64, 2, 1, 1)?;
-    let (Some(mut reader), Some(mut putter)) = (passes.pop(), passes.pop()) else {
-        panic!(rt; "two passes");
+    let (shared, mut putter, mut reader) = open_two(rt.alloc())?;
+    let Some(Reply::Done) = put(rt.alloc(), &shared, &mut putter, 5, 50, None) else {
+        panic!(rt; "a first put");
     };
-    assert_eq!(rt;
-        put(rt.alloc(), &shared, &mut putter, 5, 50, None),
-        Reply::Done
-    );
-    assert_eq!(rt;
-        put(rt.alloc(), &shared, &mut putter, 7, 70, None),
-        Reply::Done
-    );
-    assert_eq!(rt;
-        put(rt.alloc(), &shared, &mut putter, 5, 51, None),
-        Reply::Done
-    );
+    let Some(Reply::Done) = put(rt.alloc(), &shared, &mut putter, 7, 70, None) else {
+        panic!(rt; "a second put");
+    };
+    let Some(Reply::Done) = put(rt.alloc(), &shared, &mut putter, 5, 51, None) else {
+        panic!(rt; "a third put");
+    };
     let Some(local) = scan_row(rt.alloc(), &shared, &mut reader, 0, 200, None) else {
         panic!(rt; "a row to read");
     };

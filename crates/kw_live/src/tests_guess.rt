@@ -137,14 +137,12 @@ fn replies_are_the_same_whatever_the_guess(rt: HostRuntime) -> Result<(), Fail> 
         let Some(mut pass) = passes.pop() else {
             panic!(rt; "a pass");
         };
-        assert_eq!(rt;
-            put(rt.alloc(), &shared, &mut pass, 5, 50, guess),
-            Reply::Done
-        );
-        assert_eq!(rt;
-            put(rt.alloc(), &shared, &mut pass, 5, 51, guess),
-            Reply::Done
-        );
+        let Some(Reply::Done) = put(rt.alloc(), &shared, &mut pass, 5, 50, guess) else {
+            panic!(rt; "a first put");
+        };
+        let Some(Reply::Done) = put(rt.alloc(), &shared, &mut pass, 5, 51, guess) else {
+            panic!(rt; "a second put");
+        };
         assert_eq!(rt;
             get(rt.alloc(), &shared, &mut pass, 5, guess),
             Reply::Value(51)

@@ -4,7 +4,7 @@ ghost use Rattle.kw_core.specs.Stages.{is_walking};
 ghost use Rattle.kw_table.specs.Passes.{view};
 ghost use Rattle.kw_follow.specs.Calling.{KeepsCalls};
 ghost use Rattle.kw_follow.specs.Following.{Follows, GoesTo, held};
-ghost use Rattle.kw_live.specs.Meeting.{AsksNone, BeginsWith};
+ghost use Rattle.kw_live.specs.Meeting.{BeginsWith};
 ghost use Rattle.kw_live.specs.Stages.{arrived, guessing};
 ghost use Rattle.kw_live.specs.Walking.{IsUnderWay, WalksOn};
 
@@ -35,7 +35,6 @@ pub fn locate(shared: &Shared, pass: &mut Pass, local: &mut Local, guess: Option
         BeginsWith pass.old pass.new (guessing guess) }
     ensures calls { KeepsCalls pass.old pass.new }
     ensures held { held pass.new ≡ held pass.old }
-    ensures none { AsksNone pass.old pass.new }
 {
     if let Activity::Start = local.activity {
         set_out(shared, pass, local, guess);
@@ -53,7 +52,6 @@ pub(crate) fn set_out(shared: &Shared, pass: &mut Pass, local: &mut Local, guess
     ensures guess { BeginsWith pass.old pass.new (guessing guess) }
     ensures calls { KeepsCalls pass.old pass.new }
     ensures held { held pass.new ≡ held pass.old }
-    ensures none { AsksNone pass.old pass.new }
 {
     match guess {
         Some(row) => {
@@ -75,7 +73,6 @@ fn walk(shared: &Shared, pass: &mut Pass, local: &mut Local)
     ensures arrived { local.new.activity ≡ arrived local.old.call }
     ensures calls { KeepsCalls pass.old pass.new }
     ensures held { held pass.new ≡ held pass.old }
-    ensures none { AsksNone pass.old pass.new }
 {
     while Stage::of(&local.activity).is_walking() {
         go_along(shared, pass, local);

@@ -1,8 +1,6 @@
 -- A call is made while its pass has lent its local: what is said of the pass without its local is said of the pass with it.
 use Rattle.std.proofs.Common.{ℕ, ◌≡◌, ◌<◌, ◌≤◌, ◌++◌, [], ◌∷◌, Some, Option, Result, Ok, Err, ap, subst, sym, take, ◌∙◌, length}
-use Rattle.std.specs.Prelude.{MatchResult}
 use mathlib.Core.List.{IsPrefix}
-use Rattle.kw_words.specs.declared.sizes.TheConstants.{CELLS}
 use Rattle.kw_model.specs.declared.call.Call.{Call}
 use Rattle.kw_model.specs.declared.call.Call.TheVariants.{Scan}
 use Rattle.kw_model.specs.declared.call.Reply.{Reply}
@@ -23,13 +21,11 @@ use Rattle.kw_table.specs.Passes.{view, IsPassOf}
 use Rattle.kw_table.specs.Views.{local_in}
 use Rattle.kw_follow.specs.Calling.{Calls, calls_in}
 use Rattle.kw_follow.specs.Following.{GoesTo, activity_in}
-use Rattle.kw_follow.specs.OwnEvents.{Met, MetIn}
-use Rattle.kw_live.specs.Meeting.{MetCount, MetFull, MetRoom}
-use Rattle.kw_map.specs.declared.kiwi.PutEnd.{PutEnd}
+use Rattle.kw_follow.specs.OwnEvents.{Met, MetIn, knew}
 use Rattle.kw_map.specs.declared.kiwi.ScanEnd.{ScanEnd}
 use Rattle.kw_map.specs.declared.kiwi.ScanEnd.TheVariants.{Stopped, Spent}
 use Rattle.kw_map.specs.Kiwi.{AnswersScan, ScanGave}
-use Rattle.kw_map.specs.Scanning.{StoppedAt, knew}
+use Rattle.kw_map.specs.Scanning.{StoppedAt}
 
 -- it is one of the table
 pub of_map_lent : (s : Shared) (p q : Pass) → view q ≡ view p → q.seat.table_id ≡ p.seat.table_id → IsPassOf s p → IsPassOf s q
@@ -64,17 +60,6 @@ module _ (p q r t : Pass) (lent : view q ≡ view p) (given : view t ≡ view r)
   -- it met an event
   met_lent : {a : Activity} {c : Choice} {told : ℕ} → Met q r a c told → Met p t a c told
   met_lent {a} {c} {told} m = subst (λ (v : View). MetIn v.opening v.number v.seen (view t).seen a c told) lent (subst (λ (w : View). MetIn (view q).opening (view q).number (view q).seen w.seen a c told) (sym given) m)
-
-  met_back : {a : Activity} {c : Choice} {told : ℕ} → Met p t a c told → Met q r a c told
-  met_back {a} {c} {told} m = subst (λ (v : View). MetIn v.opening v.number v.seen (view r).seen a c told) (sym lent) (subst (λ (w : View). MetIn (view p).opening (view p).number (view p).seen w.seen a c told) given m)
-
-  count_lent : {a : Activity} {given_then : ℕ} → MetCount q r a given_then → MetCount p t a given_then
-  count_lent m = record { told = m.told; met = met_lent m.met; gives = m.gives }
-
-  -- its put found room, or a full row
-  pub cause_lent : (result : Result Unit PutEnd) → MatchResult result (λ done. MetRoom CELLS q r) (λ end. MetFull CELLS q r) → MatchResult result (λ done. MetRoom CELLS p t) (λ end. MetFull CELLS p t)
-  cause_lent (Ok done) m = record { given = m.given; asked = count_lent m.asked; less = m.less; added = m.added; adds = count_lent m.adds; fewer = m.fewer; every = λ a c told asking x. m.every a c told asking (met_back x) }
-  cause_lent (Err end) m = record { activity = m.activity; at = m.at; given = m.given; met = count_lent m.met; full = m.full }
 
   -- the gatherer of its scan stopped
   stopped_lent : (Took : Pairs → Type 0) (call : Option Call) → StoppedAt Took q r call → StoppedAt Took p t call

@@ -6,3 +6,4 @@ pub mod WholeCalls
 pub mod RowStages
 pub mod ScanEnds
 pub mod Lending
+pub mod Refusals

@@ -32,7 +32,8 @@ use Rattle.kw_follow.proofs.OneEvent.{same_activity}
 use Rattle.kw_follow.proofs.Resting.{stands}
 use Rattle.kw_live.specs.Reading.{GoesOn}
 use Rattle.kw_map.specs.Gather.{last_key, IsBelow, Takes, TakesPrefix}
-use Rattle.kw_map.specs.Scanning.{IsBetween, StoppedAt, knew}
+use Rattle.kw_follow.specs.OwnEvents.{knew}
+use Rattle.kw_map.specs.Scanning.{IsBetween, StoppedAt}
 use Rattle.kw_map.proofs.TakeLemmas.{IsBelow-le, Takes-append}
 
 -- What the gatherer took.

@@ -1,17 +1,18 @@
 -- How a whole call comes of the stages that `kw_live` takes it through: its begin and its end, what it met on the way, and its reply.
-use Rattle.std.proofs.Common.{ℕ, ◌≡◌, ◌∙◌, true, false, Option, Some, None, List, ap, refl, sym, subst, []}
+use Rattle.std.proofs.Common.{ℕ, ◌≡◌, ◌∙◌, true, false, Option, Some, None, Err, List, ap, refl, sym, subst, []}
 use Rattle.kw_model.specs.declared.call.Call.{Call}
 use Rattle.kw_model.specs.declared.call.Call.TheVariants.{Put, Del, Get, Scan}
 use Rattle.kw_model.specs.declared.call.Reply.{Reply}
 use Rattle.kw_model.specs.declared.call.Reply.TheVariants.{Value, Absent}
 use Rattle.kw_cells.specs.Cells.{shown_at}
 use Rattle.kw_world.specs.declared.activity.Activity.{Activity}
-use Rattle.kw_world.specs.declared.activity.Activity.TheVariants.{Leave, Start}
+use Rattle.kw_world.specs.declared.activity.Activity.TheVariants.{BalClock, Leave, Start}
 use Rattle.kw_world.specs.declared.limits.TheConstants.{NEWEST}
 use Rattle.kw_world.specs.Answers.{answer_found, reply_of}
 use Rattle.kw_world.proofs.Replies.{reply_of-found}
 use Rattle.kw_live.specs.Reading.{HasRead, HasReadAs}
 use Rattle.kw_world.specs.declared.answer.Answer.{Answer}
+use Rattle.kw_world.specs.declared.answer.Answer.TheVariants as answer
 use Rattle.kw_world.specs.declared.event.Choice.{Choice}
 use Rattle.kw_world.specs.declared.local.Local.{Local}
 use Rattle.kw_core.specs.Stages.{is_put}
@@ -20,16 +21,18 @@ use Rattle.kw_table.specs.declared.pass.Pass.{Pass}
 use Rattle.kw_table.specs.declared.shared.Shared.{Shared}
 use Rattle.kw_table.specs.Passes.{IsFresh}
 use Rattle.kw_map.specs.declared.kiwi.Kiwi.{Kiwi}
-use Rattle.kw_map.specs.Kiwi.{IsIdle}
+use Rattle.kw_map.specs.declared.kiwi.PutEnd.{PutEnd}
+use Rattle.kw_map.specs.declared.kiwi.PutEnd.TheVariants.{NoRows, Spent}
+use Rattle.kw_map.specs.Kiwi.{IsIdle, put_reply, stands_after}
 use Rattle.kw_follow.specs.Calling.{Opens, KeepsCalls, Closes, Calls, calls_in}
 use Rattle.kw_follow.specs.Following.{Follows, GoesTo, activity_in}
-use Rattle.kw_follow.specs.OwnEvents.{Met}
-use Rattle.kw_live.specs.Meeting.{AsksNone, MetClock, MetCount, MetFull, MetRoom}
+use Rattle.kw_live.specs.declared.putting.TryPut.{TryPut}
+use Rattle.kw_live.specs.declared.putting.TryPut.TheVariants as try_put
+use Rattle.kw_live.specs.Meeting.{MetClock}
+use Rattle.kw_live.specs.Putting.{stands_after as put_stands}
 use Rattle.kw_live.specs.Stages.{HasEntered}
-use Rattle.kw_live.proofs.Asking.{below_trans, none_below}
-use Rattle.kw_follow.proofs.OwnEvents.{met_earlier, met_later}
+use Rattle.kw_follow.proofs.OwnEvents.{met_later}
 use Rattle.kw_follow.proofs.OneEvent.{same_activity}
-use Rattle.kw_follow.proofs.OwnEvents.{goes_trans}
 
 -- The begin.
 
@@ -59,34 +62,23 @@ put_starts (Del key) _ is entered = absurd entered
 put_starts (Get key) a is entered = let x : false ≡ true = is in absurd (cc)
 put_starts (Scan from upto) a is entered = let x : false ≡ true = is in absurd (cc)
 
+-- a call that has begun has begun still when more was seen
+pub opens_on : {p q r : Pass} {call : Call} → Opens p q call → KeepsCalls q r → Opens p r call
+opens_on o k = record { first = o.first; number = o.number; begins = o.begins; calls = k ∙ o.calls }
+
+-- where a put or a delete is not done at its row, it is about to rebalance that
+pub is_full : (tried : TryPut) (a : Activity) → (tried ≡ try_put.Done → ⊥) → a ≡ put_stands tried → a ≡ BalClock
+is_full try_put.Done a none e = absurd (none refl)
+is_full (try_put.RowFull row) a none e = e
+
+-- where it made room and was not refused, it is to begin its walk
+pub begins_anew : (made : Option PutEnd) (a : Activity) → ((end : PutEnd) → made ≡ Some end → ⊥) → a ≡ stands_after made → a ≡ Start
+begins_anew None a none e = e
+begins_anew (Some end) a none e = absurd (none end refl)
+
 -- What it met.
 
-module _ {s : Shared} {p q r t : Pass} where
-  -- an event that was met in the middle was met in the whole
-  pub met_within : {a : Activity} {c : Choice} {told : ℕ} → GoesTo s p q → GoesTo s r t → Met q r a c told → Met p t a c told
-  met_within before after m = met_later p r t (met_earlier s p q r before m) after.seen
-
-  -- so was a count
-  pub count_within : {a : Activity} {given : ℕ} → GoesTo s p q → GoesTo s r t → MetCount q r a given → MetCount p t a given
-  count_within before after m = record { told = m.told; met = met_within before after m.met; gives = m.gives }
-
-  -- and that the row is full
-  pub full_within : {cells : ℕ} → GoesTo s p q → GoesTo s r t → MetFull cells q r → MetFull cells p t
-  full_within before after m = record { activity = m.activity; at = m.at; given = m.given; met = count_within before after m.met; full = m.full }
-
-  -- or has room, where it asked at no other time
-  pub room_within : {cells : ℕ} → GoesTo s p q → GoesTo s q r → GoesTo s r t → AsksNone p q → AsksNone r t → MetRoom cells q r → MetRoom cells p t
-  room_within before middle after early late m = record {
-    given = m.given;
-    asked = count_within before after m.asked;
-    less = m.less;
-    added = m.added;
-    adds = count_within before after m.adds;
-    fewer = m.fewer;
-    every = below_trans before (goes_trans s q r t middle after) (none_below before early) (below_trans middle after m.every (none_below after late));
-  }
-
--- and a clock that a scan loaded before was its clock
+-- a clock that a scan loaded before was its clock
 pub clock_later : {s : Shared} {p q r : Pass} {clock : ℕ} → MetClock p q clock → GoesTo s q r → MetClock p r clock
 clock_later {s} {p} {q} {r} m after = record { met = met_later p q r m.met after.seen }
 
@@ -95,6 +87,11 @@ clock_later {s} {p} {q} {r} m after = record { met = met_later p q r m.met after
 -- code that is about to leave with an answer follows a seat that is about to leave with it
 pub leaves_with : {s : Shared} {p : Pass} {l : Local} (answer : Answer) → Follows s p l → l.activity ≡ Leave answer → activity_in p ≡ Leave answer
 leaves_with {s} {p} {l} answer f is = same_activity s p l f ∙ is
+
+-- a put or a delete that is refused is about to leave with its refusal
+pub ends_with : (end : PutEnd) (a : Activity) (pairs : List (ℕ × ℕ)) → a ≡ stands_after (Some end) → (answer : Answer) × (a ≡ Leave answer) × (reply_of answer pairs ≡ put_reply (Err end))
+ends_with NoRows a pairs e = (answer.NoRows, e, refl)
+ends_with Spent a pairs e = (answer.Spent, e, refl)
 
 -- the end of a get: code replies what the seat does, since neither has pairs
 pub get_closes : {p q : Pass} (x : Option ℕ) (pairs : List (ℕ × ℕ)) (reply : Reply) → Closes p q (reply_of (answer_found x) pairs) × (reply ≡ reply_of (answer_found x) []) → Closes p q reply

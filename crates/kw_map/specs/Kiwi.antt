@@ -1,31 +1,35 @@
--- What the calls of the map say of a pass: that it is idle, how its calls go on, and that what it has seen has a legal order.
-use Rattle.std.specs.Prelude.{◌≡◌, ◌↔◌, ℕ, ◌≤◌, true, Some, List, ◌++◌, Result, Ok, Err}
+-- What the calls of the map say of a pass: that it is idle, how its calls go on, why one was refused, and that what it has seen has a legal
+-- order.
+use Rattle.std.specs.Prelude.{◌≡◌, ◌↔◌, ℕ, ◌≤◌, true, Option, Some, None, List, ◌++◌, Result, Ok, Err}
 use Rattle.kw_words.specs.declared.sizes.TheConstants.{SPENT}
 use Rattle.kw_model.specs.declared.call.Call.{Call}
 use Rattle.kw_model.specs.declared.call.Call.TheVariants.{Scan}
 use Rattle.kw_model.specs.declared.call.Reply.{Reply}
 use Rattle.kw_model.specs.declared.call.Reply.TheVariants as reply
 use Rattle.kw_model.specs.Map.{Pairs}
-use Rattle.kw_world.specs.declared.activity.Activity.TheVariants.{Idle}
+use Rattle.kw_world.specs.declared.activity.Activity.{Activity}
+use Rattle.kw_world.specs.declared.activity.Activity.TheVariants.{Idle, Start, Leave}
+use Rattle.kw_world.specs.declared.answer.Answer.TheVariants as answer
 use Rattle.kw_world.specs.declared.event.Event.{Event}
 use Rattle.kw_world.specs.declared.opening.Opening.{Opening}
 use Rattle.kw_world.specs.Sizes.{product}
 use Rattle.kw_core.specs.Events.{is_valid}
 use Rattle.kw_core.specs.History.{History}
 use Rattle.kw_core.specs.Run.{history}
+use Rattle.kw_laws.specs.Causes.{AskedAll, IsSpentBy}
 use Rattle.kw_order.specs.Legal.{IsLegalOrder}
 use Rattle.kw_order.specs.Order.{IsOrder}
 use Rattle.kw_order.specs.OrderLaws.{OrderLaws}
 use Rattle.kw_order.specs.Trace.{GivesTops}
 use Rattle.kw_table.specs.declared.pass.Pass.{Pass}
 use Rattle.kw_table.specs.declared.pass.View.{View}
-use Rattle.kw_table.specs.Passes.{Holds, IsPassOf}
+use Rattle.kw_table.specs.Passes.{Holds, IsPassOf, view}
 use Rattle.kw_follow.specs.Calling.{Calls}
 use Rattle.kw_follow.specs.Following.{activity_in}
 use Rattle.kw_live.specs.Meeting.{MetClock}
 use Rattle.kw_map.specs.declared.kiwi.Kiwi.{Kiwi}
 use Rattle.kw_map.specs.declared.kiwi.PutEnd.{PutEnd}
-use Rattle.kw_map.specs.declared.kiwi.PutEnd.TheVariants.{NoRows}
+use Rattle.kw_map.specs.declared.kiwi.PutEnd.TheVariants as put_end
 use Rattle.kw_map.specs.declared.kiwi.ScanEnd.{ScanEnd}
 use Rattle.kw_map.specs.declared.kiwi.ScanEnd.TheVariants.{Stopped, Spent}
 use Rattle.kw_map.specs.Scanning.{StoppedAt}
@@ -39,7 +43,24 @@ pub record IsIdle (m : Kiwi) (p : Pass) : Type 0 where
 -- the reply of a put or a delete that ended so
 abbrev pub put_reply : Result Unit PutEnd → Reply
 put_reply (Ok done) = reply.Done
-put_reply (Err NoRows) = reply.NoRows
+put_reply (Err put_end.NoRows) = reply.NoRows
+put_reply (Err put_end.Spent) = reply.Spent
+
+-- where a put or a delete stands that made room, or is refused
+abbrev pub stands_after : Option PutEnd → Activity
+stands_after None = Start
+stands_after (Some put_end.NoRows) = Leave answer.NoRows
+stands_after (Some put_end.Spent) = Leave answer.Spent
+
+-- what the view's seat found between the first and the last event of its call, which was refused so
+abbrev pub IsCause : PutEnd → View → Call → ℕ → ℕ → Type 0
+IsCause put_end.NoRows v call first last = AskedAll product v.opening v.seen v.number v.opening.rows first last
+IsCause put_end.Spent v call first last = IsSpentBy product v.opening v.seen call v.number first last
+
+-- where the call that the pass made was refused, its seat has found why
+abbrev pub HasCause : Pass → Pass → Call → Result Unit PutEnd → Type 0
+HasCause p q call (Ok done) = Unit {0}
+HasCause p q call (Err end) = (c : Calls p q call (put_reply (Err end))) → IsCause end (view q) call c.first c.last
 
 -- what happened in a list of events
 abbrev pub happened : Opening → List Event → History

@@ -2,4 +2,5 @@ pub mod Gather
 pub mod GatherNumbers
 pub mod GatherList
 pub mod Scanning
+pub mod Refusals
 pub mod Kiwi

@@ -7,21 +7,17 @@ use Rattle.kw_world.specs.declared.activity.Activity.TheVariants.{ClearScan}
 use Rattle.kw_world.specs.declared.event.Event.{Event}
 use Rattle.kw_world.specs.declared.local.Local.{Local}
 use Rattle.kw_world.specs.Sizes.{product}
-use Rattle.kw_core.specs.Events.{local_of, world}
 use Rattle.kw_core.specs.Run.{history}
 use Rattle.kw_laws.specs.Laws.{IsDrawnCover}
 use Rattle.kw_core.specs.Stages.{is_walking}
 use Rattle.kw_table.specs.declared.pass.Pass.{Pass}
 use Rattle.kw_table.specs.Passes.{view}
+use Rattle.kw_follow.specs.OwnEvents.{knew}
 use Rattle.kw_map.specs.Gather.{IsBelow}
 
 -- the scan is on its way to the row of the key that it wants, and the gatherer took no key from there on; or it has all its pairs
 abbrev pub IsBetween : {S : Type 0} → (S → Option ℕ) → S → Local → Type 0
 IsBetween last s l = ((is_walking l.activity ≡ true) × IsBelow (last s) l.want) ⊎ (l.activity ≡ ClearScan Pairs)
-
--- what the pass's seat knew after these events
-abbrev pub knew : Pass → List Event → Local
-knew p es = local_of (world product (view p).opening es) (view p).number
 
 -- the pairs that it had then
 abbrev pub had : Pass → List Event → List (ℕ × ℕ)

@@ -1,11 +1,12 @@
 //! The concurrent map, and its calls.
 //!
 //! A `Kiwi` is the shared table; a caller asks it with a pass, its seat. Each call here is put together from `kw_live`'s functions, by
-//! the local that the pass lends it: enter, find the row, put into it or read it, leave. A put and a delete take the runtime, since they
-//! may come to wait for others; a get and a scan never do. So its events are the core's, and the clauses say what follows: the call is the
-//! pass's next one, it has ended, its answer is the recorded reply, and the order of all calls that the pass has seen is legal.
-ghost use Rattle.std.specs.Prelude.{◌≡◌, ℕ, ◌<◌, true, Some, IfOk, MatchResult, vec_len, slice_index_or, All};
-ghost use Rattle.kw_words.specs.declared.sizes.TheConstants.{CELLS, VALUE_END};
+//! the local that the pass lends it: enter, find the row, put into it or read it, leave. A put or a delete that finds its row full has the
+//! row rebalanced (`kw_live_rebal`) and tries again. These two take the runtime, since they may come to wait for others; a get and a scan
+//! never do. So all events are the core's, and the clauses say what follows: the call is the pass's next one, it has ended, its answer is
+//! the recorded reply, and the order of all calls that the pass has seen is legal.
+ghost use Rattle.std.specs.Prelude.{◌≡◌, ℕ, ◌<◌, ◌≤◌, true, Some, IfOk, vec_len, slice_index_or, All};
+ghost use Rattle.kw_words.specs.declared.sizes.TheConstants.{VALUE_END};
 ghost use Rattle.kw_core.specs.Events.{is_call_in_range};
 ghost use Rattle.kw_core.specs.Stages.{is_put};
 ghost use Rattle.kw_world.specs.Local.{resting};
@@ -16,18 +17,19 @@ ghost use Rattle.kw_model.specs.Map.{found};
 ghost use Rattle.kw_table.specs.Meetings.{AtEach, MeetsAt, front_seen};
 ghost use Rattle.kw_table.specs.Passes.{IsFresh, IsPassOf, view};
 ghost use Rattle.kw_table.specs.Views.{Meets};
-ghost use Rattle.kw_follow.specs.Calling.{Calls};
-ghost use Rattle.kw_follow.specs.Following.{GoesTo, activity_in};
-ghost use Rattle.kw_live.specs.Meeting.{MetFull, MetRoom};
+ghost use Rattle.kw_follow.specs.Calling.{Calls, KeepsCalls};
+ghost use Rattle.kw_follow.specs.Following.{Follows, GoesTo, activity_in};
 ghost use Rattle.kw_map.specs.Gather.{IsBelow, Takes};
-ghost use Rattle.kw_map.specs.Kiwi.{AnswersScan, IsIdle, IsOrdered, put_reply};
+ghost use Rattle.kw_map.specs.Kiwi.{AnswersScan, HasCause, IsIdle, IsOrdered, put_reply, stands_after};
 
 use crate::gather::{Gather, Stop};
 use crate::scanning::gather_rows;
-use kw_live::{TryPut, enter, leave, locate, read_row, try_put};
+use kw_index::index::Index;
+use kw_live::{TryPut, enter, enter_anew, leave, locate, read_row, try_put};
+use kw_live_rebal::{Rebalanced, rebalance};
 use kw_model::call::{Call, Reply};
 use kw_model::memory::Memory;
-use kw_table::{Pass, Shared};
+use kw_table::{Hints, Pass, Shared};
 use kw_world::activity::Activity;
 use kw_world::local::Local;
 use std::alloc::Global;
@@ -37,9 +39,12 @@ use thiserror::Error;
 /// Why a put or a delete changed nothing.
 #[derive(Clone, Copy, Debug, Error, PartialEq, Eq)]
 pub enum PutEnd {
-    /// The row of the key has given all its cells. For now no row is rebalanced, so this lasts.
+    /// The row of the key is full, and too few rows were free to replace it.
     #[error("no rows are left")]
     NoRows,
+    /// The versions or the epochs are spent, so that no full row can be replaced any more.
+    #[error("the versions or the epochs are spent")]
+    Spent,
 }
 
 /// Why a scan gave no pairs, or not all.
@@ -54,9 +59,12 @@ pub enum ScanEnd {
 }
 
 /// An ordered map from keys to values below `VALUE_END`, which threads share by `&`, each with a pass of its own.
+///
+/// Beside the table it has an index, which names a row to begin at for each key; no clause rests on that.
 #[derive(Drop)]
 pub struct Kiwi {
     pub(crate) shared: Shared,
+    pub(crate) index: Index,
 }
 
 impl Kiwi {
@@ -94,7 +102,8 @@ impl Kiwi {
         ensures idle { IfOk result (λ made. All (IsIdle made.0) made.1.items) }
     {
         let (shared, passes) = Shared::open(alloc, rows, passes, clock, epoch)?;
-        Ok((Kiwi { shared }, passes))
+        let index = index_of(alloc, rows)?;
+        Ok((Kiwi { shared, index }, passes))
     }
 
     /// The value of a key, if it has one.
@@ -115,17 +124,17 @@ impl Kiwi {
 
     /// Sets the value of a key, which is below `VALUE_END`.
     ///
-    /// The pass is one of this map and idle, as it is afterwards. `NoRows` comes exactly where a count that this call found in the row of the
-    /// key was `CELLS` or above; then nothing has changed. Takes no memory. It may wait for the calls of others: all that is said here
-    /// is said for a put that returns.
+    /// The pass is one of this map and idle, as it is afterwards. `NoRows` comes only where the last search of this call asked for each row of
+    /// the table, took fewer than it needed, and found every other one not free, or retired and perhaps still named by a call; `Spent` only
+    /// where a load of this call found the clock or the epoch at `SPENT` or above. Nothing has changed then. Takes no memory. It may wait for
+    /// the calls of others: all that is said here is said for a put that returns.
     pub fn put<R: Wait>(&self, rt: &R, pass: &mut Pass, key: u32, value: u64) -> Result<(), PutEnd>
         requires idle { IsIdle self.now pass.old }
         requires value { value < VALUE_END }
         ensures idle { IsIdle self.now pass.new }
         ensures goes { GoesTo self.now.shared pass.old pass.new }
         ensures calls { Calls pass.old pass.new (Call.Put key value) (put_reply result) }
-        ensures cause { MatchResult result
-            (λ done. MetRoom CELLS pass.old pass.new) (λ end. MetFull CELLS pass.old pass.new) }
+        ensures cause { HasCause pass.old pass.new (Call.Put key value) result }
         ensures ordered { IsOrdered (view pass.new) }
     {
         self.update(rt, pass, Call::Put(key, value))
@@ -137,14 +146,13 @@ impl Kiwi {
         ensures idle { IsIdle self.now pass.new }
         ensures goes { GoesTo self.now.shared pass.old pass.new }
         ensures calls { Calls pass.old pass.new (Call.Del key) (put_reply result) }
-        ensures cause { MatchResult result
-            (λ done. MetRoom CELLS pass.old pass.new) (λ end. MetFull CELLS pass.old pass.new) }
+        ensures cause { HasCause pass.old pass.new (Call.Del key) result }
         ensures ordered { IsOrdered (view pass.new) }
     {
         self.update(rt, pass, Call::Del(key))
     }
 
-    /// MeetsAt the pairs of a range, both ends included, as they stood at one moment, by rising key.
+    /// Gathers the pairs of a range, both ends included, as they stood at one moment, by rising key.
     ///
     /// The pass is one of this map and idle, as it is afterwards, and the last key that the gatherer took, if there is one, is below
     /// `from`. After `Ok` it took just the pairs of the range. `Stopped` comes only where the gatherer stopped in this call; it took the first
@@ -205,23 +213,23 @@ impl Kiwi {
         ensures idle { IsIdle self.now pass.new }
         ensures goes { GoesTo self.now.shared pass.old pass.new }
         ensures calls { Calls pass.old pass.new call (put_reply result) }
-        ensures cause { MatchResult result
-            (λ done. MetRoom CELLS pass.old pass.new) (λ end. MetFull CELLS pass.old pass.new) }
     {
         let mut local = pass.lend();
-        let done = self.update_by(rt, pass, &mut local, call);
+        let mut hints = pass.lend_hints();
+        let done = self.update_by(rt, pass, &mut local, &mut hints, call);
+        pass.give_hints(hints);
         pass.give(local);
         done
     }
 
-    // It tries at its row until it is done or refused. For now a row that is full refuses it, so the loop ends at its first turn; once full rows
-    // are rebalanced it tries again at the row that then has the key.
+    // It tries at its row until it is done or refused: where the row is full it makes room, and tries again at the row that then has the key.
     #[tactic(auto, using(crate::proofs::WholeCalls::put_starts))]
     fn update_by<R: Wait>(
         &self,
         rt: &R,
         pass: &mut Pass,
         local: &mut Local,
+        hints: &mut Option<Hints>,
         call: Call,
     ) -> Result<(), PutEnd>
         requires table { IsPassOf self.now.shared pass.old }
@@ -233,24 +241,48 @@ impl Kiwi {
         ensures rests { local.new ≡ resting 0 }
         ensures goes { GoesTo self.now.shared pass.old pass.new }
         ensures calls { Calls pass.old pass.new call (put_reply result) }
-        ensures cause { MatchResult result
-            (λ done. MetRoom CELLS pass.old pass.new) (λ end. MetFull CELLS pass.old pass.new) }
     {
         enter(&self.shared, pass, local, call);
         for _ in rt.forever() {
-            locate(&self.shared, pass, local, None);
-            match try_put(&self.shared, pass, local) {
-                TryPut::Done => {
-                    leave(&self.shared, pass, local);
-                    return Ok(());
-                }
-                TryPut::RowFull(_) => {
-                    leave(&self.shared, pass, local);
-                    return Err(PutEnd::NoRows);
-                }
+            let guess = self.index.guess(local.want);
+            locate(&self.shared, pass, local, guess);
+            if let TryPut::Done = try_put(&self.shared, pass, local) {
+                leave(&self.shared, pass, local);
+                return Ok(());
+            }
+            if let Some(end) = self.make_room(rt, pass, local, hints) {
+                leave(&self.shared, pass, local);
+                return Err(end);
             }
         }
         unreachable!()
+    }
+
+    // Rebalances the full row of a put or a delete, and begins the call anew; or says why it can't, and the call is about to leave with that.
+    fn make_room<R: Wait>(
+        &self,
+        rt: &R,
+        pass: &mut Pass,
+        local: &mut Local,
+        hints: &mut Option<Hints>,
+    ) -> Option<PutEnd>
+        requires follows { Follows self.now.shared pass.old local.old }
+        requires activity { local.old.activity ≡ Activity.BalClock }
+        requires update { is_put local.old.call ≡ true }
+        ensures goes { GoesTo self.now.shared pass.old pass.new }
+        ensures follows { Follows self.now.shared pass.new local.new }
+        ensures stands { local.new.activity ≡ stands_after result }
+        ensures call { local.new.call ≡ local.old.call }
+        ensures calls { KeepsCalls pass.old pass.new }
+    {
+        match rebalance(rt, &self.shared, &self.index, hints, pass, local) {
+            Rebalanced::Done | Rebalanced::Again => {
+                enter_anew(&self.shared, pass, local);
+                None
+            }
+            Rebalanced::NoRows => Some(PutEnd::NoRows),
+            Rebalanced::Spent => Some(PutEnd::Spent),
+        }
     }
 
     fn get_by(&self, pass: &mut Pass, local: &mut Local, key: u32) -> Option<u64>
@@ -263,7 +295,8 @@ impl Kiwi {
         ensures calls { Calls pass.old pass.new (Call.Get key) (found result) }
     {
         enter(&self.shared, pass, local, Call::Get(key));
-        locate(&self.shared, pass, local, None);
+        let guess = self.index.guess(key);
+        locate(&self.shared, pass, local, guess);
         read_row(&self.shared, pass, local);
         match leave(&self.shared, pass, local) {
             Reply::Value(value) => Some(value),
@@ -295,11 +328,22 @@ impl Kiwi {
             leave(&self.shared, pass, local);
             return Err(ScanEnd::Spent);
         }
-        let gathered = gather_rows(&self.shared, pass, local, to, into);
+        let guess = self.index.guess(from);
+        let gathered = gather_rows(&self.shared, pass, local, guess, to, into);
         leave(&self.shared, pass, local);
         match gathered {
             Ok(()) => Ok(()),
             Err(Stop) => Err(ScanEnd::Stopped),
         }
+    }
+}
+
+// The index of a map of this many rows, at least 1.
+fn index_of(alloc: Global, rows: u32) -> Result<Index, Memory>
+    requires { 1 ≤ rows }
+{
+    match Index::new(alloc, rows) {
+        Ok(index) => Ok(index),
+        Err(_) => Err(Memory),
     }
 }

@@ -1,13 +1,17 @@
 //! The concurrent map, and what its scans hand their pairs to.
 //!
 //! `kiwi` has the map and its calls, and `scanning` the rows of a scan, one after the other: both are put together from the functions
-//! of `kw_live`, by their contracts. `gather` has the trait of whatever takes the pairs of a scan, and the walk that hands it the pairs
-//! that some cells show; `gather_numbers` has the gatherers that keep one number, and `gather_list` the one that keeps all pairs.
+//! of `kw_live` and `kw_live_rebal`, by their contracts. `gather` has the trait of whatever takes the pairs of a scan, and the walk that
+//! hands it the pairs that some cells show; `gather_numbers` has the gatherers that keep one number, and `gather_list` the one that keeps
+//! all pairs.
 //!
-//! What a call says of the pass that made it stands in `specs/Kiwi.antt`, what it is to take a list of pairs in `specs/Gather.antt`, and
-//! for which lists a gatherer of a number stands in `specs/GatherNumbers.antt`. `get`, `scan` and the meetings take no handle, so their
-//! types say that they return whatever others do; `put` and `delete` take the runtime with `Wait`. Only `open` and the gatherer of
-//! all pairs take memory.
+//! Beside its table a map has an index (`kw_index`): each call asks it for a row to begin at, and a rebalance that won tells it of the new
+//! rows. It makes walks short, and no reply depends on it.
+//!
+//! What a call says of the pass that made it stands in `specs/Kiwi.antt`, why a call was refused in `specs/Refusals.antt`, what it is to
+//! take a list of pairs in `specs/Gather.antt`, and for which lists a gatherer of a number stands in `specs/GatherNumbers.antt`. `get`,
+//! `scan` and the meetings take no handle, so their types say that they return whatever others do; `put` and `delete` take the runtime
+//! with `Wait`. Only `open` and the gatherer of all pairs take memory.
 //!
 //! # For a caller
 //!
@@ -16,7 +20,7 @@
 //! ```text
 //! let (kiwi, mut passes) = Kiwi::open(rt.alloc(), 64, 2)?;      // 64 rows, two callers
 //! // threads share `&kiwi`, and each takes one of the passes
-//! kiwi.put(&rt, &mut pass, 1001, 250)?;                         // or PutEnd::NoRows: nothing has changed
+//! kiwi.put(&rt, &mut pass, 1001, 250)?;                         // or a PutEnd: nothing has changed
 //! let value = kiwi.get(&mut pass, 1001);                        // Some(250)
 //! let mut sum = SumGather::new();
 //! kiwi.scan(&mut pass, 1000, 1999, &mut sum)?;                  // all values of the range, as they stood at one moment
@@ -46,5 +50,7 @@ pub use kw_table::Pass;
 mod tests;
 #[cfg(test)]
 mod tests_calls;
+#[cfg(test)]
+mod tests_index;
 #[cfg(test)]
 mod tests_threads;

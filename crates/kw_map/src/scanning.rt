@@ -23,12 +23,13 @@ use kw_world::local::Local;
 
 /// Reads the rows of a scan that has entered, and hands its pairs on, until it has all of them or the gatherer stops.
 ///
-/// The scan ends at `upto`, and has no pairs yet. It is then about to leave with its pairs, all of which the gatherer took, or with
-/// `Stopped`. Takes no memory.
+/// The scan ends at `upto`, and has no pairs yet; its walk to its first row begins at the guess, if there is one. It is then about to leave with
+/// its pairs, all of which the gatherer took, or with `Stopped`. Takes no memory.
 pub(crate) fn gather_rows<G: Gather>(
     shared: &Shared,
     pass: &mut Pass,
     local: &mut Local,
+    guess: Option<u32>,
     upto: u32,
     into: &mut G,
 ) -> Result<(), Stop>
@@ -48,7 +49,7 @@ pub(crate) fn gather_rows<G: Gather>(
     ensures stopped { OnErr result (CountRose (G.stops into.old) (G.stops into.new)) }
 {
     while Stage::of(&local.activity).is_walking() {
-        if let Err(Stop) = gather_row(shared, pass, local, upto, into) {
+        if let Err(Stop) = gather_row(shared, pass, local, guess, upto, into) {
             stop_scan(shared, pass, local);
             return Err(Stop);
         }
@@ -65,6 +66,7 @@ fn gather_row<G: Gather>(
     shared: &Shared,
     pass: &mut Pass,
     local: &mut Local,
+    guess: Option<u32>,
     upto: u32,
     into: &mut G,
 ) -> Result<(), Stop>
@@ -87,7 +89,7 @@ fn gather_row<G: Gather>(
     ensures stopped { OnErr result (CountRose (G.stops into.old) (G.stops into.new)) }
     ensures never_falls { G.stops into.old ≤ G.stops into.new }
 {
-    locate(shared, pass, local, None);
+    locate(shared, pass, local, guess);
     let low = local.want;
     read_row(shared, pass, local);
     take_pairs(into, &local.gathered, low, upto, local.version)

@@ -5,7 +5,7 @@ ghost use Rattle.kw_world.specs.Opening.{IsOpening};
 ghost use Rattle.kw_world.specs.Sizes.{product};
 ghost use Rattle.kw_map.specs.Kiwi.{IsIdle};
 
-use crate::gather_numbers::SumGather;
+use crate::gather_numbers::{CountGather, SumGather};
 use crate::kiwi::{Kiwi, PutEnd, ScanEnd};
 use crate::tests::Roomy;
 use kw_model::memory::Memory;
@@ -51,18 +51,77 @@ pub(crate) fn put_each<R: Wait>(
     Ok(())
 }
 
+/// Puts the values from `from` to below `end` for one key, up to the first refusal.
+fn put_again<R: Wait>(
+    rt: &R,
+    kiwi: &Kiwi,
+    pass: &mut Pass,
+    key: u32,
+    from: u32,
+    end: u32,
+) -> Result<(), PutEnd>
+    requires { IsIdle kiwi.now pass.old }
+    ensures { IsIdle kiwi.now pass.new }
+{
+    for value in from..end {
+        kiwi.put(rt, pass, key, u64::from(value))?;
+    }
+    Ok(())
+}
+
+// A row that is full of keys is replaced by two, which have what it had.
 #[test]
-fn a_full_row_refuses_and_keeps_what_it_has(rt: HostRuntime) -> Result<(), Fail> {
+fn a_full_row_is_split(rt: HostRuntime) -> Result<(), Fail> {
     let (kiwi, mut pass) = open_one(rt.alloc(), 1)?;
-    assert_eq!(rt; put_each(&rt, &kiwi, &mut pass, 0, ROW, 7), Ok(()));
-    assert_eq!(rt; kiwi.put(&rt, &mut pass, 64, 8), Err(PutEnd::NoRows));
-    assert_eq!(rt; kiwi.put(&rt, &mut pass, 0, 8), Err(PutEnd::NoRows));
-    assert_eq!(rt; kiwi.delete(&rt, &mut pass, 1), Err(PutEnd::NoRows));
-    assert_eq!(rt; kiwi.get(&mut pass, 64), None);
+    assert_eq!(rt; put_each(&rt, &kiwi, &mut pass, 0, ROW + 1, 7), Ok(()));
     assert_eq!(rt; kiwi.get(&mut pass, 0), Some(7));
+    assert_eq!(rt; kiwi.get(&mut pass, 64), Some(7));
     let mut sum = SumGather::new();
     assert_eq!(rt; kiwi.scan(&mut pass, 0, 4294967295, &mut sum), Ok(()));
-    assert_eq!(rt; sum.total(), 448);
+    assert_eq!(rt; sum.total(), 455);
+    assert_eq!(rt; kiwi.delete(&rt, &mut pass, 1), Ok(()));
+    let mut rest = SumGather::new();
+    assert_eq!(rt; kiwi.scan(&mut pass, 0, 4294967295, &mut rest), Ok(()));
+    assert_eq!(rt; rest.total(), 448);
+    Ok(())
+}
+
+// A row that is full of one key is replaced by one that has its last value: the puts 65, 128 and 191 do so.
+#[test]
+fn puts_of_one_key_never_end(rt: HostRuntime) -> Result<(), Fail> {
+    let (kiwi, mut pass) = open_one(rt.alloc(), 1)?;
+    assert_eq!(rt; put_again(&rt, &kiwi, &mut pass, 7, 1, 201), Ok(()));
+    assert_eq!(rt; kiwi.get(&mut pass, 7), Some(200));
+    Ok(())
+}
+
+// A delete at a full row rebalances it as a put does, and then the key is gone.
+#[test]
+fn a_delete_is_refused_at_a_full_row_no_more(rt: HostRuntime) -> Result<(), Fail> {
+    let (kiwi, mut pass) = open_one(rt.alloc(), 1)?;
+    assert_eq!(rt; put_each(&rt, &kiwi, &mut pass, 0, ROW, 7), Ok(()));
+    assert_eq!(rt; kiwi.delete(&rt, &mut pass, 1), Ok(()));
+    assert_eq!(rt; kiwi.get(&mut pass, 1), None);
+    let mut sum = SumGather::new();
+    assert_eq!(rt; kiwi.scan(&mut pass, 0, 4294967295, &mut sum), Ok(()));
+    assert_eq!(rt; sum.total(), 441);
+    Ok(())
+}
+
+// After 62 splits 63 of the 64 rows are live, and the next split needs two. Whoever asks for no new row is not refused.
+#[test]
+fn no_rows_are_left(rt: HostRuntime) -> Result<(), Fail> {
+    let (kiwi, mut pass) = open_one(rt.alloc(), 1)?;
+    assert_eq!(rt; put_each(&rt, &kiwi, &mut pass, 1, 2049, 1), Ok(()));
+    assert_eq!(rt; kiwi.put(&rt, &mut pass, 2049, 1), Err(PutEnd::NoRows));
+    assert_eq!(rt; kiwi.put(&rt, &mut pass, 2049, 1), Err(PutEnd::NoRows));
+    assert_eq!(rt; kiwi.get(&mut pass, 2048), Some(1));
+    let mut count = CountGather::new();
+    assert_eq!(rt; kiwi.scan(&mut pass, 0, 4294967295, &mut count), Ok(()));
+    assert_eq!(rt; count.total(), 2048);
+    assert_eq!(rt; kiwi.delete(&rt, &mut pass, 2049), Err(PutEnd::NoRows));
+    assert_eq!(rt; kiwi.delete(&rt, &mut pass, 5), Ok(()));
+    assert_eq!(rt; kiwi.get(&mut pass, 5), None);
     Ok(())
 }
 
@@ -80,13 +139,16 @@ fn a_scan_stops_where_the_gatherer_stops(rt: HostRuntime) -> Result<(), Fail> {
     Ok(())
 }
 
+// No scan begins, and no full row is replaced; the puts that its row has room for are made.
 #[test]
-fn no_scan_begins_where_the_versions_are_spent(rt: HostRuntime) -> Result<(), Fail> {
+fn only_what_needs_a_version_is_refused_where_they_are_spent(rt: HostRuntime) -> Result<(), Fail> {
     let (kiwi, mut pass) = open_one(rt.alloc(), LAST_CLOCK)?;
     let mut sum = SumGather::new();
     assert_eq!(rt; kiwi.scan(&mut pass, 0, 10, &mut sum), Err(ScanEnd::Spent));
-    assert_eq!(rt; kiwi.put(&rt, &mut pass, 5, 50), Ok(()));
-    assert_eq!(rt; kiwi.get(&mut pass, 5), Some(50));
+    assert_eq!(rt; put_again(&rt, &kiwi, &mut pass, 5, 50, 114), Ok(()));
+    assert_eq!(rt; kiwi.put(&rt, &mut pass, 5, 114), Err(PutEnd::Spent));
+    assert_eq!(rt; kiwi.delete(&rt, &mut pass, 5), Err(PutEnd::Spent));
+    assert_eq!(rt; kiwi.get(&mut pass, 5), Some(113));
     Ok(())
 }
 
@@ -94,11 +156,13 @@ fn no_scan_begins_where_the_versions_are_spent(rt: HostRuntime) -> Result<(), Fa
 fn ends_have_texts(rt: HostRuntime) -> Result<(), Fail> {
     let texts = [
         PutEnd::NoRows.to_string(rt.alloc())?,
+        PutEnd::Spent.to_string(rt.alloc())?,
         ScanEnd::Stopped.to_string(rt.alloc())?,
         ScanEnd::Spent.to_string(rt.alloc())?,
     ];
     let wants = [
         "no rows are left",
+        "the versions or the epochs are spent",
         "the gatherer stopped",
         "the versions are spent",
     ];

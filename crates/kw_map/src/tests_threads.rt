@@ -1,8 +1,9 @@
-//! Two threads share a map, each with a pass of its own.
-ghost use Rattle.std.specs.Prelude.{IfOk};
+//! Threads share a map, each with a pass of its own.
+ghost use Rattle.std.specs.Prelude.{◌<◌, All, IfOk};
+ghost use Rattle.kw_words.specs.declared.sizes.TheConstants.{VALUE_END};
 ghost use Rattle.kw_map.specs.Kiwi.{IsIdle};
 
-use crate::gather_numbers::SumGather;
+use crate::gather_numbers::{CountGather, SumGather};
 use crate::kiwi::{Kiwi, PutEnd};
 use crate::tests_calls::put_each;
 use kw_model::memory::Memory;
@@ -12,6 +13,7 @@ use std::sync::Wait;
 use std::sync::atomic::{AtomicBool, Ordering};
 use std::test::Fail;
 use std::thread;
+use std::thread::Threads;
 
 /// How often a thread looks for the flag before it gives up.
 const MOST_LOOKS: u32 = 1_000_000;
@@ -90,5 +92,141 @@ fn what_two_threads_put_is_one_map(rt: HostRuntime) -> Result<(), Fail> {
     let mut sum = SumGather::new();
     assert_eq!(rt; kiwi.scan(&mut first, 0, 200, &mut sum), Ok(()));
     assert_eq!(rt; sum.total(), 90);
+    Ok(())
+}
+
+/// How often all keys are summed.
+const SUMS: u32 = 50;
+
+/// A map of 16,384 rows, and its three passes.
+fn open_three(alloc: Global) -> Result<(Kiwi, Pass, Pass, Pass), Memory>
+    ensures { IfOk result (λ made. IsIdle made.0 made.1 × IsIdle made.0 made.2 × IsIdle made.0 made.3) }
+{
+    let (kiwi, mut passes) = Kiwi::open(alloc, 16_384, 3)?;
+    let (Some(third), Some(second), Some(first)) = (passes.pop(), passes.pop(), passes.pop()) else {
+        unreachable!()
+    };
+    Ok((kiwi, first, second, third))
+}
+
+/// Sums all keys so often, and says whether a sum was refused or less than the one before.
+fn sum_often(kiwi: &Kiwi, pass: Pass) -> (Pass, bool)
+    requires { IsIdle kiwi.now pass }
+    ensures { IsIdle kiwi.now result.0 }
+{
+    let mut pass = pass;
+    let mut last: u128 = 0;
+    let mut fell = false;
+    for _ in 0..SUMS {
+        let mut sum = SumGather::new();
+        let told = kiwi.scan(&mut pass, 0, 20_000, &mut sum);
+        fell = fell || told.is_err() || sum.total() < last;
+        last = sum.total();
+    }
+    (pass, fell)
+}
+
+/// Puts this value for a thousand keys from this one on.
+fn put_thousand<R: Wait>(
+    rt: &R,
+    kiwi: &Kiwi,
+    pass: Pass,
+    from: u32,
+    value: u64,
+) -> (Pass, Result<(), PutEnd>)
+    requires idle { IsIdle kiwi.now pass }
+    requires value { value < VALUE_END }
+    ensures { IsIdle kiwi.now result.0 }
+{
+    let mut pass = pass;
+    let told = put_each(rt, kiwi, &mut pass, from, from.saturating_add(1_000), value);
+    (pass, told)
+}
+
+/// Two threads put a thousand keys each. Gives their passes, and whether all was put.
+fn put_both<R: Threads + Wait + Sync>(
+    rt: &R,
+    kiwi: &Kiwi,
+    first: Pass,
+    second: Pass,
+) -> (Pass, Pass, bool)
+    requires first { IsIdle kiwi.now first }
+    requires second { IsIdle kiwi.now second }
+    ensures { IsIdle kiwi.now result.0 × IsIdle kiwi.now result.1 }
+{
+    let ((first, low), (second, high)) = thread::join(
+        rt,
+        || put_thousand(rt, kiwi, first, 0, 1),
+        || put_thousand(rt, kiwi, second, 10_000, 2),
+    );
+    (first, second, low.is_ok() && high.is_ok())
+}
+
+// Rows are split all the time, and no sum misses what an earlier one had.
+#[test]
+fn sums_never_fall_while_two_put(rt: HostRuntime) -> Result<(), Fail> {
+    let (kiwi, first, second, third) = open_three(rt.alloc())?;
+    let ((mut third, fell), (mut first, mut second, put)) = thread::join(
+        &rt,
+        || sum_often(&kiwi, third),
+        || put_both(&rt, &kiwi, first, second),
+    );
+    assert_eq!(rt; (put, fell), (true, false));
+    kiwi.meet(&mut third, &mut first);
+    kiwi.meet(&mut third, &mut second);
+    let mut sum = SumGather::new();
+    assert_eq!(rt; kiwi.scan(&mut third, 0, 20_000, &mut sum), Ok(()));
+    assert_eq!(rt; sum.total(), 3_000);
+    Ok(())
+}
+
+/// How often each thread puts.
+const PUTS: u32 = 500;
+
+/// The keys that all threads put.
+const KEYS: u32 = 16;
+
+/// A map of 64 rows, seven passes for threads, and one that reads.
+fn open_eight(alloc: Global) -> Result<(Kiwi, Vec<Pass>, Pass), Memory>
+    ensures { IfOk result (λ made. All (IsIdle made.0) made.1.items × IsIdle made.0 made.2) }
+{
+    let (kiwi, mut passes) = Kiwi::open(alloc, 64, 8)?;
+    let Some(reader) = passes.pop() else {
+        unreachable!()
+    };
+    Ok((kiwi, passes, reader))
+}
+
+/// Puts the keys in turn, each time with the number of the put as value.
+fn put_in_turn<R: Wait>(rt: &R, kiwi: &Kiwi, pass: Pass) -> Result<(), PutEnd>
+    requires { IsIdle kiwi.now pass }
+{
+    let mut pass = pass;
+    for put in 0..PUTS {
+        kiwi.put(rt, &mut pass, put % KEYS, u64::from(put))?;
+    }
+    Ok(())
+}
+
+// One row is replaced all the time. Whichever thread was last at a key, it put the same value there last.
+#[test]
+fn seven_put_the_same_keys(rt: HostRuntime) -> Result<(), Fail> {
+    let (kiwi, passes, mut reader) = open_eight(rt.alloc())?;
+    let job = &|pass: Pass|
+        requires { IsIdle kiwi pass }
+    { put_in_turn(&rt, &kiwi, pass) };
+    for told in thread::map_vec(&rt, passes, job)? {
+        assert_eq!(rt; told, Ok(()));
+    }
+    assert_eq!(rt; kiwi.get(&mut reader, 0), Some(496));
+    assert_eq!(rt; kiwi.get(&mut reader, 3), Some(499));
+    assert_eq!(rt; kiwi.get(&mut reader, 4), Some(484));
+    assert_eq!(rt; kiwi.get(&mut reader, 15), Some(495));
+    let mut count = CountGather::new();
+    assert_eq!(rt; kiwi.scan(&mut reader, 0, 4294967295, &mut count), Ok(()));
+    assert_eq!(rt; count.total(), 16);
+    let mut sum = SumGather::new();
+    assert_eq!(rt; kiwi.scan(&mut reader, 0, 4294967295, &mut sum), Ok(()));
+    assert_eq!(rt; sum.total(), 7864);
     Ok(())
 }

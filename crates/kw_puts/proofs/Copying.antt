@@ -320,8 +320,8 @@ module _ {z : Sizes} {r r' : Run} {s : ℕ} {choice : Choice} {l : Local} {e : L
   copies_own a k (first_is_taken q rows next c m y) h n p w x = copies_seek z r'.history r'.origin r'.listed rows _ next y
   copies_own a k (sought_is_free y) h n p w x = copies_nowhere z r'.history r'.origin r'.listed TakeRow _ (λ i w. w) (λ w. w)
   copies_own a k (sought_is_taken rows next m y) h n p w x = copies_seek z r'.history r'.origin r'.listed rows _ next y
-  copies_own a k (first_is_retired q m c y o) h n p w x = copies_nowhere z r'.history r'.origin r'.listed (SeekPass 0) _ (λ i w. w) (λ w. w)
-  copies_own a k (sought_is_retired m y o) h n p w x = copies_nowhere z r'.history r'.origin r'.listed (SeekPass 0) _ (λ i w. w) (λ w. w)
+  copies_own a k (first_is_retired q m c y) h n p w x = copies_nowhere z r'.history r'.origin r'.listed (SeekPass 0) _ (λ i w. w) (λ w. w)
+  copies_own a k (sought_is_retired m y) h n p w x = copies_nowhere z r'.history r'.origin r'.listed (SeekPass 0) _ (λ i w. w) (λ w. w)
   copies_own a k (pass_is_old i epoch rows next m o y) h n p w x = copies_seek z r'.history r'.origin r'.listed rows _ next y
   copies_own a k (pass_is_young i next m y) h n p w x = copies_pass z r'.history r'.origin r'.listed (i + 1) _ next y
   copies_own a k frees_row h n p w x = copies_nowhere z r'.history r'.origin r'.listed TakeRow _ (λ i w. w) (λ w. w)
@@ -448,7 +448,7 @@ copies_rest z h o f l n (scans_on q u c d m) = copies_nowhere z h o f _ _ (λ i 
 
 -- nor does any other event that neither takes nor writes nor links rows
 copies_by : (z : Sizes) (v : Words) (s : ℕ) (choice : Choice) (l : Local) (a : Activity) (l' : Local) (h : History) (o : Origins) (f : Listed) → Arrow z v s choice l a l' → (Building z v choice l a l' → Copying z h o f l'.activity l') → Copying z h o f l'.activity l'
-copies_by z v s choice l a l' h o f (builds b next y u t) built = built t
+copies_by z v s choice l a l' h o f (builds b next y t) built = built t
 copies_by z v s choice l a l' h o f (meets_stamped j c version next e n) built = copies_look z h o f _ next _ n
 copies_by z v s choice l a l' h o f (meets_neither j next e n) built = copies_look z h o f _ next _ n
 copies_by z v s choice l a l' h o f (is_passed next e n) built = copies_look z h o f _ next _ n

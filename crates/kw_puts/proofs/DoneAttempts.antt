@@ -26,7 +26,7 @@ use Rattle.kw_core.proofs.Happens.{log_entry}
 use Rattle.kw_core.proofs.Happens.{Happens, knows_next, knows_other, not_chosen}
 use Rattle.kw_core.proofs.Building.{IsBuilding}
 use Rattle.kw_core.proofs.Arrows.{builds, Arrow, takes_full, announces_full, stamps_full, IsNotOwn}
-use Rattle.kw_core.proofs.Arrows.{takes_cell, takes_none, stores_key, stores_value, announces, is_refused, loads_clock, stamps, is_stamped, is_not_own, stores_version, meets_cell, meets_none, key_before, key_same, key_after, version_before, version_after, stores_after, inserts, loses, clears}
+use Rattle.kw_core.proofs.Arrows.{takes_cell, stores_key, stores_value, announces, loads_clock, stamps, is_stamped, stores_version, meets_cell, meets_none, key_before, key_same, key_after, version_before, version_after, stores_after, inserts, loses, clears}
 use Rattle.kw_core.proofs.InfantFrames.{version_stays}
 use Rattle.kw_puts.proofs.Owners.{true_false}
 use Rattle.kw_puts.proofs.Rely.{SameAttempt}
@@ -82,17 +82,15 @@ building_puts _ b p = absurd p
 -- the attempt of a seat that puts stays its own, or the seat has cleared its entry, or it never gets a version
 own_goes : (z : Sizes) (r r' : Run) (s : ℕ) (choice : Choice) (l : Local) (a : Activity) (l' : Local) → Arrow z (word z r.world) s choice l a l' → Happens z r r' s choice l l' a → Below z r → IsPutting a →
     IsPutting l'.activity × ((r'.seats s).own ≡ (r.seats s).own) ⊎ (a ≡ PutClear) ⊎ IsOver r'.history (r.seats s).own
-own_goes z r r' s choice l a l' (builds b next y o t) h i p = building_puts b y p
+own_goes z r r' s choice l a l' (builds b next y t) h i p = building_puts b y p
 own_goes z r r' s choice l a l' stores_key h i p = inl (tt, ap (λ g. g.own) h.log)
 own_goes z r r' s choice l a l' stores_value h i p = inl (tt, ap (λ g. g.own) h.log)
 own_goes z r r' s choice l a l' (announces e) h i p = inl (tt, ap (λ g. g.own) h.log)
-own_goes z r r' s choice l a l' (is_refused n e) h i p = inr (inr (refused z r r' s choice l l' n h i))
-own_goes z r r' s choice l a l' (announces_full n e) h i p = inr (inr (refused z r r' s choice l l' n h i))
+own_goes z r r' s choice l a l' (announces_full n) h i p = inr (inr (refused z r r' s choice l l' n h i))
 own_goes z r r' s choice l a l' loads_clock h i p = inl (tt, ap (λ g. g.own) h.log)
 own_goes z r r' s choice l a l' (stamps e) h i p = inl (tt, ap (λ g. g.own) h.log)
 own_goes z r r' s choice l a l' (is_stamped version e) h i p = inl (tt, ap (λ g. g.own) h.log)
-own_goes z r r' s choice l a l' (is_not_own n e) h i p = inr (inr (lost_now z r r' s choice l l' n h i))
-own_goes z r r' s choice l a l' (stamps_full n e) h i p = inr (inr (lost_now z r r' s choice l l' n h i))
+own_goes z r r' s choice l a l' (stamps_full n) h i p = inr (inr (lost_now z r r' s choice l l' n h i))
 own_goes z r r' s choice l a l' stores_version h i p = inl (tt, ap (λ g. g.own) h.log)
 own_goes z r r' s choice l a l' (meets_cell c y) h i p = inl (tt, ap (λ g. g.own) h.log)
 own_goes z r r' s choice l a l' (meets_none y) h i p = inl (tt, ap (λ g. g.own) h.log)
@@ -109,10 +107,9 @@ own_goes z r r' s choice l a l' _ h i p = absurd p
 
 -- a seat that is given a cell puts it
 takes_puts : (z : Sizes) (v : Words) (s : ℕ) (choice : Choice) (l : Local) (a : Activity) (l' : Local) → Arrow z v s choice l a l' → a ≡ PutAdd → has_room z (count_of (v (name.Count l.row))) ≡ true → IsPutting l'.activity
-takes_puts z v s choice l a l' (builds b next y o t) e x = absurd (subst IsBuilding e y)
+takes_puts z v s choice l a l' (builds b next y t) e x = absurd (subst IsBuilding e y)
 takes_puts z v s choice l a l' (takes_cell m) e x = tt
-takes_puts z v s choice l a l' (takes_none m f) e x = true_false x m
-takes_puts z v s choice l a l' (takes_full m f) e x = true_false x m
+takes_puts z v s choice l a l' (takes_full m) e x = true_false x m
 takes_puts z v s choice l a l' _ e x = absurd (cc)
 
 module _ (z : Sizes) (r r' : Run) (s : ℕ) (choice : Choice) (l : Local) (a : Activity) (l' : Local) (h : Happens z r r' s choice l l' a) (i : Below z r) (st : Step r.history r'.history (log_entry z r a s choice l)) where

@@ -30,7 +30,7 @@ use Rattle.kw_core.proofs.Happens.{Happens, knows_next, knows_other, not_exchang
 use Rattle.kw_core.proofs.Building.{IsBuilding}
 use Rattle.kw_core.proofs.BuiltNext.{IsAfterBuilding, built_next}
 use Rattle.kw_core.proofs.Arrows.{builds, Arrow, NextLook, looks, lists, NextRest, rests, answers, ends_scan, scans_on, announces_full, stamps_full, IsNotOwn}
-use Rattle.kw_core.proofs.Arrows.{meets_pending, meets_stamped, meets_neither, is_wanted, is_passed, loads_to_help, helps, finds_stamped, finds_other, list_ends, key_above, rest_passed, gathers_rest, announces, is_refused, loads_clock, stamps, is_stamped, is_not_own, stores_version, meets_cell, meets_none, key_before, key_same, key_after, version_before, version_after, stores_after, inserts, loses, clears}
+use Rattle.kw_core.proofs.Arrows.{meets_pending, meets_stamped, meets_neither, is_wanted, is_passed, loads_to_help, helps, finds_stamped, finds_other, list_ends, key_above, rest_passed, gathers_rest, announces, loads_clock, stamps, is_stamped, stores_version, meets_cell, meets_none, key_before, key_same, key_after, version_before, version_after, stores_after, inserts, loses, clears}
 use Rattle.kw_core.proofs.FreezeFrame.{entry_frozen, entry_left}
 use Rattle.kw_core.proofs.InfantFrames.{ChangesEntry, entry_stays, entry_written}
 use Rattle.kw_rows.specs.Rows.{WasLinked}
@@ -129,10 +129,9 @@ frozen_or_new z r r' s choice l a l' h i q j w o e = inr (entry_stays a h q j w 
 
 -- a seat whose entry is idle when it announces has announced a cell of its row then
 announces_now : (z : Sizes) (r r' : Run) (s : ℕ) (choice : Choice) (l : Local) (a : Activity) (l' : Local) → Arrow z (word z r.world) s choice l a l' → Happens z r r' s choice l l' a → Below z r → a ≡ Announce → word z r.world (name.Pend l.row s) ≡ pend_word pend.Idle → IsPublished l'.activity × (l'.row ≡ l.row)
-announces_now z r r' s choice l a l' (builds b next y o t) h i e f = absurd (subst IsBuilding e y)
+announces_now z r r' s choice l a l' (builds b next y t) h i e f = absurd (subst IsBuilding e y)
 announces_now z r r' s choice l a l' (announces x) h i e y = (tt, refl)
-announces_now z r r' s choice l a l' (is_refused n f) h i e y = absurd (n y)
-announces_now z r r' s choice l a l' (announces_full n f) h i e y = absurd (n y)
+announces_now z r r' s choice l a l' (announces_full n) h i e y = absurd (n y)
 announces_now z r r' s choice l a l' _ h i e y = absurd (cc)
 
 -- the entry of a seat that finds it not its own is frozen
@@ -141,12 +140,11 @@ unstamped_frozen z r r' s choice l l' n h i = frozen_stays z r r' s choice l Sta
 
 -- a seat that has announced a cell goes on with it, or clears its entry, or finds it frozen
 published_goes : (z : Sizes) (r r' : Run) (s : ℕ) (choice : Choice) (l : Local) (a : Activity) (l' : Local) → Arrow z (word z r.world) s choice l a l' → Happens z r r' s choice l l' a → Below z r → IsPublished a → (word z r'.world (name.Pend l.row s) ≡ pend_word pend.Idle) ⊎ (word z r'.world (name.Pend l.row s) ≡ pend_word pend.Frozen) ⊎ IsPublished l'.activity × (l'.row ≡ l.row)
-published_goes z r r' s choice l a l' (builds b next y o t) h i p = building_puts b y (published_puts b p)
+published_goes z r r' s choice l a l' (builds b next y t) h i p = building_puts b y (published_puts b p)
 published_goes z r r' s choice l a l' loads_clock h i p = inr (inr (tt, refl))
 published_goes z r r' s choice l a l' (stamps e) h i p = inr (inr (tt, refl))
 published_goes z r r' s choice l a l' (is_stamped version e) h i p = inr (inr (tt, refl))
-published_goes z r r' s choice l a l' (is_not_own n e) h i p = inr (inl (unstamped_frozen z r r' s choice l l' n h i))
-published_goes z r r' s choice l a l' (stamps_full n e) h i p = inr (inl (unstamped_frozen z r r' s choice l l' n h i))
+published_goes z r r' s choice l a l' (stamps_full n) h i p = inr (inl (unstamped_frozen z r r' s choice l l' n h i))
 published_goes z r r' s choice l a l' stores_version h i p = inr (inr (tt, refl))
 published_goes z r r' s choice l a l' (meets_cell c y) h i p = inr (inr (tt, refl))
 published_goes z r r' s choice l a l' (meets_none y) h i p = inr (inr (tt, refl))
@@ -225,7 +223,7 @@ built_tries _ k n = tt
 
 -- the acting seat is to freeze an entry only where it found it idle or pending
 pub tries_own : (z : Sizes) (r r' : Run) (s : ℕ) (choice : Choice) (l : Local) (a : Activity) (l' : Local) → Arrow z (word z r.world) s choice l a l' → IsToFreeze l'.activity l'
-tries_own z r r' s choice l a l' (builds b next y o t) = built_tries next.activity next (built_next z (word z r.world) choice l b next t)
+tries_own z r r' s choice l a l' (builds b next y t) = built_tries next.activity next (built_next z (word z r.world) choice l b next t)
 tries_own z r r' s choice l a l' (meets_stamped j c version next e n) = look_tries z _ next _ n
 tries_own z r r' s choice l a l' (meets_neither j next e n) = look_tries z _ next _ n
 tries_own z r r' s choice l a l' (is_passed next e n) = look_tries z _ next _ n
@@ -353,7 +351,7 @@ loaded_to_help z r r' s choice l h i st =
 
 -- the attempt that the acting seat is to help
 pub helps_own : (z : Sizes) (r r' : Run) (s : ℕ) (choice : Choice) (l : Local) (a : Activity) (l' : Local) → Arrow z (word z r.world) s choice l a l' → Happens z r r' s choice l l' a → Below z r → Step r.history r'.history (log_entry z r a s choice l) → HasMet l'.activity → Helps r'.history r'.origin l'.activity l' (r'.seats s)
-helps_own z r r' s choice l a l' (builds b next y o t) h i st p = built_meets next.activity (built_next z (word z r.world) choice l b next t) p
+helps_own z r r' s choice l a l' (builds b next y t) h i st p = built_meets next.activity (built_next z (word z r.world) choice l b next t) p
 helps_own z r r' s choice l a l' (meets_pending j c e) h i st p = pending_met z r r' s choice l j c (sym (pend_word_of _ _ e)) h i st
 helps_own z r r' s choice l a l' (is_wanted e) h i st p = key_wanted z r r' s choice l e h i st
 helps_own z r r' s choice l a l' loads_to_help h i st p = loaded_to_help z r r' s choice l h i st

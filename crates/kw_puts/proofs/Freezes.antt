@@ -91,7 +91,7 @@ stamped_stays z r r' s choice l a l' h i q j c n b o e = inl (linked_entry a h i
 
 -- a seat that has a cell which is not announced had it before its event, or was given it
 fresh_from : (z : Sizes) (v : Words) (s : ℕ) (choice : Choice) (l : Local) (a : Activity) (l' : Local) → Arrow z v s choice l a l' → IsFresh l'.activity → (l'.row ≡ l.row) × (IsFresh a ⊎ (a ≡ PutAdd) × (has_room z (count_of (v (name.Count l.row))) ≡ true))
-fresh_from z v s choice l a l' (builds b next y o t) p = built_puts next.activity (built_next z v choice l b next t) (fresh_puts next.activity p)
+fresh_from z v s choice l a l' (builds b next y t) p = built_puts next.activity (built_next z v choice l b next t) (fresh_puts next.activity p)
 fresh_from z v s choice l a l' (takes_cell m) p = (refl, inr (refl, m))
 fresh_from z v s choice l a l' stores_key p = (refl, inl tt)
 fresh_from z v s choice l a l' stores_value p = (refl, inl tt)
@@ -303,7 +303,7 @@ met_frozen z r s l m i k o (inr e) = absurd (subst (IsEntry z) e (i.shape.sane.e
 
 -- what the acting seat has frozen
 pub freezes_own : (z : Sizes) (r r' : Run) (s : ℕ) (choice : Choice) (l : Local) (a : Activity) (l' : Local) → Arrow z (word z r.world) s choice l a l' → Happens z r r' s choice l l' a → Below z r → Freezes z (word z r'.world) (slice_get r'.world.locals) l'.activity l'
-freezes_own z r r' s choice l a l' (builds b next y o t) h i = record { count = λ x. (builds_on x).count x; settled = λ x. (builds_on x).settled x }
+freezes_own z r r' s choice l a l' (builds b next y t) h i = record { count = λ x. (builds_on x).count x; settled = λ x. (builds_on x).settled x }
   where
     builds_on : HasFrozen next.activity → Freezes z (word z r'.world) (slice_get r'.world.locals) next.activity next
     builds_on x =

@@ -148,7 +148,7 @@ helps_not_read t (HelpSettle j) x y = y
 helps_not_read t _ x y = x
 
 helps_from : (z : Sizes) (v : Words) (s : ℕ) (choice : Choice) (l : Local) (a : Activity) (k : Local) (t : ℕ) → Arrow z v s choice l a k → HelpsScan t k.activity → HelpsFrom v l a k t
-helps_from z v s choice l a k t (builds b next y o u) x = after_helps t next.activity (built_next z v choice l b next u) x
+helps_from z v s choice l a k t (builds b next y u) x = after_helps t next.activity (built_next z v choice l b next u) x
 helps_from z v s choice l a k t (helps_scan j c y) x = has_looked j c x refl y refl
 helps_from z v s choice l a k t (draws_for j) x = has_drawn j x refl refl
 helps_from z v s choice l (Look j) k t b x = absurd (helps_not_read t k.activity x (after_read z v s choice l (Look j) k b tt))

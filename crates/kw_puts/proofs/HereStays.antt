@@ -40,7 +40,7 @@ pub data PutsFrom (z : Sizes) (r r' : Run) (s : ℕ) (l : Local) (a : Activity) 
 
 -- by what it does
 puts_from : (z : Sizes) (r r' : Run) (s : ℕ) (choice : Choice) (l : Local) (a : Activity) (l' : Local) → Arrow z (word z r.world) s choice l a l' → Happens z r r' s choice l l' a → IsPutting l'.activity → PutsFrom z r r' s l a
-puts_from z r r' s choice l a l' (builds b next y o t) h p = built_puts next.activity (built_next z (word z r.world) choice l b next t) p
+puts_from z r r' s choice l a l' (builds b next y t) h p = built_puts next.activity (built_next z (word z r.world) choice l b next t) p
 puts_from z r r' s choice l a l' (takes_cell m) h p = takes_now refl m
 puts_from z r r' s choice l a l' stores_key h p = puts_on tt (ap (λ (g : SeatLog). g.own) h.log)
 puts_from z r r' s choice l a l' stores_value h p = puts_on tt (ap (λ (g : SeatLog). g.own) h.log)

@@ -322,7 +322,7 @@ built_takes _ n x = x
 
 -- what the acting seat remembers
 pub remembers_own : (z : Sizes) (r r' : Run) (s : ℕ) (choice : Choice) (l : Local) (a : Activity) (l' : Local) → Arrow z (word z r.world) s choice l a l' → Happens z r r' s choice l l' a → Below z r → Step r.history r'.history (log_entry z r a s choice l) → Remembers z r'.ledger.rows r'.history r'.origin r'.listed l'.activity l'
-remembers_own z r r' s choice l a l' (builds b next y o t) h i st = record { marks = marks; noted = λ x. absurd (built_takes next.activity after x) }
+remembers_own z r r' s choice l a l' (builds b next y t) h i st = record { marks = marks; noted = λ x. absurd (built_takes next.activity after x) }
   where
     after : IsAfterBuilding next.activity
     after = built_next z (word z r.world) choice l b next t

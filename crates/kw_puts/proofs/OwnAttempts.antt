@@ -546,7 +546,7 @@ built_puts _ n p = absurd p
 
 -- the acting seat's own attempt
 pub owns_own : (z : Sizes) (r r' : Run) (s : ℕ) (choice : Choice) (l : Local) (a : Activity) (l' : Local) → Arrow z (word z r.world) s choice l a l' → Happens z r r' s choice l l' a → Below z r → Step r.history r'.history (log_entry z r a s choice l) → Shape z r' → Keeps r'.history → IsPutting l'.activity → OwnsAttempt (word z r'.world) r'.history s l'.activity l' (r'.seats s)
-owns_own z r r' s choice l a l' (builds b next y o t) h i st after k p = built_puts next.activity (built_next z (word z r.world) choice l b next t) p
+owns_own z r r' s choice l a l' (builds b next y t) h i st after k p = built_puts next.activity (built_next z (word z r.world) choice l b next t) p
 owns_own z r r' s choice l a l' (takes_cell m) h i st after k p = cell_given z r r' s choice l m h
 owns_own z r r' s choice l a l' stores_key h i st after k p = key_stored z r r' s choice l h i st
 owns_own z r r' s choice l a l' stores_value h i st after k p = value_stored z r r' s choice l h i st

@@ -239,7 +239,7 @@ loses_insert z r r' s choice l l' n h i = rw (one_more_is z l.lost (omega (arith
 
 -- what the acting seat knows of the list of its row
 pub inserts_own : (z : Sizes) (r r' : Run) (s : ℕ) (choice : Choice) (l : Local) (a : Activity) (l' : Local) → Arrow z (word z r.world) s choice l a l' → Happens z r r' s choice l l' a → Below z r → IsInserting l'.activity → Inserts z.cells (list_in (word z r'.world) r'.listed l'.row) l'.activity l'
-inserts_own z r r' s choice l a l' (builds b next y o t) h i m = built_puts next.activity (built_next z (word z r.world) choice l b next t) (inserting_puts next.activity m)
+inserts_own z r r' s choice l a l' (builds b next y t) h i m = built_puts next.activity (built_next z (word z r.world) choice l b next t) (inserting_puts next.activity m)
 inserts_own z r r' s choice l a l' stores_version h i m = begins_insert z r r' s choice l l' h i
 inserts_own z r r' s choice l a l' (meets_cell c e) h i m =
     let k = knows_list z r r' s choice l InsFrom l' h i in
@@ -296,7 +296,7 @@ inserts_own z r r' s choice l a l' _ h i m = absurd m
 
 -- where the acting seat's walk is
 pub walks_own : (z : Sizes) (r r' : Run) (s : ℕ) (choice : Choice) (l : Local) (a : Activity) (l' : Local) → Arrow z (word z r.world) s choice l a l' → Happens z r r' s choice l l' a → Below z r → IsInserting l'.activity → WalksList z.cells (list_in (word z r'.world) r'.listed l'.row) l'.activity l'
-walks_own z r r' s choice l a l' (builds b next y o t) h i m = built_puts next.activity (built_next z (word z r.world) choice l b next t) (inserting_puts next.activity m)
+walks_own z r r' s choice l a l' (builds b next y t) h i m = built_puts next.activity (built_next z (word z r.world) choice l b next t) (inserting_puts next.activity m)
 walks_own z r r' s choice l a l' stores_version h i m = walk_begins z.cells _
 walks_own z r r' s choice l a l' (meets_cell c e) h i m =
     let before = row z r r' s choice l InsFrom l' h i in

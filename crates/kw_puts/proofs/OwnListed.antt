@@ -38,7 +38,7 @@ given_unlisted z r r' s choice l l' m h i = which (r.listed l.row (given_in (wor
 
 -- the own cell of a put is not listed before it is inserted
 unlisted_own : (z : Sizes) (r r' : Run) (s : ℕ) (choice : Choice) (l : Local) (a : Activity) (l' : Local) → Arrow z (word z r.world) s choice l a l' → Happens z r r' s choice l l' a → Below z r → IsUnlisted l'.activity → r'.listed l'.row l'.cell ≡ false
-unlisted_own z r r' s choice l a l' (builds b next y o t) h i u = built_puts next.activity (built_next z (word z r.world) choice l b next t) (unlisted_puts next.activity u)
+unlisted_own z r r' s choice l a l' (builds b next y t) h i u = built_puts next.activity (built_next z (word z r.world) choice l b next t) (unlisted_puts next.activity u)
 unlisted_own z r r' s choice l a l' (takes_cell m) h i u = ap (λ f. f l.row (given_in (word z r.world) l.row)) h.listed ∙ given_unlisted z r r' s choice l l' m h i
 unlisted_own z r r' s choice l a l' (loses n) h i u = ap (λ f. f l.row l.cell) (lost_listed z r r' s choice l l' h i n) ∙ (i.lists.own s l h.knows).unlisted (subst IsUnlisted (sym h.activity) tt)
 unlisted_own z r r' s choice l a l' stores_key h i u = ap (λ f. f l.row l.cell) h.listed ∙ (i.lists.own s l h.knows).unlisted (subst IsUnlisted (sym h.activity) tt)
@@ -74,7 +74,7 @@ clear_puts PutClear u = tt
 clear_puts _ u = absurd u
 
 listed_own : (z : Sizes) (r r' : Run) (s : ℕ) (choice : Choice) (l : Local) (a : Activity) (l' : Local) → Arrow z (word z r.world) s choice l a l' → Happens z r r' s choice l l' a → Below z r → IsPutClear l'.activity → r'.listed l'.row l'.cell ≡ true
-listed_own z r r' s choice l a l' (builds b next y o t) h i u = built_puts next.activity (built_next z (word z r.world) choice l b next t) (clear_puts next.activity u)
+listed_own z r r' s choice l a l' (builds b next y t) h i u = built_puts next.activity (built_next z (word z r.world) choice l b next t) (clear_puts next.activity u)
 listed_own z r r' s choice l a l' (inserts e) h i u = ap (λ f. f l.cell) (ap (λ f. f l.row) (made_listed z r r' s choice l l' h i e) ∙ with_listed_here r.listed l.row l.cell) ∙ cell_here (r.listed l.row) l.cell
 listed_own z r r' s choice l a l' (meets_stamped j c version next e n) h i u = look_puts z _ next n (clear_puts next u)
 listed_own z r r' s choice l a l' (meets_neither j next e n) h i u = look_puts z _ next n (clear_puts next u)

@@ -75,7 +75,7 @@ cell_after l k (scans_on r w e f o) = tt
 
 -- where a seat that reads a row goes on to
 pub after_read : (z : Sizes) (v : Words) (s : ℕ) (choice : Choice) (l : Local) (a : Activity) (k : Local) → Arrow z v s choice l a k → IsAtRead a → IsAfterRead k.activity
-after_read z v s choice l a k (builds b next y o t) x = after_at_read b (building_after b y) x
+after_read z v s choice l a k (builds b next y t) x = after_at_read b (building_after b y) x
 after_read z v s choice l a k (meets_stamped j c version next e n) x = look_after z _ next n
 after_read z v s choice l a k (meets_neither j next e n) x = look_after z _ next n
 after_read z v s choice l a k (is_passed next e n) x = look_after z _ next n
@@ -115,7 +115,7 @@ settling_waits _ x = absurd x
 
 -- the event that leads to a waiting scan is the store of its word, or its draw
 pub waits_from : (z : Sizes) (v : Words) (s : ℕ) (choice : Choice) (l : Local) (a : Activity) (k : Local) → Arrow z v s choice l a k → IsWaiting k.activity → ((a ≡ ScanWait) × (k ≡ record l { activity = ScanDraw })) ⊎ ((a ≡ ScanDraw) × (k ≡ record l { drawn = v name.Clock; activity = ScanSettle }))
-waits_from z v s choice l a k (builds b next y o t) x = after_waiting next.activity (built_next z v choice l b next t) x
+waits_from z v s choice l a k (builds b next y t) x = after_waiting next.activity (built_next z v choice l b next t) x
 waits_from z v s choice l a k stores_waiting x = inl (refl, refl)
 waits_from z v s choice l a k draws x = inr (refl, refl)
 waits_from z v s choice l (Look j) k b x = absurd (waiting_not_read k.activity x (after_read z v s choice l (Look j) k b tt))
@@ -132,7 +132,7 @@ waits_from z v s choice l a k b x = absurd x
 
 -- a scan that has its version had it, or has just settled it; and a seat on its way that is no scan began so
 pub drawn_from : (z : Sizes) (v : Words) (s : ℕ) (choice : Choice) (l : Local) (a : Activity) (k : Local) → Arrow z v s choice l a k → is_scan k.call ≡ true → HasDrawn k.activity → HasDrawn a ⊎ IsSettling a
-drawn_from z v s choice l a k (builds b next y o t) e x = after_drawn next.activity (built_next z v choice l b next t) x
+drawn_from z v s choice l a k (builds b next y t) e x = after_drawn next.activity (built_next z v choice l b next t) x
 drawn_from z v s choice l Start k b e x = inl tt
 drawn_from z v s choice l Head k b e x = inl tt
 drawn_from z v s choice l GuessMin k b e x = inl tt
@@ -155,7 +155,7 @@ drawn_from z v s choice l a k b e x = absurd x
 
 -- the scan's word says so from then on, until it is cleared
 pub settled_from : (z : Sizes) (v : Words) (s : ℕ) (choice : Choice) (l : Local) (a : Activity) (k : Local) → Arrow z v s choice l a k → is_scan k.call ≡ true → IsSettled k.activity → IsCovering a ⊎ IsSettling a
-settled_from z v s choice l a k (builds b next y o t) e x = after_settled next.activity (built_next z v choice l b next t) x
+settled_from z v s choice l a k (builds b next y t) e x = after_settled next.activity (built_next z v choice l b next t) x
 settled_from z v s choice l Start k b e x = inl tt
 settled_from z v s choice l Head k b e x = inl tt
 settled_from z v s choice l GuessMin k b e x = inl tt
@@ -177,7 +177,7 @@ settled_from z v s choice l a k b e x = absurd x
 
 -- a reader that has looked at the first entry had looked at it, or looks at it now
 reading_from : (z : Sizes) (v : Words) (s : ℕ) (choice : Choice) (l : Local) (a : Activity) (k : Local) → Arrow z v s choice l a k → IsReading k.activity → IsReading a ⊎ (a ≡ Look 0)
-reading_from z v s choice l a k (builds b next y o t) x = after_reading next.activity (built_next z v choice l b next t) x
+reading_from z v s choice l a k (builds b next y t) x = after_reading next.activity (built_next z v choice l b next t) x
 reading_from z v s choice l (Look zero) k b x = inr refl
 reading_from z v s choice l (Look (suc j)) k b x = inl (omega arith)
 reading_from z v s choice l LookKey k b x = inl tt
@@ -202,7 +202,7 @@ cell_version l k (scans_on r w e f o) = refl
 
 -- a scan that has its version keeps it
 pub not_idle_drawn : (z : Sizes) (v : Words) (s : ℕ) (choice : Choice) (l : Local) (a : Activity) (k : Local) → Arrow z v s choice l a k → HasDrawn a → HasDrawn k.activity → k.version ≡ l.version
-not_idle_drawn z v s choice l a k (builds b next building o t) x y = after_drawn next.activity (built_next z v choice l b next t) y
+not_idle_drawn z v s choice l a k (builds b next building t) x y = after_drawn next.activity (built_next z v choice l b next t) y
 not_idle_drawn z v s choice l a k (list_ends next e n) x y = cell_version _ next n
 not_idle_drawn z v s choice l a k (key_above next e n) x y = cell_version _ next n
 not_idle_drawn z v s choice l a k (rest_passed next e n) x y = cell_version _ next n
@@ -353,20 +353,20 @@ put_not_scan None e f = true_false refl (sym e)
 
 -- a scan that stores its word waits
 wait_waits : (z : Sizes) (v : Words) (s : ℕ) (choice : Choice) (l : Local) (a : Activity) (k : Local) → Arrow z v s choice l a k → a ≡ ScanWait → IsWaiting k.activity
-wait_waits z v s choice l a k (builds b next y o t) e = absurd (subst IsBuilding e y)
+wait_waits z v s choice l a k (builds b next y t) e = absurd (subst IsBuilding e y)
 wait_waits z v s choice l a k stores_waiting e = tt
 wait_waits z v s choice l a k _ e = absurd (cc)
 
 -- a scan that draws waits on
 draw_waits : (z : Sizes) (v : Words) (s : ℕ) (choice : Choice) (l : Local) (a : Activity) (k : Local) → Arrow z v s choice l a k → IsWaiting a → IsWaiting k.activity ⊎ IsSettling a
-draw_waits z v s choice l a k (builds b next y o t) x = after_waiting b (building_after b y) x
+draw_waits z v s choice l a k (builds b next y t) x = after_waiting b (building_after b y) x
 draw_waits z v s choice l a k draws x = inl tt
 draw_waits z v s choice l ScanSettle k b x = inr tt
 draw_waits z v s choice l a k _ x = absurd x
 
 -- a scan that settles is on its way
 settling_next : (z : Sizes) (v : Words) (s : ℕ) (choice : Choice) (l : Local) (a : Activity) (k : Local) → Arrow z v s choice l a k → IsSettling a → is_scan l.call ≡ true → IsScanning k.activity k
-settling_next z v s choice l a k (builds b next y o t) x f = after_settling b (building_after b y) x
+settling_next z v s choice l a k (builds b next y t) x f = after_settling b (building_after b y) x
 settling_next z v s choice l a k (settles_empty e) x f = inr (f, tt)
 settling_next z v s choice l a k (settles e) x f = inr (f, tt)
 settling_next z v s choice l a k _ x f = absurd x
@@ -390,7 +390,7 @@ IsClear _ = ⊥
 
 -- the walk goes on from its start
 start_settled : (z : Sizes) (v : Words) (s : ℕ) (choice : Choice) (l : Local) (k : Local) → Arrow z v s choice l Start k → IsSettled k.activity
-start_settled z v s choice l k (builds b next y o t) = absurd y
+start_settled z v s choice l k (builds b next y t) = absurd y
 start_settled z v s choice l k starts_at_head = tt
 start_settled z v s choice l k (guesses r c e) = tt
 start_settled z v s choice l k guess_fails = tt
@@ -403,7 +403,7 @@ settled_underway _ x = tt
 
 -- a scan on its way goes on, or clears its word
 settled_next : (z : Sizes) (v : Words) (s : ℕ) (choice : Choice) (l : Local) (a : Activity) (k : Local) → Arrow z v s choice l a k → is_scan l.call ≡ true → IsSettled a → IsSettled k.activity ⊎ IsClear a ⊎ (a ≡ Walk) × (is_stopped choice l ≡ true)
-settled_next z v s choice l a k (builds b next y o t) f x = after_settled b (building_after b y) x
+settled_next z v s choice l a k (builds b next y t) f x = after_settled b (building_after b y) x
 settled_next z v s choice l a k (meets_stamped j c version next e n) f x = inl (look_settled z _ next n)
 settled_next z v s choice l a k (meets_neither j next e n) f x = inl (look_settled z _ next n)
 settled_next z v s choice l a k (is_passed next e n) f x = inl (look_settled z _ next n)
@@ -503,7 +503,7 @@ underway_busy _ x = tt
 
 -- an event that leads to a scan with a version neither begins nor ends a call
 pub drawn_underway : (z : Sizes) (v : Words) (s : ℕ) (choice : Choice) (l : Local) (a : Activity) (k : Local) → Arrow z v s choice l a k → HasDrawn k.activity → IsUnderway a
-drawn_underway z v s choice l a k (builds b next y o t) x = building_underway b y
+drawn_underway z v s choice l a k (builds b next y t) x = building_underway b y
 drawn_underway z v s choice l a k (begins call e m) x = absurd x
 drawn_underway z v s choice l a k (leaves answer) x = absurd x
 drawn_underway z v s choice l a k _ x = tt
@@ -533,14 +533,14 @@ settles_at z r r' s choice l k h v m (inr n) =
 -- by the arrow that it takes
 settles_to : (z : Sizes) (r r' : Run) (s : ℕ) (choice : Choice) (l : Local) (a : Activity) (k : Local) → Arrow z (word z r.world) s choice l a k → Happens z r r' s choice l k a → IsSettling a → IsVersion l.waiting →
     (word z r.world (name.Scan s) ≡ scan_word (Waiting l.waiting)) ⊎ IsHelped (word z r.world) r.history s (r.ledger.waits s) (r.settled s) → Settles z r r' s l k
-settles_to z r r' s choice l a k (builds b next y o t) h x m w = after_settling b (building_after b y) x
+settles_to z r r' s choice l a k (builds b next y t) h x m w = after_settling b (building_after b y) x
 settles_to z r r' s choice l a k (settles_empty e) h x m w = settles_at z r r' s choice l k h refl m w
 settles_to z r r' s choice l a k (settles e) h x m w = settles_at z r r' s choice l k h refl m w
 settles_to z r r' s choice l a k _ h x m w = absurd x
 
 -- a scan that has loaded the clock has just done so, or is about to draw
 pub loaded_from : (z : Sizes) (v : Words) (s : ℕ) (choice : Choice) (l : Local) (a : Activity) (k : Local) → Arrow z v s choice l a k → HasLoaded k.activity → ((a ≡ ScanClock) × (k ≡ record l { waiting = v name.Clock; activity = ScanWait })) ⊎ ((a ≡ ScanWait) × (k ≡ record l { activity = ScanDraw }))
-loaded_from z v s choice l a k (builds b next y o t) x = after_loaded next.activity (built_next z v choice l b next t) x
+loaded_from z v s choice l a k (builds b next y t) x = after_loaded next.activity (built_next z v choice l b next t) x
 loaded_from z v s choice l a k (waits e) x = inl (refl, refl)
 loaded_from z v s choice l a k stores_waiting x = inr (refl, refl)
 loaded_from z v s choice l (Look j) k b x = absurd (loaded_not_read k.activity x (after_read z v s choice l (Look j) k b tt))

@@ -196,7 +196,7 @@ draw_raises z r r' s choice l l' Walk h d = absurd (walks (is_stopped choice l) 
 draw_raises z r r' s choice l l' (HelpDraw i) h d = omega (arith, h.changed.same)
 draw_raises z r r' s choice l l' SeekFirst h d = absurd (seeks choice d)
   where
-    seeks : (c : Choice) → IsDraw (seek_first_transition z.form c l).operation.kind → ⊥
+    seeks : (c : Choice) → IsDraw (seek_first_transition c l).operation.kind → ⊥
     seeks (Begin call) x = x
     seeks Go x = x
     seeks (Guess q) x = x
@@ -265,7 +265,7 @@ new_call h h' e z v s choice l g o a c (makes_end answer) n x w f = absurd (omeg
 
 -- a call that begins is counted
 idle_number : (z : Sizes) (v : Words) (s : ℕ) (choice : Choice) (l : Local) (a : Activity) (k : Local) → Arrow z v s choice l a k → a ≡ Idle → k.number ≡ l.number + 1
-idle_number z v s choice l a k (builds b next y o t) f = absurd (subst IsBuilding f y)
+idle_number z v s choice l a k (builds b next y t) f = absurd (subst IsBuilding f y)
 idle_number z v s choice l a k (begins call e b) f = refl
 idle_number z v s choice l a k _ f = absurd (cc)
 
@@ -283,7 +283,7 @@ numbers_own z r r' s choice l a l' b h i st = λ x w e. which x w e (cases_lt x 
 
 -- the seat's call
 pub calling_own : (z : Sizes) (r r' : Run) (s : ℕ) (choice : Choice) (l : Local) (a : Activity) (l' : Local) → Arrow z (word z r.world) s choice l a l' → Happens z r r' s choice l l' a → Below z r → Step r.history r'.history (log_entry z r a s choice l) → Keeps r'.history → IsBusy l'.activity → Calling r'.history s l'.activity l' (r'.seats s)
-calling_own z r r' s choice l a l' (builds b next y o t) h i st k p = calling_goes_on z r r' s choice l b next (builds b next y o t) h i st k (building_underway b y)
+calling_own z r r' s choice l a l' (builds b next y t) h i st k p = calling_goes_on z r r' s choice l b next (builds b next y t) h i st k (building_underway b y)
 calling_own z r r' s choice l a l' (begins call e m) h i st k p = calling_begins z r r' s choice l _ call e refl refl refl h
 calling_own z r r' s choice l a l' (leaves answer) h i st k p = absurd p
 calling_own z r r' s choice l a l' b h i st k p = calling_goes_on z r r' s choice l _ l' b h i st k tt

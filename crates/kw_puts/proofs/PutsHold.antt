@@ -62,7 +62,7 @@ unfolding transition_of
 below_goes_on z o r e i may m =
     let c = may_come o r.world e may in
     subst (Below z) (sym (goes_on-moved z r e c.local c.knows c.moves))
-    (below_keeps z r (noted_by z r e c.local) e.seat (offered r.world.rows e.choice) c.local c.local.activity _ (happens z r e c.local i.shape.sane (i.shape.kinds e.seat c.local c.knows).reached c.begins c.knows c.moves) i (m c.local c.knows))
+    (below_keeps z r (noted_by z r e c.local) e.seat (offered r.world.rows e.choice) c.local c.local.activity _ (happens z r e c.local i.shape.sane c.begins c.knows c.moves) i (m c.local c.knows))
 
 -- where nothing happened
 pub below_starts : (z : Sizes) (o : Opening) → IsOpening z o → Below z (start z o)

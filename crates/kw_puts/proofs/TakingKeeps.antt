@@ -143,7 +143,7 @@ passes z a b f e = record { balances = b; frozen = f; all = e }
 
 -- what the acting seat knows then
 pub gathers_own : (z : Sizes) (r r' : Run) (s : ℕ) (choice : Choice) (l : Local) (a : Activity) (l' : Local) → Arrow z (word z r.world) s choice l a l' → Happens z r r' s choice l l' a → Below z r → Step r.history r'.history (log_entry z r a s choice l) → Gathers z (list_in (word z r'.world) r'.listed l'.row) r'.history r'.origin l'.activity l'
-gathers_own z r r' s choice l a l' (builds c next y o b) h i st = goes_on z r r' s choice l a l' h i st next b
+gathers_own z r r' s choice l a l' (builds c next y b) h i st = goes_on z r r' s choice l a l' h i st next b
 gathers_own z r r' s choice l a l' (meets_quiet_last m e u) h i st = begins z r r' s choice l (ScanLook m) l' h i st (passes z (ScanLook m) tt tt refl) l' refl refl refl refl tt
 gathers_own z r r' s choice l a l' (meets_drawn_last m version e u) h i st = begins z r r' s choice l (ScanLook m) l' h i st (passes z (ScanLook m) tt tt refl) l' refl refl refl refl tt
 gathers_own z r r' s choice l a l' (settles_last m e u) h i st = begins z r r' s choice l (HelpSettle m) l' h i st (passes z (HelpSettle m) tt tt refl) l' refl refl refl refl tt

@@ -164,7 +164,7 @@ apart_listed {z} {r} {r'} {s} {choice} {l} {l'} h i k g m e = record {
 
 -- no cell is gathered twice by the acting reader
 pub apart_by : (z : Sizes) (r r' : Run) (s : ℕ) (choice : Choice) (l : Local) (a : Activity) (l' : Local) → Arrow z (word z r.world) s choice l a l' → Happens z r r' s choice l l' a → Inv z r → IsTaking l'.activity → Apart z (list_in (word z r'.world) r'.listed l'.row) l'.activity l'
-apart_by z r r' s choice l a l' (builds b next y o t) h i p = after_rests l'.activity (built_next z (word z r.world) choice l b l' t) (inr p)
+apart_by z r r' s choice l a l' (builds b next y t) h i p = after_rests l'.activity (built_next z (word z r.world) choice l b l' t) (inr p)
 apart_by z r r' s choice l _ _ (meets_stamped j c version next e n) h i p = apart_look z _ (j + 1) next (remembering c version l) n p (none_gathered h i tt)
 apart_by z r r' s choice l _ _ (meets_neither j next e n) h i p = apart_look z _ (j + 1) next l n p (none_gathered h i tt)
 apart_by z r r' s choice l _ _ (is_passed next e n) h i p = apart_look z _ (l.looked + 1) next l n p (none_gathered h i tt)

@@ -319,7 +319,7 @@ reads_gathered {z} {r} {r'} {s} {choice} {l} {l'} h i k m at row call link marks
 
 -- the cells that the acting reader reads
 pub reads_by : (z : Sizes) (r r' : Run) (s : ℕ) (choice : Choice) (l : Local) (a : Activity) (l' : Local) → Arrow z (word z r.world) s choice l a l' → Happens z r r' s choice l l' a → Inv z r → Below z r' → IsTaking l'.activity → Reads (list_in (word z r'.world) r'.listed l'.row) r'.history r'.origin l'.activity l' (r'.seats s)
-reads_by z r r' s choice l a l' (builds b next y o t) h i k p = after_rests l'.activity (built_next z (word z r.world) choice l b l' t) (inr p)
+reads_by z r r' s choice l a l' (builds b next y t) h i k p = after_rests l'.activity (built_next z (word z r.world) choice l b l' t) (inr p)
 reads_by z r r' s choice l _ _ (list_leads c e) h i k p = subst (Reads (list_in (word z r'.world) r'.listed l.row) r'.history r'.origin ListKey _) (sym h.log) (reads_met h i k c e _ refl refl refl refl)
 reads_by z r r' s choice l _ _ (list_ends next e n) h i k p = subst (Reads _ r'.history r'.origin next.activity next) (sym h.log) (reads_next _ r'.history r'.origin l next (r.seats s) n (left_at_end h i k e) (marks_after h i (inr tt)) p)
 reads_by z r r' s choice l _ _ (key_below e) h i k p = subst (Reads (list_in (word z r'.world) r'.listed l.row) r'.history r'.origin ListFrom _) (sym h.log) (reads_below h i k e _ refl refl refl refl)

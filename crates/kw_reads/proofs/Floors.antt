@@ -81,7 +81,7 @@ way_draws _ l x k e = absurd x
 
 -- a seat that names a row was on its way, and its event neither begins nor ends a call, nor draws
 pub row_from : (z : Sizes) (v : Words) (s : ℕ) (choice : Choice) (l : Local) (a : Activity) (k : Local) → Arrow z v s choice l a k → HasRow k.activity → IsOnWay a × IsUnderway a × IsNoDraw a
-row_from z v s choice l a k (builds b next y o t) x = after_building k.activity (built_next z v choice l a k t) x
+row_from z v s choice l a k (builds b next y t) x = after_building k.activity (built_next z v choice l a k t) x
 row_from z v s choice l Start k b x = (tt, tt, tt)
 row_from z v s choice l Head k b x = (tt, tt, tt)
 row_from z v s choice l GuessMin k b x = (tt, tt, tt)

@@ -73,7 +73,7 @@ rests_from l m k a x row call version (ends_scan e f n) y = absurd y
 rests_from l m k a x row call version (scans_on q e f n o) y = absurd y
 
 reading_from : (z : Sizes) (v : Words) (s : ℕ) (choice : Choice) (l : Local) (a : Activity) (k : Local) → Arrow z v s choice l a k → IsReading k.activity → FromReading l a k
-reading_from z v s choice l a k (builds b next y o t) x = after_building k.activity (built_next z v choice l a k t) (reading_row k.activity x).0
+reading_from z v s choice l a k (builds b next y t) x = after_building k.activity (built_next z v choice l a k t) (reading_row k.activity x).0
 reading_from z v s choice l a k (reads_last f n) x = absurd (omega (arith, x))
 reading_from z v s choice l a k (reads_before f w) x = absurd (omega (arith, x))
 reading_from z v s choice l a k (list_ends next e n) x = rests_from l _ next ListFrom tt refl refl refl n x

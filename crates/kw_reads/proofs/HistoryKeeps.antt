@@ -218,4 +218,4 @@ may_take z o r e i may l knows =
     let c = may_come o r.world e may in
     let same : c.local ≡ l = same_Some c.local l (sym c.knows ∙ knows) in
     subst (λ (x : Local). MayNote r.history (logged_of (happening_at z r.world e x)) (change_of z x.activity e.seat (offered r.world.rows e.choice) x (found_by z r.world e x) (r.seats e.seat) r.origin)) same
-    (may_note z r (noted_by z r e c.local) e.seat (offered r.world.rows e.choice) c.local c.local.activity _ (happens z r e c.local i.shape.sane (i.shape.kinds e.seat c.local c.knows).reached c.begins c.knows c.moves) i)
+    (may_note z r (noted_by z r e c.local) e.seat (offered r.world.rows e.choice) c.local c.local.activity _ (happens z r e c.local i.shape.sane c.begins c.knows c.moves) i)

@@ -35,7 +35,7 @@ pub inv_goes_on : (z : Sizes) (o : Opening) (r : Run) (e : Event) → may_step o
 inv_goes_on z o r e may i =
     let c = may_come o r.world e may in
     subst (Inv z) (sym (goes_on-moved z r e c.local c.knows c.moves))
-    (inv_keeps z r (noted_by z r e c.local) e.seat (offered r.world.rows e.choice) c.local c.local.activity _ (happens z r e c.local i.shape.sane (i.shape.kinds e.seat c.local c.knows).reached c.begins c.knows c.moves) i)
+    (inv_keeps z r (noted_by z r e c.local) e.seat (offered r.world.rows e.choice) c.local c.local.activity _ (happens z r e c.local i.shape.sane c.begins c.knows c.moves) i)
 
 -- every valid list
 pub inv_holds : (z : Sizes) (o : Opening) → IsOpening z o → (es : List Event) → is_valid z o es ≡ true → Inv z (history z o es)

@@ -119,7 +119,7 @@ module _ (g : Ledger) (d : ℕ) where
 
 -- by the arrow that the seat takes
 pub later_by : (z : Sizes) (v : Words) (g : Ledger) {now : ℕ} (s : ℕ) (choice : Choice) (l : Local) (a : Activity) (l' : Local) (d : ℕ) → Arrow z v s choice l a l' → Structure (rows_in v) g now → Walks v g s a l → IsLater g d a l → IsLater g d l'.activity l'
-later_by z v g s choice l a l' d (builds b next y o t) c k w = built l' (built_next z v choice l a l' t)
+later_by z v g s choice l a l' d (builds b next y t) c k w = built l' (built_next z v choice l a l' t)
   where
     built : (k : Local) → IsAfterBuilding k.activity → IsLater g d k.activity k
     built k x = record { row = λ q. after_building k.activity x q; met = λ q. after_building k.activity x (candidate_has k.activity q); next = λ q. after_building k.activity x (at_row_has k.activity q) }

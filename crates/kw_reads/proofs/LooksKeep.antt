@@ -203,7 +203,7 @@ module _ {z : Sizes} {r r' : Run} {s : ℕ} {choice : Choice} {l l' : Local} (h 
 
 -- the cells that the acting reader remembers
 pub marks_by : (z : Sizes) (r r' : Run) (s : ℕ) (choice : Choice) (l : Local) (a : Activity) (l' : Local) → Arrow z (word z r.world) s choice l a l' → Happens z r r' s choice l l' a → Inv z r → Below z r' → IsLooking l'.activity ⊎ IsTaking l'.activity → All (IsMarkOf r'.history r'.origin l'.row) l'.remembered
-marks_by z r r' s choice l a l' (builds b next y o t) h i k p = after_rests l'.activity (built_next z (word z r.world) choice l b l' t) p
+marks_by z r r' s choice l a l' (builds b next y t) h i k p = after_rests l'.activity (built_next z (word z r.world) choice l b l' t) p
 marks_by z r r' s choice l _ _ (reads_last f n) h i k p = All-nil (IsMarkOf r'.history r'.origin l.row)
 marks_by z r r' s choice l _ _ (reads_before f w) h i k p = All-nil (IsMarkOf r'.history r'.origin l.row)
 marks_by z r r' s choice l _ _ (meets_pending j c e) h i k p = marks_after h i (inl tt)
@@ -245,8 +245,8 @@ passed {z} {r} k within l linked w c p looked e f d (inl m) =
 
 -- the entries that it has looked at, after its last look too
 pub looks_by : (z : Sizes) (r r' : Run) (s : ℕ) (choice : Choice) (l : Local) (a : Activity) (l' : Local) → Arrow z (word z r.world) s choice l a l' → Happens z r r' s choice l l' a → Inv z r → Below z r' → IsLooking l'.activity ⊎ IsLooking a → Looks z r'.listed r'.history r'.origin l'.activity l' (r'.seats s)
-looks_by z r r' s choice l a l' (builds b next y o t) h i k (inl p) = after_rests l'.activity (built_next z (word z r.world) choice l b l' t) (inl p)
-looks_by z r r' s choice l a l' (builds b next y o t) h i k (inr p) = after_rests b (building_after b y) (inl p)
+looks_by z r r' s choice l a l' (builds b next y t) h i k (inl p) = after_rests l'.activity (built_next z (word z r.world) choice l b l' t) (inl p)
+looks_by z r r' s choice l a l' (builds b next y t) h i k (inr p) = after_rests b (building_after b y) (inl p)
 looks_by z r r' s choice l _ _ (reads_last f n) h i k p = record { past = λ c p d w. absurd (omega (arith, w)); here = λ m. absurd m }
 looks_by z r r' s choice l _ _ (reads_before f w) h i k p = record { past = λ c p d w. absurd (omega (arith, w)); here = λ m. absurd m }
 looks_by z r r' s choice l _ _ (meets_pending j d e) h i k p = record {

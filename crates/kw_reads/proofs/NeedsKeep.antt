@@ -356,7 +356,7 @@ still_again z r r' s choice l l' m h i st c clock w j e = which ((own_needs z r 
 
 -- what the acting seat knows
 needs_by : (z : Sizes) (r r' : Run) (s : ℕ) (choice : Choice) (l : Local) (a : Activity) (l' : Local) → Arrow z (word z r.world) s choice l a l' → Happens z r r' s choice l l' a → Below z r → Step r.history r'.history (log_entry z r a s choice l) → Below z r' → Contents z r → HasPassedRow l'.activity → Needs z r' l'.activity l'
-needs_by z r r' s choice l a l' (builds b next y o t) h i st after c x =
+needs_by z r r' s choice l a l' (builds b next y t) h i st after c x =
     let k = built_keeps z (word z r.world) choice l a l' t (after_passed l'.activity (built_goes z (word z r.world) choice l a l' t).next x) in
     let d = after_passed l'.activity (built_goes z (word z r.world) choice l a l' t).next x in
     goes_on z r r' s choice l a l' h i st c (built_passed a l' t x) l'.activity l' k.row k.needed (built_needed z l'.activity d ∙ sym (built_needed z a y)) (λ j. built_helps j l'.activity d)

@@ -42,7 +42,7 @@ use Rattle.kw_shape.specs.Shape.{IsKind, IsPutCall, IsReadCall, Kinds}
 use Rattle.kw_shape.proofs.NextCalls.{cell_call}
 use Rattle.kw_puts.proofs.Owners.{true_false}
 use Rattle.kw_reads.proofs.Relying.{goes_on_by}
-use Rattle.kw_core.proofs.Arrows.{NextLook, looks, lists, begins, enters, is_spent, settles_empty, settles, stops, meets_stamped, meets_neither, is_passed, helps, finds_stamped, finds_other, list_ends, key_above, rest_passed, gathers_rest, clears_scan, finds_none, takes_none, is_refused, is_not_own, clears, leaves, NextRest, retries, clock_is_spent, epoch_is_spent}
+use Rattle.kw_core.proofs.Arrows.{NextLook, looks, lists, begins, enters, is_spent, settles_empty, settles, stops, meets_stamped, meets_neither, is_passed, helps, finds_stamped, finds_other, list_ends, key_above, rest_passed, gathers_rest, clears_scan, clears, leaves, NextRest, retries, clock_is_spent, epoch_is_spent}
 use Rattle.kw_puts.proofs.OwnScans.{IsAfterRead, after_read}
 use Rattle.kw_reads.proofs.OwnPairs.{covers_last, stays, settled_pairs, no_pairs, leave_covered, cell_pairs, put_answered, scan_answered, scan_call_answered, cell_answered}
 
@@ -136,7 +136,7 @@ EndsPass _ = ⊥
 
 -- a call that has read no row had read none
 arrow_early : (z : Sizes) (v : Words) (s : ℕ) (choice : Choice) (l : Local) (a : Activity) (k : Local) → Arrow z v s choice l a k → (EndsPass a → ⊥) → IsEarly k.activity → IsEarly a
-arrow_early z v s choice l a k (builds b next y o t) n x = after_enters k.activity (built_next z v choice l b k t) x
+arrow_early z v s choice l a k (builds b next y t) n x = after_enters k.activity (built_next z v choice l b k t) x
 arrow_early z v s choice l a k (begins call e m) n x = tt
 arrow_early z v s choice l Enter k b n x = tt
 arrow_early z v s choice l ScanClock k b n x = tt
@@ -160,7 +160,7 @@ arrow_early z v s choice l a k b n x = absurd x
 
 -- the pairs of the acting scan
 pub pairs_own : (z : Sizes) (r r' : Run) (s : ℕ) (choice : Choice) (l : Local) (a : Activity) (l' : Local) → Arrow z (word z r.world) s choice l a l' → Happens z r r' s choice l l' a → Before z r r' → Readers z r' → Contents z r' → HasPairs r'.history l'.activity l' (r'.seats s)
-pairs_own z r r' s choice l a l' (builds b next y o t) h i n w = after_pairs r'.history l'.activity l' (r'.seats s) (built_next z (word z r.world) choice l b l' t)
+pairs_own z r r' s choice l a l' (builds b next y t) h i n w = after_pairs r'.history l'.activity l' (r'.seats s) (built_next z (word z r.world) choice l b l' t)
 pairs_own z r r' s choice l a l' (settles_empty e) h i n w = record { early = λ x. absurd x; from = λ f x. absurd x; upto = λ f x. absurd x; covers = λ f x. absurd x; covered = subst (Covers r'.history (first_key l.call) _ (r'.seats s).drawn (last_key l.call + 1)) (sym ((i.inv.replies.pairs s l h.knows).early (subst IsEarly (sym h.activity) tt))) (no_pairs r'.history l.call _ (r'.seats s).drawn e) }
 pairs_own z r r' s choice l a l' (settles e) h i n w = settled_pairs r'.history l _ (r'.seats s) refl refl ((i.inv.replies.pairs s l h.knows).early (subst IsEarly (sym h.activity) tt)) e
 pairs_own z r r' s choice l a l' (clears_scan answer) h i n w = record {
@@ -200,7 +200,7 @@ rest_unpaired : {A : Type 0} (l k next : Local) → k.call ≡ l.call → NextRe
 rest_unpaired l k next e n x y = reads_or_puts l.call x (subst IsPutCall ((cell_call k next n).0 ∙ e) y)
 
 unpaired_own : (z : Sizes) (r r' : Run) (s : ℕ) (choice : Choice) (l : Local) (a : Activity) (l' : Local) → Arrow z (word z r.world) s choice l a l' → Happens z r r' s choice l l' a → Inv z r → IsPutCall l'.call → l'.pairs ≡ []
-unpaired_own z r r' s choice l a l' (builds b next y o t) h i p = let n = built_goes z (word z r.world) choice l b l' t in n.pairs ∙ i.replies.unpaired s l h.knows (subst IsPutCall n.call p)
+unpaired_own z r r' s choice l a l' (builds b next y t) h i p = let n = built_goes z (word z r.world) choice l b l' t in n.pairs ∙ i.replies.unpaired s l h.knows (subst IsPutCall n.call p)
 unpaired_own z r r' s choice l a l' (begins call e x) h i p = (i.replies.pairs s l h.knows).early (subst IsEarly (sym h.activity) tt)
 unpaired_own z r r' s choice l a l' (list_ends next e x) h i p = rest_unpaired l _ next refl x (kind_of z r r' s choice l l' h i) p
 unpaired_own z r r' s choice l a l' (key_above next e x) h i p = rest_unpaired l _ next refl x (kind_of z r r' s choice l l' h i) p
@@ -216,16 +216,12 @@ after_answered _ call h l g b p = tt
 
 -- the answer of the acting get
 pub answers_own : (z : Sizes) (r r' : Run) (s : ℕ) (choice : Choice) (l : Local) (a : Activity) (l' : Local) → Arrow z (word z r.world) s choice l a l' → Happens z r r' s choice l l' a → Before z r r' → Readers z r' → Contents z r' → IsAnswered l'.activity l'.call r'.history l' (r'.seats s)
-answers_own z r r' s choice l a l' (builds b next y o t) h i n w =
+answers_own z r r' s choice l a l' (builds b next y t) h i n w =
     let g = built_goes z (word z r.world) choice l b l' t in
-    after_answered l'.activity l'.call r'.history l' (r'.seats s) g.next (subst IsPutCall (sym g.call) (built_kinds z b l y (subst (λ q. Kinds z q l) h.activity (i.inv.shape.kinds s l h.knows))).1)
+    after_answered l'.activity l'.call r'.history l' (r'.seats s) g.next (subst IsPutCall (sym g.call) (built_kinds b l y (subst (λ q. Kinds q l) h.activity (i.inv.shape.kinds s l h.knows))))
 answers_own z r r' s choice l a l' (is_spent e) h i n w = scan_call_answered l.call Spent r'.history (leave Spent l).local (r'.seats s) (kind_of z r r' s choice l l' h i.inv)
 answers_own z r r' s choice l a l' (clears_scan answer) h i n w = scan_call_answered l.call (answer_or_stopped answer choice) r'.history (leave (answer_or_stopped answer choice) l).local (r'.seats s) (kind_of z r r' s choice l l' h i.inv).0
 answers_own z r r' s choice l a l' (stops e) h i n w = scan_answered l.call Stopped r'.history (leave Stopped l).local (r'.seats s) (and_parts _ _ (and_parts _ _ e).1).0
-answers_own z r r' s choice l a l' (finds_none e f) h i n w = put_answered l.call NoRows r'.history (leave NoRows l).local (r'.seats s) (kind_of z r r' s choice l l' h i.inv)
-answers_own z r r' s choice l a l' (takes_none e f) h i n w = put_answered l.call NoRows r'.history (leave NoRows l).local (r'.seats s) (kind_of z r r' s choice l l' h i.inv)
-answers_own z r r' s choice l a l' (is_refused e f) h i n w = put_answered l.call NoRows r'.history (leave NoRows l).local (r'.seats s) (kind_of z r r' s choice l l' h i.inv)
-answers_own z r r' s choice l a l' (is_not_own e f) h i n w = put_answered l.call NoRows r'.history (leave NoRows l).local (r'.seats s) (kind_of z r r' s choice l l' h i.inv)
 answers_own z r r' s choice l a l' clears h i n w = put_answered l.call Done r'.history (leave Done l).local (r'.seats s) (kind_of z r r' s choice l l' h i.inv)
 answers_own z r r' s choice l a l' (list_ends next e x) h i n w = cell_answered z r r' s choice l _ _ l' (list_ends next e x) h i n w tt (record { call = refl; row = refl; want = refl; next = refl; upper = refl; version = refl; pairs = refl }) x
 answers_own z r r' s choice l a l' (key_above next e x) h i n w = cell_answered z r r' s choice l _ _ l' (key_above next e x) h i n w tt (record { call = refl; row = refl; want = refl; next = refl; upper = refl; version = refl; pairs = refl }) x

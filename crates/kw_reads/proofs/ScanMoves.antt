@@ -63,7 +63,7 @@ built_holds _ n x = absurd x
 
 -- a seat that holds one has just drawn it
 drawn_now : (z : Sizes) (v : Words) (s : ℕ) (choice : Choice) (l : Local) (a : Activity) (k : Local) → Arrow z v s choice l a k → IsHolder k.activity → held_by k.activity k ≡ v name.Clock
-drawn_now z v s choice l a k (builds b next y o t) x = built_holds k.activity (built_goes z v choice l b k t).next x
+drawn_now z v s choice l a k (builds b next y t) x = built_holds k.activity (built_goes z v choice l b k t).next x
 drawn_now z v s choice l a k draws x = refl
 drawn_now z v s choice l a k (draws_for j) x = refl
 drawn_now z v s choice l a k (meets_stamped j c version next e n) x = look_holds z _ next n x

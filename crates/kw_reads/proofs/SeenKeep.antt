@@ -32,7 +32,7 @@ use Rattle.kw_reads.specs.Readers.{IsDue, IsCopyOf, IsInHand, AreCopies, Gathers
 use Rattle.kw_reads.specs.Inv.{Inv}
 use Rattle.kw_core.proofs.BuiltNext.{built_goes}
 use Rattle.kw_core.proofs.Attempts.{in_range}
-use Rattle.kw_core.proofs.Arrows.{builds, NextLook, looks, lists, Arrow, begins, reads_last, reads_before, meets_pending, meets_stamped, meets_neither, is_wanted, is_passed, loads_to_help, helps, finds_stamped, finds_other, list_leads, list_ends, key_below, key_within, key_above, loads_version, gathers_listed, rest_wanted, rest_passed, gathers_rest, takes_cell, takes_none, enters, enters_scan, leaves, retries, takes_full, settles_empty, settles}
+use Rattle.kw_core.proofs.Arrows.{builds, NextLook, looks, lists, Arrow, begins, reads_last, reads_before, meets_pending, meets_stamped, meets_neither, is_wanted, is_passed, loads_to_help, helps, finds_stamped, finds_other, list_leads, list_ends, key_below, key_within, key_above, loads_version, gathers_listed, rest_wanted, rest_passed, gathers_rest, takes_cell, enters, enters_scan, leaves, retries, takes_full, settles_empty, settles}
 use Rattle.kw_core.proofs.SeatLogs.{settled_same}
 use Rattle.kw_core.proofs.Fates.{others_stay}
 use Rattle.kw_core.proofs.Frame.{WritesPass}
@@ -123,7 +123,7 @@ look_empty j now g f = which (cases_eq j 0)
 
 -- what the acting seat has seen of a row that it has read
 pub seen_by : (z : Sizes) (r r' : Run) (s : ℕ) (choice : Choice) (l : Local) (a : Activity) (l' : Local) → Arrow z (word z r.world) s choice l a l' → Happens z r r' s choice l l' a → Inv z r → Below z r' → HasSeen r'.history r'.origin l'.activity l' (r'.seats s)
-seen_by z r r' s choice l a l' (builds b next y o t) h i k =
+seen_by z r r' s choice l a l' (builds b next y t) h i k =
     let g = building_log b y h in
     let n = built_goes z (word z r.world) choice l b l' t in
     seen_kept h i l'.activity (building_keeping b y) n.call (ap (λ g. g.looked) g) (ap (λ g. g.ids) g) (ap (λ g. g.read) g) (λ x. after_reading l'.activity n.next x)
@@ -150,8 +150,7 @@ seen_by z r r' s choice l _ _ (rest_wanted e) h i k = seen_unread r'.history r'.
 seen_by z r r' s choice l _ _ (rest_passed next e n) h i k = subst (HasSeen r'.history r'.origin next.activity next) (sym h.log) (seen_next r'.history r'.origin l next _ n (left_passed h i k e) (unread_before h i tt))
 seen_by z r r' s choice l _ _ (gathers_rest next n) h i k = subst (HasSeen r'.history r'.origin next.activity next) (sym h.log) (seen_next r'.history r'.origin _ next _ n (left_gathered h i k _ _) (unread_before h i tt))
 seen_by z r r' s choice l _ _ (takes_cell e) h i k = seen_kept h i PutKey tt refl (ap (λ g. g.looked) h.log ∙ added_same (λ g. g.looked) _ (r.seats s) _ refl) (ap (λ g. g.ids) h.log ∙ added_same (λ g. g.ids) _ (r.seats s) _ refl) (ap (λ g. g.read) h.log ∙ added_same (λ g. g.read) _ (r.seats s) _ refl) (λ x. x)
-seen_by z r r' s choice l _ _ (takes_none e f) h i k = seen_kept h i _ tt refl (ap (λ g. g.looked) h.log ∙ added_same (λ g. g.looked) _ (r.seats s) _ refl) (ap (λ g. g.ids) h.log ∙ added_same (λ g. g.ids) _ (r.seats s) _ refl) (ap (λ g. g.read) h.log ∙ added_same (λ g. g.read) _ (r.seats s) _ refl) (λ x. x)
-seen_by z r r' s choice l _ _ (takes_full e f) h i k = seen_kept h i _ tt refl (ap (λ g. g.looked) h.log ∙ added_same (λ g. g.looked) _ (r.seats s) _ refl) (ap (λ g. g.ids) h.log ∙ added_same (λ g. g.ids) _ (r.seats s) _ refl) (ap (λ g. g.read) h.log ∙ added_same (λ g. g.read) _ (r.seats s) _ refl) (λ x. x)
+seen_by z r r' s choice l _ _ (takes_full e) h i k = seen_kept h i _ tt refl (ap (λ g. g.looked) h.log ∙ added_same (λ g. g.looked) _ (r.seats s) _ refl) (ap (λ g. g.ids) h.log ∙ added_same (λ g. g.ids) _ (r.seats s) _ refl) (ap (λ g. g.read) h.log ∙ added_same (λ g. g.read) _ (r.seats s) _ refl) (λ x. x)
 seen_by z r r' s choice l _ _ (leaves answer) h i k = record { unread = λ x. absurd x; stamped = λ x. absurd x; taken = λ x. absurd x }
 seen_by z r r' s choice l _ _ (settles_empty e) h i k = seen_kept h i _ tt refl (ap (λ g. g.looked) h.log ∙ settled_same (λ g. g.looked) l.waiting _ (r.settled s) (r.seats s) refl) (ap (λ g. g.ids) h.log ∙ settled_same (λ g. g.ids) l.waiting _ (r.settled s) (r.seats s) refl) (ap (λ g. g.read) h.log ∙ settled_same (λ g. g.read) l.waiting _ (r.settled s) (r.seats s) refl) (λ x. x)
 seen_by z r r' s choice l _ _ (settles e) h i k = seen_kept h i _ tt refl (ap (λ g. g.looked) h.log ∙ settled_same (λ g. g.looked) l.waiting _ (r.settled s) (r.seats s) refl) (ap (λ g. g.ids) h.log ∙ settled_same (λ g. g.ids) l.waiting _ (r.settled s) (r.seats s) refl) (ap (λ g. g.read) h.log ∙ settled_same (λ g. g.read) l.waiting _ (r.settled s) (r.seats s) refl) (λ x. x)
@@ -219,7 +218,7 @@ module _ {z : Sizes} {r r' : Run} {s : ℕ} {choice : Choice} {l l' : Local} {a 
 
 -- what the acting seat has gathered
 pub gathers_by : (z : Sizes) (r r' : Run) (s : ℕ) (choice : Choice) (l : Local) (a : Activity) (l' : Local) → Arrow z (word z r.world) s choice l a l' → Happens z r r' s choice l l' a → Inv z r → Below z r' → Gathers r'.history r'.origin l'.activity l' (r'.seats s)
-gathers_by z r r' s choice l a l' (builds b next y o t) h i k =
+gathers_by z r r' s choice l a l' (builds b next y t) h i k =
     let g = building_log b y h in
     let n = built_goes z (word z r.world) choice l b l' t in
     gathers_kept h i l'.activity (building_keeping b y) n.call n.gathered (ap (λ g. g.ids) g) (ap (λ g. g.read) g) (λ x. after_rests l'.activity n.next (inl x)) (λ x. after_reading l'.activity n.next (looked_reading l'.activity x)) (λ x. after_rests l'.activity n.next (inr x))
@@ -246,8 +245,7 @@ gathers_by z r r' s choice l _ _ (rest_wanted e) h i k = gathers_hand r'.history
 gathers_by z r r' s choice l _ _ (rest_passed next e n) h i k = subst (Gathers r'.history r'.origin next.activity next) (sym h.log) (copies_next r'.history r'.origin l next (r.seats s) n (copies_kept h i tt) (unread_before h i tt))
 gathers_by z r r' s choice l _ _ (gathers_rest next n) h i k = subst (Gathers r'.history r'.origin next.activity next) (sym h.log) (copies_next r'.history r'.origin _ next _ n (let x = apart_before h i tt in copies_more h i k tt tt tt tt (h.changed.loaded refl (name.Value l.row l.place)) x (x.fresh tt) (x.hand tt)) (unread_before h i tt))
 gathers_by z r r' s choice l _ _ (takes_cell e) h i k = gathers_kept h i PutKey tt refl refl (ap (λ g. g.ids) h.log ∙ added_same (λ g. g.ids) _ (r.seats s) _ refl) (ap (λ g. g.read) h.log ∙ added_same (λ g. g.read) _ (r.seats s) _ refl) (λ x. x) (λ x. x) (λ x. x)
-gathers_by z r r' s choice l _ _ (takes_none e f) h i k = gathers_kept h i _ tt refl refl (ap (λ g. g.ids) h.log ∙ added_same (λ g. g.ids) _ (r.seats s) _ refl) (ap (λ g. g.read) h.log ∙ added_same (λ g. g.read) _ (r.seats s) _ refl) (λ x. x) (λ x. x) (λ x. x)
-gathers_by z r r' s choice l _ _ (takes_full e f) h i k = gathers_kept h i _ tt refl refl (ap (λ g. g.ids) h.log ∙ added_same (λ g. g.ids) _ (r.seats s) _ refl) (ap (λ g. g.read) h.log ∙ added_same (λ g. g.read) _ (r.seats s) _ refl) (λ x. x) (λ x. x) (λ x. x)
+gathers_by z r r' s choice l _ _ (takes_full e) h i k = gathers_kept h i _ tt refl refl (ap (λ g. g.ids) h.log ∙ added_same (λ g. g.ids) _ (r.seats s) _ refl) (ap (λ g. g.read) h.log ∙ added_same (λ g. g.read) _ (r.seats s) _ refl) (λ x. x) (λ x. x) (λ x. x)
 gathers_by z r r' s choice l _ _ (leaves answer) h i k = record { empty = λ x. absurd x; no_ids = λ x. absurd x; taking = λ x. absurd x; kept = λ x. absurd x }
 gathers_by z r r' s choice l _ _ (settles_empty e) h i k = gathers_kept h i _ tt refl refl (ap (λ g. g.ids) h.log ∙ settled_same (λ g. g.ids) l.waiting _ (r.settled s) (r.seats s) refl) (ap (λ g. g.read) h.log ∙ settled_same (λ g. g.read) l.waiting _ (r.settled s) (r.seats s) refl) (λ x. x) (λ x. x) (λ x. x)
 gathers_by z r r' s choice l _ _ (settles e) h i k = gathers_kept h i _ tt refl refl (ap (λ g. g.ids) h.log ∙ settled_same (λ g. g.ids) l.waiting _ (r.settled s) (r.seats s) refl) (ap (λ g. g.read) h.log ∙ settled_same (λ g. g.read) l.waiting _ (r.settled s) (r.seats s) refl) (λ x. x) (λ x. x) (λ x. x)
@@ -291,7 +289,7 @@ passing_underway _ p n = tt
 
 -- a call that reads ends its pass only where it ends: a put alone tries again
 read_goes_on : (z : Sizes) (v : Words) (s : ℕ) (choice : Choice) (l : Local) (a : Activity) (k : Local) → Arrow z v s choice l a k → IsReadCall l.call → IsKind a l → IsPassing a → IsKeeping k.activity → WritesPass a → ⊥
-read_goes_on z v s choice l a k (builds b next y o t) c u p n w = built_pass b y w
+read_goes_on z v s choice l a k (builds b next y t) c u p n w = built_pass b y w
 read_goes_on z v s choice l a k (enters e) c u p n w = p
 read_goes_on z v s choice l a k (enters_scan e) c u p n w = p
 read_goes_on z v s choice l a k (leaves answer) c u p n w = n

@@ -123,7 +123,7 @@ module _ {z : Sizes} {r r' : Run} {s : ℕ} {choice : Choice} {l l' : Local} (h 
 
 -- where the acting reader is in the list
 pub walks_by : (z : Sizes) (r r' : Run) (s : ℕ) (choice : Choice) (l : Local) (a : Activity) (l' : Local) → Arrow z (word z r.world) s choice l a l' → Happens z r r' s choice l l' a → Inv z r → ReadsList z.cells (list_in (word z r'.world) r'.listed l'.row) l'.activity l'
-walks_by z r r' s choice l a l' (builds b next y o t) h i = after_walks z.cells _ l'.activity l' (built_next z (word z r.world) choice l b l' t)
+walks_by z r r' s choice l a l' (builds b next y t) h i = after_walks z.cells _ l'.activity l' (built_next z (word z r.world) choice l b l' t)
 walks_by z r r' s choice l _ _ (reads_last f n) h i = (refl, refl)
 walks_by z r r' s choice l _ _ (reads_before f w) h i = (refl, refl)
 walks_by z r r' s choice l _ _ (meets_pending j c e) h i = walks_after h i tt

@@ -43,14 +43,6 @@ module _ (w : Rows) (g : Ledger) (c : Closed w g) where
   pub ends_nowhere : (x : ℕ) → IsHeld g x → w.next x ≡ None → (g.fates x).upper ≡ None
   ends_nowhere x h e = c.upper x h ∙ ap (bound w) e
 
-  -- a row whose range has no end is the last one
-  pub last_row : (x : ℕ) → IsHeld g x → (g.fates x).upper ≡ None → w.next x ≡ None
-  last_row x h e = which (w.next x) (sym e ∙ c.upper x h)
-    where
-      which : (n : Option ℕ) → None ≡ bound w n → n ≡ None
-      which None f = refl
-      which (Some y) f = let k : None ≡ Some (w.least y) = f in absurd (cc)
-
   -- one whose range ends is followed by a row that begins there
   pub row_after : (x u : ℕ) → IsHeld g x → (g.fates x).upper ≡ Some u → (y : ℕ) × (w.next x ≡ Some y) × (w.least y ≡ u)
   row_after x u h e = which (w.next x) (sym e ∙ c.upper x h)

@@ -8,13 +8,11 @@ use Rattle.kw_world.specs.declared.activity.Activity.{Activity}
 use Rattle.kw_world.specs.declared.activity.Activity.TheVariants.{Idle, Enter, Leave, Again, AgainEpoch, BalClock, PutClock, Stamp, PutVersion, InsFrom, InsKey, InsVer, InsSet, Insert, PutClear, SeekFirst, Seek, SeekPass, Reclaim, TakeRow, GiveBack, WriteCount, WriteMin, WriteNext, WriteFirst, WritePend, WriteKey, WriteValue, WriteVersion, WriteAfter, Before, BeforeGuess, BeforeHead, BeforeLink, BeforeMin, Replace, Normalise, Number, Retire}
 use Rattle.kw_world.specs.declared.answer.Answer.TheVariants.{Done, NoRows}
 use Rattle.kw_world.specs.declared.local.Local.{Local}
-use Rattle.kw_world.specs.Sizes.{IsRebalancing, Sizes}
 use Rattle.kw_core.specs.declared.stage.Stage.TheVariants.{Rebalancing}
-use Rattle.kw_core.specs.Stages.{IsBalancing, IsBusy, IsDone, IsPassing, IsPublished, IsReached, stage_of}
+use Rattle.kw_core.specs.Stages.{IsBalancing, IsBusy, IsDone, IsPassing, IsPublished, stage_of}
 use Rattle.kw_core.specs.Words.{Words}
 use Rattle.kw_core.proofs.Building.{IsBuilding}
 use Rattle.kw_core.proofs.BuiltNext.{IsAfterBuilding}
-use Rattle.kw_core.proofs.BuiltReached.{reusing_rebalances}
 use Rattle.kw_core.proofs.Frame.{WritesPass}
 use Rattle.kw_shape.specs.Balances.{HasFrozen}
 use Rattle.kw_shape.specs.Shape.{IsAnswerOf, IsPutCall, Kinds, Walks}
@@ -78,33 +76,33 @@ built_unpublished Insert x p = x
 built_unpublished PutClear x p = x
 built_unpublished _ x p = p
 
--- its form rebalances rows, and its call is a put
-pub built_kinds : (z : Sizes) (a : Activity) (l : Local) → IsBuilding a → Kinds z a l → IsRebalancing z.form × IsPutCall l.call
-built_kinds z SeekFirst l x k = (k.reached, k.kind)
-built_kinds z Seek l x k = (k.reached, k.kind)
-built_kinds z (SeekPass i) l x k = (reusing_rebalances z.form k.reached, k.kind)
-built_kinds z Reclaim l x k = (reusing_rebalances z.form k.reached, k.kind)
-built_kinds z TakeRow l x k = (k.reached, k.kind)
-built_kinds z GiveBack l x k = (k.reached, k.kind)
-built_kinds z WriteCount l x k = (k.reached, k.kind)
-built_kinds z WriteMin l x k = (k.reached, k.kind)
-built_kinds z WriteNext l x k = (k.reached, k.kind)
-built_kinds z WriteFirst l x k = (k.reached, k.kind)
-built_kinds z (WritePend i) l x k = (k.reached, k.kind)
-built_kinds z (WriteKey j) l x k = (k.reached, k.kind)
-built_kinds z (WriteValue j) l x k = (k.reached, k.kind)
-built_kinds z (WriteVersion j) l x k = (k.reached, k.kind)
-built_kinds z (WriteAfter j) l x k = (k.reached, k.kind)
-built_kinds z Before l x k = (k.reached, k.kind)
-built_kinds z BeforeGuess l x k = (k.reached, k.kind)
-built_kinds z BeforeHead l x k = (k.reached, k.kind)
-built_kinds z BeforeLink l x k = (k.reached, k.kind)
-built_kinds z BeforeMin l x k = (k.reached, k.kind)
-built_kinds z Replace l x k = (k.reached, k.kind)
-built_kinds z Normalise l x k = (k.reached, k.kind)
-built_kinds z Number l x k = (k.reached, k.kind)
-built_kinds z Retire l x k = (k.reached, k.kind)
-built_kinds z _ l x k = absurd x
+-- its call is a put
+pub built_kinds : (a : Activity) (l : Local) → IsBuilding a → Kinds a l → IsPutCall l.call
+built_kinds SeekFirst l x k = k.kind
+built_kinds Seek l x k = k.kind
+built_kinds (SeekPass i) l x k = k.kind
+built_kinds Reclaim l x k = k.kind
+built_kinds TakeRow l x k = k.kind
+built_kinds GiveBack l x k = k.kind
+built_kinds WriteCount l x k = k.kind
+built_kinds WriteMin l x k = k.kind
+built_kinds WriteNext l x k = k.kind
+built_kinds WriteFirst l x k = k.kind
+built_kinds (WritePend i) l x k = k.kind
+built_kinds (WriteKey j) l x k = k.kind
+built_kinds (WriteValue j) l x k = k.kind
+built_kinds (WriteVersion j) l x k = k.kind
+built_kinds (WriteAfter j) l x k = k.kind
+built_kinds Before l x k = k.kind
+built_kinds BeforeGuess l x k = k.kind
+built_kinds BeforeHead l x k = k.kind
+built_kinds BeforeLink l x k = k.kind
+built_kinds BeforeMin l x k = k.kind
+built_kinds Replace l x k = k.kind
+built_kinds Normalise l x k = k.kind
+built_kinds Number l x k = k.kind
+built_kinds Retire l x k = k.kind
+built_kinds _ l x k = absurd x
 
 -- At what follows.
 
@@ -121,7 +119,7 @@ after_not_done (Leave Done) x d = x
 after_not_done _ x d = d
 
 -- a put may be refused for want of rows
-pub no_rows : (c : Option Call) → IsPutCall c → IsAnswerOf c NoRows
+no_rows : (c : Option Call) → IsPutCall c → IsAnswerOf c NoRows
 no_rows (Some (Put key value)) k = tt
 no_rows (Some (Del key)) k = tt
 no_rows (Some (Get key)) k = k
@@ -129,35 +127,35 @@ no_rows (Some (Scan from upto)) k = k
 no_rows None k = k
 
 -- its activity is one of its put
-pub after_kinds : (z : Sizes) (a : Activity) (l : Local) → IsAfterBuilding a → IsReached z a → IsPutCall l.call → Kinds z a l
-after_kinds z SeekFirst l x o p = record { reached = o; kind = p; range = λ u. absurd u }
-after_kinds z Seek l x o p = record { reached = o; kind = p; range = λ u. absurd u }
-after_kinds z (SeekPass i) l x o p = record { reached = o; kind = p; range = λ u. absurd u }
-after_kinds z Reclaim l x o p = record { reached = o; kind = p; range = λ u. absurd u }
-after_kinds z TakeRow l x o p = record { reached = o; kind = p; range = λ u. absurd u }
-after_kinds z GiveBack l x o p = record { reached = o; kind = p; range = λ u. absurd u }
-after_kinds z WriteCount l x o p = record { reached = o; kind = p; range = λ u. absurd u }
-after_kinds z WriteMin l x o p = record { reached = o; kind = p; range = λ u. absurd u }
-after_kinds z WriteNext l x o p = record { reached = o; kind = p; range = λ u. absurd u }
-after_kinds z WriteFirst l x o p = record { reached = o; kind = p; range = λ u. absurd u }
-after_kinds z (WritePend i) l x o p = record { reached = o; kind = p; range = λ u. absurd u }
-after_kinds z (WriteKey j) l x o p = record { reached = o; kind = p; range = λ u. absurd u }
-after_kinds z (WriteValue j) l x o p = record { reached = o; kind = p; range = λ u. absurd u }
-after_kinds z (WriteVersion j) l x o p = record { reached = o; kind = p; range = λ u. absurd u }
-after_kinds z (WriteAfter j) l x o p = record { reached = o; kind = p; range = λ u. absurd u }
-after_kinds z Before l x o p = record { reached = o; kind = p; range = λ u. absurd u }
-after_kinds z BeforeGuess l x o p = record { reached = o; kind = p; range = λ u. absurd u }
-after_kinds z BeforeHead l x o p = record { reached = o; kind = p; range = λ u. absurd u }
-after_kinds z BeforeLink l x o p = record { reached = o; kind = p; range = λ u. absurd u }
-after_kinds z BeforeMin l x o p = record { reached = o; kind = p; range = λ u. absurd u }
-after_kinds z Replace l x o p = record { reached = o; kind = p; range = λ u. absurd u }
-after_kinds z Normalise l x o p = record { reached = o; kind = p; range = λ u. absurd u }
-after_kinds z Number l x o p = record { reached = o; kind = p; range = λ u. absurd u }
-after_kinds z Retire l x o p = record { reached = o; kind = p; range = λ u. absurd u }
-after_kinds z Again l x o p = record { reached = o; kind = p; range = λ u. absurd u }
-after_kinds z BalClock l x o p = record { reached = o; kind = p; range = λ u. absurd u }
-after_kinds z (Leave NoRows) l x o p = record { reached = tt; kind = no_rows l.call p; range = λ u. absurd u }
-after_kinds z _ l x o p = absurd x
+pub after_kinds : (a : Activity) (l : Local) → IsAfterBuilding a → IsPutCall l.call → Kinds a l
+after_kinds SeekFirst l x p = record { kind = p; range = λ u. absurd u }
+after_kinds Seek l x p = record { kind = p; range = λ u. absurd u }
+after_kinds (SeekPass i) l x p = record { kind = p; range = λ u. absurd u }
+after_kinds Reclaim l x p = record { kind = p; range = λ u. absurd u }
+after_kinds TakeRow l x p = record { kind = p; range = λ u. absurd u }
+after_kinds GiveBack l x p = record { kind = p; range = λ u. absurd u }
+after_kinds WriteCount l x p = record { kind = p; range = λ u. absurd u }
+after_kinds WriteMin l x p = record { kind = p; range = λ u. absurd u }
+after_kinds WriteNext l x p = record { kind = p; range = λ u. absurd u }
+after_kinds WriteFirst l x p = record { kind = p; range = λ u. absurd u }
+after_kinds (WritePend i) l x p = record { kind = p; range = λ u. absurd u }
+after_kinds (WriteKey j) l x p = record { kind = p; range = λ u. absurd u }
+after_kinds (WriteValue j) l x p = record { kind = p; range = λ u. absurd u }
+after_kinds (WriteVersion j) l x p = record { kind = p; range = λ u. absurd u }
+after_kinds (WriteAfter j) l x p = record { kind = p; range = λ u. absurd u }
+after_kinds Before l x p = record { kind = p; range = λ u. absurd u }
+after_kinds BeforeGuess l x p = record { kind = p; range = λ u. absurd u }
+after_kinds BeforeHead l x p = record { kind = p; range = λ u. absurd u }
+after_kinds BeforeLink l x p = record { kind = p; range = λ u. absurd u }
+after_kinds BeforeMin l x p = record { kind = p; range = λ u. absurd u }
+after_kinds Replace l x p = record { kind = p; range = λ u. absurd u }
+after_kinds Normalise l x p = record { kind = p; range = λ u. absurd u }
+after_kinds Number l x p = record { kind = p; range = λ u. absurd u }
+after_kinds Retire l x p = record { kind = p; range = λ u. absurd u }
+after_kinds Again l x p = record { kind = p; range = λ u. absurd u }
+after_kinds BalClock l x p = record { kind = p; range = λ u. absurd u }
+after_kinds (Leave NoRows) l x p = record { kind = no_rows l.call p; range = λ u. absurd u }
+after_kinds _ l x p = absurd x
 
 -- it is at no row of a walk
 pub after_walks : (v : Words) (g : Ledger) (t : ℕ) (a : Activity) (l : Local) → IsAfterBuilding a → Walks v g t a l

@@ -265,11 +265,11 @@ module _ (z : Sizes) (r r' : Run) (s : ℕ) (choice : Choice) (l : Local) (a : A
 
 -- by the arrow that the seat takes
 pub balances_own : (z : Sizes) (r r' : Run) (s : ℕ) (choice : Choice) (l : Local) (a : Activity) (l' : Local) → Arrow z (word z r.world) s choice l a l' → Happens z r r' s choice l l' a → Shape z r → Balances (word z r'.world) r'.ledger.rows s l'.activity l'
-balances_own z r r' s choice l a l' (builds b next y o t) h i = builds_next z r r' s choice l b l' h i y t l'.activity refl (built_next z (word z r.world) choice l b l' t)
-balances_own z r r' s choice l a l' (finds_full e f) h i = meets_full z r r' s choice l _ l' h i tt tt (λ x. x)
-balances_own z r r' s choice l a l' (takes_full e f) h i = meets_full z r r' s choice l _ l' h i tt tt (λ x. x)
-balances_own z r r' s choice l a l' (announces_full e f) h i = meets_full z r r' s choice l _ l' h i tt tt (λ x. x)
-balances_own z r r' s choice l a l' (stamps_full e f) h i = meets_full z r r' s choice l _ l' h i tt tt (λ x. x)
+balances_own z r r' s choice l a l' (builds b next y t) h i = builds_next z r r' s choice l b l' h i y t l'.activity refl (built_next z (word z r.world) choice l b l' t)
+balances_own z r r' s choice l a l' (finds_full e) h i = meets_full z r r' s choice l _ l' h i tt tt (λ x. x)
+balances_own z r r' s choice l a l' (takes_full e) h i = meets_full z r r' s choice l _ l' h i tt tt (λ x. x)
+balances_own z r r' s choice l a l' (announces_full e) h i = meets_full z r r' s choice l _ l' h i tt tt (λ x. x)
+balances_own z r r' s choice l a l' (stamps_full e) h i = meets_full z r r' s choice l _ l' h i tt tt (λ x. x)
 balances_own z r r' s choice l a l' (clock_serves e) h i = goes_on z r r' s choice l _ l' h i BalEpoch _ tt tt (λ x. x) refl refl tt (λ u. absurd u)
 balances_own z r r' s choice l a l' (epoch_serves e) h i = goes_on z r r' s choice l _ l' h i BalState _ tt tt (λ x. x) refl refl tt (λ u. absurd u)
 balances_own z r r' s choice l a l' (finds_infant seat e) h i = goes_on z r r' s choice l _ l' h i (BalNormal seat) _ tt tt (λ x. x) refl refl tt (λ u. absurd u)

@@ -33,7 +33,7 @@ rest_out l next (scans_on q o y n w) x = x
 
 -- each arrow is one of these
 pub comes : (z : Sizes) (v : Words) (s : ℕ) (choice : Choice) (l : Local) (a : Activity) (k : Local) → Arrow z v s choice l a k → Comes z v choice l a k
-comes z v s choice l a k (builds b next y o t) = goes_on y t
+comes z v s choice l a k (builds b next y t) = goes_on y t
 comes z v s choice l a k (takes_no_more e n) = seeks refl refl
 comes z v s choice l a k (keeps_no_more n) = seeks refl refl
 comes z v s choice l a k (meets_stamped j c version next y n) = stays_out (look_out z _ next n)

@@ -119,7 +119,7 @@ built_draws n _ o = refl
 
 -- only a seat that found room goes on to ask for a cell
 pub adding_next : (z : Sizes) (v : Words) (s : ℕ) (choice : Choice) (l : Local) (a : Activity) (l' : Local) (q : ℕ) → Arrow z v s choice l a l' → (IsCounting a → ⊥) → adding l'.activity l'.row q ≡ 0
-adding_next z v s choice l a l' q (builds b next y o t) n = built_adds next.activity next.row q (built_next z v choice l b next t)
+adding_next z v s choice l a l' q (builds b next y t) n = built_adds next.activity next.row q (built_next z v choice l b next t)
 adding_next z v s choice l a l' q (finds_room e) n = absurd (n tt)
 adding_next z v s choice l a l' q (meets_stamped j c version next y m) n = look_adds z _ l.row q next m
 adding_next z v s choice l a l' q (meets_neither j next y m) n = look_adds z _ l.row q next m
@@ -135,7 +135,7 @@ adding_next z v s choice l a l' q _ n = refl
 
 -- only a scan, or a rebalance, that found the clock below its end may draw more than before
 pub drawing_next : (z : Sizes) (v : Words) (s : ℕ) (choice : Choice) (l : Local) (a : Activity) (l' : Local) → Arrow z v s choice l a l' → (IsToWait a → ⊥) → (n : ℕ) → drawing n l'.activity ≤ drawing n a
-drawing_next z v s choice l a l' (builds b next y o t) w n = omega (arith, built_draws n next.activity (built_next z v choice l b next t))
+drawing_next z v s choice l a l' (builds b next y t) w n = omega (arith, built_draws n next.activity (built_next z v choice l b next t))
 drawing_next z v s choice l a l' (waits e) w n = absurd (w tt)
 drawing_next z v s choice l a l' (clock_serves e) w n = absurd (w tt)
 drawing_next z v s choice l a l' (meets_stamped j c version next y m) w n = omega (arith, look_draws z _ n next m)

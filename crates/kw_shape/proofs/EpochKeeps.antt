@@ -63,7 +63,7 @@ AsksEpoch BalEpoch = Unit {0}
 AsksEpoch _ = ⊥
 
 numbers_next : (z : Sizes) (v : Words) (s : ℕ) (choice : Choice) (l : Local) (a : Activity) (l' : Local) → Arrow z v s choice l a l' → (AsksEpoch a → ⊥) → numbering l'.activity ≤ numbering a
-numbers_next z v s choice l a l' (builds b next y o t) n = built_numbers z v choice l b next t
+numbers_next z v s choice l a l' (builds b next y t) n = built_numbers z v choice l b next t
 numbers_next z v s choice l a l' (epoch_serves e) n = absurd (n tt)
 numbers_next z v s choice l a l' (meets_stamped j c version next y m) n = omega (arith, look_numbers z _ next m)
 numbers_next z v s choice l a l' (meets_neither j next y m) n = omega (arith, look_numbers z _ next m)
@@ -86,5 +86,5 @@ epoch_built z r r' s choice l a l' t h i = omega (arith, i.epoch, epoch_stays _ 
 pub epoch_keeps : (z : Sizes) (r r' : Run) (s : ℕ) (choice : Choice) (l : Local) (a : Activity) (l' : Local) → Arrow z (word z r.world) s choice l a l' → Happens z r r' s choice l l' a → Shape z r → word z r'.world name.Epoch + numberers r'.world.locals ≤ SPENT + z.seats
 epoch_keeps z r r' s choice l a l' (epoch_serves e) h i = omega (arith, e, epoch_stays BalEpoch h (λ c. c), numberers_at_most r'.world.locals, ap length h.locals, length-set r.world.locals s l', i.sane.seats)
 epoch_keeps z r r' s choice l a l' (epoch_is_spent e) h i = omega (arith, i.epoch, epoch_stays BalEpoch h (λ c. c), numberers-set r.world.locals s l l' h.knows, ap numberers h.locals)
-epoch_keeps z r r' s choice l a l' (builds b next y o t) h i = epoch_built z r r' s choice l b next t h i
+epoch_keeps z r r' s choice l a l' (builds b next y t) h i = epoch_built z r r' s choice l b next t h i
 epoch_keeps z r r' s choice l a l' b h i = omega (arith, i.epoch, epoch_stays _ h (λ c. c), numbers_next z (word z r.world) s choice l _ l' b (λ x. x), ap numbering h.activity, numberers-set r.world.locals s l l' h.knows, ap numberers h.locals)

@@ -130,7 +130,7 @@ module _ (z : Sizes) (rows : ℕ) (v : Words) (s : ℕ) (choice : Choice) (l : L
   set_state q x y i e b o = (exchanges (λ u. IsRowState z (state_of u)) (v (name.State q)) _ _ (w.each (name.State q) o) (state_known z y i e), exchanges (λ u. IsStateBelow rows (state_of u)) (v (name.State q)) _ _ (w.led (name.State q) o) (state_below rows y i b))
 
   -- a search for free rows, and one for the row before the full one, each from the row that the seat chooses
-  seeks : (c : Choice) → IsWithin z.seats z.cells rows (seek_first_transition z.form c l).operation.name → Writes (seek_first_transition z.form c l)
+  seeks : (c : Choice) → IsWithin z.seats z.cells rows (seek_first_transition c l).operation.name → Writes (seek_first_transition c l)
   seeks (Begin call) n = loaded (name.State l.rebalance.sought) n
   seeks Go n = loaded (name.State l.rebalance.sought) n
   seeks (Guess r) n = loaded (name.State r) n

@@ -176,10 +176,10 @@ module _ {z : Sizes} {r r' : Run} {s : ℕ} {choice : Choice} {l k : Local} wher
 
   -- the same of a search for rows
   seek_loaded : (c : Choice) → choice ≡ c → Happens z r r' s choice l k SeekFirst → (n : Name) → word z r'.world n ≡ word z r.world n
-  seek_loaded (Begin call) e h n = h.changed.loaded (ap (λ (d : Choice). (seek_first_transition z.form d l).operation.action) e) n
-  seek_loaded Go e h n = h.changed.loaded (ap (λ (d : Choice). (seek_first_transition z.form d l).operation.action) e) n
-  seek_loaded (Guess q) e h n = h.changed.loaded (ap (λ (d : Choice). (seek_first_transition z.form d l).operation.action) e) n
-  seek_loaded Stop e h n = h.changed.loaded (ap (λ (d : Choice). (seek_first_transition z.form d l).operation.action) e) n
+  seek_loaded (Begin call) e h n = h.changed.loaded (ap (λ (d : Choice). (seek_first_transition d l).operation.action) e) n
+  seek_loaded Go e h n = h.changed.loaded (ap (λ (d : Choice). (seek_first_transition d l).operation.action) e) n
+  seek_loaded (Guess q) e h n = h.changed.loaded (ap (λ (d : Choice). (seek_first_transition d l).operation.action) e) n
+  seek_loaded Stop e h n = h.changed.loaded (ap (λ (d : Choice). (seek_first_transition d l).operation.action) e) n
 
   -- one row is given back, and the next one is at hand
   one_back : Happens z r r' s choice l k GiveBack → l.rebalance.at + 1 < length l.rebalance.taken → Infants z (word z r.world) r.ledger.rows s GiveBack l → Infants z (word z r'.world) r'.ledger.rows s GiveBack (record (at_infant (l.rebalance.at + 1) l) { activity = GiveBack })
@@ -202,8 +202,8 @@ module _ {z : Sizes} {r r' : Run} {s : ℕ} {choice : Choice} {l : Local} where
   infants_own a k (first_is_taken q rows next c n y) h states small inside x = seek_on z (word z r'.world) r'.ledger.rows s rows _ next y (own_of z (word z r'.world) r'.ledger.rows s SeekFirst l (λ i. tt) (loaded SeekFirst h (seek_loaded choice refl h) (λ q c. c) inside x))
   infants_own a k (sought_is_free e) h states small inside x = seeking z (word z r'.world) r'.ledger.rows s TakeRow _ refl (own_of z (word z r'.world) r'.ledger.rows s Seek l (λ i. tt) (loaded Seek h (h.changed.loaded refl) (λ q c. c) inside x))
   infants_own a k (sought_is_taken rows next n y) h states small inside x = seek_on z (word z r'.world) r'.ledger.rows s rows _ next y (own_of z (word z r'.world) r'.ledger.rows s Seek l (λ i. tt) (loaded Seek h (h.changed.loaded refl) (λ q c. c) inside x))
-  infants_own a k (first_is_retired q m c e f) h states small inside x = seeking z (word z r'.world) r'.ledger.rows s (SeekPass 0) _ refl (own_of z (word z r'.world) r'.ledger.rows s SeekFirst l (λ i. tt) (loaded SeekFirst h (seek_loaded choice refl h) (λ q c. c) inside x))
-  infants_own a k (sought_is_retired m e f) h states small inside x = seeking z (word z r'.world) r'.ledger.rows s (SeekPass 0) _ refl (own_of z (word z r'.world) r'.ledger.rows s Seek l (λ i. tt) (loaded Seek h (h.changed.loaded refl) (λ q c. c) inside x))
+  infants_own a k (first_is_retired q m c e) h states small inside x = seeking z (word z r'.world) r'.ledger.rows s (SeekPass 0) _ refl (own_of z (word z r'.world) r'.ledger.rows s SeekFirst l (λ i. tt) (loaded SeekFirst h (seek_loaded choice refl h) (λ q c. c) inside x))
+  infants_own a k (sought_is_retired m e) h states small inside x = seeking z (word z r'.world) r'.ledger.rows s (SeekPass 0) _ refl (own_of z (word z r'.world) r'.ledger.rows s Seek l (λ i. tt) (loaded Seek h (h.changed.loaded refl) (λ q c. c) inside x))
   infants_own a k (pass_is_old i epoch rows next e o y) h states small inside x = seek_on z (word z r'.world) r'.ledger.rows s rows _ next y (own_of z (word z r'.world) r'.ledger.rows s (SeekPass i) l (λ i. tt) (loaded (SeekPass i) h (h.changed.loaded refl) (λ q c. c) inside x))
   infants_own a k (pass_is_young i next o y) h states small inside x = pass_on z (word z r'.world) r'.ledger.rows s _ l next y (own_of z (word z r'.world) r'.ledger.rows s (SeekPass i) l (λ i. tt) (loaded (SeekPass i) h (h.changed.loaded refl) (λ q c. c) inside x))
   infants_own a k frees_row h states small inside x = seeking z (word z r'.world) r'.ledger.rows s TakeRow _ refl (own_freed h states small.1 (own_of z (word z r.world) r.ledger.rows s Reclaim l (λ i. tt) x))

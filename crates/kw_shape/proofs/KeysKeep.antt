@@ -238,7 +238,7 @@ module _ {z : Sizes} {r r' : Run} {s : ℕ} {choice : Choice} {l : Local} where
   keys_by a l' takes_left_key h i k y = record { own = λ x. absurd x; held = λ x. absurd x; marks = λ x. k.marks tt; met = λ x. absurd x; key = λ x. subst (λ w. rows.HoldsKey (rows_in (word z r'.world)) r'.ledger.rows l.row (key_of_word w)) (h.changed.loaded refl (name.Key l.row l.place)) (k.met tt); gathered = λ x. k.gathered tt }
   keys_by a l' (keeps_left m n) h i k y = record { own = λ x. absurd x; held = λ x. absurd x; marks = λ x. unmarked_in_range (λ m. HoldsCell (word z r'.world) r'.ledger.rows l.row m.cell) m.cell l.rebalance.marks (k.marks tt); met = λ x. least_holds (λ m. HoldsCell (word z r'.world) r'.ledger.rows l.row m.cell) l.rebalance.marks m n (k.marks tt); key = λ x. absurd x; gathered = λ x. kept_more (word z r'.world) r'.ledger.rows z l _ (k.key tt) (k.gathered tt) }
   keys_by a l' (keeps_no_more n) h i k y = record { own = λ x. absurd x; held = λ x. absurd x; marks = λ x. absurd x; met = λ x. absurd x; key = λ x. absurd x; gathered = λ x. kept_more (word z r'.world) r'.ledger.rows z l _ (k.key tt) (k.gathered tt) }
-  keys_by a l' (builds b next p o t) h i k y = built_keys (word z r'.world) r'.ledger.rows z (word z r.world) choice l b next p t k
+  keys_by a l' (builds b next p t) h i k y = built_keys (word z r'.world) r'.ledger.rows z (word z r.world) choice l b next p t k
   keys_by a l' (meets_stamped j c version next e n) h i k y = look_keys (word z r'.world) r'.ledger.rows z _ next _ n
   keys_by a l' (meets_neither j next e n) h i k y = look_keys (word z r'.world) r'.ledger.rows z _ next _ n
   keys_by a l' (is_passed next e n) h i k y = look_keys (word z r'.world) r'.ledger.rows z _ next _ n

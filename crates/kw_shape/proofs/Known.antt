@@ -52,7 +52,7 @@ use Rattle.kw_core.proofs.Events.{IsBegun}
 use Rattle.kw_core.proofs.RoomBelow.{room_below}
 use Rattle.kw_core.proofs.InRange.{unmarked_in_range, unmarked_few, least_holds, version_in_hand, gathered_in_range, gathered_few, version_of_scan, answer_in_range, pairs_in_range, value_in_range, first_in_range, last_in_range, linked_in_range, stopped_in_range, with_cell_in_range}
 use Rattle.kw_cells.proofs.InOrder.{length-with_cell}
-use Rattle.kw_core.proofs.Arrows.{Arrow, begins, enters, is_spent, waits, draws, settles_empty, settles, starts_at_head, guesses, takes_head, guess_serves, stops, puts_in_last, reads_last, meets_next, walks_on, puts_before, reads_before, meets_pending, meets_stamped, meets_neither, is_passed, loads_to_help, helps, finds_stamped, finds_other, list_leads, list_ends, key_below, key_within, key_above, loads_version, gathers_listed, rest_wanted, rest_passed, gathers_rest, clears_scan, finds_none, takes_cell, takes_none, is_refused, loads_clock, is_stamped, is_not_own, stores_version, meets_cell, meets_none, key_before, version_before, loses, clears, leaves, enters_again, clock_is_spent, epoch_is_spent, finds_infant, finds_leader, finds_other_state, engages, marks_link, marks_led, decides, decides_not, finds_full, takes_full, announces_full, stamps_full, NextLook, looks, lists, NextRest, rests, answers, ends_scan, scans_on, freezes_count, meets_idle, meets_unstamped, remembers, remembers_last, meets_frozen, meets_frozen_last, freezes_entry, freezes_last, looks_again, meets_quiet, meets_quiet_last, helps_scan, meets_drawn, meets_drawn_last, draws_for, settles_scan, settles_last, finds_drawn, finds_drawn_last, finds_no_scan, finds_no_scan_last, take_leads, takes_left, takes_no_more, takes_key, takes_version, keeps_taken, takes_left_key, keeps_left, keeps_no_more, below, builds}
+use Rattle.kw_core.proofs.Arrows.{Arrow, begins, enters, is_spent, waits, draws, settles_empty, settles, starts_at_head, guesses, takes_head, guess_serves, stops, puts_in_last, reads_last, meets_next, walks_on, puts_before, reads_before, meets_pending, meets_stamped, meets_neither, is_passed, loads_to_help, helps, finds_stamped, finds_other, list_leads, list_ends, key_below, key_within, key_above, loads_version, gathers_listed, rest_wanted, rest_passed, gathers_rest, clears_scan, takes_cell, loads_clock, is_stamped, stores_version, meets_cell, meets_none, key_before, version_before, loses, clears, leaves, enters_again, clock_is_spent, epoch_is_spent, finds_infant, finds_leader, finds_other_state, engages, marks_link, marks_led, decides, decides_not, finds_full, takes_full, announces_full, stamps_full, NextLook, looks, lists, NextRest, rests, answers, ends_scan, scans_on, freezes_count, meets_idle, meets_unstamped, remembers, remembers_last, meets_frozen, meets_frozen_last, freezes_entry, freezes_last, looks_again, meets_quiet, meets_quiet_last, helps_scan, meets_drawn, meets_drawn_last, draws_for, settles_scan, settles_last, finds_drawn, finds_drawn_last, finds_no_scan, finds_no_scan_last, take_leads, takes_left, takes_no_more, takes_key, takes_version, keeps_taken, takes_left_key, keeps_left, keeps_no_more, below, builds}
 use Rattle.kw_core.proofs.Building.{Building, IsBuilding, first_is_free, first_is_taken, sought_is_free, sought_is_taken, first_is_retired, sought_is_retired, pass_is_old, pass_is_young, frees_row, takes_row, loses_row, gives_one_back, gives_last_back, writes_count, writes_least, writes_link, writes_first, writes_entry, writes_key, writes_value, writes_version, writes_after, begins_before, guesses_before, guess_before_fails, before_serves, before_is_above, takes_head_before, leads_to_full, leads_on_marked, leads_to_other, leads_nowhere, walks_before, walks_past, replaces_row, is_marked_before, is_replaced, makes_normal, makes_last_normal, draws_number, retires_row}
 use Rattle.kw_core.proofs.NextBuilt as following
 use Rattle.kw_core.proofs.NextBuilt.{GivenBack, is_refused_rows, moves_left, NextBack, gives_back, has_none, NextSeek, asks, has_asked, looks_on, has_looked, NextTaken, wants_more, has_enough, NextNewRow, writes_row, has_written, NextNewCell, fills, empties, has_cells, NextNewEntry, writes_idle, has_entries, NextBefore, is_first, is_behind}
@@ -391,12 +391,12 @@ built_known z rows v choice l a next w c i k (first_is_taken q r other e d y) s 
     seek_known z rows w.sized r (seeking q l) next y s (assumption k.ranges) (assumption (k.below, o)) k.remembered k.gathered (idle_room z (seeking q l).rebalance k.rebalance.marks k.rebalance.needed k.rebalance.gathered) (k.rebalance.taken tt)
 built_known z rows v choice l a next w c i k (sought_is_free e) s = assumption (k, s)
 built_known z rows v choice l a next w c i k (sought_is_taken r other d y) s = seek_known z rows w.sized r l next y s k.ranges k.below k.remembered k.gathered (idle_room z l.rebalance k.rebalance.marks k.rebalance.needed k.rebalance.gathered) (k.rebalance.taken tt)
-built_known z rows v choice l a next w c i k (first_is_retired q m e f u) s =
+built_known z rows v choice l a next w c i k (first_is_retired q m e f) s =
     let o : q < rows = chosen_below rows choice q l.rebalance.sought i k.below.rebalance.sought e in
     let n : IsNumber m = subst (IsRowState z) f (w.each (name.State q) o) in
     let p : 0 < z.seats = omega (arith, w.sized.some_seats) in
     assumption (k, s, n, p)
-built_known z rows v choice l a next w c i k (sought_is_retired m f u) s =
+built_known z rows v choice l a next w c i k (sought_is_retired m f) s =
     let n : IsNumber m = subst (IsRowState z) f (w.each (name.State l.rebalance.sought) k.below.rebalance.sought) in
     let p : 0 < z.seats = omega (arith, w.sized.some_seats) in
     assumption (k, s, n, p)
@@ -442,7 +442,7 @@ built_known z rows v choice l a next w c i k retires_row s = tries_again z rows 
 
 -- by the arrow that the seat takes
 pub known_by : (z : Sizes) (rows : ℕ) (v : Words) (s : ℕ) (choice : Choice) (l : Local) (a : Activity) (l' : Local) → Arrow z v s choice l a l' → AreSane z rows v → row_or_first (row_linked (link_of (v name.Head))) < rows → s < z.seats → IsBegun a choice → IsOffered rows choice → IsKnownAt z rows a l → (IsBuilding a → IsSoughtIn rows l') → IsKnown z rows l'
-known_by z rows v s choice l a l' (builds x next y o t) w c u b i k sought = built_known z rows v choice l x next w c i k t (sought y)
+known_by z rows v s choice l a l' (builds x next y t) w c u b i k sought = built_known z rows v choice l x next w c i k t (sought y)
 known_by z rows v s choice l a l' (begins call e g) w c t b i k sought = let y = w.each name.Epoch tt in assumption (k, y, g)
 known_by z rows v s choice l a l' (enters y) w c t b i k sought = let f = first_in_range l.call k.ranges.call in assumption (k, f)
 known_by z rows v s choice l a l' (is_spent y) w c t b i k sought = is_leaving z rows l w.sized _ tt k.ranges k.below k.remembered k.gathered (lists_of z _ l.rebalance k.activity k.rebalance)
@@ -491,17 +491,13 @@ known_by z rows v s choice l a l' (gathers_rest next n) w c t b i k sought =
     let u = value_in_range (v (name.Value l.row l.place)) (w.each (name.Value l.row l.place) (k.below.row, k.ranges.place)) in
     next_cell z rows (gathering z (value_of_word (v (name.Value l.row l.place))) l) w.sized next n (gathered_more z _ l u k.ranges) (assumption k) k.remembered (gathered_few z (value_of_word (v (name.Value l.row l.place))) l k.gathered) (lists_of z _ l.rebalance k.activity k.rebalance)
 known_by z rows v s choice l a l' (clears_scan answer) w c t b i k sought = is_leaving z rows l w.sized _ (stopped_in_range answer choice k.activity) k.ranges k.below k.remembered k.gathered (lists_of z _ l.rebalance k.activity k.rebalance)
-known_by z rows v s choice l a l' (finds_none y e) w c t b i k sought = is_leaving z rows l w.sized _ tt k.ranges k.below k.remembered k.gathered (lists_of z _ l.rebalance k.activity k.rebalance)
-known_by z rows v s choice l a l' (finds_full y e) w c t b i k sought = is_balancing z rows l w.sized k.ranges k.below k.remembered k.gathered
+known_by z rows v s choice l a l' (finds_full y) w c t b i k sought = is_balancing z rows l w.sized k.ranges k.below k.remembered k.gathered
 known_by z rows v s choice l a l' (takes_cell y) w c t b i k sought = let u = room_below z (count_of (v (name.Count l.row))) y in assumption (k, u)
-known_by z rows v s choice l a l' (takes_none y e) w c t b i k sought = is_leaving z rows l w.sized _ tt k.ranges k.below k.remembered k.gathered (lists_of z _ l.rebalance k.activity k.rebalance)
-known_by z rows v s choice l a l' (takes_full y e) w c t b i k sought = is_balancing z rows l w.sized k.ranges k.below k.remembered k.gathered
-known_by z rows v s choice l a l' (is_refused y e) w c t b i k sought = is_leaving z rows l w.sized _ tt k.ranges k.below k.remembered k.gathered (lists_of z _ l.rebalance k.activity k.rebalance)
-known_by z rows v s choice l a l' (announces_full y e) w c t b i k sought = is_balancing z rows l w.sized k.ranges k.below k.remembered k.gathered
+known_by z rows v s choice l a l' (takes_full y) w c t b i k sought = is_balancing z rows l w.sized k.ranges k.below k.remembered k.gathered
+known_by z rows v s choice l a l' (announces_full y) w c t b i k sought = is_balancing z rows l w.sized k.ranges k.below k.remembered k.gathered
 known_by z rows v s choice l a l' loads_clock w c t b i k sought = let u = w.each name.Clock tt in assumption (k, u)
 known_by z rows v s choice l a l' (is_stamped version y) w c t b i k sought = let u = (entry z rows v l w s (pend.Stamped l.cell version) k.below.row t y).1 in assumption (k, u)
-known_by z rows v s choice l a l' (is_not_own y e) w c t b i k sought = is_leaving z rows l w.sized _ tt k.ranges k.below k.remembered k.gathered (lists_of z _ l.rebalance k.activity k.rebalance)
-known_by z rows v s choice l a l' (stamps_full y e) w c t b i k sought = is_balancing z rows l w.sized k.ranges k.below k.remembered k.gathered
+known_by z rows v s choice l a l' (stamps_full y) w c t b i k sought = is_balancing z rows l w.sized k.ranges k.below k.remembered k.gathered
 known_by z rows v s choice l a l' stores_version w c t b i k sought = let o : 0 ≤ z.cells = omega arith in assumption (k, o)
 known_by z rows v s choice l a l' (meets_cell x y) w c t b i k sought =
     let u : x < z.cells = linked_below (v (link_name l.row l.link)) x z.cells y (link_below z rows v w l.row l.link k.ranges.link k.below.row) in

@@ -14,7 +14,7 @@ use Rattle.kw_world.specs.ScanTransitions.{answer_or_stopped}
 use Rattle.kw_core.specs.Stages.{IsPublished, IsDone, IsPutClear, IsUnderway}
 use Rattle.kw_core.specs.Words.{Words}
 use Rattle.kw_shape.specs.Shape.{IsPairs, IsKind}
-use Rattle.kw_core.proofs.Arrows.{IsNotOwn, NextLook, looks, lists, NextRest, rests, answers, ends_scan, scans_on, Arrow, begins, list_ends, key_above, rest_passed, gathers_rest, meets_stamped, meets_neither, is_passed, helps, finds_stamped, finds_other, clears_scan, loads_clock, stamps, is_stamped, is_not_own, stamps_full, stores_version, meets_cell, meets_none, key_before, key_same, key_after, version_before, version_after, stores_after, inserts, loses, clears, leaves, builds}
+use Rattle.kw_core.proofs.Arrows.{IsNotOwn, NextLook, looks, lists, NextRest, rests, answers, ends_scan, scans_on, Arrow, begins, list_ends, key_above, rest_passed, gathers_rest, meets_stamped, meets_neither, is_passed, helps, finds_stamped, finds_other, clears_scan, loads_clock, stamps, is_stamped, stamps_full, stores_version, meets_cell, meets_none, key_before, key_same, key_after, version_before, version_after, stores_after, inserts, loses, clears, leaves, builds}
 use Rattle.kw_core.proofs.BuiltNext.{built_goes, built_next}
 use Rattle.kw_shape.proofs.AfterBuilding.{after_not_done, built_unpublished}
 
@@ -27,7 +27,7 @@ cell_call l k (scans_on r w e f o) = (refl, refl)
 
 -- a call goes on as it is until it ends
 pub arrow_call : (z : Sizes) (v : Words) (s : ℕ) (choice : Choice) (l : Local) (a : Activity) (k : Local) → Arrow z v s choice l a k → IsUnderway a → (k.call ≡ l.call) × (k.number ≡ l.number)
-arrow_call z v s choice l a k (builds b next y o t) u = let g = built_goes z v choice l b next t in (g.call, g.number)
+arrow_call z v s choice l a k (builds b next y t) u = let g = built_goes z v choice l b next t in (g.call, g.number)
 arrow_call z v s choice l a k (begins call e b) u = absurd u
 arrow_call z v s choice l a k (leaves answer) u = absurd u
 arrow_call z v s choice l a k (list_ends next e n) u = let x = cell_call _ _ n in (x.0, x.1)
@@ -38,7 +38,7 @@ arrow_call z v s choice l a k _ u = (refl, refl)
 
 -- a seat begins at most one call at an event
 pub arrow_number : (z : Sizes) (v : Words) (s : ℕ) (choice : Choice) (l : Local) (a : Activity) (k : Local) → Arrow z v s choice l a k → l.number ≤ k.number
-arrow_number z v s choice l a k (builds b next y o t) = omega (arith, (built_goes z v choice l b next t).number)
+arrow_number z v s choice l a k (builds b next y t) = omega (arith, (built_goes z v choice l b next t).number)
 arrow_number z v s choice l a k (list_ends next e n) = let x = cell_call _ _ n in omega (arith, x.1)
 arrow_number z v s choice l a k (key_above next e n) = let x = cell_call _ _ n in omega (arith, x.1)
 arrow_number z v s choice l a k (rest_passed next e n) = let x = cell_call _ _ n in omega (arith, x.1)
@@ -47,12 +47,11 @@ arrow_number z v s choice l a k _ = omega arith
 
 -- a put that has announced its cell goes on to its end, where the entry is its own
 pub arrow_published : (z : Sizes) (v : Words) (s : ℕ) (choice : Choice) (l : Local) (a : Activity) (k : Local) → Arrow z v s choice l a k → (IsNotOwn l.cell (v (name.Pend l.row s)) → a ≡ Stamp → ⊥) → IsPublished a → IsPublished k.activity ⊎ IsDone k.activity
-arrow_published z v s choice l a k (builds b next y o t) f p = absurd (built_unpublished b y p)
+arrow_published z v s choice l a k (builds b next y t) f p = absurd (built_unpublished b y p)
 arrow_published z v s choice l a k loads_clock f p = inl tt
 arrow_published z v s choice l a k (stamps e) f p = inl tt
 arrow_published z v s choice l a k (is_stamped version e) f p = inl tt
-arrow_published z v s choice l a k (is_not_own n e) f p = absurd (f n refl)
-arrow_published z v s choice l a k (stamps_full n e) f p = absurd (f n refl)
+arrow_published z v s choice l a k (stamps_full n) f p = absurd (f n refl)
 arrow_published z v s choice l a k stores_version f p = inl tt
 arrow_published z v s choice l a k (meets_cell c e) f p = inl tt
 arrow_published z v s choice l a k (meets_none e) f p = inl tt
@@ -99,7 +98,7 @@ cleared_not_done Stopped choice p d = p
 
 -- only a put that has cleared its entry is done
 pub arrow_done : (z : Sizes) (v : Words) (s : ℕ) (choice : Choice) (l : Local) (a : Activity) (k : Local) → Arrow z v s choice l a k → IsKind a l → IsDone k.activity → IsPutClear a
-arrow_done z v s choice l a k (builds b next y o t) n d = absurd (after_not_done next.activity (built_next z v choice l b next t) d)
+arrow_done z v s choice l a k (builds b next y t) n d = absurd (after_not_done next.activity (built_next z v choice l b next t) d)
 arrow_done z v s choice l a k clears n d = tt
 arrow_done z v s choice l a k (clears_scan answer) n d = absurd (cleared_not_done answer choice n.1 d)
 arrow_done z v s choice l a k (list_ends next e x) n d = absurd (next_cell_done _ _ x d)

@@ -172,8 +172,8 @@ module _ {z : Sizes} {r r' : Run} {s : ℕ} {choice : Choice} {l : Local} where
   built_own a k (first_is_taken q rows next c n y) h hand x = goes SeekFirst next.activity next h (λ c. cc) x (λ p t. on_seek rows _ next p y t)
   built_own a k (sought_is_free e) h hand x = goes Seek TakeRow _ h (λ c. cc) x (λ p y. (y.0, tt, y.1))
   built_own a k (sought_is_taken rows next n y) h hand x = goes Seek next.activity next h (λ c. cc) x (λ p t. on_seek rows _ next p y t)
-  built_own a k (first_is_retired q m c e f) h hand x = goes SeekFirst (SeekPass 0) _ h (λ c. cc) x (λ p y. (y.0, tt, y.1))
-  built_own a k (sought_is_retired m e f) h hand x = goes Seek (SeekPass 0) _ h (λ c. cc) x (λ p y. (y.0, tt, y.1))
+  built_own a k (first_is_retired q m c e) h hand x = goes SeekFirst (SeekPass 0) _ h (λ c. cc) x (λ p y. (y.0, tt, y.1))
+  built_own a k (sought_is_retired m e) h hand x = goes Seek (SeekPass 0) _ h (λ c. cc) x (λ p y. (y.0, tt, y.1))
   built_own a k (pass_is_old i epoch rows next e o y) h hand x = goes (SeekPass i) next.activity next h (λ c. cc) x (λ p t. on_seek rows _ next p y t)
   built_own a k (pass_is_young i next o y) h hand x = goes (SeekPass i) next.activity next h (λ c. cc) x (λ p t. on_pass z _ l next p y t)
   built_own a k frees_row h hand x = goes Reclaim TakeRow _ h (λ c. cc) x (λ p y. (y.0, tt, y.1))
@@ -235,7 +235,7 @@ module _ {z : Sizes} {r r' : Run} {s : ℕ} {choice : Choice} {l : Local} where
 
   -- the acting seat
   pub none_lost_own : (a : Activity) (l' : Local) → Arrow z (word z r.world) s choice l a l' → Happens z r r' s choice l l' a → Shape z r → HasLostNone r'.ledger.rows s l'.activity l'
-  none_lost_own a l' (builds b next y c t) h i = built_own b next t h (λ x. (infants_at b h i).hand x) (lost_none_at b h i)
+  none_lost_own a l' (builds b next y t) h i = built_own b next t h (λ x. (infants_at b h i).hand x) (lost_none_at b h i)
   none_lost_own a l' b h i = outside _ l' (λ x. x) h i
 
   -- another seat

@@ -49,7 +49,7 @@ passing_busy Idle x = absurd x
 passing_busy _ x = tt
 
 arrow_passes : (z : Sizes) (v : Words) (s : ℕ) (choice : Choice) (l : Local) (a : Activity) (k : Local) → Arrow z v s choice l a k → IsPassing a → (WritesPass a → ⊥) → StaysIn l k
-arrow_passes z v s choice l a k (builds b next y o t) p n = let g = built_goes z v choice l b next t in let x = after_passes next.activity g.next in (x.0, x.1, g.epoch)
+arrow_passes z v s choice l a k (builds b next y t) p n = let g = built_goes z v choice l b next t in let x = after_passes next.activity g.next in (x.0, x.1, g.epoch)
 arrow_passes z v s choice l a k (begins call e b) p n = absurd p
 arrow_passes z v s choice l a k (enters e) p n = absurd p
 arrow_passes z v s choice l a k (enters_scan e) p n = absurd p
@@ -152,7 +152,7 @@ entered z r r' s choice l l' h i g =
 
 -- the acting seat is in its pass, or in none
 pub passes_own : (z : Sizes) (r r' : Run) (s : ℕ) (choice : Choice) (l : Local) (a : Activity) (l' : Local) → Arrow z (word z r.world) s choice l a l' → Happens z r r' s choice l l' a → Shape z r → Passes (word z r'.world) r'.ledger.rows s l'.activity l'
-passes_own z r r' s choice l a l' (builds b next y o t) h i = let x = built_passes b y in goes_on z r r' s choice l b l' h i (subst (λ q. Passes (word z r.world) r.ledger.rows s q l) h.activity (i.passes s l h.knows)) x.0 x.1 (built_pass b y) (arrow_passes z (word z r.world) s choice l b l' (builds b next y o t) x.0 (built_pass b y))
+passes_own z r r' s choice l a l' (builds b next y t) h i = let x = built_passes b y in goes_on z r r' s choice l b l' h i (subst (λ q. Passes (word z r.world) r.ledger.rows s q l) h.activity (i.passes s l h.knows)) x.0 x.1 (built_pass b y) (arrow_passes z (word z r.world) s choice l b l' (builds b next y t) x.0 (built_pass b y))
 passes_own z r r' s choice l a l' (begins call e b) h i =
     let p = subst (λ q. Passes (word z r.world) r.ledger.rows s q l) h.activity (i.passes s l h.knows) in
     let q = p.in_none (λ x. x) in

@@ -93,8 +93,8 @@ module _ (z : Sizes) where
   plans_built v choice l a k (first_is_taken q rows next f n y) o p = seek_on rows (seeking q l) k y (record { kept = p.kept tt; starts = p.starts tt })
   plans_built v choice l a k (sought_is_free e) o p = record { kept = p.kept; starts = p.starts; few = λ x. absurd x }
   plans_built v choice l a k (sought_is_taken rows next n y) o p = seek_on rows l k y (has_plan z a l tt p)
-  plans_built v choice l a k (first_is_retired q m f e u) o p = record { kept = p.kept; starts = p.starts; few = λ x. absurd x }
-  plans_built v choice l a k (sought_is_retired m e u) o p = record { kept = p.kept; starts = p.starts; few = λ x. absurd x }
+  plans_built v choice l a k (first_is_retired q m f e) o p = record { kept = p.kept; starts = p.starts; few = λ x. absurd x }
+  plans_built v choice l a k (sought_is_retired m e) o p = record { kept = p.kept; starts = p.starts; few = λ x. absurd x }
   plans_built v choice l a k (pass_is_old j epoch rows next e u y) o p = seek_on rows l k y (has_plan z a l tt p)
   plans_built v choice l a k (pass_is_young j next y n) o p = pass_on (j + 1) l k n (has_plan z a l tt p)
   plans_built v choice l a k frees_row o p = record { kept = p.kept; starts = p.starts; few = λ x. absurd x }
@@ -133,7 +133,7 @@ module _ (z : Sizes) where
 
 -- by the arrow that the seat takes
 plans_by : (z : Sizes) (v : Words) (s : ℕ) (choice : Choice) (l : Local) (a : Activity) (l' : Local) → Arrow z v s choice l a l' → (IsTakingRows a → length l.rebalance.taken < length l.rebalance.starts) → Plans z a l → Plans z l'.activity l'
-plans_by z v s choice l a l' (builds b next y c t) o p = plans_built z v choice l a l' t o p
+plans_by z v s choice l a l' (builds b next y t) o p = plans_built z v choice l a l' t o p
 plans_by z v s choice l a l' (takes_no_more e n) o p = record { kept = λ x. refl; starts = λ x. refl; few = λ x. absurd x }
 plans_by z v s choice l a l' (keeps_no_more n) o p = record { kept = λ x. refl; starts = λ x. refl; few = λ x. absurd x }
 plans_by z v s choice l a l' (meets_stamped j c version next y n) o p = look_unplanned z _ next _ n

@@ -104,8 +104,8 @@ module _ {z : Sizes} {r r' : Run} {s : ℕ} {choice : Choice} {l l' : Local} whe
 
   -- The event.
 
-  pub kinds_at : (a : Activity) → Happens z r r' s choice l l' a → Shape z r → Kinds z a l
-  kinds_at a h i = subst (λ b. Kinds z b l) h.activity (i.kinds s l h.knows)
+  pub kinds_at : (a : Activity) → Happens z r r' s choice l l' a → Shape z r → Kinds a l
+  kinds_at a h i = subst (λ b. Kinds b l) h.activity (i.kinds s l h.knows)
 
   pub won_at : (a : Activity) → Happens z r r' s choice l l' a → Shape z r → Won r.ledger.rows s a l
   won_at a h i = subst (λ b. Won r.ledger.rows s b l) h.activity (i.won s l h.knows)

@@ -1,22 +1,19 @@
 -- What an event leaves of a row that was linked, and of the keys that it may hold; a put's row may hold its key.
-use Rattle.std.proofs.Common.{ℕ, ◌≡◌, ◌⊎◌, inl, inr, ◌<◌, true, false, Option, Some, None, arith, refl, sym, ◌∙◌, ap, subst, slice_get}
+use Rattle.std.proofs.Common.{ℕ, ◌≡◌, ◌⊎◌, inl, inr, ◌<◌, true, false, Option, Some, None, arith, refl, sym, ◌∙◌, subst, slice_get}
 use Rattle.std.proofs.lemmas.Option.{same_Some}
 use Rattle.kw_model.specs.declared.call.Call.{Call}
 use Rattle.kw_model.specs.declared.call.Call.TheVariants.{Put, Del, Get, Scan}
 use Rattle.kw_world.specs.declared.activity.Activity.{Activity}
 use Rattle.kw_world.specs.declared.activity.Activity.TheVariants.{PutAdd}
 use Rattle.kw_world.specs.declared.local.Local.{Local}
-use Rattle.kw_world.specs.Sizes.{IsRebalancing, Sizes}
+use Rattle.kw_world.specs.Sizes.{Sizes}
 use Rattle.kw_world.specs.Calls.{first_key, is_scan}
 use Rattle.kw_world.specs.Step.{word}
 use Rattle.kw_core.specs.Stages.{IsAtRow, IsPastStart}
-use Rattle.kw_core.specs.Words.{Words, next_in, least_in}
-use Rattle.kw_rows.specs.Ledger.{Dead, Free, IsFresh, IsLive, Ledger}
-use Rattle.kw_rows.specs.Rows.{Closed, WasLinked}
-use Rattle.kw_rows.proofs.Named.{held_by, last_row, one_beginning, row_after}
-use Rattle.kw_shape.specs.RowsIn.{rows_in}
+use Rattle.kw_core.specs.Words.{Words, least_in}
+use Rattle.kw_rows.specs.Ledger.{Ledger}
 pub use Rattle.kw_shape.proofs.LinkedRows.{fresh_linked, was_below}
-use Rattle.kw_shape.specs.Shape.{HoldsKey, IsAtItsRow, IsStill, IsPutCall, IsKind, Shape}
+use Rattle.kw_shape.specs.Shape.{HoldsKey, IsAtItsRow, IsPutCall, IsKind, Shape}
 use Rattle.kw_core.specs.Run.{Run}
 
 -- a row may hold the keys that it might, as long as the ends of its range are as they were
@@ -53,29 +50,3 @@ holds_put z r s l a y k e row past put = wanted ((y.walks s l k).at (subst IsAtR
 -- so may that of a seat that asks for a cell
 pub holds_first : (z : Sizes) (r : Run) (s : ℕ) (l : Local) → Shape z r → slice_get r.world.locals s ≡ Some l → l.activity ≡ PutAdd → HoldsKey (word z r.world) r.ledger.rows l.row (first_key l.call)
 holds_first z r s l y k e = holds_put z r s l PutAdd y k e tt tt (λ x. x)
-
--- Rows that were linked.
-
--- where no row is rebalanced, one that was linked is live
-pub still_live : (g : Ledger) (q : ℕ) → IsStill g q → WasLinked g q → IsLive g q
-still_live g q (inl x) k = x
-still_live g q (inr x) (inl e) = e
-still_live g q (inr x) (inr e) = let y : Free ≡ Dead = sym x ∙ e in absurd (cc)
-
--- where no row is rebalanced, the row that a seat knows to stand after its own is the one to which the link of that leads
-pub next_known : (z : Sizes) (r : Run) → Shape z r → (IsRebalancing z.form → ⊥) → (t : ℕ) (l : Local) → IsAtItsRow (word z r.world) r.ledger.rows t l → l.next ≡ next_in (word z r.world) l.row
-next_known z r i n t l at = which l.next refl
-  where
-    closed : Closed (rows_in (word z r.world)) r.ledger.rows
-    closed = i.rows.closed
-
-    live : (q : ℕ) → IsFresh r.ledger.rows t q → IsLive r.ledger.rows q
-    live q f = still_live r.ledger.rows q (i.still n q) (fresh_linked r.ledger.rows t q f)
-
-    which : (n : Option ℕ) → l.next ≡ n → n ≡ next_in (word z r.world) l.row
-    which None e = sym (last_row (rows_in (word z r.world)) r.ledger.rows closed l.row (held_by r.ledger.rows t l.row at.fresh) (at.last e))
-    which (Some n) e =
-        let k = at.next n e in
-        let a = row_after (rows_in (word z r.world)) r.ledger.rows closed l.row l.upper (held_by r.ledger.rows t l.row at.fresh) k.ends in
-        let y = i.rows.chain.linked l.row a.0 (live l.row at.fresh) a.1 in
-        ap Some (one_beginning (rows_in (word z r.world)) r.ledger.rows n a.0 i.rows.chain (live n k.fresh) y (sym k.least ∙ sym a.2)) ∙ sym a.1

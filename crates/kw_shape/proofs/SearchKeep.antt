@@ -117,8 +117,8 @@ module _ (v : Words) (g : Ledger) (t now : ℕ) (i : Structure (rows_in v) g now
   search_by z choice a k (first_is_taken q rows next f n y) head x = seek_on v g t rows _ next y
   search_by z choice a k (sought_is_free e) head x = elsewhere v g t _ _ (λ y. y) (λ y. y) (λ y. y) (λ y. y)
   search_by z choice a k (sought_is_taken rows next n y) head x = seek_on v g t rows _ next y
-  search_by z choice a k (first_is_retired q m c e f) head x = elsewhere v g t _ _ (λ y. y) (λ y. y) (λ y. y) (λ y. y)
-  search_by z choice a k (sought_is_retired m e f) head x = elsewhere v g t _ _ (λ y. y) (λ y. y) (λ y. y) (λ y. y)
+  search_by z choice a k (first_is_retired q m c e) head x = elsewhere v g t _ _ (λ y. y) (λ y. y) (λ y. y) (λ y. y)
+  search_by z choice a k (sought_is_retired m e) head x = elsewhere v g t _ _ (λ y. y) (λ y. y) (λ y. y) (λ y. y)
   search_by z choice a k (pass_is_old j epoch rows next e o y) head x = seek_on v g t rows _ next y
   search_by z choice a k (pass_is_young j next o y) head x = pass_on v g t z _ l next y
   search_by z choice a k frees_row head x = elsewhere v g t _ _ (λ y. y) (λ y. y) (λ y. y) (λ y. y)

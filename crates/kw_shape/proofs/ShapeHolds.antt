@@ -19,7 +19,7 @@ pub shape_goes_on : (z : Sizes) (o : Opening) (r : Run) (e : Event) → may_step
 shape_goes_on z o r e may i =
     let c = may_come o r.world e may in
     subst (Shape z) (sym (goes_on-moved z r e c.local c.knows c.moves))
-    (shape_keeps z r (noted_by z r e c.local) e.seat (offered r.world.rows e.choice) c.local c.local.activity _ (happens z r e c.local i.sane (i.kinds e.seat c.local c.knows).reached c.begins c.knows c.moves) i)
+    (shape_keeps z r (noted_by z r e c.local) e.seat (offered r.world.rows e.choice) c.local c.local.activity _ (happens z r e c.local i.sane c.begins c.knows c.moves) i)
 
 -- every valid list
 pub shape_holds : (z : Sizes) (o : Opening) (es : List Event) → IsOpening z o → is_valid z o es ≡ true → Shape z (history z o es)

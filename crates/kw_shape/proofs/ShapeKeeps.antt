@@ -6,7 +6,7 @@ use Rattle.kw_world.specs.declared.activity.Activity.TheVariants.{Idle, Enter, S
 use Rattle.kw_world.specs.declared.local.Local.{Local}
 use Rattle.kw_world.specs.declared.event.Choice.{Choice}
 use Rattle.kw_world.specs.SeekTransitions.{infant}
-use Rattle.kw_world.specs.Sizes.{IsRebalancing, Sizes}
+use Rattle.kw_world.specs.Sizes.{Sizes}
 use Rattle.kw_world.specs.WorldView.{WorldView}
 use Rattle.kw_words.specs.declared.sizes.TheConstants.{MOST_SEATS, SPENT}
 use Rattle.kw_words.specs.Layout.{IsSized, IsWithin, words_of}
@@ -42,7 +42,7 @@ use Rattle.kw_shape.proofs.SoughtKeep.{outside_stays, sought_other, sought_own, 
 use Rattle.kw_shape.proofs.NoneLost.{none_lost_other, none_lost_own}
 use Rattle.kw_shape.proofs.NursedKeep.{infants_go, infants_other, search_go, search_other}
 use Rattle.kw_shape.proofs.WonKeep.{won_other, won_own}
-use Rattle.kw_shape.specs.Shape.{IsStill, Walks, Kinds, Shape}
+use Rattle.kw_shape.specs.Shape.{Walks, Kinds, Shape}
 use Rattle.kw_shape.proofs.PassesKeep.{numbers_keep, passes_other, passes_own}
 use Rattle.kw_shape.proofs.BalancesKeep.{balances_other, balances_own}
 use Rattle.kw_core.proofs.Fates.{fate_stays}
@@ -75,7 +75,6 @@ use Rattle.kw_world.specs.WalkTransitions.{is_stop}
 use Rattle.kw_core.specs.Stages.{IsPassing, is_put}
 use Rattle.kw_shape.specs.Shape.{IsSomeCall, IsPutCall, IsReadCall, IsScanCall, IsAnswerOf, IsPairs}
 use Rattle.kw_core.proofs.BuiltNext.{built_goes, built_next}
-use Rattle.kw_core.proofs.BuiltReached.{built_reached, reusing_rebalances}
 use Rattle.kw_core.proofs.InfantFrames.{count_stays, count_written}
 use Rattle.kw_words.proofs.CountWords.{count_of-count_word}
 use Rattle.kw_world.specs.WriteTransitions.{infant_cells, infant_count}
@@ -84,8 +83,8 @@ use Rattle.kw_shape.proofs.KeyedKeeps.{keyed_keeps}
 use Rattle.kw_shape.proofs.KeysKeep.{keys_own, keys_stay}
 use Rattle.kw_shape.specs.Keyed.{Keys}
 use Rattle.kw_shape.proofs.NewWords.{cells_few}
-use Rattle.kw_shape.proofs.AfterBuilding.{after_kinds, built_kinds, built_pass, built_passes, no_rows}
-use Rattle.kw_core.proofs.Arrows.{Arrow, begins, enters, enters_scan, is_spent, waits, stores_waiting, draws, settles_empty, settles, starts_at_head, guesses, guess_fails, takes_head, guess_serves, guess_is_above, stops, puts_in_last, reads_last, meets_next, walks_on, puts_before, reads_before, meets_pending, meets_stamped, meets_neither, is_wanted, is_passed, loads_to_help, helps, finds_stamped, finds_other, list_leads, list_ends, key_below, key_within, key_above, loads_version, gathers_listed, rest_wanted, rest_passed, gathers_rest, clears_scan, finds_room, finds_none, takes_cell, takes_none, stores_key, stores_value, announces, is_refused, loads_clock, stamps, is_stamped, is_not_own, stores_version, meets_cell, meets_none, key_before, key_same, key_after, version_before, version_after, stores_after, inserts, loses, clears, leaves, retries, enters_again, clock_is_spent, clock_serves, epoch_is_spent, epoch_serves, finds_infant, finds_normal, finds_leader, finds_other_state, normalises, engages, is_engaged, marks_link, marks_led, decides, decides_not, finds_full, takes_full, announces_full, stamps_full, NextLook, looks, lists, NextRest, rests, answers, ends_scan, scans_on, not_below, freezes_count, meets_idle, meets_unstamped, remembers, remembers_last, meets_frozen, meets_frozen_last, freezes_entry, freezes_last, looks_again, meets_quiet, meets_quiet_last, helps_scan, meets_drawn, meets_drawn_last, draws_for, settles_scan, settles_last, finds_drawn, finds_drawn_last, finds_no_scan, finds_no_scan_last, take_leads, takes_left, takes_no_more, takes_key, takes_version, keeps_taken, takes_left_key, keeps_left, keeps_no_more, builds}
+use Rattle.kw_shape.proofs.AfterBuilding.{after_kinds, built_kinds, built_pass, built_passes}
+use Rattle.kw_core.proofs.Arrows.{Arrow, begins, enters, enters_scan, is_spent, waits, stores_waiting, draws, settles_empty, settles, starts_at_head, guesses, guess_fails, takes_head, guess_serves, guess_is_above, stops, puts_in_last, reads_last, meets_next, walks_on, puts_before, reads_before, meets_pending, meets_stamped, meets_neither, is_wanted, is_passed, loads_to_help, helps, finds_stamped, finds_other, list_leads, list_ends, key_below, key_within, key_above, loads_version, gathers_listed, rest_wanted, rest_passed, gathers_rest, clears_scan, finds_room, takes_cell, stores_key, stores_value, announces, loads_clock, stamps, is_stamped, stores_version, meets_cell, meets_none, key_before, key_same, key_after, version_before, version_after, stores_after, inserts, loses, clears, leaves, retries, enters_again, clock_is_spent, clock_serves, epoch_is_spent, epoch_serves, finds_infant, finds_normal, finds_leader, finds_other_state, normalises, engages, is_engaged, marks_link, marks_led, decides, decides_not, finds_full, takes_full, announces_full, stamps_full, NextLook, looks, lists, NextRest, rests, answers, ends_scan, scans_on, not_below, freezes_count, meets_idle, meets_unstamped, remembers, remembers_last, meets_frozen, meets_frozen_last, freezes_entry, freezes_last, looks_again, meets_quiet, meets_quiet_last, helps_scan, meets_drawn, meets_drawn_last, draws_for, settles_scan, settles_last, finds_drawn, finds_drawn_last, finds_no_scan, finds_no_scan_last, take_leads, takes_left, takes_no_more, takes_key, takes_version, keeps_taken, takes_left_key, keeps_left, keeps_no_more, builds}
 use Rattle.kw_core.proofs.Building.{IsBuilding}
 
 -- The acting seat.
@@ -166,7 +165,7 @@ room_built z r r' s choice l a l' b {q} f h i o = room_plain z r r' s choice l a
 
 -- each row has room for the cells that are asked for
 pub room_keeps : (z : Sizes) (r r' : Run) (s : ℕ) (choice : Choice) (l : Local) (a : Activity) (l' : Local) → Arrow z (word z r.world) s choice l a l' → Happens z r r' s choice l l' a → Shape z r → (q : ℕ) → q < r.world.rows → given_in (word z r'.world) q + adders q r'.world.locals < z.cells + z.seats
-room_keeps z r r' s choice l a l' (builds b next y c t) h i q o = room_built z r r' s choice l b l' y (built_adds next.activity next.row q (built_next z (word z r.world) choice l b next t)) h i o
+room_keeps z r r' s choice l a l' (builds b next y t) h i q o = room_built z r r' s choice l b l' y (built_adds next.activity next.row q (built_next z (word z r.world) choice l b next t)) h i o
 room_keeps z r r' s choice l a l' (finds_room e) h i q o = which (cases_eq l.row q)
   where
     seats : length (slice_set r.world.locals s l') ≡ length r.world.locals
@@ -180,11 +179,9 @@ room_keeps z r r' s choice l a l' (finds_room e) h i q o = which (cases_eq l.row
         let x : given_in (word z r.world) q < z.cells = subst (λ y. given_in (word z r.world) y < z.cells) u (room_below z (count_of (word z r.world (name.Count l.row))) e) in
         omega (arith, same, x, adders_at_most q r'.world.locals, ap length h.locals, seats, i.sane.seats)
     which (inr d) = room_plain z r r' s choice l PutCount _ h i q same (not_chosen {A = ℕ} l.row q 1 0 d) o
-room_keeps z r r' s choice l a l' (finds_none e f) h i q o = room_plain z r r' s choice l PutCount _ h i q (ap (λ w. given_of (count_of w)) (count_stays PutCount h q o (λ c. c))) refl o
-room_keeps z r r' s choice l a l' (finds_full e f) h i q o = room_plain z r r' s choice l PutCount _ h i q (ap (λ w. given_of (count_of w)) (count_stays PutCount h q o (λ c. c))) refl o
+room_keeps z r r' s choice l a l' (finds_full e) h i q o = room_plain z r r' s choice l PutCount _ h i q (ap (λ w. given_of (count_of w)) (count_stays PutCount h q o (λ c. c))) refl o
 room_keeps z r r' s choice l a l' (takes_cell e) h i q o = room_add z r r' s choice l _ h i q refl o
-room_keeps z r r' s choice l a l' (takes_none e f) h i q o = room_add z r r' s choice l _ h i q refl o
-room_keeps z r r' s choice l a l' (takes_full e f) h i q o = room_add z r r' s choice l _ h i q refl o
+room_keeps z r r' s choice l a l' (takes_full e) h i q o = room_add z r r' s choice l _ h i q refl o
 room_keeps z r r' s choice l a l' freezes_count h i q o = room_plain z r r' s choice l FreezeCount _ h i q (frozen_given (cases_eq q l.row)) refl o
   where
     at_row : (c : Option Counted) → count_of (word z r.world (name.Count l.row)) ≡ c → IsGiven c → given_in (word z r'.world) l.row ≡ given_in (word z r.world) l.row
@@ -204,7 +201,7 @@ built_draws_none _ b d = d
 
 -- the clock has room for the versions that are drawn
 pub clock_keeps : (z : Sizes) (r r' : Run) (s : ℕ) (choice : Choice) (l : Local) (a : Activity) (l' : Local) → Arrow z (word z r.world) s choice l a l' → Happens z r r' s choice l l' a → Shape z r → word z r'.world name.Clock + drawers z.seats r'.world.locals ≤ SPENT + z.seats * z.seats
-clock_keeps z r r' s choice l a l' (builds b next y o t) h i = omega (arith, i.clock, clock_stays b h (built_draws_none b y), built_draws z.seats next.activity (built_next z (word z r.world) choice l b next t), drawers-set z.seats r.world.locals s l l' h.knows, ap (drawers z.seats) h.locals)
+clock_keeps z r r' s choice l a l' (builds b next y t) h i = omega (arith, i.clock, clock_stays b h (built_draws_none b y), built_draws z.seats next.activity (built_next z (word z r.world) choice l b next t), drawers-set z.seats r.world.locals s l l' h.knows, ap (drawers z.seats) h.locals)
 clock_keeps z r r' s choice l a l' (waits e) h i = omega (arith, e, clock_stays ScanClock h (λ x. x), drawers_few z.seats r'.world.locals i.sane.sized.some_seats (omega (arith, ap length h.locals, length-set r.world.locals s l', i.sane.seats)))
 clock_keeps z r r' s choice l a l' (clock_serves e) h i = omega (arith, e, clock_stays BalClock h (λ x. x), drawers_few z.seats r'.world.locals i.sane.sized.some_seats (omega (arith, ap length h.locals, length-set r.world.locals s l', i.sane.seats)))
 clock_keeps z r r' s choice l a l' (is_spent e) h i = omega (arith, i.clock, clock_stays ScanClock h (λ x. x), drawers-set z.seats r.world.locals s l l' h.knows, ap (drawers z.seats) h.locals)
@@ -294,150 +291,146 @@ get_answer (Some (Scan from upto)) x k e = let y : true ≡ false = e in absurd 
 get_answer None x k e = absurd k
 
 -- what a reader does next
-kinds_look : (z : Sizes) (j : ℕ) (l : Local) (next : Activity) → NextLook z j next → IsReadCall l.call → first_key l.call ≤ last_key l.call → Kinds z next l
-kinds_look z j l next (looks o) k e = record { reached = tt; kind = k; range = λ x. e }
-kinds_look z j l next (lists o) k e = record { reached = tt; kind = k; range = λ x. e }
+kinds_look : (z : Sizes) (j : ℕ) (l : Local) (next : Activity) → NextLook z j next → IsReadCall l.call → first_key l.call ≤ last_key l.call → Kinds next l
+kinds_look z j l next (looks o) k e = record { kind = k; range = λ x. e }
+kinds_look z j l next (lists o) k e = record { kind = k; range = λ x. e }
 
-kinds_cell : (z : Sizes) (l : Local) (next : Local) → NextRest l next → IsReadCall l.call → first_key l.call ≤ last_key l.call → Kinds z next.activity next
-kinds_cell z l next (rests m o) k e = record { reached = tt; kind = k; range = λ x. e }
-kinds_cell z l next (answers o n) k e = record { reached = tt; kind = get_answer l.call _ k n; range = λ x. absurd x }
-kinds_cell z l next (ends_scan o y n) k e = record { reached = tt; kind = (scan_call l.call y, tt); range = λ x. absurd x }
-kinds_cell z l next (scans_on q o y n w) k e = record { reached = tt; kind = some_read l.call k; range = λ x. e }
+kinds_cell : (z : Sizes) (l : Local) (next : Local) → NextRest l next → IsReadCall l.call → first_key l.call ≤ last_key l.call → Kinds next.activity next
+kinds_cell z l next (rests m o) k e = record { kind = k; range = λ x. e }
+kinds_cell z l next (answers o n) k e = record { kind = get_answer l.call _ k n; range = λ x. absurd x }
+kinds_cell z l next (ends_scan o y n) k e = record { kind = (scan_call l.call y, tt); range = λ x. absurd x }
+kinds_cell z l next (scans_on q o y n w) k e = record { kind = some_read l.call k; range = λ x. e }
 
 -- by the arrow that the seat takes
-kinds_by : (z : Sizes) (v : Words) (s : ℕ) (choice : Choice) (l : Local) (a : Activity) (l' : Local) → Arrow z v s choice l a l' → Kinds z a l → Kinds z l'.activity l'
-kinds_by z v s choice l a l' (builds b next y o t) k = let p = built_kinds z b l y k in let g = built_goes z v choice l b next t in after_kinds z next.activity next g.next (built_reached z v choice l b next t o) (subst IsPutCall (sym g.call) p.1)
-kinds_by z v s choice l a l' (begins call e y) k = record { reached = tt; kind = tt; range = λ x. absurd x }
-kinds_by z v s choice l a l' (enters y) k = record { reached = tt; kind = k.kind; range = λ x. one_key l.call y }
-kinds_by z v s choice l a l' (enters_scan y) k = record { reached = tt; kind = scan_call l.call y; range = λ x. absurd x }
-kinds_by z v s choice l a l' (is_spent y) k = record { reached = tt; kind = scan_answer l.call Spent k.kind tt; range = λ x. absurd x }
-kinds_by z v s choice l a l' (waits y) k = record { reached = tt; kind = k.kind; range = λ x. absurd x }
-kinds_by z v s choice l a l' stores_waiting k = record { reached = tt; kind = k.kind; range = λ x. absurd x }
-kinds_by z v s choice l a l' draws k = record { reached = tt; kind = k.kind; range = λ x. absurd x }
-kinds_by z v s choice l a l' (settles_empty y) k = record { reached = tt; kind = (k.kind, tt); range = λ x. absurd x }
-kinds_by z v s choice l a l' (settles y) k = record { reached = tt; kind = some_scan l.call k.kind; range = λ x. not_below (last_key l.call) (first_key l.call) y }
-kinds_by z v s choice l a l' starts_at_head k = record { reached = tt; kind = k.kind; range = λ x. k.range tt }
-kinds_by z v s choice l a l' (guesses q e y) k = record { reached = tt; kind = k.kind; range = λ x. k.range tt }
-kinds_by z v s choice l a l' guess_fails k = record { reached = tt; kind = k.kind; range = λ x. k.range tt }
-kinds_by z v s choice l a l' takes_head k = record { reached = tt; kind = k.kind; range = λ x. k.range tt }
-kinds_by z v s choice l a l' (guess_serves y) k = record { reached = tt; kind = k.kind; range = λ x. k.range tt }
-kinds_by z v s choice l a l' (guess_is_above y) k = record { reached = tt; kind = k.kind; range = λ x. k.range tt }
-kinds_by z v s choice l a l' (stops y) k = record { reached = tt; kind = stopped; range = λ x. absurd x }
+kinds_by : (z : Sizes) (v : Words) (s : ℕ) (choice : Choice) (l : Local) (a : Activity) (l' : Local) → Arrow z v s choice l a l' → Kinds a l → Kinds l'.activity l'
+kinds_by z v s choice l a l' (builds b next y t) k = let g = built_goes z v choice l b next t in after_kinds next.activity next g.next (subst IsPutCall (sym g.call) (built_kinds b l y k))
+kinds_by z v s choice l a l' (begins call e y) k = record { kind = tt; range = λ x. absurd x }
+kinds_by z v s choice l a l' (enters y) k = record { kind = k.kind; range = λ x. one_key l.call y }
+kinds_by z v s choice l a l' (enters_scan y) k = record { kind = scan_call l.call y; range = λ x. absurd x }
+kinds_by z v s choice l a l' (is_spent y) k = record { kind = scan_answer l.call Spent k.kind tt; range = λ x. absurd x }
+kinds_by z v s choice l a l' (waits y) k = record { kind = k.kind; range = λ x. absurd x }
+kinds_by z v s choice l a l' stores_waiting k = record { kind = k.kind; range = λ x. absurd x }
+kinds_by z v s choice l a l' draws k = record { kind = k.kind; range = λ x. absurd x }
+kinds_by z v s choice l a l' (settles_empty y) k = record { kind = (k.kind, tt); range = λ x. absurd x }
+kinds_by z v s choice l a l' (settles y) k = record { kind = some_scan l.call k.kind; range = λ x. not_below (last_key l.call) (first_key l.call) y }
+kinds_by z v s choice l a l' starts_at_head k = record { kind = k.kind; range = λ x. k.range tt }
+kinds_by z v s choice l a l' (guesses q e y) k = record { kind = k.kind; range = λ x. k.range tt }
+kinds_by z v s choice l a l' guess_fails k = record { kind = k.kind; range = λ x. k.range tt }
+kinds_by z v s choice l a l' takes_head k = record { kind = k.kind; range = λ x. k.range tt }
+kinds_by z v s choice l a l' (guess_serves y) k = record { kind = k.kind; range = λ x. k.range tt }
+kinds_by z v s choice l a l' (guess_is_above y) k = record { kind = k.kind; range = λ x. k.range tt }
+kinds_by z v s choice l a l' (stops y) k = record { kind = stopped; range = λ x. absurd x }
   where
     stopped : IsAnswerOf l.call Stopped
     stopped = let t = and_parts (is_stop choice) (is_scan l.call && l.has_read) y in scan_answer l.call Stopped (scan_call l.call (and_parts (is_scan l.call) l.has_read t.1).0) tt
-kinds_by z v s choice l a l' (puts_in_last p y) k = record { reached = tt; kind = put_call l.call p; range = λ x. absurd x }
-kinds_by z v s choice l a l' (reads_last p y) k = record { reached = tt; kind = read_call l.call k.kind p; range = λ x. k.range tt }
-kinds_by z v s choice l a l' (meets_next q y) k = record { reached = tt; kind = k.kind; range = λ x. k.range tt }
-kinds_by z v s choice l a l' (walks_on y) k = record { reached = tt; kind = k.kind; range = λ x. k.range tt }
-kinds_by z v s choice l a l' (puts_before p y) k = record { reached = tt; kind = put_call l.call p; range = λ x. absurd x }
-kinds_by z v s choice l a l' (reads_before p y) k = record { reached = tt; kind = read_call l.call k.kind p; range = λ x. k.range tt }
-kinds_by z v s choice l a l' (meets_pending j c y) k = record { reached = tt; kind = k.kind; range = λ x. k.range tt }
+kinds_by z v s choice l a l' (puts_in_last p y) k = record { kind = put_call l.call p; range = λ x. absurd x }
+kinds_by z v s choice l a l' (reads_last p y) k = record { kind = read_call l.call k.kind p; range = λ x. k.range tt }
+kinds_by z v s choice l a l' (meets_next q y) k = record { kind = k.kind; range = λ x. k.range tt }
+kinds_by z v s choice l a l' (walks_on y) k = record { kind = k.kind; range = λ x. k.range tt }
+kinds_by z v s choice l a l' (puts_before p y) k = record { kind = put_call l.call p; range = λ x. absurd x }
+kinds_by z v s choice l a l' (reads_before p y) k = record { kind = read_call l.call k.kind p; range = λ x. k.range tt }
+kinds_by z v s choice l a l' (meets_pending j c y) k = record { kind = k.kind; range = λ x. k.range tt }
 kinds_by z v s choice l a l' (meets_stamped j c version next y n) k = kinds_look z _ _ next n k.kind (k.range tt)
 kinds_by z v s choice l a l' (meets_neither j next y n) k = kinds_look z _ _ next n k.kind (k.range tt)
-kinds_by z v s choice l a l' (is_wanted y) k = record { reached = tt; kind = k.kind; range = λ x. k.range tt }
+kinds_by z v s choice l a l' (is_wanted y) k = record { kind = k.kind; range = λ x. k.range tt }
 kinds_by z v s choice l a l' (is_passed next y n) k = kinds_look z _ _ next n k.kind (k.range tt)
-kinds_by z v s choice l a l' loads_to_help k = record { reached = tt; kind = k.kind; range = λ x. k.range tt }
+kinds_by z v s choice l a l' loads_to_help k = record { kind = k.kind; range = λ x. k.range tt }
 kinds_by z v s choice l a l' (helps next y n) k = kinds_look z _ _ next n k.kind (k.range tt)
 kinds_by z v s choice l a l' (finds_stamped c version next y n) k = kinds_look z _ _ next n k.kind (k.range tt)
 kinds_by z v s choice l a l' (finds_other next y n) k = kinds_look z _ _ next n k.kind (k.range tt)
 kinds_by z v s choice l a l' (list_ends next e n) k = kinds_cell z _ next n k.kind (k.range tt)
-kinds_by z v s choice l a l' (list_leads c y) k = record { reached = tt; kind = k.kind; range = λ x. k.range tt }
-kinds_by z v s choice l a l' (key_below y) k = record { reached = tt; kind = k.kind; range = λ x. k.range tt }
-kinds_by z v s choice l a l' (key_within y w) k = record { reached = tt; kind = k.kind; range = λ x. k.range tt }
-kinds_by z v s choice l a l' loads_version k = record { reached = tt; kind = k.kind; range = λ x. k.range tt }
-kinds_by z v s choice l a l' gathers_listed k = record { reached = tt; kind = k.kind; range = λ x. k.range tt }
-kinds_by z v s choice l a l' (rest_wanted y) k = record { reached = tt; kind = k.kind; range = λ x. k.range tt }
+kinds_by z v s choice l a l' (list_leads c y) k = record { kind = k.kind; range = λ x. k.range tt }
+kinds_by z v s choice l a l' (key_below y) k = record { kind = k.kind; range = λ x. k.range tt }
+kinds_by z v s choice l a l' (key_within y w) k = record { kind = k.kind; range = λ x. k.range tt }
+kinds_by z v s choice l a l' loads_version k = record { kind = k.kind; range = λ x. k.range tt }
+kinds_by z v s choice l a l' gathers_listed k = record { kind = k.kind; range = λ x. k.range tt }
+kinds_by z v s choice l a l' (rest_wanted y) k = record { kind = k.kind; range = λ x. k.range tt }
 kinds_by z v s choice l a l' (key_above next y n) k = kinds_cell z _ next n k.kind (k.range tt)
 kinds_by z v s choice l a l' (rest_passed next y n) k = kinds_cell z _ next n k.kind (k.range tt)
 kinds_by z v s choice l a l' (gathers_rest next n) k = kinds_cell z _ next n k.kind (k.range tt)
-kinds_by z v s choice l a l' (clears_scan answer) k = record { reached = tt; kind = cleared choice answer k.kind.1; range = λ x. absurd x }
+kinds_by z v s choice l a l' (clears_scan answer) k = record { kind = cleared choice answer k.kind.1; range = λ x. absurd x }
   where
     cleared : (c : Choice) (y : Answer) → IsPairs y → IsAnswerOf l.call (answer_or_stopped y c)
     cleared Stop y p = scan_answer l.call Stopped k.kind.0 tt
     cleared c Pairs p = scan_answer l.call _ k.kind.0 tt
     cleared c _ p = absurd p
-kinds_by z v s choice l a l' (finds_room y) k = record { reached = tt; kind = k.kind; range = λ x. absurd x }
-kinds_by z v s choice l a l' (finds_none y e) k = record { reached = tt; kind = no_rows l.call k.kind; range = λ x. absurd x }
-kinds_by z v s choice l a l' (finds_full y b) k = record { reached = b; kind = k.kind; range = λ x. absurd x }
-kinds_by z v s choice l a l' (takes_cell y) k = record { reached = tt; kind = k.kind; range = λ x. absurd x }
-kinds_by z v s choice l a l' (takes_none y e) k = record { reached = tt; kind = no_rows l.call k.kind; range = λ x. absurd x }
-kinds_by z v s choice l a l' (takes_full y b) k = record { reached = b; kind = k.kind; range = λ x. absurd x }
-kinds_by z v s choice l a l' stores_key k = record { reached = tt; kind = k.kind; range = λ x. absurd x }
-kinds_by z v s choice l a l' stores_value k = record { reached = tt; kind = k.kind; range = λ x. absurd x }
-kinds_by z v s choice l a l' (announces y) k = record { reached = tt; kind = k.kind; range = λ x. absurd x }
-kinds_by z v s choice l a l' (is_refused y e) k = record { reached = tt; kind = no_rows l.call k.kind; range = λ x. absurd x }
-kinds_by z v s choice l a l' (announces_full y b) k = record { reached = b; kind = k.kind; range = λ x. absurd x }
-kinds_by z v s choice l a l' loads_clock k = record { reached = tt; kind = k.kind; range = λ x. absurd x }
-kinds_by z v s choice l a l' (stamps y) k = record { reached = tt; kind = k.kind; range = λ x. absurd x }
-kinds_by z v s choice l a l' (is_stamped version y) k = record { reached = tt; kind = k.kind; range = λ x. absurd x }
-kinds_by z v s choice l a l' (is_not_own y e) k = record { reached = tt; kind = no_rows l.call k.kind; range = λ x. absurd x }
-kinds_by z v s choice l a l' (stamps_full y b) k = record { reached = b; kind = k.kind; range = λ x. absurd x }
-kinds_by z v s choice l a l' stores_version k = record { reached = tt; kind = k.kind; range = λ x. absurd x }
-kinds_by z v s choice l a l' (meets_cell c y) k = record { reached = tt; kind = k.kind; range = λ x. absurd x }
-kinds_by z v s choice l a l' (meets_none y) k = record { reached = tt; kind = k.kind; range = λ x. absurd x }
-kinds_by z v s choice l a l' (key_before y) k = record { reached = tt; kind = k.kind; range = λ x. absurd x }
-kinds_by z v s choice l a l' (key_same y) k = record { reached = tt; kind = k.kind; range = λ x. absurd x }
-kinds_by z v s choice l a l' (key_after y) k = record { reached = tt; kind = k.kind; range = λ x. absurd x }
-kinds_by z v s choice l a l' (version_before y) k = record { reached = tt; kind = k.kind; range = λ x. absurd x }
-kinds_by z v s choice l a l' (version_after y) k = record { reached = tt; kind = k.kind; range = λ x. absurd x }
-kinds_by z v s choice l a l' stores_after k = record { reached = tt; kind = k.kind; range = λ x. absurd x }
-kinds_by z v s choice l a l' (inserts y) k = record { reached = tt; kind = k.kind; range = λ x. absurd x }
-kinds_by z v s choice l a l' (loses y) k = record { reached = tt; kind = k.kind; range = λ x. absurd x }
-kinds_by z v s choice l a l' clears k = record { reached = tt; kind = put_done l.call k.kind; range = λ x. absurd x }
-kinds_by z v s choice l a l' (leaves answer) k = record { reached = tt; kind = tt; range = λ x. absurd x }
-kinds_by z v s choice l a l' retries k = record { reached = k.reached; kind = k.kind; range = λ x. absurd x }
-kinds_by z v s choice l a l' enters_again k = record { reached = tt; kind = some_put l.call k.kind; range = λ x. absurd x }
-kinds_by z v s choice l a l' (clock_is_spent e) k = record { reached = tt; kind = put_spent l.call k.kind; range = λ x. absurd x }
-kinds_by z v s choice l a l' (clock_serves e) k = record { reached = k.reached; kind = k.kind; range = λ x. absurd x }
-kinds_by z v s choice l a l' (epoch_is_spent e) k = record { reached = tt; kind = put_spent l.call k.kind; range = λ x. absurd x }
-kinds_by z v s choice l a l' (epoch_serves e) k = record { reached = k.reached; kind = k.kind; range = λ x. absurd x }
-kinds_by z v s choice l a l' (finds_infant seat e) k = record { reached = k.reached; kind = k.kind; range = λ x. absurd x }
-kinds_by z v s choice l a l' (finds_normal e) k = record { reached = k.reached; kind = k.kind; range = λ x. absurd x }
-kinds_by z v s choice l a l' (finds_leader count e o) k = record { reached = k.reached; kind = (k.kind, o); range = λ x. absurd x }
-kinds_by z v s choice l a l' finds_other_state k = record { reached = k.reached; kind = k.kind; range = λ x. absurd x }
-kinds_by z v s choice l a l' (normalises seat) k = record { reached = k.reached; kind = k.kind; range = λ x. absurd x }
-kinds_by z v s choice l a l' (engages e) k = record { reached = k.reached; kind = (k.kind, omega arith); range = λ x. absurd x }
-kinds_by z v s choice l a l' (is_engaged e) k = record { reached = k.reached; kind = k.kind; range = λ x. absurd x }
-kinds_by z v s choice l a l' (marks_link count e) k = record { reached = k.reached; kind = (k.kind.0, refl); range = λ x. absurd x }
-kinds_by z v s choice l a l' (marks_led count e) k = record { reached = k.reached; kind = k.kind.0; range = λ x. absurd x }
-kinds_by z v s choice l a l' (decides count n e o) k = record { reached = k.reached; kind = k.kind.0; range = λ x. absurd x }
-kinds_by z v s choice l a l' (decides_not count) k = record { reached = k.reached; kind = k.kind.0; range = λ x. absurd x }
-kinds_by z v s choice l a l' freezes_count k = record { reached = k.reached; kind = k.kind; range = λ x. absurd x }
-kinds_by z v s choice l a l' (meets_idle j e) k = record { reached = k.reached; kind = k.kind; range = λ x. absurd x }
-kinds_by z v s choice l a l' (meets_unstamped j c e) k = record { reached = k.reached; kind = k.kind; range = λ x. absurd x }
-kinds_by z v s choice l a l' (remembers j c version e o) k = record { reached = k.reached; kind = k.kind; range = λ x. absurd x }
-kinds_by z v s choice l a l' (remembers_last j c version e o) k = record { reached = k.reached; kind = k.kind; range = λ x. absurd x }
-kinds_by z v s choice l a l' (meets_frozen j e o) k = record { reached = k.reached; kind = k.kind; range = λ x. absurd x }
-kinds_by z v s choice l a l' (meets_frozen_last j e o) k = record { reached = k.reached; kind = k.kind; range = λ x. absurd x }
-kinds_by z v s choice l a l' (freezes_entry j e o) k = record { reached = k.reached; kind = k.kind; range = λ x. absurd x }
-kinds_by z v s choice l a l' (freezes_last j e o) k = record { reached = k.reached; kind = k.kind; range = λ x. absurd x }
-kinds_by z v s choice l a l' (looks_again j e) k = record { reached = k.reached; kind = k.kind; range = λ x. absurd x }
-kinds_by z v s choice l a l' (meets_quiet j e o) k = record { reached = k.reached; kind = k.kind; range = λ x. absurd x }
-kinds_by z v s choice l a l' (meets_quiet_last j e o) k = record { reached = k.reached; kind = k.kind; range = λ x. absurd x }
-kinds_by z v s choice l a l' (helps_scan j clock e) k = record { reached = k.reached; kind = k.kind; range = λ x. absurd x }
-kinds_by z v s choice l a l' (meets_drawn j version e o) k = record { reached = k.reached; kind = k.kind; range = λ x. absurd x }
-kinds_by z v s choice l a l' (meets_drawn_last j version e o) k = record { reached = k.reached; kind = k.kind; range = λ x. absurd x }
-kinds_by z v s choice l a l' (draws_for j) k = record { reached = k.reached; kind = k.kind; range = λ x. absurd x }
-kinds_by z v s choice l a l' (settles_scan j e o) k = record { reached = k.reached; kind = k.kind; range = λ x. absurd x }
-kinds_by z v s choice l a l' (settles_last j e o) k = record { reached = k.reached; kind = k.kind; range = λ x. absurd x }
-kinds_by z v s choice l a l' (finds_drawn j version e o) k = record { reached = k.reached; kind = k.kind; range = λ x. absurd x }
-kinds_by z v s choice l a l' (finds_drawn_last j version e o) k = record { reached = k.reached; kind = k.kind; range = λ x. absurd x }
-kinds_by z v s choice l a l' (finds_no_scan j e o) k = record { reached = k.reached; kind = k.kind; range = λ x. absurd x }
-kinds_by z v s choice l a l' (finds_no_scan_last j e o) k = record { reached = k.reached; kind = k.kind; range = λ x. absurd x }
-kinds_by z v s choice l a l' (take_leads c e) k = record { reached = k.reached; kind = k.kind; range = λ x. absurd x }
-kinds_by z v s choice l a l' (takes_left m e n) k = record { reached = k.reached; kind = k.kind; range = λ x. absurd x }
-kinds_by z v s choice l a l' takes_key k = record { reached = k.reached; kind = k.kind; range = λ x. absurd x }
-kinds_by z v s choice l a l' takes_version k = record { reached = k.reached; kind = k.kind; range = λ x. absurd x }
-kinds_by z v s choice l a l' keeps_taken k = record { reached = k.reached; kind = k.kind; range = λ x. absurd x }
-kinds_by z v s choice l a l' takes_left_key k = record { reached = k.reached; kind = k.kind; range = λ x. absurd x }
-kinds_by z v s choice l a l' (keeps_left m n) k = record { reached = k.reached; kind = k.kind; range = λ x. absurd x }
-kinds_by z v s choice l a l' (takes_no_more e n) k = record { reached = k.reached; kind = k.kind; range = λ x. absurd x }
-kinds_by z v s choice l a l' (keeps_no_more n) k = record { reached = k.reached; kind = k.kind; range = λ x. absurd x }
+kinds_by z v s choice l a l' (finds_room y) k = record { kind = k.kind; range = λ x. absurd x }
+kinds_by z v s choice l a l' (finds_full y) k = record { kind = k.kind; range = λ x. absurd x }
+kinds_by z v s choice l a l' (takes_cell y) k = record { kind = k.kind; range = λ x. absurd x }
+kinds_by z v s choice l a l' (takes_full y) k = record { kind = k.kind; range = λ x. absurd x }
+kinds_by z v s choice l a l' stores_key k = record { kind = k.kind; range = λ x. absurd x }
+kinds_by z v s choice l a l' stores_value k = record { kind = k.kind; range = λ x. absurd x }
+kinds_by z v s choice l a l' (announces y) k = record { kind = k.kind; range = λ x. absurd x }
+kinds_by z v s choice l a l' (announces_full y) k = record { kind = k.kind; range = λ x. absurd x }
+kinds_by z v s choice l a l' loads_clock k = record { kind = k.kind; range = λ x. absurd x }
+kinds_by z v s choice l a l' (stamps y) k = record { kind = k.kind; range = λ x. absurd x }
+kinds_by z v s choice l a l' (is_stamped version y) k = record { kind = k.kind; range = λ x. absurd x }
+kinds_by z v s choice l a l' (stamps_full y) k = record { kind = k.kind; range = λ x. absurd x }
+kinds_by z v s choice l a l' stores_version k = record { kind = k.kind; range = λ x. absurd x }
+kinds_by z v s choice l a l' (meets_cell c y) k = record { kind = k.kind; range = λ x. absurd x }
+kinds_by z v s choice l a l' (meets_none y) k = record { kind = k.kind; range = λ x. absurd x }
+kinds_by z v s choice l a l' (key_before y) k = record { kind = k.kind; range = λ x. absurd x }
+kinds_by z v s choice l a l' (key_same y) k = record { kind = k.kind; range = λ x. absurd x }
+kinds_by z v s choice l a l' (key_after y) k = record { kind = k.kind; range = λ x. absurd x }
+kinds_by z v s choice l a l' (version_before y) k = record { kind = k.kind; range = λ x. absurd x }
+kinds_by z v s choice l a l' (version_after y) k = record { kind = k.kind; range = λ x. absurd x }
+kinds_by z v s choice l a l' stores_after k = record { kind = k.kind; range = λ x. absurd x }
+kinds_by z v s choice l a l' (inserts y) k = record { kind = k.kind; range = λ x. absurd x }
+kinds_by z v s choice l a l' (loses y) k = record { kind = k.kind; range = λ x. absurd x }
+kinds_by z v s choice l a l' clears k = record { kind = put_done l.call k.kind; range = λ x. absurd x }
+kinds_by z v s choice l a l' (leaves answer) k = record { kind = tt; range = λ x. absurd x }
+kinds_by z v s choice l a l' retries k = record { kind = k.kind; range = λ x. absurd x }
+kinds_by z v s choice l a l' enters_again k = record { kind = some_put l.call k.kind; range = λ x. absurd x }
+kinds_by z v s choice l a l' (clock_is_spent e) k = record { kind = put_spent l.call k.kind; range = λ x. absurd x }
+kinds_by z v s choice l a l' (clock_serves e) k = record { kind = k.kind; range = λ x. absurd x }
+kinds_by z v s choice l a l' (epoch_is_spent e) k = record { kind = put_spent l.call k.kind; range = λ x. absurd x }
+kinds_by z v s choice l a l' (epoch_serves e) k = record { kind = k.kind; range = λ x. absurd x }
+kinds_by z v s choice l a l' (finds_infant seat e) k = record { kind = k.kind; range = λ x. absurd x }
+kinds_by z v s choice l a l' (finds_normal e) k = record { kind = k.kind; range = λ x. absurd x }
+kinds_by z v s choice l a l' (finds_leader count e o) k = record { kind = (k.kind, o); range = λ x. absurd x }
+kinds_by z v s choice l a l' finds_other_state k = record { kind = k.kind; range = λ x. absurd x }
+kinds_by z v s choice l a l' (normalises seat) k = record { kind = k.kind; range = λ x. absurd x }
+kinds_by z v s choice l a l' (engages e) k = record { kind = (k.kind, omega arith); range = λ x. absurd x }
+kinds_by z v s choice l a l' (is_engaged e) k = record { kind = k.kind; range = λ x. absurd x }
+kinds_by z v s choice l a l' (marks_link count e) k = record { kind = (k.kind.0, refl); range = λ x. absurd x }
+kinds_by z v s choice l a l' (marks_led count e) k = record { kind = k.kind.0; range = λ x. absurd x }
+kinds_by z v s choice l a l' (decides count n e o) k = record { kind = k.kind.0; range = λ x. absurd x }
+kinds_by z v s choice l a l' (decides_not count) k = record { kind = k.kind.0; range = λ x. absurd x }
+kinds_by z v s choice l a l' freezes_count k = record { kind = k.kind; range = λ x. absurd x }
+kinds_by z v s choice l a l' (meets_idle j e) k = record { kind = k.kind; range = λ x. absurd x }
+kinds_by z v s choice l a l' (meets_unstamped j c e) k = record { kind = k.kind; range = λ x. absurd x }
+kinds_by z v s choice l a l' (remembers j c version e o) k = record { kind = k.kind; range = λ x. absurd x }
+kinds_by z v s choice l a l' (remembers_last j c version e o) k = record { kind = k.kind; range = λ x. absurd x }
+kinds_by z v s choice l a l' (meets_frozen j e o) k = record { kind = k.kind; range = λ x. absurd x }
+kinds_by z v s choice l a l' (meets_frozen_last j e o) k = record { kind = k.kind; range = λ x. absurd x }
+kinds_by z v s choice l a l' (freezes_entry j e o) k = record { kind = k.kind; range = λ x. absurd x }
+kinds_by z v s choice l a l' (freezes_last j e o) k = record { kind = k.kind; range = λ x. absurd x }
+kinds_by z v s choice l a l' (looks_again j e) k = record { kind = k.kind; range = λ x. absurd x }
+kinds_by z v s choice l a l' (meets_quiet j e o) k = record { kind = k.kind; range = λ x. absurd x }
+kinds_by z v s choice l a l' (meets_quiet_last j e o) k = record { kind = k.kind; range = λ x. absurd x }
+kinds_by z v s choice l a l' (helps_scan j clock e) k = record { kind = k.kind; range = λ x. absurd x }
+kinds_by z v s choice l a l' (meets_drawn j version e o) k = record { kind = k.kind; range = λ x. absurd x }
+kinds_by z v s choice l a l' (meets_drawn_last j version e o) k = record { kind = k.kind; range = λ x. absurd x }
+kinds_by z v s choice l a l' (draws_for j) k = record { kind = k.kind; range = λ x. absurd x }
+kinds_by z v s choice l a l' (settles_scan j e o) k = record { kind = k.kind; range = λ x. absurd x }
+kinds_by z v s choice l a l' (settles_last j e o) k = record { kind = k.kind; range = λ x. absurd x }
+kinds_by z v s choice l a l' (finds_drawn j version e o) k = record { kind = k.kind; range = λ x. absurd x }
+kinds_by z v s choice l a l' (finds_drawn_last j version e o) k = record { kind = k.kind; range = λ x. absurd x }
+kinds_by z v s choice l a l' (finds_no_scan j e o) k = record { kind = k.kind; range = λ x. absurd x }
+kinds_by z v s choice l a l' (finds_no_scan_last j e o) k = record { kind = k.kind; range = λ x. absurd x }
+kinds_by z v s choice l a l' (take_leads c e) k = record { kind = k.kind; range = λ x. absurd x }
+kinds_by z v s choice l a l' (takes_left m e n) k = record { kind = k.kind; range = λ x. absurd x }
+kinds_by z v s choice l a l' takes_key k = record { kind = k.kind; range = λ x. absurd x }
+kinds_by z v s choice l a l' takes_version k = record { kind = k.kind; range = λ x. absurd x }
+kinds_by z v s choice l a l' keeps_taken k = record { kind = k.kind; range = λ x. absurd x }
+kinds_by z v s choice l a l' takes_left_key k = record { kind = k.kind; range = λ x. absurd x }
+kinds_by z v s choice l a l' (keeps_left m n) k = record { kind = k.kind; range = λ x. absurd x }
+kinds_by z v s choice l a l' (takes_no_more e n) k = record { kind = k.kind; range = λ x. absurd x }
+kinds_by z v s choice l a l' (keeps_no_more n) k = record { kind = k.kind; range = λ x. absurd x }
 
 -- the acting seat goes on to an activity of its call
-pub kinds_own : (z : Sizes) (r r' : Run) (s : ℕ) (choice : Choice) (l : Local) (a : Activity) (l' : Local) → Arrow z (word z r.world) s choice l a l' → Happens z r r' s choice l l' a → Shape z r → Kinds z l'.activity l'
-kinds_own z r r' s choice l a l' b h i = kinds_by z (word z r.world) s choice l a l' b (subst (λ q. Kinds z q l) h.activity (i.kinds s l h.knows))
+pub kinds_own : (z : Sizes) (r r' : Run) (s : ℕ) (choice : Choice) (l : Local) (a : Activity) (l' : Local) → Arrow z (word z r.world) s choice l a l' → Happens z r r' s choice l l' a → Shape z r → Kinds l'.activity l'
+kinds_own z r r' s choice l a l' b h i = kinds_by z (word z r.world) s choice l a l' b (subst (λ q. Kinds q l) h.activity (i.kinds s l h.knows))
 
 -- a seat that goes on in its pass is where its call has it
 walks_in_pass : (z : Sizes) (r r' : Run) (s : ℕ) (choice : Choice) (l : Local) (a : Activity) (l' : Local) → Arrow z (word z r.world) s choice l a l' → Happens z r r' s choice l l' a → Shape z r → IsPassing a → (WritesPass a → ⊥) → Walks (word z r'.world) r'.ledger.rows s l'.activity l'
@@ -446,7 +439,7 @@ walks_in_pass z r r' s choice l a l' b h i x n =
 
 -- the acting seat is where its call has it: as it enters and leaves it is nowhere along the rows, and else it goes on in its pass
 pub walks_own : (z : Sizes) (r r' : Run) (s : ℕ) (choice : Choice) (l : Local) (a : Activity) (l' : Local) → Arrow z (word z r.world) s choice l a l' → Happens z r r' s choice l l' a → Shape z r → Walks (word z r'.world) r'.ledger.rows s l'.activity l'
-walks_own z r r' s choice l a l' (builds b next y o t) h i = walks_in_pass z r r' s choice l b l' (builds b next y o t) h i (built_passes b y).0 (built_pass b y)
+walks_own z r r' s choice l a l' (builds b next y t) h i = walks_in_pass z r r' s choice l b l' (builds b next y t) h i (built_passes b y).0 (built_pass b y)
 walks_own z r r' s choice l a l' (begins call e b) h i = walks_outside _ _ s Enter l' (λ x. x)
 walks_own z r r' s choice l a l' (enters e) h i = record { on = tt; lower = λ q. absurd q; at = λ q. absurd q; begins = λ q. refl; wants = λ q. absurd q }
 walks_own z r r' s choice l a l' (enters_scan e) h i = record { on = tt; lower = λ q. absurd q; at = λ q. absurd q; begins = λ q. absurd q; wants = λ q. absurd q }
@@ -482,24 +475,6 @@ module _ {z : Sizes} {r r' : Run} {s : ℕ} {choice : Choice} {l l' : Local} whe
       acts (inr c) = let p = place_of_row l.rebalance.taken q c in absurd (omega (arith, o, taken_below z r.world s l i.sane h.knows p.0 q p.1))
   beyond_stays a h i q o = fate_stays a h q (λ x. x)
 
--- a row is still in the list, or free, where no row is rebalanced
-still_keeps : (z : Sizes) (r r' : Run) (s : ℕ) (choice : Choice) (l : Local) (a : Activity) (l' : Local) → Happens z r r' s choice l l' a → Shape z r → (IsRebalancing z.form → ⊥) → (q : ℕ) → IsStill r'.ledger.rows q
-still_keeps z r r' s choice l a l' h i n q = which (i.still n q)
-  where
-    status : (r'.ledger.rows.fates q).status ≡ (r.ledger.rows.fates q).status
-    status = ap (λ (x : Fate). x.status) (same a h)
-      where
-        same : (c : Activity) → Happens z r r' s choice l l' c → r'.ledger.rows.fates q ≡ r.ledger.rows.fates q
-        same Reclaim k = absurd (n (reusing_rebalances z.form k.reached))
-        same TakeRow k = absurd (n k.reached)
-        same GiveBack k = absurd (n k.reached)
-        same Replace k = absurd (n k.reached)
-        same c k = fate_stays c k q (λ x. x)
-
-    which : IsStill r.ledger.rows q → IsStill r'.ledger.rows q
-    which (inl x) = inl (status ∙ x)
-    which (inr x) = inr (status ∙ x)
-
 pub shape_keeps : (z : Sizes) (r r' : Run) (s : ℕ) (choice : Choice) (l : Local) (a : Activity) (l' : Local) → Happens z r r' s choice l l' a → Shape z r → Shape z r'
 shape_keeps z r r' s choice l a l' h i = record {
   sane = sane;
@@ -508,11 +483,10 @@ shape_keeps z r r' s choice l a l' h i = record {
   clock = clock_keeps z r r' s choice l a l' h.arrow h i;
   rows = structure_keeps a h i;
   beyond = λ q o. ap (λ (x : Fate). x.status) (beyond_stays a h i q (omega (arith, o, h.rows))) ∙ i.beyond q (omega (arith, o, h.rows));
-  still = still_keeps z r r' s choice l a l' h i;
   keyed = keyed_keeps a h i sane;
   epoch = epoch_keeps z r r' s choice l a l' h.arrow h i;
   numbers = numbers_keep z r r' s choice l a l' h i;
-  kinds = each_seat h (λ t k. Kinds z k.activity k) (kinds_own z r r' s choice l a l' h.arrow h i) (λ t k d g. i.kinds t k g);
+  kinds = each_seat h (λ t k. Kinds k.activity k) (kinds_own z r r' s choice l a l' h.arrow h i) (λ t k d g. i.kinds t k g);
   passes = each_seat h (λ t k. Passes (word z r'.world) r'.ledger.rows t k.activity k) (passes_own z r r' s choice l a l' h.arrow h i) (passes_other z r r' s choice l a l' h i);
   outside = outside_stays a h i;
   walks = each_seat h (λ t k. Walks (word z r'.world) r'.ledger.rows t k.activity k) (walks_own z r r' s choice l a l' h.arrow h i) (walks_other z r r' s choice l a l' h i);

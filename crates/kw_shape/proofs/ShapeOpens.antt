@@ -53,7 +53,7 @@ use Rattle.kw_words.specs.Pend.{pend_of}
 use Rattle.kw_words.specs.Plain.{cell_of_link_word, key_of_word}
 use Rattle.kw_words.proofs.PendWords.{pend_of-Idle}
 use Rattle.kw_world.specs.ListTransitions.{link_name}
-use Rattle.kw_shape.specs.Shape.{IsStill, Kinds, Shape, Walks}
+use Rattle.kw_shape.specs.Shape.{Kinds, Shape, Walks}
 use Rattle.kw_shape.proofs.RelyRows.{walks_outside}
 
 no_adders : (n q : ℕ) → adders q (replicate n (resting 0)) ≡ 0
@@ -199,10 +199,6 @@ module _ (z : Sizes) (o : Opening) (i : IsOpening z o) where
     past = record { gone = λ q d. none_dead q d; begun = λ t since e. let x : None ≡ Some since = e in absurd (cc); drawn = λ m at e. let x : None ≡ Some at = e in absurd (cc) };
   }
 
-  still_starts : (q : ℕ) → IsStill (ledger_at_first o).rows q
-  still_starts zero = inl refl
-  still_starts (suc q) = inr refl
-
   beyond_starts : (q : ℕ) → o.rows ≤ q → (fate_at_first o q).status ≡ Free
   beyond_starts zero w = absurd (omega (arith, w, i.sized.some_rows))
   beyond_starts (suc q) w = refl
@@ -234,7 +230,6 @@ module _ (z : Sizes) (o : Opening) (i : IsOpening z o) where
     clock = omega (arith, opens name.Clock tt, no_drawers z.seats o.seats, i.clock);
     rows = structure_starts;
     beyond = beyond_starts;
-    still = λ n. still_starts;
     keyed = λ q k. keyed_starts q;
     epoch = omega (arith, opens name.Epoch tt, no_numberers o.seats, i.epoch);
     keys = each_rests z o (λ t l. Keys (word z (opened z o)) (ledger_at_first o).rows l.activity l) (λ t. record { own = λ x. absurd x; held = λ x. absurd x; marks = λ x. absurd x; met = λ x. absurd x; key = λ x. absurd x; gathered = λ x. absurd x });
@@ -244,7 +239,7 @@ module _ (z : Sizes) (o : Opening) (i : IsOpening z o) where
     search = each_rests z o (λ t l. Search (word z (opened z o)) (ledger_at_first o).rows t l.activity l) (λ t. unbuilt_search (word z (opened z o)) (ledger_at_first o).rows t Idle (resting 0) (λ x. x));
     won = each_rests z o (λ t l. Won (ledger_at_first o).rows t l.activity l) (λ t. unwon (ledger_at_first o).rows t Idle (resting 0) (λ x. x));
     numbers = record { below = λ m at e. let x : None ≡ Some at = e in absurd (cc); rises = λ m n x y e f. let u : None ≡ Some x = e in absurd (cc) };
-    kinds = each_rests z o (λ t l. Kinds z l.activity l) (λ t. record { reached = tt; kind = tt; range = λ x. absurd x });
+    kinds = each_rests z o (λ t l. Kinds l.activity l) (λ t. record { kind = tt; range = λ x. absurd x });
     passes = λ t l g. each_rests z o (λ t l. t < z.seats → Passes (word z (opened z o)) (ledger_at_first o).rows t l.activity l) passes_start t l g (omega (arith, slice_get_within (opened z o).locals t l g, (opened-sane z o i).seats));
     outside = λ t w. refl;
     sought = each_rests z o (λ t l. Sought z (word z (opened z o)) (ledger_at_first o).rows t l.activity l) (λ t. unsought z (word z (opened z o)) (ledger_at_first o).rows t Idle (resting 0) (λ x. x, λ x. x));

@@ -408,8 +408,8 @@ module _ {z : Sizes} {r r' : Run} {s : ℕ} {choice : Choice} {l l' : Local} whe
   sought_built : (a : Activity) (k : Local) → Building z (word z r.world) choice l a k → Happens z r r' s choice l l' a → Shape z r → Sought z (word z r'.world) r'.ledger.rows s k.activity k
   sought_built a k (first_is_free q c e) h i = finds_free SeekFirst q _ h i (λ x. x) e refl
   sought_built a k (sought_is_free e) h i = finds_free Seek l.rebalance.sought _ h i (λ x. x) e refl
-  sought_built a k (first_is_retired q m c e f) h i = finds_retired SeekFirst q m _ h i (λ x. x) (λ x. x) e refl refl
-  sought_built a k (sought_is_retired m e f) h i = finds_retired Seek l.rebalance.sought m _ h i (λ x. x) (λ x. x) e refl refl
+  sought_built a k (first_is_retired q m c e) h i = finds_retired SeekFirst q m _ h i (λ x. x) (λ x. x) e refl refl
+  sought_built a k (sought_is_retired m e) h i = finds_retired Seek l.rebalance.sought m _ h i (λ x. x) (λ x. x) e refl refl
   sought_built a k (pass_is_young j next y (looks_on o)) h i = looks_further j (SeekPass (j + 1)) h i y tt (λ x. x) (λ u w c. c)
   sought_built a k (pass_is_young j next y (has_looked o)) h i = looks_further j Reclaim h i y tt (λ x. x) (λ u w c. omega (arith, w, o))
   sought_built a k frees_row h i = has_freed h i _ refl

@@ -13,8 +13,8 @@ use Rattle.kw_world.specs.declared.event.Choice.TheVariants.{Begin, Go, Guess, S
 use Rattle.kw_world.specs.declared.local.Local.{Local}
 use Rattle.kw_world.specs.declared.rebalance.Afterwards.{Afterwards}
 use Rattle.kw_world.specs.Sane.{IsOffered, IsTakingRows, IsSane}
-use Rattle.kw_world.specs.SeekTransitions.{row_behind, pass_met, retired_at, seek_first_transition, seek_met, take_row, to_pass, to_seek, with_row}
-use Rattle.kw_world.specs.Sizes.{Sizes, Form, Refused, Alone, Reused}
+use Rattle.kw_world.specs.SeekTransitions.{row_behind, pass_met, seek_first_transition, seek_met, take_row, to_pass, to_seek, with_row}
+use Rattle.kw_world.specs.Sizes.{Sizes}
 use Rattle.kw_world.specs.Step.{word}
 use Rattle.kw_world.specs.Transition.{Outcome}
 use Rattle.kw_core.specs.Run.{Run}
@@ -78,8 +78,8 @@ module _ (rows : ℕ) (some : 0 < rows) where
   kept_sought z v choice l a k (first_is_taken q r next c d y) n i = absurd (n tt)
   kept_sought z v choice l a k (sought_is_free e) n i = absurd (n tt)
   kept_sought z v choice l a k (sought_is_taken r next d y) n i = absurd (n tt)
-  kept_sought z v choice l a k (first_is_retired q m c e f) n i = absurd (n tt)
-  kept_sought z v choice l a k (sought_is_retired m e f) n i = absurd (n tt)
+  kept_sought z v choice l a k (first_is_retired q m c e) n i = absurd (n tt)
+  kept_sought z v choice l a k (sought_is_retired m e) n i = absurd (n tt)
   kept_sought z v choice l a k (pass_is_old j epoch r next e o y) n i = absurd (n tt)
   kept_sought z v choice l a k (pass_is_young j next y o) n i = absurd (n tt)
   kept_sought z v choice l a k frees_row n i = absurd (n tt)
@@ -100,25 +100,20 @@ module _ (rows : ℕ) (some : 0 < rows) where
   kept_sought z v choice l a k _ n i = assumption i
 
   -- a search that meets a state
-  retired_sought : (f : Form) (m : ℕ) (l : Local) → IsSoughtIn rows l → IsSoughtIn rows (retired_at f rows m l).local
-  retired_sought Refused m l i = assumption i
-  retired_sought Alone m l i = seek_sought l _ (next_seek rows l) i
-  retired_sought Reused m l i = assumption i
+  met_sought : (x : Option State) (l : Local) → IsSoughtIn rows l → IsSoughtIn rows (seek_met rows x l).local
+  met_sought (Some Free) l i = assumption i
+  met_sought (Some (Infant seat)) l i = seek_sought l _ (next_seek rows l) i
+  met_sought (Some Normal) l i = seek_sought l _ (next_seek rows l) i
+  met_sought (Some (Leader count)) l i = seek_sought l _ (next_seek rows l) i
+  met_sought (Some (Follower leader)) l i = seek_sought l _ (next_seek rows l) i
+  met_sought (Some (Retired number)) l i = assumption i
+  met_sought None l i = seek_sought l _ (next_seek rows l) i
 
-  met_sought : (f : Form) (x : Option State) (l : Local) → IsSoughtIn rows l → IsSoughtIn rows (seek_met f rows x l).local
-  met_sought f (Some Free) l i = assumption i
-  met_sought f (Some (Infant seat)) l i = seek_sought l _ (next_seek rows l) i
-  met_sought f (Some Normal) l i = seek_sought l _ (next_seek rows l) i
-  met_sought f (Some (Leader count)) l i = seek_sought l _ (next_seek rows l) i
-  met_sought f (Some (Follower leader)) l i = seek_sought l _ (next_seek rows l) i
-  met_sought f (Some (Retired number)) l i = retired_sought f number l i
-  met_sought f None l i = seek_sought l _ (next_seek rows l) i
-
-  first_sought : (f : Form) (choice : Choice) (l : Local) (w : ℕ) → IsOffered rows choice → IsSoughtIn rows l → IsSoughtIn rows ((seek_first_transition f choice l).next rows w).local
-  first_sought f (Begin call) l w o i = met_sought f (state_of w) l i
-  first_sought f Go l w o i = met_sought f (state_of w) l i
-  first_sought f (Guess q) l w o i = met_sought f (state_of w) _ (record { sought = o; asked = i.asked })
-  first_sought f Stop l w o i = met_sought f (state_of w) l i
+  first_sought : (choice : Choice) (l : Local) (w : ℕ) → IsOffered rows choice → IsSoughtIn rows l → IsSoughtIn rows ((seek_first_transition choice l).next rows w).local
+  first_sought (Begin call) l w o i = met_sought (state_of w) l i
+  first_sought Go l w o i = met_sought (state_of w) l i
+  first_sought (Guess q) l w o i = met_sought (state_of w) _ (record { sought = o; asked = i.asked })
+  first_sought Stop l w o i = met_sought (state_of w) l i
 
   -- one that meets a pass
   passed_sought : (z : Sizes) (j : ℕ) (x : Option ℕ) (l : Local) → IsSoughtIn rows l → IsSoughtIn rows (pass_met z j rows x l).local
@@ -145,8 +140,8 @@ sought_in {z} {r} {r'} {s} {choice} {l} {l'} a b h sane = by a h b
     now = let k = (sane.locals s l h.knows).below.rebalance in record { sought = k.sought; asked = k.asked }
 
     by : (a : Activity) → Happens z r r' s choice l l' a → IsBuilding a → IsSoughtIn r.world.rows l'
-    by SeekFirst h b = subst (IsSoughtIn r.world.rows) (sym h.next) (first_sought r.world.rows some z.form choice l _ h.offers now)
-    by Seek h b = subst (IsSoughtIn r.world.rows) (sym h.next) (met_sought r.world.rows some z.form (state_of (word z r.world (name.State l.rebalance.sought))) l now)
+    by SeekFirst h b = subst (IsSoughtIn r.world.rows) (sym h.next) (first_sought r.world.rows some choice l _ h.offers now)
+    by Seek h b = subst (IsSoughtIn r.world.rows) (sym h.next) (met_sought r.world.rows some (state_of (word z r.world (name.State l.rebalance.sought))) l now)
     by (SeekPass i) h b = subst (IsSoughtIn r.world.rows) (sym h.next) (passed_sought r.world.rows some z i (pass_of_word (word z r.world (name.Pass i))) l now)
     by Reclaim h b = subst (IsSoughtIn r.world.rows) (sym h.next) (assumption now)
     by TakeRow h b = subst (IsSoughtIn r.world.rows) (sym h.next) (take_sought r.world.rows some (word z r.world (name.State l.rebalance.sought) == state_word Free) l now)

@@ -159,7 +159,7 @@ module _ (v : Words) (g : Ledger) (t : ℕ) {now : ℕ} (rows : Structure (rows_
 
 -- by the arrow that the seat takes
 pub walks_by : (z : Sizes) (v : Words) (g : Ledger) {now : ℕ} (s : ℕ) (choice : Choice) (l : Local) (a : Activity) (l' : Local) → Arrow z v s choice l a l' → Structure (rows_in v) g now → Walks v g s a l → Walks v g s l'.activity l'
-walks_by z v g s choice l a l' (builds b next y o t) c w = after_walks v g s next.activity next (built_next z v choice l b next t)
+walks_by z v g s choice l a l' (builds b next y t) c w = after_walks v g s next.activity next (built_next z v choice l b next t)
 walks_by z v g s choice l a l' (enters y) c w = record { on = tt; lower = λ q. absurd q; at = λ q. absurd q; begins = λ q. refl; wants = λ q. absurd q }
 walks_by z v g s choice l a l' (settles y) c w = record { on = tt; lower = λ q. absurd q; at = λ q. absurd q; begins = λ q. refl; wants = λ q. absurd q }
 walks_by z v g s choice l a l' starts_at_head c w = at_first v g s c _ refl refl (w.begins tt)

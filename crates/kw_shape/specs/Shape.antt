@@ -12,16 +12,16 @@ use Rattle.kw_world.specs.declared.answer.Answer.TheVariants.{Done, Value, Absen
 use Rattle.kw_world.specs.declared.activity.Activity.{Activity}
 use Rattle.kw_world.specs.declared.activity.Activity.TheVariants.{Idle, ScanClock, ScanWait, ScanDraw, ScanSettle, GuessMin, Walk, WalkMin, Look, LookKey, LookClock, LookHelp, ListFrom, ListKey, ListVer, ListVal, RestKey, RestVal, ClearScan, PutCount, PutAdd, PutKey, PutValue, Announce, PutClock, Stamp, PutVersion, InsFrom, InsKey, InsVer, InsSet, Insert, PutClear, Leave, AgainEpoch, MarkLink, Decide}
 use Rattle.kw_world.specs.declared.local.Local.{Local}
-use Rattle.kw_world.specs.Sizes.{Sizes, IsRebalancing}
+use Rattle.kw_world.specs.Sizes.{Sizes}
 use Rattle.kw_world.specs.Calls.{first_key, last_key, is_scan}
 use Rattle.kw_world.specs.Sane.{IsSane}
 use Rattle.kw_world.specs.Step.{word}
 pub use Rattle.kw_core.specs.Words.{Words, next_in, least_in, given_in}
 use Rattle.kw_core.specs.declared.stage.Stage.{Stage}
 use Rattle.kw_core.specs.declared.stage.Stage.TheVariants.{Rebalancing, Retrying}
-use Rattle.kw_core.specs.Stages.{stage_of, IsStarting, IsCovering, IsAtRow, IsPastStart, IsReached}
+use Rattle.kw_core.specs.Stages.{stage_of, IsStarting, IsCovering, IsAtRow, IsPastStart}
 use Rattle.kw_core.specs.Run.{Run}
-use Rattle.kw_rows.specs.Ledger.{Ledger, Free, IsLive, IsFresh}
+use Rattle.kw_rows.specs.Ledger.{Ledger, Free, IsFresh}
 use Rattle.kw_rows.specs.RowState.{IsEngaged}
 use Rattle.kw_rows.specs.Rows as rows
 use Rattle.kw_rows.specs.Rows.{WasLinked}
@@ -39,10 +39,6 @@ use Rattle.kw_shape.specs.Sought.{Sought}
 use Rattle.kw_shape.specs.Won.{HasWon, Won}
 
 -- The rows.
-
--- what stands in place of rows that come and go, where no row is rebalanced: the row is in the list, or free
-abbrev pub IsStill : Ledger → ℕ → Type 0
-IsStill g q = IsLive g q ⊎ ((g.fates q).status ≡ Free)
 
 -- the key is one that the row may hold: not below its minimum, and below the end of its range
 abbrev pub HoldsKey : Words → Ledger → ℕ → ℕ → Type 0
@@ -169,9 +165,8 @@ IsKind (MarkLink count) l = IsPutCall l.call × (count ≤ 1)
 IsKind (Decide count) l = IsPutCall l.call × (count ≡ 1)
 IsKind a l = IsKindAt (stage_of a) l.call
 
--- the activity is one to which a seat may come, and fits the call, and a scan that walks or reads has a key
-pub record Kinds (z : Sizes) (a : Activity) (l : Local) : Type 0 where
-  pub reached : IsReached z a
+-- the activity fits the call, and a scan that walks or reads has a key
+pub record Kinds (a : Activity) (l : Local) : Type 0 where
   pub kind : IsKind a l
   pub range : IsCovering a → first_key l.call ≤ last_key l.call
 
@@ -190,14 +185,12 @@ pub record Shape (z : Sizes) (r : Run) : Type 0 where
   pub rows : Structure (rows_in (word z r.world)) r.ledger.rows (length r.history.log)
   -- a row that the table does not have is free
   pub beyond : (q : ℕ) → r.world.rows ≤ q → (r.ledger.rows.fates q).status ≡ Free
-  -- where no row is rebalanced, none comes or goes
-  pub still : (IsRebalancing z.form → ⊥) → (q : ℕ) → IsStill r.ledger.rows q
   -- the keys that stand in a row are such as it may hold
   pub keyed : (q : ℕ) → WasLinked r.ledger.rows q → Keyed z (word z r.world) r.ledger.rows q
   -- the epoch has room for the numbers that are drawn
   pub epoch : word z r.world name.Epoch + numberers r.world.locals ≤ SPENT + z.seats
   pub numbers : Numbers (word z r.world) r.ledger.rows
-  pub kinds : (t : ℕ) (l : Local) → slice_get r.world.locals t ≡ Some l → Kinds z l.activity l
+  pub kinds : (t : ℕ) (l : Local) → slice_get r.world.locals t ≡ Some l → Kinds l.activity l
   pub passes : (t : ℕ) (l : Local) → slice_get r.world.locals t ≡ Some l → Passes (word z r.world) r.ledger.rows t l.activity l
   -- a seat that the table does not have is in no pass
   pub outside : (t : ℕ) → length r.world.locals ≤ t → r.ledger.rows.passes t ≡ None

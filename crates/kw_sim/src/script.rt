@@ -153,12 +153,12 @@ mod tests {
     }
 
     #[test]
-    fn a_scan_is_stopped_and_a_full_row_refuses(rt: HostRuntime) -> Result<(), Fail> {
-        let script = b"puts 1 64 5 9\ngo 1 100000\ncall 1 put 6 9\ngo 1 100\n\
+    fn a_scan_is_stopped_and_a_full_row_is_replaced(rt: HostRuntime) -> Result<(), Fail> {
+        let script = b"puts 1 64 5 9\ngo 1 100000\ncall 1 put 6 9\ngo 1 1000\n\
             call 2 scan 4 5\nuntil 2 load_link\nguess 2 0\nuntil 2 load_value\ngo 2 1000\n\
             call 2 scan 4 3\nuntil 2 settle\nstop 2\ngo 2 1\n";
         let output = run_script(rt.alloc(), 64, script)?;
-        let want = b"\n1.64 put 5 9: ok\n1.65 put 6 9: no rows\n2.1 scan 4 5: 5=9\n\
+        let want = b"\n1.64 put 5 9: ok\n1.65 put 6 9: ok\n2.1 scan 4 5: 5=9\n\
             2.2 scan 4 3: stopped\norder 1.1 1.2 1.3";
         assert!(rt;
             output

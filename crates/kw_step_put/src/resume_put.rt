@@ -5,22 +5,23 @@ ghost use Rattle.kw_words.specs.Pend.{pend_of, pend_word};
 ghost use Rattle.kw_world.specs.Sizes.{product};
 ghost use Rattle.kw_world.specs.Local.{resting};
 ghost use Rattle.kw_world.specs.Transition.{outcome, to};
-ghost use Rattle.kw_world.specs.PutTransitions.{full, has_room, given_of, stamp_met};
+ghost use Rattle.kw_world.specs.EngageTransitions.{to_rebalance};
+ghost use Rattle.kw_world.specs.PutTransitions.{has_room, given_of, stamp_met};
 
-use crate::resume::{leave, to};
+use crate::resume::to;
 use kw_words::count::Count;
 use kw_words::pend::Pend;
 use kw_words::sizes::CELL_COUNT;
 use kw_world::activity::Activity;
-use kw_world::answer::Answer;
 use kw_world::event::StepDone;
 use kw_world::local::Local;
 
-// The row is full: in the form of the product the call is refused.
-fn refuse(local: &mut Local) -> StepDone
-    ensures { outcome local.new result ≡ full product local.old }
+// The row is full: it is rebalanced, and nothing is known of an earlier rebalance.
+fn full(local: &mut Local) -> StepDone
+    ensures { outcome local.new result ≡ to_rebalance local.old }
 {
-    leave(local, Answer::NoRows)
+    local.rebalance.forget();
+    to(local, Activity::BalClock)
 }
 
 /// The cell that a row with this count gives, if it gives one more. What is recorded of a put's attempt asks it too.
@@ -37,11 +38,11 @@ pub fn room(found: u64) -> Option<u32>
 /// The seat was told the count of its row.
 pub fn count(local: &mut Local, found: u64) -> StepDone
     ensures { outcome local.new result ≡ (if has_room product (count_of found)
-        then to Activity.PutAdd local.old else full product local.old) }
+        then to Activity.PutAdd local.old else to_rebalance local.old) }
 {
     match room(found) {
         Some(_) => to(local, Activity::PutAdd),
-        None => refuse(local),
+        None => full(local),
     }
 }
 
@@ -49,32 +50,32 @@ pub fn count(local: &mut Local, found: u64) -> StepDone
 pub fn add(local: &mut Local, found: u64) -> StepDone
     ensures { outcome local.new result ≡ (if has_room product (count_of found)
         then to Activity.PutKey (record local.old { cell = given_of (count_of found) })
-        else full product local.old) }
+        else to_rebalance local.old) }
 {
     match room(found) {
         Some(cell) => {
             local.cell = cell;
             to(local, Activity::PutKey)
         }
-        None => refuse(local),
+        None => full(local),
     }
 }
 
 /// The seat has tried to announce its cell, and was told the entry found.
 pub fn announce(local: &mut Local, found: u64) -> StepDone
     ensures { outcome local.new result ≡ (if found == pend_word Pend.Idle then to Activity.PutClock
-        local.old else full product local.old) }
+        local.old else to_rebalance local.old) }
 {
     if found == Pend::Idle.pack() {
         to(local, Activity::PutClock)
     } else {
-        refuse(local)
+        full(local)
     }
 }
 
 /// The seat has tried to stamp its cell, and was told the entry found.
 pub fn stamp(local: &mut Local, found: u64) -> StepDone
-    ensures { outcome local.new result ≡ stamp_met product (pend_of found) local.old }
+    ensures { outcome local.new result ≡ stamp_met (pend_of found) local.old }
 {
     match Pend::unpack(found) {
         Some(Pend::Pending(cell)) if cell == local.cell => to(local, Activity::PutVersion),
@@ -82,6 +83,6 @@ pub fn stamp(local: &mut Local, found: u64) -> StepDone
             local.version = version;
             to(local, Activity::PutVersion)
         }
-        _ => refuse(local),
+        _ => full(local),
     }
 }

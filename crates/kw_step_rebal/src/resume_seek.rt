@@ -92,7 +92,7 @@ fn to_seek(local: &mut Local, rows: u32) -> StepDone
 
 // The seat was told the state of the row that it asks.
 pub(crate) fn seek(local: &mut Local, rows: u32, found: u64) -> StepDone
-    ensures { outcome local.new result ≡ seek_met product.form rows (state_of found)
+    ensures { outcome local.new result ≡ seek_met rows (state_of found)
         (seeking local.old.rebalance.sought local.old) }
 {
     match State::unpack(found) {
@@ -108,7 +108,7 @@ pub(crate) fn seek(local: &mut Local, rows: u32, found: u64) -> StepDone
 // The seat was told the state of the first row that it asks.
 pub(crate) fn seek_first(local: &mut Local, rows: u32, choice: Choice, found: u64) -> StepDone
     ensures { outcome local.new result ≡
-        (seek_first_transition product.form choice local.old).next rows found }
+        (seek_first_transition choice local.old).next rows found }
 {
     if let Choice::Guess(row) = choice {
         local.rebalance.sought = row;

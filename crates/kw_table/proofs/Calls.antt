@@ -1,7 +1,7 @@
 -- What the calls of the table's steps ask and give, at a pass.
-use Rattle.std.proofs.Common.{◌≡◌, ℕ, ◌<◌, true, ap, sym, ◌∙◌, subst, arith}
+use Rattle.std.proofs.Common.{◌≡◌, ℕ, ◌+◌, ◌-◌, ◌^◌, ◌<◌, min, true, ap, sym, ◌∙◌, subst, arith}
 use Rattle.atomic_table.specs.Table.{Allows}
-use Rattle.kw_words.specs.Layout.{IsWithin, place_of}
+use Rattle.kw_words.specs.Layout.{IsWithin}
 use Rattle.kw_world.specs.declared.event.Choice.{Choice}
 use Rattle.kw_world.specs.declared.opening.Opening.{Opening}
 use Rattle.kw_world.specs.declared.operation.Action.{Action}
@@ -21,8 +21,11 @@ use Rattle.kw_table.specs.declared.shared.Shared.{Shared}
 use Rattle.kw_table.specs.Known.{IsKnown}
 use Rattle.kw_table.specs.Passes.{view, Asks, Makes}
 use Rattle.kw_table.specs.Rules.{Rule}
+use Rattle.kw_table.specs.Slots.{slot}
 use Rattle.kw_table.specs.Views.{local_in, transition_in, Steps, Mine, StepsFor}
-use Rattle.kw_table.proofs.Stepping.{IsReady, place_in}
+use Rattle.kw_table.specs.Walks.{walks_by, walks_in}
+use Rattle.kw_table.proofs.Stepping.{IsReady, slot_in}
+use Rattle.kw_table.proofs.Walks.{walks_on, counted_next}
 
 -- the word of the next event is one of the table's
 pub named_within : (s : Shared) (p : Pass) (c : Choice) (does : Operation) → Asks s p c does → IsWithin product.seats product.cells s.opening.rows does.name
@@ -43,13 +46,13 @@ is_ready s p c does asks = record { one = p.known.count; opens = p.known.opens; 
 
 -- the law of a step, as a call asks it
 pub asked : (slots id : ℕ) (m : Mine) (c picked : Choice) (does : Operation) (i : ℕ) (key : Opening) (f h : ℕ → ℕ) → picked ≡ c → (transition_in m.0 c).operation ≡ does
-    → i ≡ place_of product.seats product.cells does.name → m.0.opening ≡ key
-    → Allows (Rule m.0.opening) slots id m (place_in m.0 c) f (λ n. StepsFor c m (h n)) → Allows (Rule key) slots id m i f (λ n. StepsFor picked m (h n))
+    → i ≡ slot does.name → m.0.opening ≡ key
+    → Allows (Rule m.0.opening) slots id m (slot_in m.0 c) f (λ n. StepsFor c m (h n)) → Allows (Rule key) slots id m i f (λ n. StepsFor picked m (h n))
 asked slots id m c picked does i key f h p is q r law =
-    let at : place_in m.0 c ≡ i = ap (λ (d : Operation). place_of product.seats product.cells d.name) is ∙ sym q in
+    let at : slot_in m.0 c ≡ i = ap (λ (d : Operation). slot d.name) is ∙ sym q in
     subst (λ (d : Choice). Allows (Rule key) slots id m i f (λ n. StepsFor d m (h n))) (sym p)
     (subst (λ j. Allows (Rule key) slots id m j f (λ n. StepsFor c m (h n))) at
-    (subst (λ (o : Opening). Allows (Rule o) slots id m (place_in m.0 c) f (λ n. StepsFor c m (h n))) r law))
+    (subst (λ (o : Opening). Allows (Rule o) slots id m (slot_in m.0 c) f (λ n. StepsFor c m (h n))) r law))
 
 -- the action of the next event
 pub action_is : (s : Shared) (p : Pass) (c : Choice) (does : Operation) (a : Action) → Asks s p c does → does.action ≡ a → (transition_in (view p) c).operation.action ≡ a
@@ -79,3 +82,11 @@ pub makes_on : (s : Shared) (p q : Pass) (c picked : Choice) (does : Operation) 
 makes_on s p q c picked does a x y same is tells asks at made =
     let steps = step_on p.seat.me q.seat.me c picked a x y same (action_is s p c does a asks is) tells made in
     record { of_table = (at, steps.opening ∙ asks.of_table.1); step = steps }
+
+-- the links of rows that the pass has loaded are counted on
+pub counted_on : (s : Shared) (p : Pass) (next : ℕ) (after : Mine) (c picked : Choice) (does : Operation) (a : Action) (x y : ℕ) → picked ≡ c → does.action ≡ a → told_by a x ≡ y
+    → Asks s p c does → StepsFor picked p.seat.me x after → next ≡ min (2 ^ 64 - 1) (p.walked + walks_by does.kind) → next ≡ min (2 ^ 64 - 1) (walks_in after.0)
+counted_on s p next after c picked does a x y same is tells asks made counts =
+    let steps = step_on p.seat.me after c picked a x y same (action_is s p c does a asks is) tells made in
+    let grows = walks_on (view p) after.0 c y steps ∙ ap (λ (d : Operation). walks_in (view p) + walks_by d.kind) asks.next in
+    counted_next p.walked next (walks_in (view p)) (walks_in after.0) (walks_by does.kind) p.counted counts grows

@@ -12,6 +12,7 @@ use Rattle.kw_core.specs.Events.{local_of, of_seat}
 use Rattle.kw_core.proofs.Events.{valid-nil, world-nil}
 use Rattle.kw_table.specs.Known.{IsKnown}
 use Rattle.kw_table.specs.Views.{Mine, local_in, mine_in, rest_view}
+use Rattle.kw_table.specs.Walks.{walks_from, walks_in}
 
 module _ (n : ℕ) (o : Opening) (m rest : Mine) (is : rest ≡ (rest_view o n, [])) (cut : m ≡ (record rest.0 { count = 1 }, [])) where
   all : m ≡ (record (rest_view o n) { count = 1 }, [])
@@ -25,6 +26,11 @@ module _ (n : ℕ) (o : Opening) (m rest : Mine) (is : rest ≡ (rest_view o n, 
   pub fresh_mine : mine_in m.0 ≡ []
   unfolding of_seat
   fresh_mine = ap (λ (k : Mine). mine_in k.0) all
+
+  -- it has loaded no link
+  pub fresh_walks : walks_in m.0 ≡ 0
+  unfolding walks_from
+  fresh_walks = ap (λ (k : Mine). walks_in k.0) all
 
   -- its seat is idle
   pub fresh_local : n < o.seats → local_in m.0 ≡ resting 0

@@ -33,6 +33,8 @@ use Rattle.kw_laws.proofs.Worlds.{world-rows, world-seats, world-local, world_sa
 use Rattle.kw_table.specs.declared.pass.View.{View}
 use Rattle.kw_table.specs.Views.{local_in, mine_in, transition_in, Steps, Mine, StepsFor}
 use Rattle.kw_table.specs.Rules.{Owns, Fits, Rule}
+use Rattle.kw_table.specs.Slots.{laid, rowless, slot}
+use Rattle.kw_table.proofs.Slots.{index-laid, set-laid}
 use Rattle.kw_table.proofs.Prefixes.{prefix_self, prefix_longer}
 
 -- the events that a view of the seat has not seen are of other seats
@@ -110,22 +112,25 @@ comes m c es ready valid fits =
       leads = world-snoc product o es e ∙ (ap (λ (x : Stepped). x.world) (step-moved product w e (local_in v) knows ready.moves) ∙ ap (after product w n) line);
     }
 
--- the place of the word of the next event
-abbrev pub place_in : View → Choice → ℕ
-place_in v c = place_of product.seats product.cells (transition_in v c).operation.name
+-- where the word of the next event lies
+abbrev pub slot_in : View → Choice → ℕ
+slot_in v c = slot (transition_in v c).operation.name
 
--- the word of a name is the one at its place
-word_at : (w : WorldView) (name : Name) → word product w name ≡ slice_index w.words (place_of product.seats product.cells name)
+-- the word of a name is the one at its slot
+word_at : (w : WorldView) (name : Name) → word product w name ≡ slice_index (laid rowless w.words) (slot name)
 unfolding word
-word_at w name = refl
+word_at w name = sym (index-laid rowless (place_of product.seats product.cells name) w.words)
 
 -- the words after the event are those of the table after its operation
-words_after : (v : View) (c : Choice) (es : List Event) (ws : List ℕ) (y : ℕ) → Comes v c es → ws ≡ (world product v.opening es).words
+words_after : (v : View) (c : Choice) (es : List Event) (ws : List ℕ) (y : ℕ) → Comes v c es → ws ≡ laid rowless (world product v.opening es).words
     → y ≡ word_after (transition_in v c).operation.action (word product (world product v.opening es) (transition_in v c).operation.name)
-    → set ws (place_in v c) y ≡ (world product v.opening (es ++ event v.number c ∷ [])).words
+    → set ws (slot_in v c) y ≡ laid rowless (world product v.opening (es ++ event v.number c ∷ [])).words
 words_after v c es ws y comes same is =
-    ap (λ (l : List ℕ). set l (place_in v c) y) same
-    ∙ (ap (λ k. set (world product v.opening es).words (place_in v c) k) is ∙ sym (ap (λ (q : WorldView). q.words) comes.leads))
+    let name : Name = (transition_in v c).operation.name in
+    let place : ℕ = place_of product.seats product.cells name in
+    ap (λ (l : List ℕ). set l (slot name) y) same
+    ∙ (set-laid rowless place y (world product v.opening es).words
+    ∙ ap (laid rowless) (ap (set (world product v.opening es).words place) is ∙ sym (ap (λ (q : WorldView). q.words) comes.leads)))
 
 -- what the seat knows after the event follows from what it is told
 local_after : (v : View) (c : Choice) (es : List Event) (told : ℕ) → Comes v c es
@@ -141,7 +146,7 @@ local_after v c es told comes is =
 pub steps : (slots id : ℕ) (m : Mine) (c : Choice) (f g : ℕ → ℕ) → IsReady m c
     → ((n : ℕ) → CanHappen (transition_in m.0 c).operation.action n → f n ≡ word_after (transition_in m.0 c).operation.action n)
     → ((n : ℕ) → told_by (transition_in m.0 c).operation.action (g n) ≡ told_by (transition_in m.0 c).operation.action n)
-    → Allows (Rule m.0.opening) slots id m (place_in m.0 c) f (λ n. StepsFor c m (g n))
+    → Allows (Rule m.0.opening) slots id m (slot_in m.0 c) f (λ n. StepsFor c m (g n))
 steps slots id m c f g ready leaves tells s holds _ at small =
     let v : View = m.0 in
     let o : Opening = v.opening in
@@ -155,8 +160,8 @@ steps slots id m c f g ready leaves tells s holds _ at small =
     let found : ℕ = word product (world product o es) (transition_in v c).operation.name in
     let all : List Event = es ++ event n c ∷ [] in
     let w : View = after_event v es c in
-    let x : ℕ = slice_index s.words (place_in v c) in
-    let same : x ≡ found = ap (λ (l : List ℕ). slice_index l (place_in v c)) kept.words ∙ sym (word_at (world product o es) (transition_in v c).operation.name) in
+    let x : ℕ = slice_index s.words (slot_in v c) in
+    let same : x ≡ found = ap (λ (l : List ℕ). slice_index l (slot_in v c)) kept.words ∙ sym (word_at (world product o es) (transition_in v c).operation.name) in
     let leaves_it : f x ≡ word_after a found = ap f same ∙ leaves found it.can in
     let told : told_by a (g x) ≡ told_by a found = tells x ∙ ap (told_by a) same in
     let telling : Steps v c (told_by a (g x)) w = record {
@@ -193,23 +198,23 @@ steps slots id m c f g ready leaves tells s holds _ at small =
 
 -- the five laws, one for each action
 module _ (slots id : ℕ) (m : Mine) (c : Choice) (ready : IsReady m c) where
-  pub steps_by_load : (transition_in m.0 c).operation.action ≡ Load → Allows (Rule m.0.opening) slots id m (place_in m.0 c) (λ n. n) (StepsFor c m)
+  pub steps_by_load : (transition_in m.0 c).operation.action ≡ Load → Allows (Rule m.0.opening) slots id m (slot_in m.0 c) (λ n. n) (StepsFor c m)
   steps_by_load is = steps slots id m c (λ n. n) (λ n. n) ready (λ n _. ap (λ a. word_after a n) (sym is)) (λ n. refl)
 
-  pub steps_by_store : (stored : ℕ) → (transition_in m.0 c).operation.action ≡ Store stored → Allows (Rule m.0.opening) slots id m (place_in m.0 c) (λ _. stored) (λ _. StepsFor c m stored)
+  pub steps_by_store : (stored : ℕ) → (transition_in m.0 c).operation.action ≡ Store stored → Allows (Rule m.0.opening) slots id m (slot_in m.0 c) (λ _. stored) (λ _. StepsFor c m stored)
   steps_by_store stored is = steps slots id m c (λ _. stored) (λ _. stored) ready (λ n _. ap (λ a. word_after a n) (sym is)) (λ n. ap (λ a. told_by a stored) is ∙ ap (λ a. told_by a n) (sym is))
 
-  pub steps_by_add : (number : ℕ) → (transition_in m.0 c).operation.action ≡ Add number → Allows (Rule m.0.opening) slots id m (place_in m.0 c) (λ n. (n + number) % 2 ^ 64) (StepsFor c m)
+  pub steps_by_add : (number : ℕ) → (transition_in m.0 c).operation.action ≡ Add number → Allows (Rule m.0.opening) slots id m (slot_in m.0 c) (λ n. (n + number) % 2 ^ 64) (StepsFor c m)
   steps_by_add number is = steps slots id m c (λ n. (n + number) % 2 ^ 64) (λ n. n) ready (λ n can. fits n (subst (λ a. CanHappen a n) is can) ∙ ap (λ a. word_after a n) (sym is)) (λ n. refl)
     where
       fits : (n : ℕ) → n + number < 2 ^ 64 → (n + number) % 2 ^ 64 ≡ n + number
       fits n small = omega (arith, small)
 
-  pub steps_by_or : (bits : ℕ) → (transition_in m.0 c).operation.action ≡ Or bits → Allows (Rule m.0.opening) slots id m (place_in m.0 c) (λ n. bit_or n bits) (StepsFor c m)
+  pub steps_by_or : (bits : ℕ) → (transition_in m.0 c).operation.action ≡ Or bits → Allows (Rule m.0.opening) slots id m (slot_in m.0 c) (λ n. bit_or n bits) (StepsFor c m)
   steps_by_or bits is = steps slots id m c (λ n. bit_or n bits) (λ n. n) ready (λ n _. ap (λ a. word_after a n) (sym is)) (λ n. refl)
 
   pub steps_by_exchange : (expected stored : ℕ) → (transition_in m.0 c).operation.action ≡ Exchange expected stored
-      → Allows (Rule m.0.opening) slots id m (place_in m.0 c) (λ n. either (n == expected) stored n) (StepsFor c m)
+      → Allows (Rule m.0.opening) slots id m (slot_in m.0 c) (λ n. either (n == expected) stored n) (StepsFor c m)
   steps_by_exchange expected stored is = steps slots id m c (λ n. either (n == expected) stored n) (λ n. n) ready (λ n _. exchanged n ∙ ap (λ a. word_after a n) (sym is)) (λ n. refl)
     where
       exchanged : (n : ℕ) → either (n == expected) stored n ≡ word_after (Exchange expected stored) n

@@ -1,4 +1,4 @@
--- The rule: there is one valid list of events, which every view's list begins, and it leads to the table's words.
+-- The rule: there is one valid list of events, which every view's list begins, and it leads to the table's words, each at its slot.
 use Rattle.std.specs.Prelude.{◌≡◌, ℕ, ◌+◌, ◌<◌, ◌≤◌, true, List}
 use mathlib.Core.Option.{some}
 use mathlib.Core.List.{IsPrefix}
@@ -9,6 +9,7 @@ use Rattle.kw_world.specs.declared.opening.Opening.{Opening}
 use Rattle.kw_world.specs.Sizes.{product}
 use Rattle.kw_core.specs.Events.{world, is_valid, of_seat}
 use Rattle.kw_table.specs.declared.pass.View.{View}
+use Rattle.kw_table.specs.Slots.{laid, rowless}
 
 -- the seats of the run that a view may act for
 abbrev pub Owns : View → ℕ → Type 0
@@ -21,10 +22,10 @@ pub record Fits (o : Opening) (es : List Event) (v : View) : Type 0 where
   pub seats : (n : ℕ) → Owns v n → n < o.seats
   pub own : (n : ℕ) → Owns v n → of_seat n es ≡ of_seat n v.seen
 
--- the list is valid, the words are those of the world after it, each view fits it, and no two views act for one seat
+-- the list is valid, the words are those of the world after it as they lie in memory, each view fits it, and no two views act for one seat
 pub record Kept (o : Opening) (ws : List ℕ) (views : List View) (es : List Event) : Type 0 where
   pub valid : is_valid product o es ≡ true
-  pub words : ws ≡ (world product o es).words
+  pub words : ws ≡ laid rowless (world product o es).words
   pub fits : (i : ℕ) (v : View) → get_elem? views i ≡ some v → Fits o es v
   pub apart : (i j n : ℕ) (v w : View) → get_elem? views i ≡ some v → get_elem? views j ≡ some w → Owns v n → Owns w n → i ≡ j
 

@@ -31,6 +31,8 @@ macro_rules! step {
     };
 }
 
+pub(crate) use step;
+
 // A call begins and ends.
 
 /// Loads the epoch, to announce it.

@@ -5,26 +5,34 @@
 //! number, the events that it has seen, its own ones among them, what its seat knows after them, and the opening of the run. All of it
 //! but the number is for the proofs alone and takes no time and no room.
 //!
-//! `opening` makes a table and its passes, `kinds` has one step for each kind of event and `steps` the one that takes any, and
-//! `meeting` lets passes see what others have seen. `pass` and `shared` hold the two types, and `rule` the rule and what a step tells
-//! its caller; `lending` hands out the local that a pass has with it. Each step is one atomic operation on one word. Whoever stands above needs the contracts of these calls alone, and goes
-//! on by the laws over valid lists of events.
+//! `opening` makes a table and its passes, `kinds` and `rebalance_kinds` have one step for each kind of event and `steps` the one that
+//! takes any, and `meeting` lets passes see what others have seen. `pass` and `shared` hold the two types, and `rule` the rule and what a
+//! step tells its caller; `lending` hands out the local that a pass has with it, and its `hints`. Each step is one atomic operation on one
+//! word. Whoever stands above needs the contracts of these calls alone, and goes on by the laws over valid lists of events.
 #![tactic(auto)]
 
+mod hints;
 mod kinds;
 mod lending;
 mod meeting;
 mod numbers;
 mod opening;
 mod pass;
+mod rebalance_kinds;
 mod rule;
 mod shared;
+mod slot;
 mod steps;
 #[cfg(test)]
 mod tests;
 #[cfg(test)]
 mod tests_kinds;
+#[cfg(test)]
+mod tests_rebalance_kinds;
+#[cfg(test)]
+mod tests_slot;
 
+pub use hints::Hints;
 pub use kinds::{
     add_count, announce, clear_pass, clear_pend, clear_scan, draw, help_stamp, insert, load_after,
     load_clock, load_count, load_epoch, load_head, load_key, load_link, load_min, load_pend,
@@ -33,6 +41,11 @@ pub use kinds::{
 };
 pub use meeting::{meet, meet_all, meet_each};
 pub use pass::{Pass, View};
+pub use rebalance_kinds::{
+    decide, engage, freeze_count, freeze_pend, give_back, help_draw, help_settle, load_pass,
+    load_scan, mark_link, normalise, number, reclaim, replace, store_infant, store_retired,
+    take_row,
+};
 pub use rule::Rules;
 pub use shared::Shared;
 pub use steps::make;

@@ -1,6 +1,7 @@
 //! The numbers that a caller may ask of a table and of a pass.
-ghost use Rattle.std.specs.Prelude.{◌≡◌};
+ghost use Rattle.std.specs.Prelude.{◌≡◌, ◌-◌, ◌^◌, min};
 ghost use Rattle.kw_table.specs.Passes.{view};
+ghost use Rattle.kw_table.specs.Walks.{walks_in};
 
 use crate::pass::Pass;
 use crate::shared::Shared;
@@ -20,5 +21,13 @@ impl Pass {
         ensures { result ≡ (view self.now).number }
     {
         self.number
+    }
+
+    /// How many links from one row to the next the pass has loaded, by events of its own that it has seen: `u64::MAX` where they are more. By it
+    /// a test sees how far a call has gone along the rows. Takes no memory.
+    pub fn walked(&self) -> u64
+        ensures { result ≡ min (2 ^ 64 - 1) (walks_in (view self.now)) }
+    {
+        self.walked
     }
 }

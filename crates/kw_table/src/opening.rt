@@ -1,42 +1,44 @@
 //! The table at the start, and its passes.
 //!
-//! The words are those of the opening world. The view that the table is opened with may act for all seats, and a pass for each is cut
-//! off it, one after the other, with a local of its own.
+//! The words are those of the opening world, each at its slot. The view that the table is opened with may act for all seats, and a
+//! pass for each is cut off it, one after the other, with a local and hints of its own.
 ghost use Rattle.std.specs.Prelude.{◌≡◌, ℕ, ◌+◌, ◌<◌, [], IfOk, vec_len, slice_index_or};
 ghost use Rattle.kw_world.specs.Local.{resting};
 ghost use Rattle.kw_world.specs.Opening.{IsOpening, opening_words};
 ghost use Rattle.kw_world.specs.Sizes.{product};
 ghost use Rattle.kw_table.specs.Passes.{IsFresh};
+ghost use Rattle.kw_table.specs.Slots.{laid, rowless};
 ghost use Rattle.kw_table.specs.Views.{rest_view};
 
+use crate::hints::Hints;
 use crate::pass::{Pass, View};
 use crate::rule::Deal;
 use crate::shared::Shared;
+use crate::slot::{slot, slots};
 use atomic_table::{Seat, Table};
 use kw_model::memory::Memory;
-use kw_words::layout::{Layout, Name};
+use kw_words::layout::Name;
 use kw_words::link::Link;
-use kw_words::sizes::{CELLS, SEATS};
 use kw_words::state::State;
 use kw_world::local::Local;
 use kw_world::opening::Opening;
 use std::alloc::Global;
 
-/// The words of the world that a run begins with.
-fn opening_words(alloc: Global, opening: Opening) -> Result<Vec<u64>, Memory>
+/// The words of the world that a run begins with, as they lie in memory.
+pub(crate) fn opening_words(alloc: Global, opening: Opening) -> Result<Vec<u64>, Memory>
     requires { IsOpening product opening }
-    ensures { IfOk result (λ words. words.items ≡ opening_words product opening) }
+    ensures { IfOk result (λ words. words.items ≡ laid rowless (opening_words product opening)) }
 {
     let rows = opening.rows;
     let head = Link {
         row: Some(0),
         marked: false,
     };
-    let mut words = vec![in alloc; 0; Layout::<SEATS, CELLS>::words(rows)]?;
-    words[Layout::<SEATS, CELLS>::place(rows, Name::Clock)] = opening.clock;
-    words[Layout::<SEATS, CELLS>::place(rows, Name::Epoch)] = opening.epoch;
-    words[Layout::<SEATS, CELLS>::place(rows, Name::Head)] = head.pack();
-    words[Layout::<SEATS, CELLS>::place(rows, Name::State(0))] = State::Normal.pack();
+    let mut words = vec![in alloc; 0; slots(rows)]?;
+    words[slot(rows, Name::Clock)] = opening.clock;
+    words[slot(rows, Name::Epoch)] = opening.epoch;
+    words[slot(rows, Name::Head)] = head.pack();
+    words[slot(rows, Name::State(0))] = State::Normal.pack();
     Ok(words)
 }
 
@@ -91,17 +93,19 @@ impl Shared {
         ensures each { IfOk result (λ v. (i : ℕ) (d : _) → i < vec_len v →
             IsFresh self.now i (slice_index_or v.items i d)) }
     {
+        let Opening { rows, seats, .. } = self.opening;
         let mut passes = Vec::new(alloc);
-        for number in 0..self.opening.seats {
+        for number in 0..seats {
             let local = Box::new(alloc, Local::idle(alloc))?;
-            let pass = self.deal(&mut rest, number, local);
+            let hints = Hints::new(alloc, rows, number * (rows / seats))?;
+            let pass = self.deal(&mut rest, number, local, hints);
             passes.push(pass)?;
         }
         Ok(passes)
     }
 
     // Cuts off the first of the seats that have no pass yet.
-    fn deal(&self, rest: &mut Seat<(), View>, number: u32, local: Box<Local>) -> Pass
+    fn deal(&self, rest: &mut Seat<(), View>, number: u32, local: Box<Local>, hints: Hints) -> Pass
         requires table { rest.old.table_id ≡ self.now.table.shared.table_id }
         requires rest { rest.old.me ≡ (rest_view self.now.opening number, []) }
         requires some { number < self.now.opening.seats }
@@ -115,6 +119,8 @@ impl Shared {
             number,
             seat,
             local: Some(local),
+            hints: Some(hints),
+            walked: 0,
         }
     }
 }

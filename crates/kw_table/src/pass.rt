@@ -3,9 +3,13 @@
 //! The two types stand alone here, since their facts may name nothing that names them; what a pass can do is in the other modules.
 //!
 //! A pass has a local with it, in a box that is made with the table: what code that follows the pass's seat knows lies there while a call
-//! runs, so that a call takes no memory for it and moves none of it. `lend` in `lending` takes the box out.
+//! runs, so that a call takes no memory for it and moves none of it. `lend` in `lending` takes the box out. Its hints lie beside it, for puts and
+//! deletes alone.
+ghost use Rattle.std.specs.Prelude.{◌≡◌, ◌-◌, ◌^◌, min};
 ghost use Rattle.kw_table.specs.Known.{IsKnown};
+ghost use Rattle.kw_table.specs.Walks.{walks_in};
 
+use crate::hints::Hints;
 use atomic_table::Seat;
 use kw_world::event::Event;
 use kw_world::local::Local;
@@ -29,11 +33,14 @@ pub struct View {
     pub told: LinkedList<Event>,
 }
 
-/// One caller's seat of a run. It has its number, and the local that its calls use.
+/// One caller's seat of a run. It has its number, the local and the hints that its calls use, and how many links of rows it has loaded.
 #[derive(Drop)]
 pub struct Pass {
     pub(crate) number: u32,
     pub(crate) seat: Seat<(), View>,
     pub(crate) local: Option<Box<Local>>,
+    pub(crate) hints: Option<Hints>,
+    pub(crate) walked: u64,
     ghost known: { IsKnown number seat.me },
+    ghost counted: { walked ≡ min (2 ^ 64 - 1) (walks_in seat.me.0) },
 }

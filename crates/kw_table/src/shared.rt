@@ -2,10 +2,9 @@
 //!
 //! The type stands alone here, since its facts may name nothing that names it.
 ghost use Rattle.std.specs.Prelude.{◌≡◌};
-ghost use Rattle.kw_words.specs.Layout.{words_of};
-ghost use Rattle.kw_words.specs.declared.sizes.TheConstants.{SEATS, CELLS};
 ghost use Rattle.kw_world.specs.Opening.{IsOpening};
 ghost use Rattle.kw_world.specs.Sizes.{product};
+ghost use Rattle.kw_table.specs.Slots.{slots};
 
 use crate::pass::View;
 use crate::rule::Rules;
@@ -20,5 +19,5 @@ pub struct Shared {
     pub(crate) opening: Opening,
     ghost opens: { IsOpening product opening },
     ghost key_is: { table.shared.key ≡ opening },
-    ghost words_are: { table.shared.table_id.words ≡ words_of SEATS CELLS opening.rows },
+    ghost words_are: { table.shared.table_id.words ≡ slots opening.rows },
 }

@@ -1,30 +1,44 @@
 //! The steps of the table, by what they do to the word.
 //!
 //! There is one function for each action, and each makes one atomic operation; `make` takes any operation. The event's choice is in
-//! the proof alone, and comes to the table's step by a type parameter, `Choosing`.
-ghost use Rattle.std.specs.Prelude.{◌≡◌, ℕ, ◌<◌};
-ghost use Rattle.kw_words.specs.Layout.{IsWithin, place_of, words_of};
+//! the proof alone, and comes to the table's step by a type parameter, `Choosing`. Each also counts the links of rows that the pass loads.
+ghost use Rattle.std.specs.Prelude.{◌≡◌, ℕ, ◌+◌, ◌-◌, ◌^◌, ◌<◌, min};
+ghost use Rattle.kw_words.specs.Layout.{IsWithin};
 ghost use Rattle.kw_words.specs.declared.sizes.TheConstants.{SEATS, CELLS};
 ghost use Rattle.kw_table.specs.Passes.{Asks, Makes};
+ghost use Rattle.kw_table.specs.Slots.{slot, slots};
+ghost use Rattle.kw_table.specs.Walks.{walks_by};
 
 use crate::pass::Pass;
 use crate::rule::{Choosing, Stepping};
 use crate::shared::Shared;
-use kw_words::layout::{Layout, Name};
-use kw_words::sizes::{CELLS, SEATS};
+use crate::slot;
+use kw_words::kind::Kind;
+use kw_words::layout::Name;
 use kw_world::event::Choice;
 use kw_world::operation::{Action, Operation};
 use std::marker::Brand;
 
+// How many links of rows a pass has loaded after an operation of this kind, where it had loaded so many before.
+#[inline(always)]
+fn walked_after(walked: u64, kind: Kind) -> u64
+    ensures { result ≡ min (2 ^ 64 - 1) (walked + walks_by kind) }
+{
+    match kind {
+        Kind::LoadLink => walked.saturating_add(1),
+        _ => walked,
+    }
+}
+
 impl Shared {
     // Where the word lies.
     #[inline(always)]
-    fn place(&self, word: Name) -> usize
+    fn slot(&self, word: Name) -> usize
         requires { IsWithin SEATS CELLS self.now.opening.rows word }
-        ensures place { result ≡ place_of SEATS CELLS word }
-        ensures below { result < words_of SEATS CELLS self.now.opening.rows }
+        ensures slot { result ≡ slot word }
+        ensures below { result < slots self.now.opening.rows }
     {
-        Layout::<SEATS, CELLS>::place(self.opening.rows, word)
+        slot::slot(self.opening.rows, word)
     }
 
     // `load`, where the proof has the choice from `C`.
@@ -35,9 +49,12 @@ impl Shared {
         requires asked { Asks self.now pass.old choice operation }
         ensures { Makes self.now pass.old choice result pass.new }
     {
-        self.table
+        let told = self
+            .table
             .shared
-            .load::<Stepping<C>>(&mut pass.seat, self.place(operation.name))
+            .load::<Stepping<C>>(&mut pass.seat, self.slot(operation.name));
+        pass.walked = walked_after(pass.walked, operation.kind);
+        told
     }
 
     /// Loads the word.
@@ -66,7 +83,8 @@ impl Shared {
     {
         self.table
             .shared
-            .store::<Stepping<C>>(&mut pass.seat, self.place(operation.name), stored);
+            .store::<Stepping<C>>(&mut pass.seat, self.slot(operation.name), stored);
+        pass.walked = walked_after(pass.walked, operation.kind);
         0
     }
 
@@ -100,9 +118,12 @@ impl Shared {
         requires asked { Asks self.now pass.old choice operation }
         ensures { Makes self.now pass.old choice result pass.new }
     {
-        self.table
+        let told = self
+            .table
             .shared
-            .fetch_add::<Stepping<C>>(&mut pass.seat, self.place(operation.name), number)
+            .fetch_add::<Stepping<C>>(&mut pass.seat, self.slot(operation.name), number);
+        pass.walked = walked_after(pass.walked, operation.kind);
+        told
     }
 
     /// Adds a number to the word.
@@ -122,6 +143,7 @@ impl Shared {
     }
 
     // `unite`, where the proof has the choice from `C`.
+    #[inline(always)]
     fn unite_as<C: Choosing>(
         &self,
         pass: &mut Pass,
@@ -134,12 +156,16 @@ impl Shared {
         requires asked { Asks self.now pass.old choice operation }
         ensures { Makes self.now pass.old choice result pass.new }
     {
-        self.table
+        let told = self
+            .table
             .shared
-            .fetch_or::<Stepping<C>>(&mut pass.seat, self.place(operation.name), bits)
+            .fetch_or::<Stepping<C>>(&mut pass.seat, self.slot(operation.name), bits);
+        pass.walked = walked_after(pass.walked, operation.kind);
+        told
     }
 
     /// Sets bits in the word.
+    #[inline(always)]
     pub(crate) fn unite(
         &self,
         pass: &mut Pass,
@@ -169,12 +195,14 @@ impl Shared {
         requires asked { Asks self.now pass.old choice operation }
         ensures { Makes self.now pass.old choice result pass.new }
     {
-        self.table.shared.compare_exchange::<Stepping<C>>(
+        let told = self.table.shared.compare_exchange::<Stepping<C>>(
             &mut pass.seat,
-            self.place(operation.name),
+            self.slot(operation.name),
             expected,
             stored,
-        )
+        );
+        pass.walked = walked_after(pass.walked, operation.kind);
+        told
     }
 
     /// Exchanges the word for another, where it is the expected one.

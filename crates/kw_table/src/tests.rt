@@ -132,6 +132,48 @@ fn a_scan_finds_the_pair_that_was_stamped_before_it_drew(rt: HostRuntime) -> Res
     Ok(())
 }
 
+// The fourth event of a put, the first after its row is found at the head, loads the link to the next row, of which there is none. The others
+// load no link of a row, and neither does what other passes do.
+#[test]
+fn a_pass_counts_the_links_of_rows_that_it_loads(rt: HostRuntime) -> Result<(), Fail> {
+    let (shared, mut passes) = Shared::open(rt.alloc(), 64, 2, 1, 1)?;
+    let (Some(mut other), Some(mut putter)) = (passes.pop(), passes.pop()) else {
+        return Err("two passes")?;
+    };
+    begin(rt.alloc(), &shared, &mut other, Call::Get(5))?;
+    let mut put = begin(rt.alloc(), &shared, &mut putter, Call::Put(5, 50))?;
+    play(&shared, &mut putter, &mut put, 2)?;
+    assert_eq!(rt; putter.walked(), 0);
+    play(&shared, &mut putter, &mut put, 1)?;
+    assert_eq!(rt; putter.walked(), 1);
+    play(&shared, &mut putter, &mut put, ALL)?;
+    meet(&shared, &mut putter, &mut other);
+    assert_eq!(rt; putter.walked(), 1);
+    assert_eq!(rt; other.walked(), 0);
+    Ok(())
+}
+
+// Of 64 rows and 2 passes the first searches behind row 0, and the second behind row 32.
+#[test]
+fn hints_are_lent_and_given_back(rt: HostRuntime) -> Result<(), Fail> {
+    let (_shared, mut passes) = Shared::open(rt.alloc(), 64, 2, 1, 1)?;
+    let (Some(mut second), Some(mut first)) = (passes.pop(), passes.pop()) else {
+        return Err("two passes")?;
+    };
+    let (Some(mut lent), Some(others)) = (second.lend_hints(), first.lend_hints()) else {
+        return Err("hints")?;
+    };
+    assert_eq!(rt; lent.spare.rows(), 64);
+    assert_eq!(rt; lent.behind, 32);
+    assert_eq!(rt; others.behind, 0);
+    assert!(rt; second.lend_hints().is_none());
+    lent.behind = 40;
+    second.give_hints(Some(lent));
+    let again = second.lend_hints().map(|hints| hints.behind);
+    assert_eq!(rt; again, Some(40));
+    Ok(())
+}
+
 #[test]
 fn passes_are_numbered_and_meet(rt: HostRuntime) -> Result<(), Fail> {
     let (shared, mut passes) = Shared::open(rt.alloc(), 64, 8, 1, 1)?;

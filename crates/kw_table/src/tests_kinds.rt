@@ -23,7 +23,7 @@ use std::alloc::Global;
 use std::test::Fail;
 
 // More events than any call of these tests makes.
-const ALL: u32 = 1000;
+pub(crate) const ALL: u32 = 1000;
 
 // A load, by the call of its kind.
 #[tactic(auto, using(crate::proofs::AskedOperations::asks_for))]
@@ -46,6 +46,8 @@ fn load(shared: &Shared, pass: &mut Pass, choice: Choice, does: Operation) -> u6
         Kind::LoadLink => load_link(shared, pass, choice, word),
         Kind::LoadMin => load_min(shared, pass, choice, word),
         Kind::LoadState => load_state(shared, pass, choice, word),
+        Kind::LoadScan => load_scan(shared, pass, choice, word),
+        Kind::LoadPass => load_pass(shared, pass, choice, word),
         _ => make(shared, pass, choice, does),
     }
 }
@@ -68,6 +70,9 @@ fn store(shared: &Shared, pass: &mut Pass, choice: Choice, does: Operation, stor
         Kind::ClearPend => clear_pend(shared, pass, choice, word, stored),
         Kind::StoreWaiting => store_waiting(shared, pass, choice, word, stored),
         Kind::ClearScan => clear_scan(shared, pass, choice, word, stored),
+        Kind::StoreInfant => store_infant(shared, pass, choice, word, stored),
+        Kind::GiveBack => give_back(shared, pass, choice, word, stored),
+        Kind::StoreRetired => store_retired(shared, pass, choice, word, stored),
         _ => make(shared, pass, choice, does),
     }
 }
@@ -93,6 +98,66 @@ fn exchange(
         Kind::Insert => insert(shared, pass, choice, word, expected, stored),
         Kind::HelpStamp => help_stamp(shared, pass, choice, word, expected, stored),
         Kind::Settle => settle(shared, pass, choice, word, expected, stored),
+        _ => exchange_row(shared, pass, choice, does, expected, stored),
+    }
+}
+
+// An exchange of a rebalance, by the call of its kind.
+#[tactic(auto, using(crate::proofs::AskedOperations::asks_for))]
+fn exchange_row(
+    shared: &Shared,
+    pass: &mut Pass,
+    choice: Choice,
+    does: Operation,
+    expected: u64,
+    stored: u64,
+) -> u64
+    requires asks { Asks shared.now pass.old choice does }
+    requires action { does.action ≡ Action.Exchange expected stored }
+    ensures { Makes shared.now pass.old choice result pass.new }
+{
+    let word = does.name;
+    match does.kind {
+        Kind::Engage => engage(shared, pass, choice, word, expected, stored),
+        Kind::Decide => decide(shared, pass, choice, word, expected, stored),
+        Kind::FreezePend => freeze_pend(shared, pass, choice, word, expected, stored),
+        Kind::HelpSettle => help_settle(shared, pass, choice, word, expected, stored),
+        Kind::Reclaim => reclaim(shared, pass, choice, word, expected, stored),
+        Kind::TakeRow => take_row(shared, pass, choice, word, expected, stored),
+        Kind::Replace => replace(shared, pass, choice, word, expected, stored),
+        Kind::Normalise => normalise(shared, pass, choice, word, expected, stored),
+        _ => make(shared, pass, choice, does),
+    }
+}
+
+// An addition, by the call of its kind.
+#[tactic(auto, using(crate::proofs::AskedOperations::asks_for))]
+fn add(shared: &Shared, pass: &mut Pass, choice: Choice, does: Operation, by: u64) -> u64
+    requires asks { Asks shared.now pass.old choice does }
+    requires action { does.action ≡ Action.Add by }
+    ensures { Makes shared.now pass.old choice result pass.new }
+{
+    let word = does.name;
+    match does.kind {
+        Kind::AddCount => add_count(shared, pass, choice, word, by),
+        Kind::Draw => draw(shared, pass, choice, word, by),
+        Kind::HelpDraw => help_draw(shared, pass, choice, word, by),
+        Kind::Number => number(shared, pass, choice, word, by),
+        _ => make(shared, pass, choice, does),
+    }
+}
+
+// A union, by the call of its kind.
+#[tactic(auto, using(crate::proofs::AskedOperations::asks_for))]
+fn unite(shared: &Shared, pass: &mut Pass, choice: Choice, does: Operation, bits: u64) -> u64
+    requires asks { Asks shared.now pass.old choice does }
+    requires action { does.action ≡ Action.Or bits }
+    ensures { Makes shared.now pass.old choice result pass.new }
+{
+    let word = does.name;
+    match does.kind {
+        Kind::MarkLink => mark_link(shared, pass, choice, word, bits),
+        Kind::FreezeCount => freeze_count(shared, pass, choice, word, bits),
         _ => make(shared, pass, choice, does),
     }
 }
@@ -109,17 +174,13 @@ fn make_by_kind(shared: &Shared, pass: &mut Pass, choice: Choice, does: Operatio
         Action::Exchange(expected, stored) => {
             exchange(shared, pass, choice, does, expected, stored)
         }
-        Action::Add(number) => match does.kind {
-            Kind::AddCount => add_count(shared, pass, choice, does.name, number),
-            Kind::Draw => draw(shared, pass, choice, does.name, number),
-            _ => make(shared, pass, choice, does),
-        },
-        Action::Or(_) => make(shared, pass, choice, does),
+        Action::Add(by) => add(shared, pass, choice, does, by),
+        Action::Or(bits) => unite(shared, pass, choice, does, bits),
     }
 }
 
 // The next event of a pass by the call of its kind. Gives the kind and what it was told.
-fn advance(
+pub(crate) fn advance(
     shared: &Shared,
     pass: &mut Pass,
     local: &mut Local,
@@ -142,7 +203,7 @@ fn advance(
 }
 
 // The next events of a call, this many, or fewer where the call ends.
-fn play(
+pub(crate) fn play(
     alloc: Global,
     shared: &Shared,
     pass: &mut Pass,
@@ -165,7 +226,7 @@ fn play(
 }
 
 // The first event of a pass's first call.
-fn begin(
+pub(crate) fn begin(
     alloc: Global,
     shared: &Shared,
     pass: &mut Pass,

@@ -25,9 +25,9 @@ use Rattle.kw_world.specs.declared.activity.Activity.TheVariants.{Idle, Enter, S
 use Rattle.kw_world.specs.declared.local.Local.{Local}
 use Rattle.kw_world.specs.declared.event.Choice.{Choice}
 use Rattle.kw_world.specs.declared.event.Choice.TheVariants.{Begin, Go, Guess, Stop}
-use Rattle.kw_world.specs.Sizes.{Form, Refused, Alone, Reused, Sizes}
+use Rattle.kw_world.specs.Sizes.{Sizes}
 use Rattle.kw_world.specs.Transition.{Outcome, row_linked, row_or_first, to, leave}
-use Rattle.kw_world.specs.PutTransitions.{stamp_met, full_in, full, has_room, given_of}
+use Rattle.kw_world.specs.PutTransitions.{stamp_met, has_room, given_of}
 use Rattle.kw_world.specs.ListTransitions.{insert_from, insert_key, insert_past, insert_tried, is_newer}
 use Rattle.kw_world.specs.declared.marks.Mark.{Mark}
 use Rattle.kw_world.specs.Marks.{least_mark}
@@ -40,10 +40,10 @@ use Rattle.kw_words.specs.declared.link.Link.{Link}
 use Rattle.kw_words.specs.State.{state_word}
 use Rattle.kw_world.specs.declared.rebalance.Afterwards.{Afterwards}
 use Rattle.kw_world.specs.declared.rebalance.Afterwards.TheVariants.{TryAgain, Refuse, MoveLeft}
-use Rattle.kw_world.specs.EngageTransitions.{again, refuse, is_alone, state_met, engaged, followed_by, link_marked, decided}
+use Rattle.kw_world.specs.EngageTransitions.{again, refuse, to_rebalance, is_alone, state_met, engaged, followed_by, link_marked, decided}
 use Rattle.kw_world.specs.FreezeTransitions.{to_scans, to_freeze_look, marking, freeze_met, entry_tried, to_scan_look, needing, scan_met, scan_helped}
 use Rattle.kw_world.specs.TakeTransitions.{to_take, left_of, take_met, keeping}
-use Rattle.kw_world.specs.SeekTransitions.{given_back, give_back, gave_back, at_infant, has_more, row_behind, to_seek, to_pass, retired_at, seek_met, pass_met, seeking, seek_first_transition, with_row, take_row}
+use Rattle.kw_world.specs.SeekTransitions.{given_back, give_back, gave_back, at_infant, has_more, row_behind, to_seek, to_pass, seek_met, pass_met, seeking, seek_first_transition, with_row, take_row}
 use Rattle.kw_world.specs.WriteTransitions.{infant_cells, row_written, to_write_cell, to_write_entry}
 use Rattle.kw_world.specs.ReplaceTransitions.{at_before, first_before, guess_before, before_transition, row_before, link_before, row_replaced, replaced}
 use Rattle.kw_world.specs.Table.{transition}
@@ -111,18 +111,12 @@ list_goes z None l = rests l
 list_key_goes : (key : ℕ) (l : Local) → Goes l.number (list_key key l)
 list_key_goes key l = either (nat_lt key (first_key l.call)) (list_past l) _ (record { moved = refl; number = refl }) (either (nat_le key (last_key l.call)) (to ListVer (record l { place_key = key })) (to_rest l) (record { moved = refl; number = refl }) (rests l))
 
--- a put that has met a full row, in either form
-full_goes : (f : Form) (l : Local) → Goes l.number (full_in f l)
-full_goes Refused l = record { moved = refl; number = refl }
-full_goes Alone l = record { moved = refl; number = refl }
-full_goes Reused l = record { moved = refl; number = refl }
-
-stamp_goes : (z : Sizes) (e : Option Pend) (l : Local) → Goes l.number (stamp_met z e l)
-stamp_goes z (Some pend.Idle) l = full_goes z.form l
-stamp_goes z (Some (pend.Pending cell)) l = either (cell == l.cell) (to PutVersion l) (full z l) (record { moved = refl; number = refl }) (full_goes z.form l)
-stamp_goes z (Some (pend.Stamped cell version)) l = either (cell == l.cell) (to PutVersion (record l { version = version })) (full z l) (record { moved = refl; number = refl }) (full_goes z.form l)
-stamp_goes z (Some pend.Frozen) l = full_goes z.form l
-stamp_goes z None l = full_goes z.form l
+stamp_goes : (e : Option Pend) (l : Local) → Goes l.number (stamp_met e l)
+stamp_goes (Some pend.Idle) l = record { moved = refl; number = refl }
+stamp_goes (Some (pend.Pending cell)) l = either (cell == l.cell) (to PutVersion l) (to_rebalance l) (record { moved = refl; number = refl }) (record { moved = refl; number = refl })
+stamp_goes (Some (pend.Stamped cell version)) l = either (cell == l.cell) (to PutVersion (record l { version = version })) (to_rebalance l) (record { moved = refl; number = refl }) (record { moved = refl; number = refl })
+stamp_goes (Some pend.Frozen) l = record { moved = refl; number = refl }
+stamp_goes None l = record { moved = refl; number = refl }
 
 insert_from_goes : (z : Sizes) (cell : Option ℕ) (l : Local) → Goes l.number (insert_from z cell l)
 insert_from_goes z (Some cell) l = record { moved = refl; number = refl }
@@ -268,25 +262,20 @@ seeks rows l = either (nat_lt l.rebalance.asked rows) (to Seek (record l { rebal
 passes_then : (z : Sizes) (i : ℕ) (l : Local) → Goes l.number (to_pass z i l)
 passes_then z i l = either (nat_lt i z.seats) (to (SeekPass i) l) (to Reclaim l) (record { moved = refl; number = refl }) (record { moved = refl; number = refl })
 
-retired_goes : (f : Form) (rows number : ℕ) (l : Local) → Goes l.number (retired_at f rows number l)
-retired_goes Refused rows number l = record { moved = refl; number = refl }
-retired_goes Alone rows number l = seeks rows l
-retired_goes Reused rows number l = record { moved = refl; number = refl }
+seek_goes : (rows : ℕ) (state : Option State) (l : Local) → Goes l.number (seek_met rows state l)
+seek_goes rows (Some Free) l = record { moved = refl; number = refl }
+seek_goes rows (Some (Infant seat)) l = seeks rows l
+seek_goes rows (Some Normal) l = seeks rows l
+seek_goes rows (Some (Leader count)) l = seeks rows l
+seek_goes rows (Some (Follower leader)) l = seeks rows l
+seek_goes rows (Some (Retired number)) l = record { moved = refl; number = refl }
+seek_goes rows None l = seeks rows l
 
-seek_goes : (f : Form) (rows : ℕ) (state : Option State) (l : Local) → Goes l.number (seek_met f rows state l)
-seek_goes f rows (Some Free) l = record { moved = refl; number = refl }
-seek_goes f rows (Some (Infant seat)) l = seeks rows l
-seek_goes f rows (Some Normal) l = seeks rows l
-seek_goes f rows (Some (Leader count)) l = seeks rows l
-seek_goes f rows (Some (Follower leader)) l = seeks rows l
-seek_goes f rows (Some (Retired number)) l = retired_goes f rows number l
-seek_goes f rows None l = seeks rows l
-
-seek_first_goes : (f : Form) (choice : Choice) (l : Local) (rows told : ℕ) → Goes l.number ((seek_first_transition f choice l).next rows told)
-seek_first_goes f (Begin call) l rows told = seek_goes f rows (state_of told) (seeking l.rebalance.sought l)
-seek_first_goes f Go l rows told = seek_goes f rows (state_of told) (seeking l.rebalance.sought l)
-seek_first_goes f (Guess r) l rows told = seek_goes f rows (state_of told) (seeking r l)
-seek_first_goes f Stop l rows told = seek_goes f rows (state_of told) (seeking l.rebalance.sought l)
+seek_first_goes : (choice : Choice) (l : Local) (rows told : ℕ) → Goes l.number ((seek_first_transition choice l).next rows told)
+seek_first_goes (Begin call) l rows told = seek_goes rows (state_of told) (seeking l.rebalance.sought l)
+seek_first_goes Go l rows told = seek_goes rows (state_of told) (seeking l.rebalance.sought l)
+seek_first_goes (Guess r) l rows told = seek_goes rows (state_of told) (seeking r l)
+seek_first_goes Stop l rows told = seek_goes rows (state_of told) (seeking l.rebalance.sought l)
 
 pass_goes : (z : Sizes) (i rows : ℕ) (epoch : Option ℕ) (l : Local) → Goes l.number (pass_met z i rows epoch l)
 pass_goes z i rows (Some epoch) l = either (nat_le epoch l.rebalance.number) (to_seek rows l) (to_pass z (i + 1) l) (seeks rows l) (passes_then z (i + 1) l)
@@ -373,13 +362,13 @@ goes_on z ListVal s choice l rows told e n = record { moved = refl; number = ref
 goes_on z RestKey s choice l rows told e n = either (is_in_range l.call (key_of_word told)) (to RestVal (record l { place_key = key_of_word told })) (to_rest l) (record { moved = refl; number = refl }) (rests l)
 goes_on z RestVal s choice l rows told e n = rests (gathering z (value_of_word told) l)
 goes_on z (ClearScan answer) s choice l rows told e n = record { moved = refl; number = refl }
-goes_on z PutCount s choice l rows told e n = either (has_room z (count_of told)) (to PutAdd l) (full z l) (record { moved = refl; number = refl }) (full_goes z.form l)
-goes_on z PutAdd s choice l rows told e n = either (has_room z (count_of told)) (to PutKey (record l { cell = given_of (count_of told) })) (full z l) (record { moved = refl; number = refl }) (full_goes z.form l)
+goes_on z PutCount s choice l rows told e n = either (has_room z (count_of told)) (to PutAdd l) (to_rebalance l) (record { moved = refl; number = refl }) (record { moved = refl; number = refl })
+goes_on z PutAdd s choice l rows told e n = either (has_room z (count_of told)) (to PutKey (record l { cell = given_of (count_of told) })) (to_rebalance l) (record { moved = refl; number = refl }) (record { moved = refl; number = refl })
 goes_on z PutKey s choice l rows told e n = record { moved = refl; number = refl }
 goes_on z PutValue s choice l rows told e n = record { moved = refl; number = refl }
-goes_on z Announce s choice l rows told e n = either (told == pend_word pend.Idle) (to PutClock l) (full z l) (record { moved = refl; number = refl }) (full_goes z.form l)
+goes_on z Announce s choice l rows told e n = either (told == pend_word pend.Idle) (to PutClock l) (to_rebalance l) (record { moved = refl; number = refl }) (record { moved = refl; number = refl })
 goes_on z PutClock s choice l rows told e n = record { moved = refl; number = refl }
-goes_on z Stamp s choice l rows told e n = stamp_goes z (pend_of told) l
+goes_on z Stamp s choice l rows told e n = stamp_goes (pend_of told) l
 goes_on z PutVersion s choice l rows told e n = record { moved = refl; number = refl }
 goes_on z InsFrom s choice l rows told e n = insert_from_goes z (cell_of_link_word told) l
 goes_on z InsKey s choice l rows told e n = insert_key_goes (key_of_word told) l
@@ -409,8 +398,8 @@ goes_on z TakeVersion s choice l rows told e n = record { moved = refl; number =
 goes_on z TakeValue s choice l rows told e n = record { moved = refl; number = refl }
 goes_on z TakeRestKey s choice l rows told e n = record { moved = refl; number = refl }
 goes_on z TakeRestValue s choice l rows told e n = left_goes z (least_mark l.rebalance.marks) (keeping z (value_of_word told) l)
-goes_on z SeekFirst s choice l rows told e n = seek_first_goes z.form choice l rows told
-goes_on z Seek s choice l rows told e n = seek_goes z.form rows (state_of told) (seeking l.rebalance.sought l)
+goes_on z SeekFirst s choice l rows told e n = seek_first_goes choice l rows told
+goes_on z Seek s choice l rows told e n = seek_goes rows (state_of told) (seeking l.rebalance.sought l)
 goes_on z (SeekPass i) s choice l rows told e n = pass_goes z i rows (pass_of_word told) l
 goes_on z Reclaim s choice l rows told e n = record { moved = refl; number = refl }
 goes_on z TakeRow s choice l rows told e n = take_row_goes rows (told == state_word Free) l

@@ -147,7 +147,7 @@ within z TakeRestKey rows s choice l i b t o g = (b.row, i.place)
 within z TakeRestValue rows s choice l i b t o g = (b.row, i.place)
 within z SeekFirst rows s choice l i b t o g = seeks choice g
   where
-    seeks : (c : Choice) → IsOffered rows c → IsWithin z.seats z.cells rows (seek_first_transition z.form c l).operation.name
+    seeks : (c : Choice) → IsOffered rows c → IsWithin z.seats z.cells rows (seek_first_transition c l).operation.name
     seeks (Begin call) h = b.rebalance.sought
     seeks Go h = b.rebalance.sought
     seeks (Guess r) h = h
@@ -196,7 +196,7 @@ can_happen z (HelpDraw i) s choice l w o = omega (arith, o.1)
 can_happen z Number s choice l w o = omega (arith, o.1)
 can_happen z SeekFirst s choice l w o = seeks choice
   where
-    seeks : (c : Choice) → CanHappen (seek_first_transition z.form c l).operation.action w
+    seeks : (c : Choice) → CanHappen (seek_first_transition c l).operation.action w
     seeks (Begin call) = tt
     seeks Go = tt
     seeks (Guess r) = tt
@@ -303,7 +303,7 @@ store_blind z TakeRestKey s choice l v w h rows = absurd h
 store_blind z TakeRestValue s choice l v w h rows = absurd h
 store_blind z SeekFirst s choice l v w h rows = absurd (seeks choice h)
   where
-    seeks : (c : Choice) → IsStore (seek_first_transition z.form c l).operation.action → ⊥
+    seeks : (c : Choice) → IsStore (seek_first_transition c l).operation.action → ⊥
     seeks (Begin call) h = h
     seeks Go h = h
     seeks (Guess r) h = h

@@ -1,8 +1,7 @@
 -- What follows from the events of the search for free rows, and from giving rows back.
 --
--- The search goes round the table once, from row 0 or from a guessed row on. A row that was retired is passed over where rows are not
--- used again. Where they are, the passes of all seats are looked at: if none is on that began before the row went, the row is freed,
--- and then taken as any free row.
+-- The search goes round the table once, from row 0 or from a guessed row on. At a row that was retired the passes of all seats are
+-- looked at: if none is on that began before the row went, the row is freed, and then taken as any free row.
 use Rattle.std.specs.Prelude.{ℕ, ◌+◌, Bool, true, false, nat_lt, nat_le, if◌then◌else◌, Option, Some, None, [], ◌∷◌, ◌++◌, length, slice_index}
 use Rattle.kw_words.specs.declared.layout.Name.TheVariants as name
 use Rattle.kw_words.specs.declared.kind.Kind.TheVariants as kind
@@ -18,7 +17,7 @@ use Rattle.kw_world.specs.declared.event.Choice.{Choice}
 use Rattle.kw_world.specs.declared.event.Choice.TheVariants.{Begin, Go, Guess, Stop}
 use Rattle.kw_world.specs.declared.operation.Action.TheVariants.{Load}
 use Rattle.kw_world.specs.EngageTransitions.{again, refuse, to_rebalance}
-use Rattle.kw_world.specs.Sizes.{Sizes, Form, Refused, Alone, Reused}
+use Rattle.kw_world.specs.Sizes.{Sizes}
 use Rattle.kw_world.specs.Transition.{Transition, Outcome, at_rows, to, row_or_first}
 
 -- the taken row that is at hand
@@ -69,37 +68,30 @@ numbered number l = record l { rebalance = record l.rebalance { number = number 
 abbrev pub to_pass : Sizes → ℕ → Local → Outcome
 to_pass z i l = if nat_lt i z.seats then to (SeekPass i) l else to Reclaim l
 
--- Seek at a retired row: it is passed over where rows are not used again, and else the passes are looked at. No seat seeks rows where
--- a full row refuses its puts
-abbrev pub retired_at : Form → ℕ → ℕ → Local → Outcome
-retired_at Refused rows number l = to (SeekPass 0) (numbered number l)
-retired_at Alone rows number l = to_seek rows l
-retired_at Reused rows number l = to (SeekPass 0) (numbered number l)
-
--- Seek: a free row is taken, a retired one may be freed, and every other one is passed over
-abbrev pub seek_met : Form → ℕ → Option State → Local → Outcome
-seek_met f rows (Some Free) l = to TakeRow l
-seek_met f rows (Some (Infant seat)) l = to_seek rows l
-seek_met f rows (Some Normal) l = to_seek rows l
-seek_met f rows (Some (Leader count)) l = to_seek rows l
-seek_met f rows (Some (Follower leader)) l = to_seek rows l
-seek_met f rows (Some (Retired number)) l = retired_at f rows number l
-seek_met f rows None l = to_seek rows l
+-- Seek: a free row is taken, at a retired one the passes are looked at, and every other one is passed over
+abbrev pub seek_met : ℕ → Option State → Local → Outcome
+seek_met rows (Some Free) l = to TakeRow l
+seek_met rows (Some (Infant seat)) l = to_seek rows l
+seek_met rows (Some Normal) l = to_seek rows l
+seek_met rows (Some (Leader count)) l = to_seek rows l
+seek_met rows (Some (Follower leader)) l = to_seek rows l
+seek_met rows (Some (Retired number)) l = to (SeekPass 0) (numbered number l)
+seek_met rows None l = to_seek rows l
 
 -- this row is asked
 abbrev pub seeking : ℕ → Local → Local
 seeking r l = record l { rebalance = record l.rebalance { sought = r } }
 
 -- the line of a search at a row
-abbrev pub seek_transition : Form → ℕ → Local → Transition
-seek_transition f r l = at_rows kind.LoadState (name.State r) Load (λ rows w. seek_met f rows (state_of w) (seeking r l))
+abbrev pub seek_transition : ℕ → Local → Transition
+seek_transition r l = at_rows kind.LoadState (name.State r) Load (λ rows w. seek_met rows (state_of w) (seeking r l))
 
 -- SeekFirst
-abbrev pub seek_first_transition : Form → Choice → Local → Transition
-seek_first_transition f (Begin call) l = seek_transition f l.rebalance.sought l
-seek_first_transition f Go l = seek_transition f l.rebalance.sought l
-seek_first_transition f (Guess r) l = seek_transition f r l
-seek_first_transition f Stop l = seek_transition f l.rebalance.sought l
+abbrev pub seek_first_transition : Choice → Local → Transition
+seek_first_transition (Begin call) l = seek_transition l.rebalance.sought l
+seek_first_transition Go l = seek_transition l.rebalance.sought l
+seek_first_transition (Guess r) l = seek_transition r l
+seek_first_transition Stop l = seek_transition l.rebalance.sought l
 
 -- SeekPass: a seat that announces an epoch up to the number may have entered before the row went, and keeps it from being used; any
 -- other seat does not

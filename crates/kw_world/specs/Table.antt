@@ -7,11 +7,11 @@
 -- scan's version, WalkTransitions for the walk, ReadTransitions for reading a row, PutTransitions for putting, ListTransitions
 -- for a walk along a row's list, and for inserting the cell of a put there. A rebalance has EngageTransitions for its beginning,
 -- FreezeTransitions for the full row's entries and the scans, TakeTransitions for the row's cells, SeekTransitions for free rows,
--- WriteTransitions for new rows, and ReplaceTransitions for the exchange of the one for the others. No line of another part leads to a
--- rebalance as long as a full row refuses its puts (`full`).
+-- WriteTransitions for new rows, and ReplaceTransitions for the exchange of the one for the others. A put that meets a full row comes to
+-- it (`to_rebalance`).
 --
 -- Three steps of a call have no event, and so no line: the arrival at the row of the wanted key (`arrive`), the end of a
--- row's cells (`row_read`, which `to_rest` goes on to after the last one), and the arrival at a full row (`full`). They
+-- row's cells (`row_read`, which `to_rest` goes on to after the last one), and the arrival at a full row (`to_rebalance`). They
 -- are passed through in what follows from the event before them.
 --
 -- `transition` is by cases on the activity alone, so that each line computes for every choice and every local. What a choice
@@ -45,9 +45,9 @@ use Rattle.kw_world.specs.Transition.{Transition, at, at_rows, to, leave, ended,
 use Rattle.kw_world.specs.ScanTransitions.{begun, entered, clock_met, version_settled, settled, answer_or_stopped}
 use Rattle.kw_world.specs.WalkTransitions.{start_transition, head_transition, guess_min, walk_transition, is_stopped, walk_min}
 use Rattle.kw_world.specs.ReadTransitions.{to_look, look_met, help_met, list_met, list_key, list_version, list_past, gathering, rest_key, to_rest}
-use Rattle.kw_world.specs.PutTransitions.{full, has_room, given_of, stamp_met}
+use Rattle.kw_world.specs.PutTransitions.{has_room, given_of, stamp_met}
 use Rattle.kw_world.specs.ListTransitions.{link_name, to_insert, insert_from, insert_key, insert_version, insert_tried}
-use Rattle.kw_world.specs.EngageTransitions.{again, balance_clock, balance_epoch, state_met, engaged, link_marked, decided}
+use Rattle.kw_world.specs.EngageTransitions.{again, balance_clock, balance_epoch, state_met, engaged, link_marked, decided, to_rebalance}
 use Rattle.kw_world.specs.FreezeTransitions.{count_frozen, freeze_met, entry_tried, scan_met, scan_helped}
 use Rattle.kw_world.specs.TakeTransitions.{take_met, take_version, keeping, take_past, to_left}
 use Rattle.kw_world.specs.SeekTransitions.{infant, gave_back, seek_transition, seek_first_transition, pass_met, take_row}
@@ -85,13 +85,13 @@ transition z RestVal s choice l = at kind.LoadValue (Value l.row l.place) Load (
 -- a scan is over
 transition z (ClearScan answer) s choice l = at kind.ClearScan (Scan s) (Store (scan_word Quiet)) (λ _. leave (answer_or_stopped answer choice) l)
 -- a put or a delete
-transition z PutCount s choice l = at kind.LoadCount (Count l.row) Load (λ w. if has_room z (count_of w) then to PutAdd l else full z l)
-transition z PutAdd s choice l = at kind.AddCount (Count l.row) (Add 1) (λ w. if has_room z (count_of w) then to PutKey (record l { cell = given_of (count_of w) }) else full z l)
+transition z PutCount s choice l = at kind.LoadCount (Count l.row) Load (λ w. if has_room z (count_of w) then to PutAdd l else to_rebalance l)
+transition z PutAdd s choice l = at kind.AddCount (Count l.row) (Add 1) (λ w. if has_room z (count_of w) then to PutKey (record l { cell = given_of (count_of w) }) else to_rebalance l)
 transition z PutKey s choice l = at kind.StoreKey (Key l.row l.cell) (Store (key_word (first_key l.call))) (λ _. to PutValue l)
 transition z PutValue s choice l = at kind.StoreValue (Value l.row l.cell) (Store (value_word (put_value l.call))) (λ _. to Announce l)
-transition z Announce s choice l = at kind.Announce (Pend l.row s) (Exchange (pend_word pend.Idle) (pend_word (pend.Pending l.cell))) (λ w. if w == pend_word pend.Idle then to PutClock l else full z l)
+transition z Announce s choice l = at kind.Announce (Pend l.row s) (Exchange (pend_word pend.Idle) (pend_word (pend.Pending l.cell))) (λ w. if w == pend_word pend.Idle then to PutClock l else to_rebalance l)
 transition z PutClock s choice l = at kind.LoadClock Clock Load (λ v. to Stamp (record l { version = v }))
-transition z Stamp s choice l = at kind.Stamp (Pend l.row s) (Exchange (pend_word (pend.Pending l.cell)) (pend_word (pend.Stamped l.cell l.version))) (λ w. stamp_met z (pend_of w) l)
+transition z Stamp s choice l = at kind.Stamp (Pend l.row s) (Exchange (pend_word (pend.Pending l.cell)) (pend_word (pend.Stamped l.cell l.version))) (λ w. stamp_met (pend_of w) l)
 transition z PutVersion s choice l = at kind.StoreVersion (Version l.row l.cell) (Store (version_word (Some l.version))) (λ _. to_insert l)
 -- its cell is inserted in the row's list
 transition z InsFrom s choice l = at kind.LoadAfter (link_name l.row l.link) Load (λ w. insert_from z (cell_of_link_word w) l)
@@ -128,8 +128,8 @@ transition z TakeValue s choice l = at kind.LoadValue (Value l.row l.place) Load
 transition z TakeRestKey s choice l = at kind.LoadKey (Key l.row l.place) Load (λ w. to TakeRestValue (record l { place_key = key_of_word w }))
 transition z TakeRestValue s choice l = at kind.LoadValue (Value l.row l.place) Load (λ w. to_left z (keeping z (value_of_word w) l))
 -- free rows are sought and taken
-transition z SeekFirst s choice l = seek_first_transition z.form choice l
-transition z Seek s choice l = seek_transition z.form l.rebalance.sought l
+transition z SeekFirst s choice l = seek_first_transition choice l
+transition z Seek s choice l = seek_transition l.rebalance.sought l
 transition z (SeekPass i) s choice l = at_rows kind.LoadPass (Pass i) Load (λ rows w. pass_met z i rows (pass_of_word w) l)
 transition z Reclaim s choice l = at kind.Reclaim (State l.rebalance.sought) (Exchange (state_word (state.Retired l.rebalance.number)) (state_word state.Free)) (λ _. to TakeRow l)
 transition z TakeRow s choice l = at_rows kind.TakeRow (State l.rebalance.sought) (Exchange (state_word state.Free) (state_word (state.Infant s))) (λ rows w. take_row rows (w == state_word state.Free) l)

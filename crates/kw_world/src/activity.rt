@@ -87,7 +87,7 @@ pub enum Activity {
     /// Ends the call with this answer: stores that the seat announces no epoch.
     Leave(Answer),
 
-    // A rebalance. No event leads here as long as a full row refuses its puts.
+    // A rebalance, of a full row that a put has met.
     /// Takes the announced epoch back, for the put to try again: stores that the seat announces none.
     Again,
     /// Loads the epoch, to announce it again.

@@ -10,6 +10,6 @@ pub enum Part {
     Put,
     /// The rows: the walk along them.
     Rows,
-    /// A rebalance. No event leads to this part as long as a full row refuses its puts.
+    /// A rebalance, of a full row that a put has met.
     Rebalance,
 }

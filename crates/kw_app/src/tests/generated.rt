@@ -20,8 +20,8 @@ fn summarised<R: Threads + Wait + Sync + Abort>(
 }
 
 #[test]
-fn generated_lines_that_fit_one_row_run_on_the_map(rt: HostRuntime) -> Result<(), Fail> {
-    let runs: [(&[&str], &str); 5] = [
+fn generated_lines_are_answered_on_the_map(rt: HostRuntime) -> Result<(), Fail> {
+    let runs: [(&[&str], &str); 6] = [
         (
             &["gen", "1", "3"],
             "puts 2\ndels 0\ngets 1\nfound 0\ncount 2\nsum 21839\nleast 5627\ngreatest 16212\n",
@@ -41,6 +41,10 @@ fn generated_lines_that_fit_one_row_run_on_the_map(rt: HostRuntime) -> Result<()
         (
             &["gen", "1", "80", "--workers", "4"],
             "puts 48\ndels 9\ngets 23\nfound 0\ncount 47\nsum 827435\nleast 1414\ngreatest 32434\n",
+        ),
+        (
+            &["gen", "1", "1000", "--workers", "4"],
+            "puts 610\ndels 126\ngets 264\nfound 24\ncount 560\nsum 8968157\nleast 30\ngreatest 32724\n",
         ),
     ];
     for (texts, text) in runs {

@@ -1,10 +1,6 @@
 //! Streams that fail, fill up or give too much, words that are no command, and the fault lines.
-use super::{ROOM, ran};
-use crate::fault::write_fault;
+use super::{ROOM, expect_fault_line, ran};
 use crate::outcome::{Outcome, Status};
-use kw_io::MemSink;
-use std::alloc::Global;
-use std::process::Abort;
 use std::test::Fail;
 
 #[test]
@@ -13,6 +9,7 @@ fn a_sink_that_fills_up_holds_a_prefix(rt: HostRuntime) -> Result<(), Fail> {
     let ended = ran(&rt, rt.alloc(), &["replay"], input, &[], 4)?;
     assert_eq!(rt; ended.outcome.status, Status::WriteFault);
     assert_eq!(rt; ended.written.as_slice(), b"ok\n5".as_slice());
+    assert!(rt; ended.outcome.front.is_some());
     Ok(())
 }
 
@@ -55,20 +52,6 @@ fn an_input_of_a_byte_too_many_is_too_long(rt: HostRuntime) -> Result<(), Fail> 
     let ended = ran(&rt, rt.alloc(), &["replay"], input, &[], ROOM)?;
     assert_eq!(rt; ended.outcome.status, Status::BadInput);
     assert_eq!(rt; ended.outcome.line, 1);
-    Ok(())
-}
-
-/// Expects that this is the fault line of a run that ended so.
-fn expect_fault_line(
-    rt: &impl Abort,
-    alloc: Global,
-    outcome: &Outcome,
-    text: &[u8],
-) -> Result<(), Fail> {
-    let mut sink = MemSink::new(alloc, ROOM, Vec::new(alloc))?;
-    let written = write_fault(outcome, &mut sink);
-    assert!(rt; written.is_ok());
-    assert_eq!(rt; sink.written(), text);
     Ok(())
 }
 

@@ -96,31 +96,6 @@ fn quiet_lines_have_one_answer_for_every_number_of_workers(rt: HostRuntime) -> R
     Ok(())
 }
 
-/// Whether so many updates were run on the map; each of them is answered.
-fn ran_on_the_map<R: Threads + Wait + Sync + Abort>(
-    rt: &R,
-    alloc: Global,
-    updates: u32,
-) -> Result<bool, Fail> {
-    let mut input = String::new(alloc);
-    let mut text = String::new(alloc);
-    for key in 1..updates {
-        write!(input, "put {key} {key}\n")?;
-        text.push_str("ok\n")?;
-    }
-    input.push_str("del 1\n")?;
-    text.push_str("ok\n")?;
-    let ended = expect_replies(rt, alloc, "2", input.as_str(), text.as_str())?;
-    Ok(ended.outcome.front.is_some())
-}
-
-#[test]
-fn no_more_updates_than_a_row_has_cells_run_on_the_map(rt: HostRuntime) -> Result<(), Fail> {
-    assert!(rt; ran_on_the_map(&rt, rt.alloc(), 64)?);
-    assert!(rt; !ran_on_the_map(&rt, rt.alloc(), 65)?);
-    Ok(())
-}
-
 // How many turns a worker waits for the other one.
 const TURNS: u32 = 1_000_000;
 

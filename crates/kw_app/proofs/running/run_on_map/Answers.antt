@@ -1,36 +1,22 @@
 use Rattle.std.proofs.Common.{arith, rules, ap, ◌∙◌, List}
 use Rattle.kw_world.specs.declared.opening.Opening.{Opening}
 use Rattle.kw_table.specs.Passes.{view}
-use Rattle.kw_map.proofs.Ordering.{pass_ordered}
 use Rattle.kw_work.proofs.Cuts.{lists}
 use Rattle.kw_line.specs.declared.answer.Answer.{Answer}
-use Rattle.kw_app.specs.Answering.{opening}
-use Rattle.kw_app.specs.Headline.{Headline}
+use Rattle.kw_app.specs.Answering.{IsRun, opening}
 use Rattle.kw_app.specs.Running.{Shows}
 use Rattle.kw_app.proofs.Shown.{IfFirst, shows}
-use Rattle.kw_app.proofs.Headlines.{headline_first}
+use Rattle.kw_app.proofs.Headlines.{run_first}
 use Rattle.kw_app.proofs.running.run_on_map.Goals as goal
 
-pub returns-clause-shows : goal.returns-clause-shows
-returns-clause-shows g c =
-    let o : Opening = opening c.args.crew.now.workers c.args.crew.now.rows in
-    let h : IfFirst c.in_ok-passes.passes.items (λ p. Shows o c.args.items.now c.in_ok-passes.answers.items (view p)) =
-    shows c.in_ok-kiwi.kiwi o c.args.items.now c.in_ok-passes.passes.items c.in_ok-passes.answers.items _ c.in_ok-kiwi.ensures.opening (ap lists c.as_slice.ensures.value ∙ c.in_ok-blocks.ensures.blocks) c.in_ok-passes.ensures.together c.in_ok-passes.ensures.ran in
-    search rules
-
--- and what its answers are worth
-pub returns-clause-headline : goal.returns-clause-headline
-returns-clause-headline g c =
+pub returns : goal.returns
+returns g c =
     let o : Opening = opening c.args.crew.now.workers c.args.crew.now.rows in
     let answers : List Answer = c.in_ok-passes.answers.items in
     let h : IfFirst c.in_ok-passes.passes.items (λ p. Shows o c.args.items.now answers (view p)) =
     shows c.in_ok-kiwi.kiwi o c.args.items.now c.in_ok-passes.passes.items answers _ c.in_ok-kiwi.ensures.opening (ap lists c.as_slice.ensures.value ∙ c.in_ok-blocks.ensures.blocks) c.in_ok-passes.ensures.together c.in_ok-passes.ensures.ran in
-    let k : IfFirst c.in_ok-passes.passes.items (λ p. Headline o (view p).seen c.args.items.now answers) =
-    headline_first o c.args.items.now answers c.in_ok-passes.passes.items c.args.crew.now.opens c.requires.items h in
+    let k : IfFirst c.in_ok-passes.passes.items (IsRun o c.args.items.now answers) = run_first o c.args.items.now answers c.in_ok-passes.passes.items c.args.crew.now.opens c.requires.items h in
     search rules
-
-pub returns-clause-ordered : goal.returns-clause-ordered
-returns-clause-ordered g c = pass_ordered c.in-Some.front
 
 pub play_all-requires-clause-together : goal.play_all-requires-clause-together
 play_all-requires-clause-together g c lives outlives =

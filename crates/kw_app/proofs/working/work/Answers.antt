@@ -18,5 +18,5 @@ loop-line-preserved g c =
     record {
       idle = c.ask.ensures.idle;
       goes = goes_trans _ _ _ _ inv.goes c.ask.ensures.goes;
-      works = works_step _ _ _ _ _ _ _ _ _ _ lt (prefix_length _ _ inv.goes.seen) (prefix_length _ _ c.ask.ensures.goes.seen) inv.idle c.ask.ensures.goes inv.works c.in_ok-answer.ensures.answers c.in_ok-push.ensures.items;
+      works = works_step _ _ _ _ _ _ _ _ _ lt (prefix_length _ _ inv.goes.seen) (prefix_length _ _ c.ask.ensures.goes.seen) inv.works c.in_ok-answer.ensures.answers c.in_ok-push.ensures.items;
     }

@@ -1,5 +1,5 @@
-use Rattle.std.proofs.Common.{codes, sym, ◌∙◌}
-use Rattle.kw_line.proofs.Texts.{none_is_text, wait_is_read, other_word, no_call, call_is_read, same_bytes, other_bytes}
+use Rattle.std.proofs.Common.{sym, ◌∙◌}
+use Rattle.kw_line.proofs.Texts.{none_is_text, wait_is_read, other_word, no_call, call_is_read, not_same}
 use Rattle.kw_line.proofs.parse.item.Goals as goal
 
 pub returns-in_err-word : goal.returns-in_err-word
@@ -7,16 +7,16 @@ returns-in_err-word c =
     let none = c.in_err-word.ensures {u = tt} in
     rw c.from_residual.ensures (none_is_text c.args.line.now (sym c.new-words.ensures ∙ none.steps.0))
 
-pub returns-then-eq : goal.returns-then-eq
-returns-then-eq c =
+pub returns-then-is_same : goal.returns-then-is_same
+returns-then-is_same c =
     let first = c.in_ok-word.ensures {u = tt} in
-    let wait = same_bytes c.in_ok-word.word.now (codes "wait") c.eq.result (rw c.as_slice.ensures at c.eq.ensures) c.if-eq.true in
+    let wait = c.is_same.ensures.0 c.if-is_same.true in
     rw c.then_some.ensures (wait_is_read c.args.line.now c.in_ok-word.word.now c.next.new.self c.is_empty.result (sym c.new-words.ensures ∙ first.steps) wait c.is_empty.ensures)
 
 pub returns-in_err-form : goal.returns-in_err-form
 returns-in_err-form c =
     let first = c.in_ok-word.ensures {u = tt} in
-    let other = other_bytes c.in_ok-word.word.now (codes "wait") c.eq.result (rw c.as_slice.ensures at c.eq.ensures) c.if-eq.false in
+    let other = not_same c.is_same.ensures c.if-is_same.false in
     rw c.from_residual-in_err-form.ensures (other_word c.args.line.now c.in_ok-word.word.now c.next.new.self (sym c.new-words.ensures ∙ first.steps) other (c.in_err-form.ensures {u = tt}))
 
 pub returns-in_err-call : goal.returns-in_err-call

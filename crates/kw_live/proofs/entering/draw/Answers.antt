@@ -2,9 +2,7 @@ use Rattle.std.proofs.Common.{ap, subst, sym}
 use Rattle.kw_world.specs.declared.local.Local.{Local}
 use Rattle.kw_table.proofs.Prefixes.{prefix_self, prefix_trans}
 use Rattle.kw_follow.specs.Within.{IsDrawing}
-use Rattle.kw_live.proofs.Asking.{none_at, none_trans}
 use Rattle.kw_live.proofs.Drawing.{draws, met_clock, settles_on, settles_spent, waits}
-use Rattle.kw_follow.proofs.OwnEvents.{goes_trans}
 use Rattle.kw_live.proofs.entering.draw.Goals as goal
 
 pub go_draw-requires-in-ScanWait-2-clause-drawing : goal.go_draw-requires-in-ScanWait-2-clause-drawing
@@ -40,18 +38,3 @@ returns-in_default-clause-unread c = (settles_spent _ _ _ _ c.requires.activity 
 
 pub returns-in_default-clause-spent : goal.returns-in_default-clause-spent
 returns-in_default-clause-spent c = (c.go_draw.result, met_clock c.requires.activity c.go_draw.ensures.met (prefix_self _), (settles_spent _ _ _ _ c.requires.activity c.go_draw.ensures.line c.in_default.not-ScanWait).spent)
-
-pub returns-in-ScanWait-clause-none : goal.returns-in-ScanWait-clause-none
-returns-in-ScanWait-clause-none c =
-    let drawing = ap (λ (k : Local). k.activity) (waits _ _ _ _ c.in-ScanWait.is c.go_draw-in-ScanWait.ensures.line) in
-    let settling = ap (λ (k : Local). k.activity) (draws _ _ _ _ drawing c.go_draw-in-ScanWait-2.ensures.line) in
-    let one = none_at c.go_draw.ensures.goes c.requires.activity c.go_draw.ensures.only (λ h. h) in
-    let two = none_at c.go_draw-in-ScanWait.ensures.goes c.in-ScanWait.is c.go_draw-in-ScanWait.ensures.only (λ h. h) in
-    let three = none_at c.go_draw-in-ScanWait-2.ensures.goes drawing c.go_draw-in-ScanWait-2.ensures.only (λ h. h) in
-    let four = none_at c.go_draw-in-ScanWait-3.ensures.goes settling c.go_draw-in-ScanWait-3.ensures.only (λ h. h) in
-    let last = none_trans c.go_draw-in-ScanWait-2.ensures.goes c.go_draw-in-ScanWait-3.ensures.goes three four in
-    let later = goes_trans _ _ _ _ c.go_draw-in-ScanWait-2.ensures.goes c.go_draw-in-ScanWait-3.ensures.goes in
-    none_trans c.go_draw.ensures.goes (goes_trans _ _ _ _ c.go_draw-in-ScanWait.ensures.goes later) one (none_trans c.go_draw-in-ScanWait.ensures.goes later two last)
-
-pub returns-in_default-clause-none : goal.returns-in_default-clause-none
-returns-in_default-clause-none c = none_at c.go_draw.ensures.goes c.requires.activity c.go_draw.ensures.only (λ h. h)

@@ -2,9 +2,7 @@ use Rattle.std.proofs.Common.{◌≡◌, ◌∙◌, ap, subst, sym, false, true,
 use Rattle.std.specs.Prelude.{IfSome}
 use Rattle.kw_world.specs.Calls.{is_scan}
 use Rattle.kw_live.specs.Stages.{HasEntered}
-use Rattle.kw_live.proofs.Asking.{none_at, none_trans}
 use Rattle.kw_live.proofs.Drawing.{enters, met_clock_earlier}
-use Rattle.kw_follow.proofs.OwnEvents.{goes_trans}
 use Rattle.kw_live.proofs.entering.enter.Goals as goal
 
 pub draw-requires-clause-scan : goal.draw-requires-clause-scan
@@ -49,11 +47,3 @@ returns-in_default-clause-spent c = λ scan.
     let no : is_scan (Some c.args.call) ≡ false = (e.starts c.in_default.not-ScanClock).0 in
     let x : true ≡ false = sym scan ∙ no in
     absurd (cc)
-
-pub returns-in-ScanClock-clause-none : goal.returns-in-ScanClock-clause-none
-returns-in-ScanClock-clause-none c =
-    let announces = none_at c.go_along.ensures.goes c.begin.ensures.activity c.go_along.ensures.only (λ h. h) in
-    none_trans c.begin.ensures.goes (goes_trans _ _ _ _ c.go_along.ensures.goes c.draw.ensures.goes) (none_at c.begin.ensures.goes c.requires.idle c.begin.ensures.only.1 (λ h. h)) (none_trans c.go_along.ensures.goes c.draw.ensures.goes announces c.draw.ensures.none)
-
-pub returns-in_default-clause-none : goal.returns-in_default-clause-none
-returns-in_default-clause-none c = none_trans c.begin.ensures.goes c.go_along.ensures.goes (none_at c.begin.ensures.goes c.requires.idle c.begin.ensures.only.1 (λ h. h)) (none_at c.go_along.ensures.goes c.begin.ensures.activity c.go_along.ensures.only (λ h. h))

@@ -1,17 +1,10 @@
 use Rattle.std.proofs.Common.{None, Some}
 use Rattle.kw_table.specs.Passes.{view}
-use Rattle.kw_live.proofs.Asking.{none_at}
 use Rattle.kw_live.proofs.WalkStages.{sets_out}
 use Rattle.kw_live.proofs.walking.set_out.Goals as goal
 
 pub returns-in-Some-clause-walks : goal.returns-in-Some-clause-walks
 returns-in-Some-clause-walks c = sets_out c.args.local.now c.go.new.local c.go.result (view c.args.pass.now).opening.rows (Some c.in-Some.row) c.requires.start c.go.ensures.line
 
-pub returns-in-Some-clause-none : goal.returns-in-Some-clause-none
-returns-in-Some-clause-none c = none_at c.go.ensures.goes c.requires.start c.go.ensures.only (λ h. h)
-
 pub returns-in-None-clause-walks : goal.returns-in-None-clause-walks
 returns-in-None-clause-walks c = sets_out c.args.local.now c.go_along.new.local c.go_along.result (view c.args.pass.now).opening.rows None c.requires.start c.go_along.ensures.line
-
-pub returns-in-None-clause-none : goal.returns-in-None-clause-none
-returns-in-None-clause-none c = none_at c.go_along.ensures.goes c.requires.start c.go_along.ensures.only (λ h. h)

@@ -1,6 +1,5 @@
 use Rattle.std.proofs.Common.{ap, ◌∙◌, sym}
 use Rattle.kw_core.specs.Stages.{is_walking_stage}
-use Rattle.kw_live.proofs.Asking.{none_trans, walks_asking_none}
 use Rattle.kw_follow.proofs.OwnEvents.{goes_trans}
 use Rattle.kw_live.proofs.WalkStages.{walk_goes, walks_trans}
 use Rattle.kw_live.proofs.walking.walk.Goals as goal
@@ -15,5 +14,4 @@ loop-pass-preserved c = record {
   calls = c.go_along.ensures.calls ∙ c.loop-pass.invariant.calls;
   held = c.go_along.ensures.held ∙ c.loop-pass.invariant.held;
   walks = walks_trans _ _ _ c.loop-pass.invariant.walks (walk_goes _ _ _ _ _ _ _ c.go_along.ensures.goes c.go_along.ensures.met c.go_along.ensures.line (ap is_walking_stage (sym c.of.ensures) ∙ sym c.is_walking.ensures ∙ c.loop-pass-test.true)).walks;
-  none = none_trans c.loop-pass.invariant.goes c.go_along.ensures.goes c.loop-pass.invariant.none (walks_asking_none c.go_along.ensures.goes (ap is_walking_stage (sym c.of.ensures) ∙ sym c.is_walking.ensures ∙ c.loop-pass-test.true) c.go_along.ensures.only);
 }

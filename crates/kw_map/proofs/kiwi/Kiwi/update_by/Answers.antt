@@ -1,30 +1,49 @@
-use Rattle.std.proofs.Common.{◌∙◌}
-use Rattle.kw_world.specs.declared.answer.Answer.TheVariants.{Done, NoRows}
-use Rattle.kw_live.proofs.Asking.{none_trans}
+use Rattle.std.proofs.Common.{[], ◌≡◌, ◌∙◌, rules, subst, sym, true}
+use Rattle.kw_world.specs.declared.answer.Answer.TheVariants.{Done}
+use Rattle.kw_core.specs.Stages.{is_put}
+use Rattle.kw_follow.specs.Calling.{Closes}
+use Rattle.kw_follow.specs.Following.{held}
 use Rattle.kw_follow.proofs.OwnEvents.{goes_trans}
-use Rattle.kw_map.proofs.WholeCalls.{full_within, leaves_with, room_within, whole}
+use Rattle.kw_map.proofs.WholeCalls.{begins_anew, ends_with, is_full, leaves_with, opens_on, whole}
 use Rattle.kw_map.proofs.kiwi.Kiwi.update_by.Goals as goal
 
 pub returns-in-Done-clause-goes : goal.returns-in-Done-clause-goes
-returns-in-Done-clause-goes g c = goes_trans _ _ _ _ (goes_trans _ _ _ _ c.loop.invariant.goes c.locate.ensures.goes) (goes_trans _ _ _ _ c.in-Done.ensures.goes c.leave.ensures.goes)
+returns-in-Done-clause-goes g c = goes_trans _ _ _ _ (goes_trans _ _ _ _ c.loop.invariant.goes c.locate.ensures.goes) (goes_trans _ _ _ _ c.try_put.ensures.goes c.leave.ensures.goes)
 
 pub returns-in-Done-clause-calls : goal.returns-in-Done-clause-calls
 returns-in-Done-clause-calls g c =
-    let leaves = leaves_with Done c.in-Done.ensures.follows c.in-Done.ensures.leaves in
-    whole c.loop.invariant.opens (c.in-Done.ensures.calls ∙ c.locate.ensures.calls) (c.leave.ensures.closes Done leaves).0
+    let leaves = leaves_with Done c.try_put.ensures.follows c.in-Done.ensures.stands in
+    whole c.loop.invariant.opens (c.try_put.ensures.calls ∙ c.locate.ensures.calls) (c.leave.ensures.closes Done leaves).0
 
-pub returns-in-Done-clause-cause : goal.returns-in-Done-clause-cause
-returns-in-Done-clause-cause g c =
-    let early = none_trans c.loop.invariant.goes c.locate.ensures.goes c.loop.invariant.none c.locate.ensures.none in
-    room_within (goes_trans _ _ _ _ c.loop.invariant.goes c.locate.ensures.goes) c.in-Done.ensures.goes c.leave.ensures.goes early c.leave.ensures.none c.in-Done.ensures.cause
+pub make_room-requires-clause-activity : goal.make_room-requires-clause-activity
+make_room-requires-clause-activity g c = is_full c.try_put.result c.try_put.new.local.activity c.in_default.not-Done c.try_put.ensures.stands
 
-pub returns-in-RowFull-clause-goes : goal.returns-in-RowFull-clause-goes
-returns-in-RowFull-clause-goes g c = goes_trans _ _ _ _ (goes_trans _ _ _ _ c.loop.invariant.goes c.locate.ensures.goes) (goes_trans _ _ _ _ c.in-RowFull.ensures.goes c.leave-in-RowFull.ensures.goes)
+pub make_room-requires-clause-update : goal.make_room-requires-clause-update
+make_room-requires-clause-update g c = subst (λ call. is_put call ≡ true) (sym (c.try_put.ensures.call ∙ (c.locate.ensures.call ∙ c.loop.invariant.call))) c.requires.update
 
-pub returns-in-RowFull-clause-calls : goal.returns-in-RowFull-clause-calls
-returns-in-RowFull-clause-calls g c =
-    let leaves = leaves_with NoRows c.in-RowFull.ensures.follows c.in-RowFull.ensures.leaves in
-    whole c.loop.invariant.opens (c.in-RowFull.ensures.calls ∙ c.locate.ensures.calls) (c.leave-in-RowFull.ensures.closes NoRows leaves).0
+pub leave-requires-in-Some-make_room-clause-leaving : goal.leave-requires-in-Some-make_room-clause-leaving
+leave-requires-in-Some-make_room-clause-leaving g c = let ends = ends_with c.in-Some-make_room.end c.make_room.new.local.activity [] c.in-Some-make_room.ensures.stands in (ends.0, ends.1)
 
-pub returns-in-RowFull-clause-cause : goal.returns-in-RowFull-clause-cause
-returns-in-RowFull-clause-cause g c = full_within (goes_trans _ _ _ _ c.loop.invariant.goes c.locate.ensures.goes) c.leave-in-RowFull.ensures.goes c.in-RowFull.ensures.cause.1
+pub returns-in-Some-make_room-clause-goes : goal.returns-in-Some-make_room-clause-goes
+returns-in-Some-make_room-clause-goes g c =
+    let before = goes_trans _ _ _ _ (goes_trans _ _ _ _ c.loop.invariant.goes c.locate.ensures.goes) c.try_put.ensures.goes in
+    goes_trans _ _ _ _ before (goes_trans _ _ _ _ c.make_room.ensures.goes c.leave-in-Some-make_room.ensures.goes)
+
+pub returns-in-Some-make_room-clause-calls : goal.returns-in-Some-make_room-clause-calls
+returns-in-Some-make_room-clause-calls g c =
+    let ends = ends_with c.in-Some-make_room.end c.make_room.new.local.activity (held c.make_room.new.pass) c.in-Some-make_room.ensures.stands in
+    let closes = (c.leave-in-Some-make_room.ensures.closes ends.0 (leaves_with ends.0 c.make_room.ensures.follows ends.1)).0 in
+    whole c.loop.invariant.opens (c.make_room.ensures.calls ∙ (c.try_put.ensures.calls ∙ c.locate.ensures.calls)) (subst (Closes c.make_room.new.pass c.leave-in-Some-make_room.new.pass) ends.2 closes)
+
+pub loop-preserved : goal.loop-preserved
+loop-preserved g c =
+    let before = goes_trans _ _ _ _ (goes_trans _ _ _ _ c.loop.invariant.goes c.locate.ensures.goes) c.try_put.ensures.goes in
+    record {
+      can_next = search rules;
+      is_finite = search rules;
+      goes = goes_trans _ _ _ _ before c.make_room.ensures.goes;
+      follows = c.make_room.ensures.follows;
+      activity = begins_anew c.make_room.result c.make_room.new.local.activity c.in_default-make_room.not-Some c.make_room.ensures.stands;
+      call = c.make_room.ensures.call ∙ (c.try_put.ensures.call ∙ (c.locate.ensures.call ∙ c.loop.invariant.call));
+      opens = opens_on c.loop.invariant.opens (c.make_room.ensures.calls ∙ (c.try_put.ensures.calls ∙ c.locate.ensures.calls));
+    }

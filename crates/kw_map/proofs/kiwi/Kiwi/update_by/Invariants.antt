@@ -2,7 +2,6 @@ use Rattle.std.proofs.Common.{◌≡◌, Some}
 use Rattle.kw_world.specs.declared.activity.Activity.TheVariants.{Start}
 use Rattle.kw_follow.specs.Calling.{Opens}
 use Rattle.kw_follow.specs.Following.{Follows, GoesTo}
-use Rattle.kw_live.specs.Meeting.{AsksNone}
 use Rattle.kw_map.proofs.kiwi.Kiwi.update_by.Given as goal
 
 abbrev pub invariant-loop : goal.invariant-loop
@@ -14,5 +13,4 @@ invariant-loop g l = record {
   activity : l.local.activity ≡ Start;
   call : l.local.call ≡ Some l.fn.call;
   opens : Opens l.fn.pass l.pass l.fn.call;
-  none : AsksNone l.fn.pass l.pass;
 }

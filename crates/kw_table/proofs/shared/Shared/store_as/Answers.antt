@@ -1,11 +1,11 @@
 use Rattle.std.proofs.Common.{sym, ◌∙◌, refl, subst, ◌<◌}
 use Rattle.kw_world.specs.declared.operation.Action.TheVariants.{Store}
 use Rattle.kw_table.proofs.Stepping.{steps_by_store}
-use Rattle.kw_table.proofs.Calls.{named_within, is_ready, action_is, asked, known_on, makes_on}
+use Rattle.kw_table.proofs.Calls.{named_within, is_ready, action_is, asked, known_on, counted_on, makes_on}
 use Rattle.kw_table.proofs.shared.Shared.store_as.Goals as goal
 
-pub place-requires : goal.place-requires
-place-requires g c = named_within c.args.self.now c.args.pass.now c.args.choice c.args.operation c.requires.asked
+pub slot-requires : goal.slot-requires
+slot-requires g c = named_within c.args.self.now c.args.pass.now c.args.choice c.args.operation c.requires.asked
 
 pub store-requires : goal.store-requires
 store-requires g c =
@@ -13,8 +13,8 @@ store-requires g c =
     let ask = c.requires.asked in
     let action = action_is c.args.self.now pass c.args.choice c.args.operation (Store c.args.stored) ask c.requires.action in (
       ask.of_table.0,
-      subst (λ n. c.place.result < n) (sym c.args.self.now.words_are) c.place.ensures.below,
-      asked _ _ pass.seat.me c.args.choice _ c.args.operation _ _ (λ _. c.args.stored) (λ _. c.args.stored) c.requires.choice ask.next c.place.ensures.place (ask.of_table.1 ∙ sym c.args.self.now.key_is)
+      subst (λ n. c.slot.result < n) (sym c.args.self.now.words_are) c.slot.ensures.below,
+      asked _ _ pass.seat.me c.args.choice _ c.args.operation _ _ (λ _. c.args.stored) (λ _. c.args.stored) c.requires.choice ask.next c.slot.ensures.slot (ask.of_table.1 ∙ sym c.args.self.now.key_is)
           (steps_by_store _ _ pass.seat.me c.args.choice (is_ready c.args.self.now pass c.args.choice c.args.operation ask) c.args.stored action),
     )
 
@@ -22,7 +22,10 @@ pub invariant_of-pass : goal.invariant_of-pass
 invariant_of-pass g c =
     let pass = c.args.pass.now in
     let action = action_is c.args.self.now pass c.args.choice c.args.operation (Store c.args.stored) c.requires.asked c.requires.action in
-    record { known = known_on _ pass.seat.me c.store.new.seat.me c.args.choice _ (Store c.args.stored) c.args.stored _ c.requires.choice action refl c.store.ensures.2 pass.known }
+    record {
+      known = known_on _ pass.seat.me c.store.new.seat.me c.args.choice _ (Store c.args.stored) c.args.stored _ c.requires.choice action refl c.store.ensures.2 pass.known;
+      counted = counted_on c.args.self.now pass _ c.store.new.seat.me c.args.choice _ c.args.operation (Store c.args.stored) c.args.stored _ c.requires.choice c.requires.action refl c.requires.asked c.store.ensures.2 c.walked_after-pass.ensures;
+    }
 
 pub returns : goal.returns
 returns g c =

@@ -1,20 +1,20 @@
 use Rattle.std.proofs.Common.{bit_or, sym, ◌∙◌, refl, subst, ◌<◌}
 use Rattle.kw_world.specs.declared.operation.Action.TheVariants.{Or}
 use Rattle.kw_table.proofs.Stepping.{steps_by_or}
-use Rattle.kw_table.proofs.Calls.{named_within, is_ready, action_is, asked, known_on, makes_on}
+use Rattle.kw_table.proofs.Calls.{named_within, is_ready, action_is, asked, known_on, counted_on, makes_on}
 use Rattle.kw_table.proofs.shared.Shared.unite_as.Goals as goal
 
-pub place-requires : goal.place-requires
-place-requires g c = named_within c.args.self.now c.args.pass.now c.args.choice c.args.operation c.requires.asked
+pub slot-requires : goal.slot-requires
+slot-requires g c = named_within c.args.self.now c.args.pass.now c.args.choice c.args.operation c.requires.asked
 
-pub fetch_or-requires : goal.fetch_or-requires
-fetch_or-requires g c =
+pub fetch_or-told-requires : goal.fetch_or-told-requires
+fetch_or-told-requires g c =
     let pass = c.args.pass.now in
     let ask = c.requires.asked in
     let action = action_is c.args.self.now pass c.args.choice c.args.operation (Or c.args.bits) ask c.requires.action in (
       ask.of_table.0,
-      subst (λ n. c.place.result < n) (sym c.args.self.now.words_are) c.place.ensures.below,
-      asked _ _ pass.seat.me c.args.choice _ c.args.operation _ _ (λ n. bit_or n c.args.bits) (λ n. n) c.requires.choice ask.next c.place.ensures.place (ask.of_table.1 ∙ sym c.args.self.now.key_is)
+      subst (λ n. c.slot.result < n) (sym c.args.self.now.words_are) c.slot.ensures.below,
+      asked _ _ pass.seat.me c.args.choice _ c.args.operation _ _ (λ n. bit_or n c.args.bits) (λ n. n) c.requires.choice ask.next c.slot.ensures.slot (ask.of_table.1 ∙ sym c.args.self.now.key_is)
           (steps_by_or _ _ pass.seat.me c.args.choice (is_ready c.args.self.now pass c.args.choice c.args.operation ask) c.args.bits action),
     )
 
@@ -22,8 +22,11 @@ pub invariant_of-pass : goal.invariant_of-pass
 invariant_of-pass g c =
     let pass = c.args.pass.now in
     let action = action_is c.args.self.now pass c.args.choice c.args.operation (Or c.args.bits) c.requires.asked c.requires.action in
-    record { known = known_on _ pass.seat.me c.fetch_or.new.seat.me c.args.choice _ (Or c.args.bits) _ _ c.requires.choice action refl c.fetch_or.ensures.2 pass.known }
+    record {
+      known = known_on _ pass.seat.me c.fetch_or-told.new.seat.me c.args.choice _ (Or c.args.bits) _ _ c.requires.choice action refl c.fetch_or-told.ensures.2 pass.known;
+      counted = counted_on c.args.self.now pass _ c.fetch_or-told.new.seat.me c.args.choice _ c.args.operation (Or c.args.bits) _ _ c.requires.choice c.requires.action refl c.requires.asked c.fetch_or-told.ensures.2 c.walked_after-pass.ensures;
+    }
 
 pub returns : goal.returns
 returns g c =
-    makes_on c.args.self.now c.args.pass.now _ c.args.choice _ _ (Or c.args.bits) _ _ c.requires.choice c.requires.action refl c.requires.asked (c.fetch_or.ensures.0 ∙ c.requires.asked.of_table.0) c.fetch_or.ensures.2
+    makes_on c.args.self.now c.args.pass.now _ c.args.choice _ _ (Or c.args.bits) _ _ c.requires.choice c.requires.action refl c.requires.asked (c.fetch_or-told.ensures.0 ∙ c.requires.asked.of_table.0) c.fetch_or-told.ensures.2

@@ -1,0 +1,144 @@
+//! What puts take while a map of many rows fills, until no row is left.
+ghost use Rattle.std.specs.Prelude.{◌≡◌, ◌≤◌};
+ghost use Rattle.kw_map.specs.Kiwi.{IsIdle};
+
+use crate::map_load::{Order, ROWS};
+use crate::timing::opened;
+use kw_map::kiwi::Kiwi;
+use kw_table::Pass;
+use kw_words::sizes::BUILT_COUNT;
+use std::io;
+use std::sync::Wait;
+use std::thread::Threads;
+use std::time::Instant;
+
+/// In which order a map is filled, and how far at most.
+#[derive(Clone, Copy, Debug, PartialEq, Eq)]
+pub struct Plan {
+    /// In which order the keys come.
+    pub order: Order,
+    /// How many keys are put if none is refused.
+    pub calls: u32,
+}
+
+/// How far a map is filled.
+#[derive(Clone, Copy, Debug, PartialEq, Eq)]
+pub struct Filled {
+    /// How many keys were put, each with a value.
+    pub keys: u32,
+    /// Whether the next one was refused. Nothing is put then any more.
+    pub refused: bool,
+}
+
+/// The last puts before a map held a number of keys: a quarter of them.
+#[derive(Clone, Copy, Debug)]
+pub struct Stretch {
+    /// How many puts they were: none, if the map was never so full.
+    pub puts: u32,
+    /// What they took, in nanoseconds.
+    pub took: u128,
+}
+
+/// How long puts took while a map filled.
+#[derive(Clone, Copy, Debug)]
+pub struct FillFigure {
+    /// In which order the keys came.
+    pub order: Order,
+    /// The last puts before 1,024 rows' worth of keys.
+    pub few: Stretch,
+    /// The last puts before 4,096 rows' worth.
+    pub some: Stretch,
+    /// The last puts before 16,384 rows' worth.
+    pub many: Stretch,
+    /// What all puts took, in nanoseconds.
+    pub took: u128,
+    /// How far the map was filled.
+    pub filled: Filled,
+}
+
+/// Times puts into an empty map until one is refused, or so many are made.
+pub fn time_fill<T: Threads + Wait + Sync>(
+    rt: &HostRuntime,
+    threads: &T,
+    order: Order,
+    calls: u32,
+) -> io::Result<FillFigure> {
+    let (kiwi, _, mut pass) = opened(rt.alloc(), ROWS, 0)?;
+    let plan = Plan { order, calls };
+    let empty = Filled {
+        keys: 0,
+        refused: false,
+    };
+    let start = Instant::now(rt)?;
+    let (filled, few) = time_stretch(rt, threads, &kiwi, &mut pass, plan, empty, 1_024)?;
+    let (filled, some) = time_stretch(rt, threads, &kiwi, &mut pass, plan, filled, 4_096)?;
+    let (filled, many) = time_stretch(rt, threads, &kiwi, &mut pass, plan, filled, 16_384)?;
+    let filled = put_upto(threads, &kiwi, &mut pass, order, filled, calls);
+    Ok(FillFigure {
+        order,
+        few,
+        some,
+        many,
+        took: start.elapsed(rt)?.as_nanos(),
+        filled,
+    })
+}
+
+// Puts on until so many rows' worth of keys are in, but no more than so many keys, and times the last quarter of them.
+fn time_stretch<R: Wait>(
+    clock: &HostRuntime,
+    rt: &R,
+    kiwi: &Kiwi,
+    pass: &mut Pass,
+    plan: Plan,
+    filled: Filled,
+    rows: u32,
+) -> io::Result<(Filled, Stretch)>
+    requires idle { IsIdle kiwi.now pass.old }
+    requires rows { rows ≤ ROWS }
+    ensures { IsIdle kiwi.now pass.new }
+{
+    let keys = rows * BUILT_COUNT;
+    let begun = put_upto(
+        rt,
+        kiwi,
+        pass,
+        plan.order,
+        filled,
+        plan.calls.min(keys - keys / 4),
+    );
+    let start = Instant::now(clock)?;
+    let ended = put_upto(rt, kiwi, pass, plan.order, begun, plan.calls.min(keys));
+    let took = start.elapsed(clock)?.as_nanos();
+    let puts = ended.keys.saturating_sub(begun.keys);
+    Ok((ended, Stretch { puts, took }))
+}
+
+// Puts on until so many keys are in, or one is refused.
+fn put_upto<R: Wait>(
+    rt: &R,
+    kiwi: &Kiwi,
+    pass: &mut Pass,
+    order: Order,
+    filled: Filled,
+    keys: u32,
+) -> Filled
+    requires { IsIdle kiwi.now pass.old }
+    ensures { IsIdle kiwi.now pass.new }
+{
+    if filled.refused {
+        return filled;
+    }
+    for number in filled.keys..keys {
+        if kiwi.put(rt, pass, order.key(number), 1).is_err() {
+            return Filled {
+                keys: number,
+                refused: true,
+            };
+        }
+    }
+    Filled {
+        keys: filled.keys.max(keys),
+        refused: false,
+    }
+}

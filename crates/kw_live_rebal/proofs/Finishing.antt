@@ -1,0 +1,62 @@
+-- The end of a rebalance that won: its new rows are made normal, and its row is retired.
+use Rattle.std.proofs.Common.{◌≡◌, ℕ, ◌+◌, Bool, true, false, refl, sym, ◌∙◌, ap, subst, if◌then◌else◌}
+use Rattle.kw_world.specs.declared.activity.Activity.{Activity}
+use Rattle.kw_world.specs.declared.activity.Activity.TheVariants.{Again, Normalise, Number, Retire}
+use Rattle.kw_world.specs.declared.event.Choice.TheVariants.{Go}
+use Rattle.kw_world.specs.declared.event.StepDone.TheVariants.{Moved}
+use Rattle.kw_world.specs.declared.local.Local.{Local}
+use Rattle.kw_world.specs.SeekTransitions.{at_infant, has_more}
+use Rattle.kw_world.specs.Sizes.{product}
+use Rattle.kw_world.specs.Step.{next_of, transition_of}
+use Rattle.kw_world.specs.Table.{transition}
+use Rattle.kw_world.specs.Transition.{Outcome, outcome, to}
+use Rattle.kw_table.specs.declared.pass.Pass.{Pass}
+use Rattle.kw_table.specs.declared.shared.Shared.{Shared}
+use Rattle.kw_follow.specs.Calling.{KeepsCalls}
+use Rattle.kw_follow.specs.Following.{Follows, GoesTo, held}
+use Rattle.kw_follow.specs.Within.{IsWithinCall}
+
+-- where it stands
+abbrev pub IsFinishing : Activity → Type 0
+IsFinishing Normalise = Unit {0}
+IsFinishing Number = Unit {0}
+IsFinishing Retire = Unit {0}
+IsFinishing Again = Unit {0}
+IsFinishing _ = ⊥
+
+-- what stays through its events
+pub record Finishes (s : Shared) (o p : Pass) (l : Local) : Type 0 where
+  pub goes : GoesTo s o p
+  pub follows : Follows s p l
+  pub calls : KeepsCalls o p
+  pub held : held p ≡ held o
+  pub stands : IsFinishing l.activity
+
+-- each is one in the middle of a call
+pub finishing_within : (a : Activity) → IsFinishing a → IsWithinCall a
+finishing_within Normalise h = tt
+finishing_within Number h = tt
+finishing_within Retire h = tt
+finishing_within Again h = tt
+finishing_within _ h = absurd h
+
+module _ (rows : ℕ) (l m : Local) (told : ℕ) (line : outcome m Moved ≡ next_of product rows Go l told) where
+  activity_is : (a : Activity) → l.activity ≡ a → m.activity ≡ ((transition product a 0 Go l).next rows told).local.activity
+  unfolding transition_of
+  activity_is a is = ap (λ (x : Outcome). x.local.activity) (line ∙ ap (λ b. (transition product b 0 Go l).next rows told) is)
+
+  -- the next of the new rows is made normal, or its row gets its number
+  normalises : (b : Bool) → IsFinishing (let x : Outcome = if b then to Normalise (at_infant (l.rebalance.at + 1) l) else to Number l in x).local.activity
+  normalises true = tt
+  normalises false = tt
+
+  event : (a : Activity) → l.activity ≡ a → IsFinishing a → (a ≡ Again → ⊥) → IsFinishing m.activity
+  event Normalise is h n = subst IsFinishing (sym (activity_is Normalise is)) (normalises (has_more l))
+  event Number is h n = subst IsFinishing (sym (activity_is Number is)) tt
+  event Retire is h n = subst IsFinishing (sym (activity_is Retire is)) tt
+  event Again is h n = absurd (n refl)
+  event _ is h n = absurd h
+
+  -- an event goes on to where the end still stands
+  pub finishes_on : IsFinishing l.activity → (l.activity ≡ Again → ⊥) → IsFinishing m.activity
+  finishes_on = event l.activity refl

@@ -1,0 +1,144 @@
+-- What a rebalance has met where it stands.
+use Rattle.std.proofs.Common.{◌≡◌, ◌≢◌, ℕ, ◌<◌, ◌≤◌, ◌++◌, [], ◌∷◌, arith, refl, sym, ◌∙◌, ap, subst, length, length-append}
+use Rattle.std.proofs.lemmas.Bool.{cases_lt}
+use mathlib.Core.Logic.{⊎_elim}
+use Rattle.kw_world.specs.declared.answer.Answer.{Answer}
+use Rattle.kw_world.specs.declared.answer.Answer.TheVariants as answer
+use Rattle.kw_world.specs.declared.activity.Activity.{Activity}
+use Rattle.kw_world.specs.declared.activity.Activity.TheVariants.{Idle, ListFrom, ListKey, ListVer, ListVal, RestKey, RestVal, ClearScan, Leave, Again, SeekFirst, Seek, SeekPass, Reclaim, TakeRow, GiveBack, Normalise, Number, Retire}
+use Rattle.kw_world.specs.declared.event.Choice.{Choice}
+use Rattle.kw_world.specs.declared.local.Local.{Local}
+use Rattle.kw_world.specs.declared.rebalance.Afterwards.TheVariants.{Refuse, TryAgain}
+use Rattle.kw_world.specs.Sizes.{product}
+use Rattle.kw_core.specs.Events.{event}
+use Rattle.kw_core.specs.Stages.{IsBalancing}
+use Rattle.kw_laws.specs.Causes.{AskedAll}
+use Rattle.kw_laws.proofs.CausesHold.{standing_holds}
+use Rattle.kw_laws.proofs.Worlds.{world-local}
+use Rattle.kw_table.specs.declared.pass.Pass.{Pass}
+use Rattle.kw_table.specs.declared.shared.Shared.{Shared}
+use Rattle.kw_table.specs.Passes.{view}
+use Rattle.kw_table.specs.Views.{local_in}
+use Rattle.kw_table.proofs.Prefixes.{prefix_trans}
+use Rattle.kw_follow.specs.Calling.{KeepsCalls, now_in}
+use Rattle.kw_follow.specs.Following.{Follows, GoesTo, held}
+use Rattle.kw_follow.specs.OwnEvents.{Met}
+use Rattle.kw_follow.specs.Within.{IsWithinCall}
+use Rattle.kw_follow.proofs.Fronts.{acts_of_met, seat_within}
+use Rattle.kw_follow.proofs.OneEvent.{same_activity}
+use Rattle.kw_live_rebal.specs.declared.rebalancing.Rebalanced.{Rebalanced}
+use Rattle.kw_live_rebal.specs.declared.rebalancing.Rebalanced.TheVariants.{NoRows, Spent}
+use Rattle.kw_live_rebal.specs.Rebalancing.{HasEnded, MetNoRows, MetReplaced, MetSpent, MetWon, stands_after}
+
+-- it began a search for rows
+pub record MetSearch (p q : Pass) : Type 0 where
+  pub choice : Choice
+  pub told : ℕ
+  pub met : Met p q SeekFirst choice told
+
+-- what it has met where it stands. It stands at no activity but these, and those of a rebalance: whoever makes its events sees to it that it does not
+-- come to the end of one that won
+abbrev pub HasMet : Pass → Pass → Activity → Local → Type 0
+HasMet o p (Leave answer.Spent) l = MetSpent o p
+HasMet o p (Leave answer.NoRows) l = MetSearch o p
+HasMet o p Again l = MetReplaced o p
+HasMet o p Seek l = MetSearch o p
+HasMet o p (SeekPass i) l = MetSearch o p
+HasMet o p Reclaim l = MetSearch o p
+HasMet o p TakeRow l = MetSearch o p
+HasMet o p GiveBack l = (l.rebalance.afterwards ≡ Refuse → MetSearch o p) × (l.rebalance.afterwards ≡ TryAgain → MetReplaced o p)
+HasMet o p Normalise l = MetWon o p
+HasMet o p Number l = ⊥
+HasMet o p Retire l = ⊥
+HasMet o p a l = IsBalancing a
+
+-- what stays through all events of a rebalance
+pub record Rebalances (s : Shared) (o p : Pass) (l : Local) : Type 0 where
+  pub goes : GoesTo s o p
+  pub follows : Follows s p l
+  pub calls : KeepsCalls o p
+  pub held : held p ≡ held o
+  pub met : HasMet o p l.activity l
+
+-- an event of a rebalance that is not over is one in the middle of a call
+pub within : (o p : Pass) (l : Local) (a : Activity) → HasMet o p a l → ((x : Answer) → a ≡ Leave x → ⊥) → IsWithinCall a
+within o p l (Leave x) h n = absurd (n x refl)
+within o p l Idle h n = absurd h
+within o p l ListFrom h n = absurd h
+within o p l ListKey h n = absurd h
+within o p l ListVer h n = absurd h
+within o p l ListVal h n = absurd h
+within o p l RestKey h n = absurd h
+within o p l RestVal h n = absurd h
+within o p l (ClearScan answer) h n = absurd h
+within o p l _ h n = tt
+
+-- What was met earlier is met.
+
+module _ {s : Shared} (o : Pass) {p q : Pass} (goes : GoesTo s p q) where
+  pub spent_on : MetSpent o p → MetSpent o q
+  spent_on m = record {
+    activity = m.activity;
+    at = m.at;
+    choice = m.choice;
+    told = m.told;
+    met = record { front = m.met.front; later = m.met.later; here = prefix_trans _ _ _ m.met.here goes.seen; activity = m.met.activity; tells = m.met.tells };
+    spent = m.spent;
+  }
+
+  pub search_on : MetSearch o p → MetSearch o q
+  search_on m = record {
+    choice = m.choice;
+    told = m.told;
+    met = record { front = m.met.front; later = m.met.later; here = prefix_trans _ _ _ m.met.here goes.seen; activity = m.met.activity; tells = m.met.tells };
+  }
+
+  pub won_on : MetWon o p → MetWon o q
+  won_on m = record {
+    choice = m.choice;
+    told = m.told;
+    met = record { front = m.met.front; later = m.met.later; here = prefix_trans _ _ _ m.met.here goes.seen; activity = m.met.activity; tells = m.met.tells };
+    leads = m.leads;
+    unmarked = m.unmarked;
+  }
+
+  pub replaced_on : MetReplaced o p → MetReplaced o q
+  replaced_on m = record {
+    activity = m.activity;
+    choice = m.choice;
+    told = m.told;
+    met = record { front = m.met.front; later = m.met.later; here = prefix_trans _ _ _ m.met.here goes.seen; activity = m.met.activity; tells = m.met.tells };
+    replaced = m.replaced;
+    unlinked = m.unlinked;
+  }
+
+-- For want of rows.
+
+-- a pass that began a search since, and is about to leave for want of rows, asked for each row in a search since
+pub no_rows_from : {s : Shared} {o p : Pass} {l : Local} → GoesTo s o p → Follows s p l → l.activity ≡ Leave answer.NoRows → MetSearch o p → MetNoRows o p
+no_rows_from {s} {o} {p} {l} goes f is m =
+    let why = standing_holds product (view p).opening p.known.opens (view p).seen p.known.valid (view p).number (local_in (view p)) (world-local product (view p).opening (view p).seen (view p).number (seat_within p)) (same_activity s p l f ∙ is) in
+    let asked : AskedAll product (view p).opening (view p).seen (view p).number (view p).opening.rows why.0 (now_in p) = why.1 in
+    let began : now_in o ≤ length m.met.front = omega (arith, sym (ap length m.met.later.1), length-append (view o).seen m.met.later.0) in
+    let front : length m.met.front < now_in p = omega (arith, sym (ap length m.met.here.1), length-append (m.met.front ++ event (view o).number m.choice ∷ []) m.met.here.0, length-append m.met.front (event (view o).number m.choice ∷ [])) in
+    record {
+      first = why.0;
+      asked = asked;
+      since = ⊎_elim
+          (λ (before : asked.begun < now_in o). absurd (asked.alone (length m.met.front) _ _ (omega (arith, before, began)) front (acts_of_met s o p SeekFirst m.choice m.told goes m.met)))
+          (λ (since : now_in o ≤ asked.begun). since)
+          (cases_lt asked.begun (now_in o));
+    }
+
+-- How a rebalance ends that is about to leave.
+
+-- it has its cause, and stands where it is said to
+pub record Ends (o p : Pass) (a : Activity) (r : Rebalanced) : Type 0 where
+  pub stands : a ≡ stands_after r
+  pub cause : HasEnded o p r
+
+-- for want of rows, or as spent, as its answer says
+pub ends_refused : {s : Shared} {o p : Pass} {l : Local} → GoesTo s o p → Follows s p l → (x : Answer) → l.activity ≡ Leave x → HasMet o p (Leave x) l → (r : Rebalanced) → (x ≡ answer.NoRows → r ≡ NoRows) → (x ≢ answer.NoRows → r ≡ Spent) → Ends o p l.activity r
+ends_refused {s} {o} {p} {l} goes f answer.NoRows is h r rows spent = subst (Ends o p l.activity) (sym (rows refl)) (record { stands = is; cause = no_rows_from goes f is h })
+ends_refused {s} {o} {p} {l} goes f answer.Spent is h r rows spent = subst (Ends o p l.activity) (sym (spent (λ e. let x : answer.Spent ≡ answer.NoRows = e in cc))) (record { stands = is; cause = h })
+ends_refused {s} {o} {p} {l} goes f _ is h r rows spent = absurd h

@@ -1,0 +1,383 @@
+-- Each event of a rebalance keeps what it has met: where it ends, there is a cause for how it ends.
+use Rattle.std.proofs.Common.{◌≡◌, ◌≢◌, ℕ, ◌+◌, ◌≤◌, ◌⊎◌, inl, inr, Bool, true, false, nat_le, nat_lt, ◌==◌, ◌++◌, List, [], ◌∷◌, Option, Some, None, if◌then◌else◌, arith, refl, sym, ◌∙◌, ap, subst, length, eq-eqb, eqb-true}
+use Rattle.std.proofs.lemmas.Bool.Decides.{nat_tests}
+use Rattle.std.proofs.lemmas.Option.{same_Some}
+use mathlib.Core.List.{IsPrefix}
+use Rattle.kw_words.specs.declared.sizes.TheConstants.{SPENT}
+use Rattle.kw_words.specs.declared.layout.Name.TheVariants as name
+use Rattle.kw_words.specs.declared.link.Link.{Link}
+use Rattle.kw_words.specs.declared.pend.Pend.{Pend}
+use Rattle.kw_words.specs.declared.pend.Pend.TheVariants as pend
+use Rattle.kw_words.specs.declared.scan.ScanWord.{ScanWord}
+use Rattle.kw_words.specs.declared.scan.ScanWord.TheVariants.{Quiet, Waiting, Drawn}
+use Rattle.kw_words.specs.declared.state.State.{State}
+use Rattle.kw_words.specs.declared.state.State.TheVariants.{Free, Infant, Normal, Leader, Follower, Retired}
+use Rattle.kw_words.specs.Link.{link_of}
+use Rattle.kw_words.specs.Pend.{pend_of, pend_word}
+use Rattle.kw_words.specs.Plain.{cell_of_link_word, key_of_word, pass_of_word, value_of_word}
+use Rattle.kw_words.specs.Scan.{scan_of}
+use Rattle.kw_words.specs.State.{state_of, state_word}
+use Rattle.kw_world.specs.declared.answer.Answer.{Answer}
+use Rattle.kw_world.specs.declared.activity.Activity.{Activity}
+use Rattle.kw_world.specs.declared.activity.Activity.TheVariants.{Leave, Again, BalClock, BalEpoch, BalState, BalNormal, Engage, MarkLink, Decide, FreezeCount, FreezeLook, Freeze, ScanLook, HelpDraw, HelpSettle, TakeFrom, TakeKey, TakeVersion, TakeValue, TakeRestKey, TakeRestValue, SeekFirst, Seek, SeekPass, Reclaim, TakeRow, GiveBack, WriteCount, WriteMin, WriteNext, WriteFirst, WritePend, WriteKey, WriteValue, WriteVersion, WriteAfter, Before, BeforeGuess, BeforeHead, BeforeLink, BeforeMin, Replace, Normalise}
+use Rattle.kw_world.specs.declared.event.Choice.{Choice}
+use Rattle.kw_world.specs.declared.event.Choice.TheVariants.{Begin, Go, Guess, Stop}
+use Rattle.kw_world.specs.declared.event.Event.{Event}
+use Rattle.kw_world.specs.declared.event.StepDone.TheVariants.{Moved}
+use Rattle.kw_world.specs.declared.local.Local.{Local}
+use Rattle.kw_world.specs.declared.marks.Mark.{Mark}
+use Rattle.kw_world.specs.declared.opening.Opening.{Opening}
+use Rattle.kw_world.specs.declared.rebalance.Afterwards.{Afterwards}
+use Rattle.kw_world.specs.declared.rebalance.Afterwards.TheVariants.{TryAgain, Refuse, MoveLeft}
+use Rattle.kw_world.specs.EngageTransitions.{decided, engaged, is_alone, state_met}
+use Rattle.kw_world.specs.FreezeTransitions.{entry_tried, freeze_met, marking, needing, scan_helped, scan_met, to_freeze_look, to_scan_look}
+use Rattle.kw_world.specs.Marks.{least_mark}
+use Rattle.kw_world.specs.Operation.{told_by}
+use Rattle.kw_world.specs.ReplaceTransitions.{before_transition, first_before, guess_before, link_before, replaced, row_before, row_replaced}
+use Rattle.kw_world.specs.SeekTransitions.{give_back, given_back, has_more, pass_met, seek_first_transition, seek_met, seeking, take_row, to_pass, to_seek, with_row}
+use Rattle.kw_world.specs.Sizes.{product}
+use Rattle.kw_world.specs.Step.{next_of, transition_of, word}
+use Rattle.kw_world.specs.Table.{transition}
+use Rattle.kw_world.specs.TakeTransitions.{keeping, left_of, take_met}
+use Rattle.kw_world.specs.Transition.{Outcome, outcome, row_linked, row_or_first}
+use Rattle.kw_world.specs.WalkTransitions.{offered}
+use Rattle.kw_world.specs.WorldView.{WorldView}
+use Rattle.kw_world.specs.WriteTransitions.{infant_cells, row_written, to_write_cell, to_write_entry, unmarked_link}
+use Rattle.kw_core.specs.Events.{event, local_of, world}
+use Rattle.kw_core.specs.Run.{history}
+use Rattle.kw_core.proofs.Runs.{history-world}
+use Rattle.kw_laws.specs.Laws.{IsMetState, IsStated}
+use Rattle.kw_shape.specs.MetRows.{IsMet}
+use Rattle.kw_shape.specs.RowsIn.{has_mark}
+use Rattle.kw_puts.proofs.Owners.{true_false}
+use Rattle.kw_table.specs.declared.pass.Pass.{Pass}
+use Rattle.kw_table.specs.declared.shared.Shared.{Shared}
+use Rattle.kw_table.specs.Passes.{view}
+use Rattle.kw_table.proofs.Prefixes.{prefix_trans}
+use Rattle.kw_follow.specs.Following.{GoesTo}
+use Rattle.kw_follow.specs.OwnEvents.{Met, MetAs, knew, transition_after}
+use Rattle.kw_follow.proofs.Fronts.{local_at, met_laws, met_local, met_told}
+use Rattle.kw_live_rebal.specs.Rebalancing.{IsRetired, IsWalkEnd, MetReplaced, MetSpent, MetWon, TellsReplaced}
+use Rattle.kw_live_rebal.proofs.Meets.{HasMet, MetSearch, replaced_on, search_on}
+
+-- what an event is told by the line of this table, for this seat and this choice, after these events
+abbrev tells : Opening → ℕ → List Event → Choice → ℕ
+tells o n es c = told_by (transition_after o es n c).operation.action (word product (world product o es) (transition_after o es n c).operation.name)
+
+-- what has been met where this outcome stands
+pub record Stands (o q : Pass) (x : Outcome) : Type 0 where
+  pub met : HasMet o q x.local.activity x.local
+
+module _ (s : Shared) (o p q : Pass) (l m : Local) (c : Choice) (rows told : ℕ) (was : GoesTo s o p) (goes : GoesTo s p q) (met : MetAs p q l c told) (line : outcome m Moved ≡ next_of product rows (offered rows c) l told) where
+  abbrev Then : Outcome → Type 0
+  Then x = Stands o q x
+
+  so : (x : Outcome) → outcome m Moved ≡ x → Then x → HasMet o q m.activity m
+  so x f t = subst (λ (y : Outcome). HasMet o q y.local.activity y.local) (sym f) t.met
+
+  -- both ways of a test
+  both : (b : Bool) (x y : Outcome) → (b ≡ true → Then x) → (b ≡ false → Then y) → Then (if b then x else y)
+  both true x y f g = f refl
+  both false x y f g = g refl
+
+  next_is : (a : Activity) → l.activity ≡ a → outcome m Moved ≡ (transition product a 0 (offered rows c) l).next rows told
+  unfolding transition_of
+  next_is a is = line ∙ ap (λ b. (transition product b 0 (offered rows c) l).next rows told) is
+
+  -- The event, since the pass was at the first place.
+
+  -- its seat knew the same
+  knew_same : knew o met.met.front ≡ knew p met.met.front
+  knew_same = ap (λ n. local_of (world product (view o).opening met.met.front) n) (sym was.number) ∙ ap (λ x. local_of (world product x met.met.front) (view p).number) (sym was.opening)
+
+  here : (a : Activity) → l.activity ≡ a → Met p q a c told
+  here a is = record { front = met.met.front; later = met.met.later; here = met.met.here; activity = met.met.activity ∙ is; tells = met.met.tells }
+
+  since : (a : Activity) → l.activity ≡ a → Met o q a c told
+  since a is = record {
+    front = met.met.front;
+    later = prefix_trans _ _ _ was.seen met.met.later;
+    here = subst (λ n. IsPrefix (met.met.front ++ event n c ∷ []) (view q).seen) was.number met.met.here;
+    activity = ap (λ (k : Local). k.activity) knew_same ∙ (met.met.activity ∙ is);
+    tells = subst (λ n. told ≡ tells (view o).opening n met.met.front c) was.number (subst (λ x. told ≡ tells x (view p).number met.met.front c) was.opening met.met.tells);
+  }
+
+  knew_row : (knew o met.met.front).row ≡ l.row
+  knew_row = ap (λ (k : Local). k.row) knew_same ∙ ap (λ (k : Local). k.row) met.knew
+
+  knew_lower : (knew o met.met.front).lower ≡ l.lower
+  knew_lower = ap (λ (k : Local). k.lower) knew_same ∙ ap (λ (k : Local). k.lower) met.knew
+
+  -- The causes.
+
+  spent_here : (a : Activity) → l.activity ≡ a → (a ≡ BalClock) ⊎ (a ≡ BalEpoch) → SPENT ≤ told → MetSpent o q
+  spent_here a is at more = record { activity = a; at = at; choice = c; told = told; met = since a is; spent = more }
+
+  searches_here : l.activity ≡ SeekFirst → MetSearch o q
+  searches_here is = record { choice = c; told = told; met = since SeekFirst is }
+
+  -- a row that is met in the world before the event, as the pass knew it at first, is met in the world of its laws
+  met_there : IsMet (word product (world product (view o).opening met.met.front)) (knew o met.met.front).row → IsMet (word product (history product (view p).opening met.met.front).world) (local_at p met.met.front).row
+  met_there x =
+      let at : IsMet (word product (world product (view o).opening met.met.front)) (local_at p met.met.front).row = subst (λ (k : Local). IsMet (word product (world product (view o).opening met.met.front)) k.row) knew_same x in
+      let of : IsMet (word product (world product (view p).opening met.met.front)) (local_at p met.met.front).row = subst (λ y. IsMet (word product (world product y met.met.front)) (local_at p met.met.front).row) (sym was.opening) at in
+      subst (λ (w : WorldView). IsMet (word product w) (local_at p met.met.front).row) (sym (history-world product (view p).opening met.met.front)) of
+
+  -- the row was found replaced
+  abbrev IsUnlinked : Activity → Type 0
+  IsUnlinked a = IsWalkEnd a → IsMet (word product (world product (view o).opening met.met.front)) (knew o met.met.front).row → ⊥
+
+  replaced_here : (a : Activity) → l.activity ≡ a → TellsReplaced a told (knew o met.met.front) → IsUnlinked a → MetReplaced o q
+  unfolding since
+  replaced_here a is found gone = record { activity = a; choice = c; told = told; met = since a is; replaced = found; unlinked = gone }
+
+  won_here : (is : l.activity ≡ Replace) → link_of told ≡ Some (unmarked_link (Some l.row)) → MetWon o q
+  unfolding since
+  won_here is e = record { choice = c; told = told; met = since Replace is; leads = ap row_linked e ∙ ap Some (sym knew_row); unmarked = ap has_mark e }
+
+  -- What the laws say of what was found.
+
+  stated_here : (a : Activity) → l.activity ≡ a → IsStated a → (told ≡ word product (history product (view p).opening met.met.front).world (name.State (local_at p met.met.front).row)) → IsMetState a (state_of told)
+  unfolding here
+  stated_here a is matters tells =
+      let law = (met_laws s p q a c told goes (here a is)).stated (view p).number (local_at p met.met.front) (met_local p q a c told (here a is)) in
+      let at : (local_at p met.met.front).activity ≡ a = met.met.activity ∙ is in
+      subst (λ w. IsMetState a (state_of w)) (sym tells) (subst (λ b. IsMetState b (state_of (word product (history product (view p).opening met.met.front).world (name.State (local_at p met.met.front).row)))) at (law (subst IsStated (sym at) matters)))
+
+  -- where the walk to the row before the full one meets the end of the list, the full row is in it no more
+  walk_ends_here : (is : l.activity ≡ BeforeLink) → row_linked (link_of told) ≡ None → IsUnlinked BeforeLink
+  unfolding here
+  walk_ends_here is none = λ u x.
+      (met_laws s p q BeforeLink c told goes (here BeforeLink is)).ends_before (view p).number (local_at p met.met.front) (met_local p q BeforeLink c told (here BeforeLink is)) (met.met.activity ∙ is)
+      (ap (λ w. row_linked (link_of w)) (sym (met_told p q BeforeLink c told (here BeforeLink is) _ refl)) ∙ none) (met_there x)
+
+  -- nor is it where the walk passes it
+  walk_passes_here : (is : l.activity ≡ BeforeMin) → l.lower ≤ key_of_word told → IsUnlinked BeforeMin
+  unfolding here
+  walk_passes_here is more = λ u x.
+      (met_laws s p q BeforeMin c told goes (here BeforeMin is)).passes_full (view p).number (local_at p met.met.front) (met_local p q BeforeMin c told (here BeforeMin is)) (met.met.activity ∙ is)
+      (subst (λ w. (local_at p met.met.front).lower ≤ key_of_word w) (met_told p q BeforeMin c told (here BeforeMin is) _ refl) (subst (λ n. n ≤ key_of_word told) (sym (ap (λ (k : Local). k.lower) met.knew)) more)) (met_there x)
+
+  -- What follows without an event of its own.
+
+  -- rows that were taken are given back, and the call is refused
+  gives_up : (k : Local) → MetSearch o q → Then (give_back Refuse k)
+  gives_up k h = both (nat_lt 0 (length k.rebalance.taken)) _ _ (λ e. record { met = (λ i. h, λ i. let x : Refuse ≡ TryAgain = i in absurd (cc)) }) (λ e. record { met = h })
+
+  -- or the call tries again
+  tries_again : (k : Local) → MetReplaced o q → Then (give_back TryAgain k)
+  tries_again k h = both (nat_lt 0 (length k.rebalance.taken)) _ _ (λ e. record { met = (λ i. let x : TryAgain ≡ Refuse = i in absurd (cc), λ i. h) }) (λ e. record { met = h })
+
+  -- or the rebalance begins anew, at the row before
+  moves_left : (k : Local) → Then (give_back MoveLeft k)
+  moves_left k = both (nat_lt 0 (length k.rebalance.taken)) _ _ (λ e. record { met = (λ i. let x : MoveLeft ≡ Refuse = i in absurd (cc), λ i. let x : MoveLeft ≡ TryAgain = i in absurd (cc)) }) (λ e. record { met = tt })
+
+  -- the next row is asked, or all were
+  goes_on : (k : Local) → MetSearch o q → Then (to_seek rows k)
+  goes_on k h = both (nat_lt k.rebalance.asked rows) _ _ (λ e. record { met = h }) (λ e. gives_up k h)
+
+  seeks : (x : Option State) (k : Local) → MetSearch o q → Then (seek_met rows x k)
+  seeks (Some Free) k h = record { met = h }
+  seeks (Some (Infant seat)) k h = goes_on k h
+  seeks (Some Normal) k h = goes_on k h
+  seeks (Some (Leader count)) k h = goes_on k h
+  seeks (Some (Follower leader)) k h = goes_on k h
+  seeks (Some (Retired number)) k h = record { met = h }
+  seeks None k h = goes_on k h
+
+  first_seeks : (d : Choice) → MetSearch o q → Then ((seek_first_transition d l).next rows told)
+  first_seeks (Begin call) h = seeks (state_of told) _ h
+  first_seeks Go h = seeks (state_of told) _ h
+  first_seeks (Guess r) h = seeks (state_of told) _ h
+  first_seeks Stop h = seeks (state_of told) _ h
+
+  passes_on : (i : ℕ) → MetSearch o q → Then (to_pass product i l)
+  passes_on i h = both (nat_lt i product.seats) _ _ (λ e. record { met = h }) (λ e. record { met = h })
+
+  passes : (i : ℕ) (x : Option ℕ) → MetSearch o q → Then (pass_met product i rows x l)
+  passes i (Some epoch) h = both (nat_le epoch l.rebalance.number) _ _ (λ e. goes_on l h) (λ e. passes_on (i + 1) h)
+  passes i None h = passes_on (i + 1) h
+
+  takes : (b : Bool) → MetSearch o q → Then (take_row rows b l)
+  takes true h = both (nat_lt (length (with_row l).rebalance.taken) (length (with_row l).rebalance.starts)) _ _ (λ e. goes_on (with_row l) h) (λ e. record { met = tt })
+  takes false h = goes_on l h
+
+  -- all taken rows are given back
+  gives_on : (a : Afterwards) → (a ≡ Refuse → MetSearch o q) × (a ≡ TryAgain → MetReplaced o q) → Then (given_back a l)
+  gives_on TryAgain h = record { met = h.1 refl }
+  gives_on Refuse h = record { met = h.0 refl }
+  gives_on MoveLeft h = record { met = tt }
+
+  -- Tests and lists that lead to activities of a rebalance, whatever they meet.
+
+  engages : (b : Bool) → Then (engaged b l)
+  engages true = record { met = tt }
+  engages false = record { met = tt }
+
+  looks_on : (i : ℕ) (k : Local) → Then (to_freeze_look product i k)
+  looks_on i k = both (nat_lt i product.seats) _ _ (λ e. record { met = tt }) (λ e. record { met = tt })
+
+  freezes : (i : ℕ) (x : Option Pend) → Then (freeze_met product i x l)
+  freezes i (Some pend.Idle) = record { met = tt }
+  freezes i (Some (pend.Pending cell)) = record { met = tt }
+  freezes i (Some (pend.Stamped cell version)) = looks_on (i + 1) (marking cell version l)
+  freezes i (Some pend.Frozen) = looks_on (i + 1) l
+  freezes i None = looks_on (i + 1) l
+
+  tries_entry : (i : ℕ) (b : Bool) → Then (entry_tried product i b l)
+  tries_entry i true = looks_on (i + 1) l
+  tries_entry i false = record { met = tt }
+
+  scans_on : (i : ℕ) (k : Local) → Then (to_scan_look product i k)
+  scans_on i k = both (nat_lt i product.seats) _ _ (λ e. record { met = tt }) (λ e. record { met = tt })
+
+  scans : (i : ℕ) (x : Option ScanWord) → Then (scan_met product i x l)
+  scans i (Some Quiet) = scans_on (i + 1) l
+  scans i (Some (Waiting clock)) = record { met = tt }
+  scans i (Some (Drawn version)) = scans_on (i + 1) (needing version l)
+  scans i None = scans_on (i + 1) l
+
+  helps : (i : ℕ) (x : Option ScanWord) → Then (scan_helped product i x l)
+  helps i (Some Quiet) = scans_on (i + 1) l
+  helps i (Some (Waiting clock)) = scans_on (i + 1) (if clock == l.rebalance.waiting then needing l.rebalance.drawn l else l)
+  helps i (Some (Drawn version)) = scans_on (i + 1) (needing version l)
+  helps i None = scans_on (i + 1) l
+
+  left : (x : Option Mark) (k : Local) → Then (left_of product x k)
+  left (Some mark) k = record { met = tt }
+  left None k = record { met = tt }
+
+  takes_cell : (x : Option ℕ) → Then (take_met product x l)
+  takes_cell (Some cell) = record { met = tt }
+  takes_cell None = left (least_mark l.rebalance.marks) l
+
+  rows_on : (k : Local) → Then (row_written k)
+  rows_on k = both (has_more k) _ _ (λ e. record { met = tt }) (λ e. record { met = tt })
+
+  writes_cell : (j : ℕ) (k : Local) → Then (to_write_cell product j k)
+  writes_cell j k = both (nat_lt j product.cells) _ _ (λ e. both (nat_lt j (length (infant_cells k))) _ _ (λ f. record { met = tt }) (λ f. record { met = tt })) (λ e. rows_on k)
+
+  writes_entry : (i : ℕ) (k : Local) → Then (to_write_entry product i k)
+  writes_entry i k = both (nat_lt i product.seats) _ _ (λ e. record { met = tt }) (λ e. writes_cell 0 k)
+
+  firsts : (r : ℕ) → Then (first_before r l)
+  firsts r = both (r == l.row) _ _ (λ e. record { met = tt }) (λ e. record { met = tt })
+
+  guesses : (r : ℕ) (x : Option State) → Then (guess_before r x l)
+  guesses r (Some Free) = record { met = tt }
+  guesses r (Some (Infant seat)) = record { met = tt }
+  guesses r (Some Normal) = record { met = tt }
+  guesses r (Some (Leader count)) = record { met = tt }
+  guesses r (Some (Follower leader)) = record { met = tt }
+  guesses r (Some (Retired number)) = record { met = tt }
+  guesses r None = record { met = tt }
+
+  befores : (d : Choice) → Then ((before_transition d l).next rows told)
+  befores (Begin call) = firsts _
+  befores Go = firsts _
+  befores (Guess r) = guesses r (state_of told)
+  befores Stop = firsts _
+
+  -- What the row's state and the list tell.
+
+  states : (x : Option State) → state_of told ≡ x → l.activity ≡ BalState → IsMetState BalState x → Then (state_met x l)
+  states (Some Free) f is y = absurd y
+  states (Some (Infant seat)) f is y = record { met = tt }
+  states (Some Normal) f is y = record { met = tt }
+  states (Some (Leader count)) f is y = both (is_alone count) _ _ (λ e. record { met = tt }) (λ e. absurd (let few : count ≤ 1 = y in let many : nat_le count 1 ≡ false = e in grind (arith, nat_tests)))
+  states (Some (Follower leader)) f is y = absurd y
+  states (Some (Retired number)) f is y = record { met = replaced_here BalState is (subst IsRetired (sym f) tt) (λ u. absurd u) }
+  states None f is y = absurd y
+
+  decides : (n : ℕ) (x : Option State) → state_of told ≡ x → l.activity ≡ Decide n → IsMetState (Decide n) x → Then (decided x l)
+  decides n (Some Free) f is y = absurd y
+  decides n (Some (Infant seat)) f is y = absurd y
+  decides n (Some Normal) f is y = absurd y
+  decides n (Some (Leader count)) f is y = both (is_alone count) _ _ (λ e. record { met = tt }) (λ e. absurd (let few : count ≤ 1 = y in let many : nat_le count 1 ≡ false = e in grind (arith, nat_tests)))
+  decides n (Some (Follower leader)) f is y = absurd y
+  decides n (Some (Retired number)) f is y = record { met = replaced_here (Decide n) is (subst IsRetired (sym f) tt) (λ u. absurd u) }
+  decides n None f is y = absurd y
+
+  -- the list ends before the full row
+  ends : l.activity ≡ BeforeLink → row_linked (link_of told) ≡ None → Then (give_back TryAgain l)
+  ends is none = tries_again l (replaced_here BeforeLink is none (walk_ends_here is none))
+
+  links : (r : Option ℕ) (marked : Bool) → row_linked (link_of told) ≡ r → l.activity ≡ BeforeLink → Then (row_before r marked l)
+  links (Some r) marked f is = both (r == l.row) _ _ (λ e. both marked _ _ (λ g. moves_left l) (λ g. record { met = tt })) (λ e. record { met = tt })
+  links None marked f is = ends is f
+
+  link : (x : Option Link) → link_of told ≡ x → l.activity ≡ BeforeLink → Then (link_before x l)
+  link (Some k) f is = links k.row k.marked (ap row_linked f) is
+  link None f is = ends is (ap row_linked f)
+
+  -- the exchange is lost
+  loses : l.activity ≡ Replace → row_linked (link_of told) ≢ Some l.row → Then (give_back TryAgain l)
+  loses is other = tries_again l (replaced_here Replace is (subst (λ n. row_linked (link_of told) ≢ Some n) (sym knew_row) other) (λ u. absurd u))
+
+  replaces_row : (r : Option ℕ) (marked : Bool) → link_of told ≡ Some (record { row = r; marked = marked }) → l.activity ≡ Replace → Then (row_replaced r marked l)
+  replaces_row (Some r) true f is = both (r == l.row) _ _ (λ e. moves_left l) (λ e. loses is (λ g. true_false (eq-eqb r l.row (same_Some r l.row (sym (ap row_linked f) ∙ g))) e))
+  replaces_row (Some r) false f is = both (r == l.row) _ _ (λ e. record { met = won_here is (f ∙ ap (λ n. Some (unmarked_link (Some n))) (eqb-true r l.row e)) }) (λ e. loses is (λ g. true_false (eq-eqb r l.row (same_Some r l.row (sym (ap row_linked f) ∙ g))) e))
+  replaces_row None marked f is = loses is (λ g. let x : None ≡ Some l.row = sym (ap row_linked f) ∙ g in absurd (cc))
+
+  replaces : (x : Option Link) → link_of told ≡ x → l.activity ≡ Replace → Then (replaced x l)
+  replaces (Some k) f is = replaces_row k.row k.marked f is
+  replaces None f is = loses is (λ g. let x : None ≡ Some l.row = sym (ap row_linked f) ∙ g in absurd (cc))
+
+  -- Each event.
+
+  event_at : (a : Activity) → l.activity ≡ a → HasMet o p a l → (a ≡ Normalise → ⊥) → (a ≡ Again → ⊥) → ((x : Answer) → a ≡ Leave x → ⊥) → HasMet o q m.activity m
+  unfolding here
+  event_at BalClock is h n g e = so _ (next_is BalClock is) (both (nat_le SPENT told) _ _ (λ f. record { met = spent_here BalClock is (inl refl) (let full : nat_le SPENT told ≡ true = f in grind (arith, nat_tests)) }) (λ f. record { met = tt }))
+  event_at BalEpoch is h n g e = so _ (next_is BalEpoch is) (both (nat_le SPENT told) _ _ (λ f. record { met = spent_here BalEpoch is (inr refl) (let full : nat_le SPENT told ≡ true = f in grind (arith, nat_tests)) }) (λ f. record { met = tt }))
+  event_at BalState is h n g e = so _ (next_is BalState is) (states (state_of told) refl is (stated_here BalState is tt (met_told p q BalState c told (here BalState is) _ refl)))
+  event_at (BalNormal seat) is h n g e = so _ (next_is (BalNormal seat) is) record { met = tt }
+  event_at Engage is h n g e = so _ (next_is Engage is) (engages (told == state_word Normal))
+  event_at (MarkLink count) is h n g e = so _ (next_is (MarkLink count) is) (both (count == 0) _ _ (λ f. record { met = tt }) (λ f. record { met = tt }))
+  event_at (Decide count) is h n g e = so _ (next_is (Decide count) is) (decides count (state_of told) refl is (stated_here (Decide count) is tt (met_told p q (Decide count) c told (here (Decide count) is) _ refl)))
+  event_at FreezeCount is h n g e = so _ (next_is FreezeCount is) record { met = tt }
+  event_at (FreezeLook i) is h n g e = so _ (next_is (FreezeLook i) is) (freezes i (pend_of told))
+  event_at (Freeze i) is h n g e = so _ (next_is (Freeze i) is) (tries_entry i (told == pend_word l.rebalance.entry))
+  event_at (ScanLook i) is h n g e = so _ (next_is (ScanLook i) is) (scans i (scan_of told))
+  event_at (HelpDraw i) is h n g e = so _ (next_is (HelpDraw i) is) record { met = tt }
+  event_at (HelpSettle i) is h n g e = so _ (next_is (HelpSettle i) is) (helps i (scan_of told))
+  event_at TakeFrom is h n g e = so _ (next_is TakeFrom is) (takes_cell (cell_of_link_word told))
+  event_at TakeKey is h n g e = so _ (next_is TakeKey is) record { met = tt }
+  event_at TakeVersion is h n g e = so _ (next_is TakeVersion is) record { met = tt }
+  event_at TakeValue is h n g e = so _ (next_is TakeValue is) record { met = tt }
+  event_at TakeRestKey is h n g e = so _ (next_is TakeRestKey is) record { met = tt }
+  event_at TakeRestValue is h n g e = so _ (next_is TakeRestValue is) (left (least_mark l.rebalance.marks) (keeping product (value_of_word told) l))
+  event_at SeekFirst is h n g e = so _ (next_is SeekFirst is) (first_seeks (offered rows c) (searches_here is))
+  event_at Seek is h n g e = so _ (next_is Seek is) (seeks (state_of told) (seeking l.rebalance.sought l) (search_on o goes h))
+  event_at (SeekPass i) is h n g e = so _ (next_is (SeekPass i) is) (passes i (pass_of_word told) (search_on o goes h))
+  event_at Reclaim is h n g e = so _ (next_is Reclaim is) (record { met = search_on o goes h })
+  event_at TakeRow is h n g e = so _ (next_is TakeRow is) (takes (told == state_word Free) (search_on o goes h))
+  event_at GiveBack is h n g e =
+      let kept : (l.rebalance.afterwards ≡ Refuse → MetSearch o q) × (l.rebalance.afterwards ≡ TryAgain → MetReplaced o q) = (λ f. search_on o goes (h.0 f), λ f. replaced_on o goes (h.1 f)) in
+      so _ (next_is GiveBack is) (both (has_more l) _ _ (λ f. record { met = kept }) (λ f. gives_on l.rebalance.afterwards kept))
+  event_at WriteCount is h n g e = so _ (next_is WriteCount is) record { met = tt }
+  event_at WriteMin is h n g e = so _ (next_is WriteMin is) record { met = tt }
+  event_at WriteNext is h n g e = so _ (next_is WriteNext is) record { met = tt }
+  event_at WriteFirst is h n g e = so _ (next_is WriteFirst is) (writes_entry 0 l)
+  event_at (WritePend i) is h n g e = so _ (next_is (WritePend i) is) (writes_entry (i + 1) l)
+  event_at (WriteKey j) is h n g e = so _ (next_is (WriteKey j) is) record { met = tt }
+  event_at (WriteValue j) is h n g e = so _ (next_is (WriteValue j) is) record { met = tt }
+  event_at (WriteVersion j) is h n g e = so _ (next_is (WriteVersion j) is) record { met = tt }
+  event_at (WriteAfter j) is h n g e = so _ (next_is (WriteAfter j) is) (writes_cell (j + 1) l)
+  event_at Before is h n g e = so _ (next_is Before is) (befores (offered rows c))
+  event_at BeforeGuess is h n g e = so _ (next_is BeforeGuess is) (both (nat_lt (key_of_word told) l.lower) _ _ (λ f. record { met = tt }) (λ f. record { met = tt }))
+  event_at BeforeHead is h n g e = so _ (next_is BeforeHead is) (firsts (row_or_first (row_linked (link_of told))))
+  event_at BeforeLink is h n g e = so _ (next_is BeforeLink is) (link (link_of told) refl is)
+  event_at BeforeMin is h n g e = so _ (next_is BeforeMin is)
+      (both (nat_lt (key_of_word told) l.lower) _ _ (λ f. record { met = tt }) (λ f.
+      let past : nat_lt (key_of_word told) l.lower ≡ false = f in
+      let more : l.lower ≤ key_of_word told = grind (arith, nat_tests) in
+      tries_again l (replaced_here BeforeMin is (subst (λ n. n ≤ key_of_word told) (sym knew_lower) more) (walk_passes_here is more))))
+  event_at Replace is h n g e = so _ (next_is Replace is) (replaces (link_of told) refl is)
+  event_at Normalise is h n g e = absurd (n refl)
+  event_at Again is h n g e = absurd (g refl)
+  event_at (Leave x) is h n g e = absurd (e x refl)
+  event_at _ is h n g e = absurd h
+
+  -- an event of a rebalance that is not over, and has not won, keeps what it has met
+  pub keeps_met : HasMet o p l.activity l → (l.activity ≡ Normalise → ⊥) → (l.activity ≡ Again → ⊥) → ((x : Answer) → l.activity ≡ Leave x → ⊥) → HasMet o q m.activity m
+  keeps_met = event_at l.activity refl

@@ -1,0 +1,20 @@
+use Rattle.std.proofs.Common.{rules, ◌∙◌, refl}
+use Rattle.kw_follow.proofs.OwnEvents.{goes_trans}
+use Rattle.kw_live_rebal.proofs.Finishing.{finishes_on, finishing_within}
+use Rattle.kw_live_rebal.proofs.rebalancing.finish.Goals as goal
+
+pub go-requires-clause-within : goal.go-requires-clause-within
+go-requires-clause-within g c = finishing_within _ c.loop.invariant.on.stands
+
+pub loop-preserved : goal.loop-preserved
+loop-preserved g c = record {
+  can_next = search rules;
+  is_finite = search rules;
+  on = record {
+    goes = goes_trans _ _ _ _ c.loop.invariant.on.goes c.go.ensures.goes;
+    follows = c.go.ensures.follows;
+    calls = c.go.ensures.calls ∙ c.loop.invariant.on.calls;
+    held = c.go.ensures.held refl ∙ c.loop.invariant.on.held;
+    stands = finishes_on _ _ _ _ c.go.ensures.line c.loop.invariant.on.stands c.in_default.not-Again;
+  };
+}

@@ -1,0 +1,50 @@
+use Rattle.std.proofs.Common.{rules, ◌∙◌, subst, sym}
+use Rattle.kw_world.specs.declared.activity.Activity.{Activity}
+use Rattle.kw_core.specs.Stages.{IsBusy}
+use Rattle.kw_follow.proofs.CallStays.{call_stays}
+use Rattle.kw_follow.proofs.OwnEvents.{goes_trans}
+use Rattle.kw_live_rebal.proofs.Meets.{HasMet, ends_refused, within, won_on}
+use Rattle.kw_live_rebal.proofs.Stages.{keeps_met}
+use Rattle.kw_live_rebal.proofs.rebalancing.rebalance.Goals as goal
+
+pub go-requires-clause-within : goal.go-requires-clause-within
+go-requires-clause-within g c = within c.args.pass.now c.loop.pass c.loop.local _ c.loop.invariant.on.met c.in_default.not-Leave
+
+pub loop-preserved : goal.loop-preserved
+loop-preserved g c = record {
+  can_next = search rules;
+  is_finite = search rules;
+  on = record {
+    goes = goes_trans _ _ _ _ c.loop.invariant.on.goes c.go.ensures.goes;
+    follows = c.go.ensures.follows;
+    calls = c.go.ensures.calls ∙ c.loop.invariant.on.calls;
+    held = c.go.ensures.held c.choice_at-choice.ensures ∙ c.loop.invariant.on.held;
+    met = keeps_met _ _ _ _ _ _ _ _ _ c.loop.invariant.on.goes c.go.ensures.goes c.go.ensures.met c.go.ensures.line c.loop.invariant.on.met c.in_default.not-Normalise c.in_default.not-Again c.in_default.not-Leave;
+  };
+}
+
+pub returns-in-Again-clause-cause : goal.returns-in-Again-clause-cause
+returns-in-Again-clause-cause g c = subst (λ (a : Activity). HasMet c.args.pass.now c.loop.pass a c.loop.local) c.in-Again.is c.loop.invariant.on.met
+
+pub returns-in-Again-clause-call : goal.returns-in-Again-clause-call
+returns-in-Again-clause-call g c = call_stays _ _ _ _ _ c.requires.follows c.loop.invariant.on.follows c.loop.invariant.on.calls (subst IsBusy (sym c.requires.activity) tt) (subst IsBusy (sym c.in-Again.is) tt)
+
+pub returns-in-Leave-clause-stands : goal.returns-in-Leave-clause-stands
+returns-in-Leave-clause-stands g c =
+    (ends_refused c.loop.invariant.on.goes c.loop.invariant.on.follows c.in-Leave.answer c.in-Leave.is (subst (λ (a : Activity). HasMet c.args.pass.now c.loop.pass a c.loop.local) c.in-Leave.is c.loop.invariant.on.met) c.refused.result c.refused.ensures.no_rows c.refused.ensures.spent).stands
+
+pub returns-in-Leave-clause-cause : goal.returns-in-Leave-clause-cause
+returns-in-Leave-clause-cause g c =
+    (ends_refused c.loop.invariant.on.goes c.loop.invariant.on.follows c.in-Leave.answer c.in-Leave.is (subst (λ (a : Activity). HasMet c.args.pass.now c.loop.pass a c.loop.local) c.in-Leave.is c.loop.invariant.on.met) c.refused.result c.refused.ensures.no_rows c.refused.ensures.spent).cause
+
+pub returns-in-Leave-clause-call : goal.returns-in-Leave-clause-call
+returns-in-Leave-clause-call g c = call_stays _ _ _ _ _ c.requires.follows c.loop.invariant.on.follows c.loop.invariant.on.calls (subst IsBusy (sym c.requires.activity) tt) (subst IsBusy (sym c.in-Leave.is) tt)
+
+pub returns-in-Normalise-clause-goes : goal.returns-in-Normalise-clause-goes
+returns-in-Normalise-clause-goes g c = goes_trans _ _ _ _ c.loop.invariant.on.goes c.finish.ensures.goes
+
+pub returns-in-Normalise-clause-call : goal.returns-in-Normalise-clause-call
+returns-in-Normalise-clause-call g c = call_stays _ _ _ _ _ c.requires.follows c.finish.ensures.follows (c.finish.ensures.calls ∙ c.loop.invariant.on.calls) (subst IsBusy (sym c.requires.activity) tt) (subst IsBusy (sym c.finish.ensures.again) tt)
+
+pub returns-in-Normalise-clause-cause : goal.returns-in-Normalise-clause-cause
+returns-in-Normalise-clause-cause g c = won_on c.args.pass.now c.finish.ensures.goes (subst (λ (a : Activity). HasMet c.args.pass.now c.loop.pass a c.loop.local) c.in-Normalise.is c.loop.invariant.on.met)

@@ -1,0 +1,104 @@
+-- How a rebalance ends, and what it met that is the cause of it.
+--
+-- What is met is said over an opening, a seat and two lists of events, as single events are (`MetIn`), so that it can be carried to other passes' lists.
+use Rattle.std.specs.Prelude.{◌≡◌, ◌≢◌, ◌⊎◌, ℕ, ◌≤◌, false, List, Option, Some, None}
+use Rattle.kw_words.specs.declared.sizes.TheConstants.{SPENT}
+use Rattle.kw_words.specs.declared.state.State.{State}
+use Rattle.kw_words.specs.declared.state.State.TheVariants.{Retired}
+use Rattle.kw_words.specs.Link.{link_of}
+use Rattle.kw_words.specs.Plain.{key_of_word}
+use Rattle.kw_words.specs.State.{state_of}
+use Rattle.kw_world.specs.declared.answer.Answer.TheVariants as answer
+use Rattle.kw_world.specs.declared.activity.Activity.{Activity}
+use Rattle.kw_world.specs.declared.activity.Activity.TheVariants as activity
+use Rattle.kw_world.specs.declared.activity.Activity.TheVariants.{BalClock, BalEpoch, BalState, Decide, SeekFirst, BeforeLink, BeforeMin, Replace}
+use Rattle.kw_world.specs.declared.event.Choice.{Choice}
+use Rattle.kw_world.specs.declared.event.Event.{Event}
+use Rattle.kw_world.specs.declared.local.Local.{Local}
+use Rattle.kw_world.specs.declared.opening.Opening.{Opening}
+use Rattle.kw_world.specs.Sizes.{product}
+use Rattle.kw_world.specs.Step.{word}
+use Rattle.kw_world.specs.Transition.{row_linked}
+use Rattle.kw_core.specs.Events.{local_of, world}
+use Rattle.kw_shape.specs.MetRows.{IsMet}
+use Rattle.kw_shape.specs.RowsIn.{has_mark}
+use Rattle.kw_laws.specs.Causes.{AskedAll}
+use Rattle.kw_table.specs.declared.pass.Pass.{Pass}
+use Rattle.kw_table.specs.Passes.{view}
+use Rattle.kw_follow.specs.Calling.{now_in}
+use Rattle.kw_follow.specs.OwnEvents.{Met, MetIn}
+use Rattle.kw_live_rebal.specs.declared.rebalancing.Rebalanced.{Rebalanced}
+use Rattle.kw_live_rebal.specs.declared.rebalancing.Rebalanced.TheVariants.{Done, Again, NoRows, Spent}
+
+-- where the call stands after a rebalance that ended so
+abbrev pub stands_after : Rebalanced → Activity
+stands_after Done = activity.Again
+stands_after Again = activity.Again
+stands_after NoRows = activity.Leave answer.NoRows
+stands_after Spent = activity.Leave answer.Spent
+
+-- the pass found the clock or the epoch at its bound
+pub record MetSpent (p q : Pass) : Type 0 where
+  pub activity : Activity
+  pub at : (activity ≡ BalClock) ⊎ (activity ≡ BalEpoch)
+  pub choice : Choice
+  pub told : ℕ
+  pub met : Met p q activity choice told
+  pub spent : SPENT ≤ told
+
+-- the seat linked new rows in place of a full one: its exchange met a link that led to that row and was not marked
+pub record WonIn (o : Opening) (n : ℕ) (old new : List Event) : Type 0 where
+  pub choice : Choice
+  pub told : ℕ
+  pub met : MetIn o n old new Replace choice told
+  pub leads : row_linked (link_of told) ≡ Some (local_of (world product o met.front) n).row
+  pub unmarked : has_mark (link_of told) ≡ false
+
+abbrev pub MetWon : Pass → Pass → Type 0
+MetWon p q = WonIn (view p).opening (view p).number (view p).seen (view q).seen
+
+-- the state is that of a retired row
+abbrev pub IsRetired : Option State → Type 0
+IsRetired (Some (Retired number)) = Unit {0}
+IsRetired _ = ⊥
+
+-- what an event of a seat that knew this was told says that its row was replaced by somebody else: the state is that of a retired row; the list of
+-- rows ended before the row, or went on behind it; or the link led to another row by the time that it was exchanged
+abbrev pub TellsReplaced : Activity → ℕ → Local → Type 0
+TellsReplaced BalState told l = IsRetired (state_of told)
+TellsReplaced (Decide count) told l = IsRetired (state_of told)
+TellsReplaced BeforeLink told l = row_linked (link_of told) ≡ None
+TellsReplaced BeforeMin told l = l.lower ≤ key_of_word told
+TellsReplaced Replace told l = row_linked (link_of told) ≢ Some l.row
+TellsReplaced _ told l = ⊥
+
+-- the walk to the row before the full one ends at this activity
+abbrev pub IsWalkEnd : Activity → Type 0
+IsWalkEnd BeforeLink = Unit {0}
+IsWalkEnd BeforeMin = Unit {0}
+IsWalkEnd _ = ⊥
+
+-- the seat found its row replaced; where a walk ended so, the row was in the list no more, as one who follows the links sees it
+pub record ReplacedIn (o : Opening) (n : ℕ) (old new : List Event) : Type 0 where
+  pub activity : Activity
+  pub choice : Choice
+  pub told : ℕ
+  pub met : MetIn o n old new activity choice told
+  pub replaced : TellsReplaced activity told (local_of (world product o met.front) n)
+  pub unlinked : IsWalkEnd activity → IsMet (word product (world product o met.front)) (local_of (world product o met.front) n).row → ⊥
+
+abbrev pub MetReplaced : Pass → Pass → Type 0
+MetReplaced p q = ReplacedIn (view p).opening (view p).number (view p).seen (view q).seen
+
+-- the pass began a search since that asked for each row of the table, its last one, and took fewer rows than it needed
+pub record MetNoRows (p q : Pass) : Type 0 where
+  pub first : ℕ
+  pub asked : AskedAll product (view q).opening (view q).seen (view q).number (view q).opening.rows first (now_in q)
+  pub since : now_in p ≤ asked.begun
+
+-- the cause of how a rebalance ended
+abbrev pub HasEnded : Pass → Pass → Rebalanced → Type 0
+HasEnded p q Done = MetWon p q
+HasEnded p q Again = MetReplaced p q
+HasEnded p q NoRows = MetNoRows p q
+HasEnded p q Spent = MetSpent p q

@@ -1,0 +1,139 @@
+//! The events of a rebalance, from the load of the clock to the last one.
+//!
+//! The seat agrees with others on its row, freezes and gathers it, takes free rows, writes them, links them in place of the full row, and retires
+//! that: one event after the other, as the table says. Where an exchange is lost the seat looks once more, so a rebalance may go on as long as
+//! others go on to win.
+ghost use Rattle.std.specs.Prelude.{◌≡◌, ◌≢◌, false};
+ghost use Rattle.kw_world.specs.WalkTransitions.{is_stop};
+ghost use Rattle.kw_follow.specs.Calling.{KeepsCalls};
+ghost use Rattle.kw_follow.specs.Following.{Follows, GoesTo, held};
+ghost use Rattle.kw_live_rebal.specs.Rebalancing.{HasEnded, stands_after};
+
+use crate::publishing::{behind, tell_index};
+use kw_follow::go;
+use kw_index::index::Index;
+use kw_table::{Hints, Pass, Shared};
+use kw_world::activity::Activity;
+use kw_world::answer::Answer;
+use kw_world::event::Choice;
+use kw_world::local::Local;
+use std::sync::Wait;
+
+/// How a rebalance ended.
+#[derive(Clone, Copy, Debug, PartialEq, Eq)]
+pub enum Rebalanced {
+    /// This call replaced a row by new ones.
+    Done,
+    /// Somebody else replaced the row.
+    Again,
+    /// The table has too few free rows.
+    NoRows,
+    /// The versions or the epochs are spent.
+    Spent,
+}
+
+/// Rebalances the full row at which a put or a delete stands.
+///
+/// After `Done` and `Again` the call is to try again from its beginning, and after `NoRows` and `Spent` it is about to leave with that. `Done`
+/// comes only where an exchange of this call linked new rows in place of the row; `Again` only where an event of this call found the row
+/// retired, or in the list no more, or the link to it led elsewhere; `NoRows` only where the last search of this call asked for each row of the
+/// table; `Spent` only where a load of this call found the clock or the epoch at `SPENT` or above. The row is the one that the call works on at
+/// that event: its own, or one before it.
+///
+/// The search for free rows begins behind the row that the hints name, and the walk to the row before the full one where the index guesses;
+/// where the exchange is won the index is told of the new rows. No clause rests on any of it. Takes no memory. It may wait for others: all that
+/// is said here is said for a call that returns.
+pub fn rebalance<R: Wait>(
+    rt: &R,
+    shared: &Shared,
+    index: &Index,
+    hints: &mut Option<Hints>,
+    pass: &mut Pass,
+    local: &mut Local,
+) -> Rebalanced
+    requires follows { Follows shared.now pass.old local.old }
+    requires activity { local.old.activity ≡ Activity.BalClock }
+    ensures goes { GoesTo shared.now pass.old pass.new }
+    ensures follows { Follows shared.now pass.new local.new }
+    ensures stands { local.new.activity ≡ stands_after result }
+    ensures call { local.new.call ≡ local.old.call }
+    ensures cause { HasEnded pass.old pass.new result }
+    ensures calls { KeepsCalls pass.old pass.new }
+    ensures held { held pass.new ≡ held pass.old }
+{
+    for _ in rt.forever() {
+        match local.activity {
+            Activity::Again => return Rebalanced::Again,
+            Activity::Leave(answer) => return refused(answer),
+            Activity::Normalise => {
+                finish(rt, shared, index, hints, pass, local);
+                return Rebalanced::Done;
+            }
+            _ => {
+                let choice = choice_at(local, index, hints);
+                go(shared, pass, local, choice);
+            }
+        }
+    }
+    unreachable!()
+}
+
+// How a rebalance ended that is about to leave with this answer.
+fn refused(answer: Answer) -> Rebalanced
+    ensures no_rows { answer ≡ Answer.NoRows → result ≡ Rebalanced.NoRows }
+    ensures spent { answer ≢ Answer.NoRows → result ≡ Rebalanced.Spent }
+{
+    match answer {
+        Answer::NoRows => Rebalanced::NoRows,
+        _ => Rebalanced::Spent,
+    }
+}
+
+// The new rows are linked: they are made normal, the index is told of them, and the full row is retired.
+fn finish<R: Wait>(
+    rt: &R,
+    shared: &Shared,
+    index: &Index,
+    hints: &mut Option<Hints>,
+    pass: &mut Pass,
+    local: &mut Local,
+)
+    requires follows { Follows shared.now pass.old local.old }
+    requires won { local.old.activity ≡ Activity.Normalise }
+    ensures goes { GoesTo shared.now pass.old pass.new }
+    ensures follows { Follows shared.now pass.new local.new }
+    ensures again { local.new.activity ≡ Activity.Again }
+    ensures calls { KeepsCalls pass.old pass.new }
+    ensures held { held pass.new ≡ held pass.old }
+{
+    for _ in rt.forever() {
+        if let Activity::Again = local.activity {
+            return;
+        }
+        tell_index(index, hints, local);
+        go(shared, pass, local, Choice::Go);
+    }
+    unreachable!()
+}
+
+// The choice with which the next event is made.
+fn choice_at(local: &Local, index: &Index, hints: &Option<Hints>) -> Choice
+    ensures { is_stop result ≡ false }
+{
+    match local.activity {
+        Activity::SeekFirst => Choice::Guess(behind(hints, local).saturating_add(1)),
+        Activity::Before => match guess_before(local, index) {
+            Some(row) => Choice::Guess(row),
+            None => Choice::Go,
+        },
+        _ => Choice::Go,
+    }
+}
+
+// A row to begin at for the key below the least key of the full row.
+fn guess_before(local: &Local, index: &Index) -> Option<u32> {
+    match local.lower.checked_sub(1) {
+        Some(key) => index.guess(key),
+        None => None,
+    }
+}

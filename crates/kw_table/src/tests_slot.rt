@@ -1,0 +1,45 @@
+//! Where words lie, worked by hand: 4 words of the whole map and 3 for each of 8 seats have a line of 8 words each, and the rows follow,
+//! of 5 words, one for each seat and 4 for each of 64 cells.
+use crate::opening::opening_words;
+use crate::slot::{WORDS_A_LINE, slot, slots};
+use kw_words::layout::Name;
+use kw_world::opening::Opening;
+use std::test::Fail;
+
+#[test]
+fn pass_words_have_a_line_each(rt: HostRuntime) {
+    let one = slot(2, Name::Pass(0));
+    let other = slot(2, Name::Pass(1));
+    assert_eq!(rt; one, 32);
+    assert_eq!(rt; other, 40);
+    assert_eq!(rt; other.abs_diff(one), WORDS_A_LINE);
+}
+
+#[test]
+fn words_of_rows_lie_side_by_side(rt: HostRuntime) {
+    assert_eq!(rt; slot(2, Name::Turn), 24);
+    assert_eq!(rt; slot(2, Name::Scan(0)), 96);
+    assert_eq!(rt; slot(2, Name::Pin(7)), 216);
+    assert_eq!(rt; slot(2, Name::State(0)), 224);
+    assert_eq!(rt; slot(2, Name::Count(0)), 225);
+    assert_eq!(rt; slot(2, Name::State(1)), 493);
+    assert_eq!(rt; slots(2), 762);
+}
+
+#[test]
+fn a_run_begins_with_four_words_at_their_slots(rt: HostRuntime) -> Result<(), Fail> {
+    let opening = Opening {
+        rows: 1,
+        seats: 2,
+        clock: 5,
+        epoch: 7,
+    };
+    let words = opening_words(rt.alloc(), opening)?;
+    assert_eq!(rt; words.len(), 493);
+    assert_eq!(rt; words.as_slice().get(0), Some(&5));
+    assert_eq!(rt; words.as_slice().get(8), Some(&7));
+    assert_eq!(rt; words.as_slice().get(16), Some(&1));
+    assert_eq!(rt; words.as_slice().get(224), Some(&2));
+    assert_eq!(rt; words.iter().filter(|word| **word > 0).count(), 4);
+    Ok(())
+}

@@ -1,0 +1,249 @@
+//! The figures of `kw_bench` on a map of many rows, for the standard library's ordered map: alone, behind a `Mutex` and behind a `RwLock`.
+//!
+//! One file, which stands on Rust's standard library alone; no gate runs it. Build it by `rustc -O -o /tmp/std_maps tools/std_maps.rs`, and
+//! compare what it prints with what `kw_bench` and `replay` take on the same machine, in one go:
+//!
+//!     std_maps calls N                  N calls of each kind; the keys, their orders and the columns are those of `kw_bench N`
+//!     std_maps input PERCENT > FILE     16 MiB of lines over 65,536 keys: so many in 100 sums of 1,000 keys, the others puts and gets
+//!     std_maps replay < FILE            answers the lines as `kiwi replay` does, on one thread; it trusts that they are in the grammar
+
+use std::collections::BTreeMap;
+use std::fmt::Write as _;
+use std::hint::black_box;
+use std::io::{self, Read, Write as _};
+use std::sync::atomic::{AtomicBool, Ordering};
+use std::sync::{Mutex, RwLock};
+use std::time::Instant;
+use std::{env, thread};
+
+const KEYS: u32 = 65_536;
+const SUMMED: u32 = 1_000;
+const INPUT_BYTES: usize = 16 << 20;
+
+type Plain = BTreeMap<u32, u64>;
+
+/// What a map is asked. A lock implements it by reference, so that threads share it.
+trait Map {
+    fn put(&mut self, key: u32, value: u64);
+    fn get(&mut self, key: u32) -> Option<u64>;
+    fn sum(&mut self, from: u32, to: u32) -> u128;
+}
+
+fn sum_of(map: &Plain, from: u32, to: u32) -> u128 {
+    map.range(from..=to).map(|(_, &value)| u128::from(value)).sum()
+}
+
+impl Map for Plain {
+    fn put(&mut self, key: u32, value: u64) {
+        self.insert(key, value);
+    }
+    fn get(&mut self, key: u32) -> Option<u64> {
+        Plain::get(self, &key).copied()
+    }
+    fn sum(&mut self, from: u32, to: u32) -> u128 {
+        sum_of(self, from, to)
+    }
+}
+
+macro_rules! shared_map {
+    ($lock:ident, $write:ident, $read:ident) => {
+        impl Map for &$lock<Plain> {
+            fn put(&mut self, key: u32, value: u64) {
+                self.$write().unwrap().insert(key, value);
+            }
+            fn get(&mut self, key: u32) -> Option<u64> {
+                self.$read().unwrap().get(&key).copied()
+            }
+            fn sum(&mut self, from: u32, to: u32) -> u128 {
+                sum_of(&self.$read().unwrap(), from, to)
+            }
+        }
+    };
+}
+
+shared_map!(Mutex, lock, lock);
+shared_map!(RwLock, write, read);
+
+// The keys and orders of `kw_bench`.
+fn scattered(number: u32) -> u32 {
+    let low = number.wrapping_mul(40_503) % KEYS;
+    (low ^ (low >> 8)).wrapping_mul(25_717) % KEYS
+}
+
+fn mixed(number: u32) -> u32 {
+    let a = (number ^ (number >> 16)).wrapping_mul(2_246_822_507);
+    let b = (a ^ (a >> 13)).wrapping_mul(3_266_489_909);
+    b ^ (b >> 16)
+}
+
+/// Nanoseconds that this took.
+fn timed(work: impl FnOnce()) -> u128 {
+    let start = Instant::now();
+    work();
+    start.elapsed().as_nanos()
+}
+
+/// The kinds of calls: whether one is a put, by its number and its round of all keys.
+const KINDS: [(&str, fn(u32) -> bool); 3] = [("put", |_| true), ("get", |_| false), ("mixed", |number| (number ^ (number / KEYS)) % 2 == 0)];
+
+fn call_from<M: Map>(map: &mut M, is_put: fn(u32) -> bool, first: u32, calls: u32) {
+    for number in first..first + calls {
+        if is_put(number) {
+            map.put(scattered(number), u64::from(number));
+        } else {
+            black_box(map.get(scattered(number)));
+        }
+    }
+}
+
+/// What all calls take that so many threads share.
+fn shared<M: Map + Copy + Send>(mut map: M, is_put: fn(u32) -> bool, threads: u32, calls: u32) -> u128 {
+    let part = calls / threads;
+    timed(|| {
+        thread::scope(|scope| {
+            for thread in 0..threads {
+                scope.spawn(move || call_from(&mut map, is_put, thread * part, part));
+            }
+        });
+    })
+}
+
+fn print_shared<M: Map + Copy + Send>(name: &str, map: M, calls: u32) {
+    for (word, is_put) in KINDS {
+        let [one, two, four] = [1, 2, 4].map(|threads| shared(map, is_put, threads, calls));
+        let all = u128::from(calls);
+        print!("{name:<7}{word:<7}{:>6}{:>6}{:>6}", one / all, two * 2 / all, four * 4 / all);
+        println!("{:>8}{:>8}", one * 100 / two, one * 100 / four);
+    }
+}
+
+fn sum_keys<M: Map>(map: &mut M, calls: u32) {
+    for call in 0..calls {
+        let from = scattered(call) % (KEYS - SUMMED + 1);
+        black_box(map.sum(from, from + (SUMMED - 1)));
+    }
+}
+
+fn put_until<M: Map>(mut map: M, first: u32, over: &AtomicBool) -> u64 {
+    let numbers = (0..).take_while(|_| !over.load(Ordering::SeqCst));
+    numbers.inspect(|&put| map.put(scattered(first.wrapping_add(put as u32)), put)).count() as u64
+}
+
+fn print_sums<M: Map + Copy + Send>(name: &str, mut map: M, calls: u32) {
+    let alone = timed(|| sum_keys(&mut map, calls));
+    let over = &AtomicBool::new(false);
+    let mut puts = 0;
+    let beside = timed(|| {
+        puts = thread::scope(|scope| {
+            let putting = [0, 1, 2].map(|thread| scope.spawn(move || put_until(map, thread * (KEYS / 3), over)));
+            sum_keys(&mut map, calls);
+            over.store(true, Ordering::SeqCst);
+            putting.map(|thread| thread.join().unwrap()).iter().sum::<u64>()
+        });
+    });
+    let (alone, each) = (alone / u128::from(calls), beside * 3 / u128::from(puts.max(1)));
+    let beside = beside / u128::from(calls);
+    print!("{name:<7}sum of {SUMMED} keys: {alone} ns alone, {beside} ns while 3 other threads put; ");
+    println!("they made {puts} puts, {each} ns each");
+}
+
+fn print_fill<M: Map>(name: &str, word: &str, mut map: M, key: fn(u32) -> u32, calls: u32) {
+    print!("{name:<7}{word:<8}");
+    let mut put = |from: u32, to: u32| timed(|| (from..to.min(calls)).for_each(|number| map.put(key(number), 1)));
+    let (mut begun, mut took) = (0, 0);
+    for keys in [1_024, 4_096, 16_384].map(|rows| rows * 32) {
+        let start = keys - keys / 4;
+        took += put(begun, start);
+        let last = put(start, keys);
+        (begun, took) = (keys, took + last);
+        let ns = last.checked_div(u128::from(calls.min(keys).saturating_sub(start)));
+        print!("{:>7}", ns.map_or("-".to_string(), |ns| ns.to_string()));
+    }
+    took += put(begun, calls);
+    println!("{:>7}{calls:>9}", took / u128::from(calls));
+}
+
+fn calls(calls: u32) {
+    println!("{:<7}{:<7}{:>6}{:>6}{:>6}{:>8}{:>8}", "map", "call", "one", "two", "four", "by two", "by four");
+    let mut alone: Plain = (0..KEYS).map(|number| (scattered(number), u64::from(number))).collect();
+    for (word, is_put) in KINDS {
+        let one = timed(|| call_from(&mut alone, is_put, 0, calls));
+        println!("{:<7}{word:<7}{:>6}", "alone", one / u128::from(calls));
+    }
+    let (mutex, rwlock) = (&Mutex::new(alone.clone()), &RwLock::new(alone.clone()));
+    print_shared("Mutex", mutex, calls);
+    print_shared("RwLock", rwlock, calls);
+    println!("alone  sum of {SUMMED} keys: {} ns alone", timed(|| sum_keys(&mut alone, calls)) / u128::from(calls));
+    print_sums("Mutex", mutex, calls);
+    print_sums("RwLock", rwlock, calls);
+    println!("{:<7}{:<8}{:>7}{:>7}{:>7}{:>7}{:>9}", "map", "keys", "1024", "4096", "16384", "all", "pairs");
+    for (word, key) in [("rising", (|number| number) as fn(u32) -> u32), ("falling", |number| u32::MAX - number), ("random", mixed)] {
+        print_fill("alone", word, Plain::new(), key, calls);
+        print_fill("Mutex", word, &Mutex::new(Plain::new()), key, calls);
+        print_fill("RwLock", word, &RwLock::new(Plain::new()), key, calls);
+    }
+}
+
+fn answer(map: &mut Plain, line: &str, out: &mut String) -> std::fmt::Result {
+    let mut words = line.split(' ');
+    let word = words.next().unwrap_or("");
+    let mut number = || words.next().and_then(|text| text.parse::<u64>().ok()).unwrap_or(0);
+    let (a, b) = (number() as u32, number());
+    let range = map.range(a..=a.max(b as u32)).filter(|(key, _)| u64::from(**key) <= b);
+    let shown = |value: Option<u64>| value.map_or("none".to_string(), |value| value.to_string());
+    match word {
+        "put" => {
+            map.insert(a, b);
+            writeln!(out, "ok")
+        }
+        "del" => {
+            map.remove(&a);
+            writeln!(out, "ok")
+        }
+        "get" => writeln!(out, "{}", shown(Map::get(map, a))),
+        "sum" => writeln!(out, "{}", range.map(|(_, &value)| u128::from(value)).sum::<u128>()),
+        "count" => writeln!(out, "{}", range.count()),
+        "least" => writeln!(out, "{}", shown(range.map(|(_, &value)| value).min())),
+        "greatest" => writeln!(out, "{}", shown(range.map(|(_, &value)| value).max())),
+        "list" if range.clone().next().is_none() => writeln!(out, "empty"),
+        "list" => writeln!(out, "{}", range.map(|(key, value)| format!("{key}={value}")).collect::<Vec<_>>().join(" ")),
+        _ => Ok(()),
+    }
+}
+
+fn replay() -> io::Result<()> {
+    let (mut text, mut out, mut map) = (String::new(), String::new(), Plain::new());
+    io::stdin().read_to_string(&mut text)?;
+    for line in text.lines() {
+        answer(&mut map, line, &mut out).map_err(io::Error::other)?;
+    }
+    io::stdout().write_all(out.as_bytes())
+}
+
+fn input(percent: u32) -> io::Result<()> {
+    let mut text = String::with_capacity(INPUT_BYTES);
+    for number in 0.. {
+        let (key, draw) = (mixed(number) % KEYS, mixed(!number));
+        let line = match draw % 100 {
+            share if share < percent => format!("sum {} {}\n", key.min(KEYS - SUMMED), key.min(KEYS - SUMMED) + SUMMED - 1),
+            _ if draw / 100 % 2 == 0 => format!("put {key} {}\n", draw % 1_000_000),
+            _ => format!("get {key}\n"),
+        };
+        if text.len() + line.len() > INPUT_BYTES {
+            break;
+        }
+        text += &line;
+    }
+    io::stdout().write_all(text.as_bytes())
+}
+
+fn main() -> io::Result<()> {
+    let words: Vec<String> = env::args().skip(1).collect();
+    let number = words.get(1).and_then(|word| word.parse().ok());
+    match (words.first().map(String::as_str), number) {
+        (Some("calls"), Some(number)) if number > 0 => Ok(calls(number)),
+        (Some("input"), Some(percent)) => input(percent),
+        (Some("replay"), None) => replay(),
+        _ => Err(io::Error::other("std_maps calls N | input PERCENT | replay")),
+    }
+}
