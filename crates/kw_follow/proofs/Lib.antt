@@ -12,3 +12,4 @@ pub mod Fronts
 pub mod CallStays
 pub mod OwnEvents
 pub mod WayEvents
+pub mod BuildEvents

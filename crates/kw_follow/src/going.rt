@@ -1,7 +1,8 @@
 //! Single events of a pass, and the local that follows its seat.
 //!
 //! An event is put together in `event`, once: the core's `operation`, a step of the table, and the core's `resume`. Those that every call
-//! makes have a step of their own in `along`. All that the crates above know of events they know by contracts like those of this file.
+//! makes have a step of their own in `along`, and those that a rebalance makes for each entry and each cell have one by way of `building`. All
+//! that the crates above know of events they know by contracts like those of this file.
 ghost use Rattle.std.specs.Prelude.{◌≡◌, ℕ, true, false, [], Some};
 ghost use Rattle.kw_core.specs.Events.{is_call_in_range};
 ghost use Rattle.kw_world.specs.Local.{resting};

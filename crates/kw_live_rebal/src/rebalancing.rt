@@ -4,13 +4,20 @@
 //! that: one event after the other, as the table says. Where an exchange is lost the seat looks once more, so a rebalance may go on as long as
 //! others go on to win.
 ghost use Rattle.std.specs.Prelude.{◌≡◌, ◌≢◌, false};
-ghost use Rattle.kw_world.specs.WalkTransitions.{is_stop};
+ghost use Rattle.kw_world.specs.Sizes.{product};
+ghost use Rattle.kw_world.specs.Step.{next_of};
+ghost use Rattle.kw_world.specs.Transition.{outcome};
+ghost use Rattle.kw_world.specs.WalkTransitions.{is_stop, offered};
+ghost use Rattle.kw_world.specs.declared.event.StepDone.TheVariants.{Moved};
+ghost use Rattle.kw_table.specs.Passes.{view};
 ghost use Rattle.kw_follow.specs.Calling.{KeepsCalls};
 ghost use Rattle.kw_follow.specs.Following.{Follows, GoesTo, held};
+ghost use Rattle.kw_follow.specs.OwnEvents.{MetAs};
+ghost use Rattle.kw_follow.specs.Within.{IsWithinCall};
 ghost use Rattle.kw_live_rebal.specs.Rebalancing.{HasEnded, stands_after};
 
 use crate::publishing::{behind, tell_index};
-use kw_follow::go;
+use kw_follow::{go, go_build};
 use kw_index::index::Index;
 use kw_table::{Hints, Pass, Shared};
 use kw_world::activity::Activity;
@@ -71,11 +78,30 @@ pub fn rebalance<R: Wait>(
             }
             _ => {
                 let choice = choice_at(local, index, hints);
-                go(shared, pass, local, choice);
+                go_on(shared, pass, local, choice);
             }
         }
     }
     unreachable!()
+}
+
+// Makes the next event with this choice. Where that is `Go`, the frequent events are made by steps of their own.
+#[inline(always)]
+fn go_on(shared: &Shared, pass: &mut Pass, local: &mut Local, choice: Choice) -> u64
+    requires follows { Follows shared.now pass.old local.old }
+    requires within { IsWithinCall local.old.activity }
+    ensures goes { GoesTo shared.now pass.old pass.new }
+    ensures follows { Follows shared.now pass.new local.new }
+    ensures line { outcome local.new Moved ≡ next_of product (view pass.old).opening.rows
+        (offered (view pass.old).opening.rows choice) local.old result }
+    ensures met { MetAs pass.old pass.new local.old choice result }
+    ensures calls { KeepsCalls pass.old pass.new }
+    ensures held { is_stop choice ≡ false → held pass.new ≡ held pass.old }
+{
+    match choice {
+        Choice::Go => go_build(shared, pass, local),
+        _ => go(shared, pass, local, choice),
+    }
 }
 
 // How a rebalance ended that is about to leave with this answer.

@@ -1,2 +1,3 @@
 pub mod Balancing
 pub mod Gathering
+pub mod Rising

@@ -15,6 +15,7 @@ use kw_words::count::Count;
 use kw_world::local::Local;
 
 /// The taken row that is at hand, and row 0 where none is.
+#[inline(always)]
 pub fn infant(local: &Local) -> u32
     ensures { result ≡ infant local.now }
 {
@@ -26,6 +27,7 @@ pub fn infant(local: &Local) -> u32
 }
 
 /// Which of the taken rows comes after the one at hand, counted from 0.
+#[inline(always)]
 pub fn next_at(local: &Local) -> usize
     requires { local.now.rebalance.at ≤ length local.now.rebalance.taken }
     ensures { result ≡ local.now.rebalance.at + 1 }
@@ -36,6 +38,7 @@ pub fn next_at(local: &Local) -> usize
 }
 
 /// The cells of that row, by rising key and version.
+#[inline(always)]
 pub fn infant_cells(local: &Local) -> &[Cell]
     requires { IsLocal product local.now }
     ensures cells { result.now ≡ infant_cells local.now }
@@ -50,6 +53,7 @@ pub fn infant_cells(local: &Local) -> &[Cell]
 }
 
 // The place at which the row of this number starts, and the other where there is none.
+#[inline(always)]
 fn place_at(starts: &[usize], number: usize, other: usize) -> usize
     ensures { result ≡ slice_index_or starts.now number other }
 {
@@ -60,6 +64,7 @@ fn place_at(starts: &[usize], number: usize, other: usize) -> usize
 }
 
 // The cells from the one place to below the other, as far as there are any.
+#[inline(always)]
 fn part_of(cells: &[Cell], start: usize, end: usize) -> &[Cell]
     ensures { result.now ≡ take (end - start) (drop start cells.now) }
 {

@@ -8,13 +8,12 @@ ghost use Rattle.kw_world.specs.Sane.{IsLocal};
 ghost use Rattle.kw_world.specs.Sizes.{product};
 ghost use Rattle.kw_world.specs.WriteTransitions.{infant_cells, infant_count, infant_least, infant_link, first_listed, listed_after, key_in, version_in};
 
-use crate::infant::{
-    first_listed, infant_cells, infant_count, infant_least, infant_next, listed_after,
+use crate::infant_words::{
+    after_word, count_word, first_word, key_word, least_word, next_word, value_word, version_word,
 };
-use crate::operation::{link_to, store};
+use crate::operation::store;
 use kw_words::kind::Kind;
 use kw_words::layout::Name;
-use kw_words::plain::{pack_cell_link, pack_key, pack_value, pack_version};
 use kw_world::local::Local;
 use kw_world::operation::{Action, Operation};
 
@@ -28,8 +27,7 @@ pub(crate) fn write_count(local: &Local, row: u32) -> Operation
           Action.Store (count_word (infant_count local.now));
     } }
 {
-    let count = infant_count(local).pack();
-    store(Kind::StoreInfant, Name::Count(row), count)
+    store(Kind::StoreInfant, Name::Count(row), count_word(local))
 }
 
 // Its least key.
@@ -42,8 +40,7 @@ pub(crate) fn write_least(local: &Local, row: u32) -> Operation
           (key_word (infant_least local.now));
     } }
 {
-    let least = pack_key(infant_least(local));
-    store(Kind::StoreInfant, Name::Min(row), least)
+    store(Kind::StoreInfant, Name::Min(row), least_word(local))
 }
 
 // The link after it.
@@ -56,8 +53,7 @@ pub(crate) fn write_link(local: &Local, row: u32) -> Operation
           (link_word (infant_link local.now));
     } }
 {
-    let link = link_to(infant_next(local));
-    store(Kind::StoreInfant, Name::Next(row), link)
+    store(Kind::StoreInfant, Name::Next(row), next_word(local))
 }
 
 // The first link of its list.
@@ -70,8 +66,7 @@ pub(crate) fn write_first(local: &Local, row: u32) -> Operation
           Action.Store (cell_link_word (first_listed (infant_cells local.now)));
     } }
 {
-    let first = pack_cell_link(first_listed(infant_cells(local)));
-    store(Kind::StoreInfant, Name::First(row), first)
+    store(Kind::StoreInfant, Name::First(row), first_word(local))
 }
 
 // The key of a cell of it.
@@ -84,11 +79,8 @@ pub(crate) fn write_key(local: &Local, row: u32, cell: u32) -> Operation
           Action.Store (key_word (key_in (slice_get (infant_cells local.now) cell)));
     } }
 {
-    let key = match infant_cells(local).get(cell as usize) {
-        Some(kept) => kept.key,
-        None => 0,
-    };
-    store(Kind::StoreInfant, Name::Key(row, cell), pack_key(key))
+    let key = key_word(local, cell);
+    store(Kind::StoreInfant, Name::Key(row, cell), key)
 }
 
 // The value of a cell of it.
@@ -101,11 +93,8 @@ pub(crate) fn write_value(local: &Local, row: u32, cell: u32) -> Operation
           Action.Store (value_word (value_in (slice_get (infant_cells local.now) cell)));
     } }
 {
-    let value = match infant_cells(local).get(cell as usize) {
-        Some(kept) => kept.value,
-        None => None,
-    };
-    store(Kind::StoreInfant, Name::Value(row, cell), pack_value(value))
+    let value = value_word(local, cell);
+    store(Kind::StoreInfant, Name::Value(row, cell), value)
 }
 
 // The version of a cell of it, and none where the row has no cell for it.
@@ -118,15 +107,8 @@ pub(crate) fn write_version(local: &Local, row: u32, cell: u32) -> Operation
           Action.Store (version_word (version_in (slice_get (infant_cells local.now) cell)));
     } }
 {
-    let version = match infant_cells(local).get(cell as usize) {
-        Some(kept) => Some(kept.version),
-        None => None,
-    };
-    store(
-        Kind::StoreInfant,
-        Name::Version(row, cell),
-        pack_version(version),
-    )
+    let version = version_word(local, cell);
+    store(Kind::StoreInfant, Name::Version(row, cell), version)
 }
 
 // The link after a cell of it.
@@ -139,6 +121,6 @@ pub(crate) fn write_after(local: &Local, row: u32, cell: u32) -> Operation
           Action.Store (cell_link_word (listed_after (infant_cells local.now) cell));
     } }
 {
-    let behind = pack_cell_link(listed_after(infant_cells(local), cell));
+    let behind = after_word(local, cell);
     store(Kind::StoreInfant, Name::After(row, cell), behind)
 }

@@ -108,6 +108,7 @@ fn build_resume(local: &mut Local, rows: u32, choice: Choice, told: u64) -> Step
 }
 
 /// The seat goes on to an activity.
+#[inline(always)]
 pub fn to(local: &mut Local, activity: Activity) -> StepDone
     ensures { outcome local.new result ≡ to activity local.old }
 {

@@ -28,6 +28,7 @@ pub(crate) fn count_frozen(local: &mut Local) -> StepDone
 }
 
 // The seat goes on to the entry of this seat, or to the scans after the last entry.
+#[inline(always)]
 fn to_look(local: &mut Local, entry: u32) -> StepDone
     ensures { outcome local.new result ≡ to_freeze_look product entry local.old }
 {
@@ -40,6 +41,7 @@ fn to_look(local: &mut Local, entry: u32) -> StepDone
 }
 
 // The seat remembers a stamped cell.
+#[inline(always)]
 fn remember(local: &mut Local, cell: u32, version: u64)
     requires { length local.old.rebalance.marks < SEATS }
     ensures { local.new ≡ marking cell version local.old }
@@ -48,6 +50,7 @@ fn remember(local: &mut Local, cell: u32, version: u64)
 }
 
 // The seat is about to freeze the entry that it found.
+#[inline(always)]
 fn freeze(local: &mut Local, entry: u32, found: Pend) -> StepDone
     ensures { outcome local.new result ≡ freezing entry found local.old }
 {
@@ -55,8 +58,9 @@ fn freeze(local: &mut Local, entry: u32, found: Pend) -> StepDone
     to(local, Activity::Freeze(entry))
 }
 
-// The seat was told the entry of this seat in the full row.
-pub(crate) fn look(local: &mut Local, entry: u32, found: u64) -> StepDone
+/// The seat was told the entry of this seat in the full row. An idle or a pending one is frozen next, and a stamped cell is remembered.
+#[inline(always)]
+pub fn look(local: &mut Local, entry: u32, found: u64) -> StepDone
     requires entry { entry < SEATS }
     requires room { length local.old.rebalance.marks < SEATS }
     ensures { outcome local.new result ≡ freeze_met product entry (pend_of found) local.old }
@@ -72,8 +76,9 @@ pub(crate) fn look(local: &mut Local, entry: u32, found: u64) -> StepDone
     }
 }
 
-// The seat has tried to freeze the entry, and was told the entry found.
-pub(crate) fn entry_tried(local: &mut Local, entry: u32, found: u64) -> StepDone
+/// The seat has tried to freeze the entry, and was told the entry found. Where it was another one, it is looked at once more.
+#[inline(always)]
+pub fn entry_tried(local: &mut Local, entry: u32, found: u64) -> StepDone
     requires entry { entry < SEATS }
     requires held { IsEntry product (Some local.old.rebalance.entry) }
     ensures { outcome local.new result ≡ entry_tried product entry
@@ -87,6 +92,7 @@ pub(crate) fn entry_tried(local: &mut Local, entry: u32, found: u64) -> StepDone
 }
 
 // The seat goes on to the scan of this seat, or to the cells of the row after the last scan.
+#[inline(always)]
 fn to_scan(local: &mut Local, seat: u32) -> StepDone
     ensures { outcome local.new result ≡ to_scan_look product seat local.old }
 {
@@ -98,6 +104,7 @@ fn to_scan(local: &mut Local, seat: u32) -> StepDone
 }
 
 // A scan may still ask for the version.
+#[inline(always)]
 fn need(local: &mut Local, version: u64)
     requires { length local.old.rebalance.needed < MOST_NEEDED }
     ensures { local.new ≡ needing version local.old }
@@ -105,8 +112,9 @@ fn need(local: &mut Local, version: u64)
     local.rebalance.needed.push(version);
 }
 
-// The seat was told the scan of this seat.
-pub(crate) fn scan(local: &mut Local, seat: u32, found: u64) -> StepDone
+/// The seat was told the scan of this seat. One that waits is helped next, and the version of one that has drawn is needed.
+#[inline(always)]
+pub fn scan(local: &mut Local, seat: u32, found: u64) -> StepDone
     requires seat { seat < SEATS }
     requires room { length local.old.rebalance.needed < MOST_NEEDED }
     ensures { outcome local.new result ≡ scan_met product seat (scan_of found) local.old }

@@ -31,6 +31,7 @@ pub(crate) fn to_take(local: &mut Local) -> StepDone
 }
 
 // The seat has met this cell behind its link, and need not remember it any more.
+#[inline(always)]
 fn meet(local: &mut Local, cell: u32)
     requires { local.old.walked ≤ CELLS }
     ensures { local.new ≡ taking product cell local.old }
@@ -40,8 +41,9 @@ fn meet(local: &mut Local, cell: u32)
     local.rebalance.marks.forget(cell);
 }
 
-// The seat was told the link at which it stands.
-pub(crate) fn take_from(local: &mut Local, found: u64) -> StepDone
+/// The seat was told the link at which it stands.
+#[inline(always)]
+pub fn take_from(local: &mut Local, found: u64) -> StepDone
     requires walked { local.old.walked ≤ CELLS }
     requires gathered { length local.old.rebalance.gathered ≤ CELLS }
     requires needed { length local.old.rebalance.needed ≤ SEATS }
@@ -56,8 +58,9 @@ pub(crate) fn take_from(local: &mut Local, found: u64) -> StepDone
     }
 }
 
-// The seat was told the key of the cell that it met.
-pub(crate) fn take_key(local: &mut Local, found: u64) -> StepDone
+/// The seat was told the key of the cell that it met.
+#[inline(always)]
+pub fn take_key(local: &mut Local, found: u64) -> StepDone
     ensures { outcome local.new result ≡ to Activity.TakeVersion
         (record local.old { place_key = key_of_word found }) }
 {
@@ -65,8 +68,9 @@ pub(crate) fn take_key(local: &mut Local, found: u64) -> StepDone
     to(local, Activity::TakeVersion)
 }
 
-// The seat was told the version of that cell. A cell without one counts as one of version 1; no list has such a cell.
-pub(crate) fn take_version(local: &mut Local, found: u64) -> StepDone
+/// The seat was told the version of that cell. A cell without one counts as one of version 1; no list has such a cell.
+#[inline(always)]
+pub fn take_version(local: &mut Local, found: u64) -> StepDone
     ensures { outcome local.new result ≡ take_version (version_of_word found) local.old }
 {
     local.place_version = unpack_version(found).unwrap_or(1);
@@ -74,6 +78,7 @@ pub(crate) fn take_version(local: &mut Local, found: u64) -> StepDone
 }
 
 // The seat was told the value of the cell in hand, and gathers the cell.
+#[inline(always)]
 fn gather(local: &mut Local, found: u64)
     ensures { local.new ≡ keeping product (value_of_word found) local.old }
 {
@@ -85,8 +90,9 @@ fn gather(local: &mut Local, found: u64)
     });
 }
 
-// The seat was told the value of the cell that it met, and goes on past it.
-pub(crate) fn take_value(local: &mut Local, found: u64) -> StepDone
+/// The seat was told the value of the cell that it met, and goes on past it.
+#[inline(always)]
+pub fn take_value(local: &mut Local, found: u64) -> StepDone
     ensures { outcome local.new result
         ≡ take_past (keeping product (value_of_word found) local.old) }
 {
@@ -95,8 +101,9 @@ pub(crate) fn take_value(local: &mut Local, found: u64) -> StepDone
     to(local, Activity::TakeFrom)
 }
 
-// The seat was told the key of a remembered cell that it did not meet.
-pub(crate) fn take_rest_key(local: &mut Local, found: u64) -> StepDone
+/// The seat was told the key of a remembered cell that it did not meet.
+#[inline(always)]
+pub fn take_rest_key(local: &mut Local, found: u64) -> StepDone
     ensures { outcome local.new result ≡ to Activity.TakeRestValue
         (record local.old { place_key = key_of_word found }) }
 {
@@ -104,8 +111,9 @@ pub(crate) fn take_rest_key(local: &mut Local, found: u64) -> StepDone
     to(local, Activity::TakeRestValue)
 }
 
-// The seat was told the value of that cell.
-pub(crate) fn rest_value(local: &mut Local, found: u64) -> StepDone
+/// The seat was told the value of that cell.
+#[inline(always)]
+pub fn rest_value(local: &mut Local, found: u64) -> StepDone
     requires gathered { length local.old.rebalance.gathered ≤ CELLS }
     requires needed { length local.old.rebalance.needed ≤ SEATS }
     ensures { outcome local.new result

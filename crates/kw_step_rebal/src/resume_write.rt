@@ -26,9 +26,10 @@ fn row_written(local: &mut Local) -> StepDone
     }
 }
 
-// The seat goes on to this cell: to its key, or to its version alone where the row has no cell for it. After the last cell the
-// row is written.
-pub(crate) fn to_write_cell(local: &mut Local, cell: u32) -> StepDone
+/// The seat goes on to this cell: to its key, or to its version alone where the row has no cell for it. After the last cell the
+/// row is written.
+#[inline(always)]
+pub fn to_write_cell(local: &mut Local, cell: u32) -> StepDone
     requires { IsLocal product local.old }
     ensures { outcome local.new result ≡ to_write_cell product cell local.old }
 {
@@ -41,8 +42,9 @@ pub(crate) fn to_write_cell(local: &mut Local, cell: u32) -> StepDone
     }
 }
 
-// The seat goes on to the entry of this seat, or to the first cell after the last entry.
-pub(crate) fn to_write_entry(local: &mut Local, entry: u32) -> StepDone
+/// The seat goes on to the entry of this seat, or to the first cell after the last entry.
+#[inline(always)]
+pub fn to_write_entry(local: &mut Local, entry: u32) -> StepDone
     requires { IsLocal product local.old }
     ensures { outcome local.new result ≡ to_write_entry product entry local.old }
 {

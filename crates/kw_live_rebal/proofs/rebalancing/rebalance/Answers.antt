@@ -7,19 +7,19 @@ use Rattle.kw_live_rebal.proofs.Meets.{HasMet, ends_refused, within, won_on}
 use Rattle.kw_live_rebal.proofs.Stages.{keeps_met}
 use Rattle.kw_live_rebal.proofs.rebalancing.rebalance.Goals as goal
 
-pub go-requires-clause-within : goal.go-requires-clause-within
-go-requires-clause-within g c = within c.args.pass.now c.loop.pass c.loop.local _ c.loop.invariant.on.met c.in_default.not-Leave
+pub go_on-requires-clause-within : goal.go_on-requires-clause-within
+go_on-requires-clause-within g c = within c.args.pass.now c.loop.pass c.loop.local _ c.loop.invariant.on.met c.in_default.not-Leave
 
 pub loop-preserved : goal.loop-preserved
 loop-preserved g c = record {
   can_next = search rules;
   is_finite = search rules;
   on = record {
-    goes = goes_trans _ _ _ _ c.loop.invariant.on.goes c.go.ensures.goes;
-    follows = c.go.ensures.follows;
-    calls = c.go.ensures.calls ∙ c.loop.invariant.on.calls;
-    held = c.go.ensures.held c.choice_at-choice.ensures ∙ c.loop.invariant.on.held;
-    met = keeps_met _ _ _ _ _ _ _ _ _ c.loop.invariant.on.goes c.go.ensures.goes c.go.ensures.met c.go.ensures.line c.loop.invariant.on.met c.in_default.not-Normalise c.in_default.not-Again c.in_default.not-Leave;
+    goes = goes_trans _ _ _ _ c.loop.invariant.on.goes c.go_on.ensures.goes;
+    follows = c.go_on.ensures.follows;
+    calls = c.go_on.ensures.calls ∙ c.loop.invariant.on.calls;
+    held = c.go_on.ensures.held c.choice_at-choice.ensures ∙ c.loop.invariant.on.held;
+    met = keeps_met _ _ _ _ _ _ _ _ _ c.loop.invariant.on.goes c.go_on.ensures.goes c.go_on.ensures.met c.go_on.ensures.line c.loop.invariant.on.met c.in_default.not-Normalise c.in_default.not-Again c.in_default.not-Leave;
   };
 }
 

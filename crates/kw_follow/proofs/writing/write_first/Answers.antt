@@ -1,0 +1,18 @@
+use Rattle.std.proofs.Common.{refl, ap, ◌∙◌}
+use Rattle.kw_world.specs.declared.activity.Activity.TheVariants.{WriteFirst}
+use Rattle.kw_words.specs.declared.layout.Name.TheVariants.{First}
+use Rattle.kw_follow.proofs.OneEvent.{follows_ranges}
+use Rattle.kw_follow.proofs.PutEvents.{asks_stored_at, next_at}
+use Rattle.kw_follow.proofs.writing.write_first.Goals as goal
+
+pub first_word-first-requires : goal.first_word-first-requires
+first_word-first-requires c = follows_ranges _ _ _ c.requires.follows
+
+pub store_infant-told-requires : goal.store_infant-told-requires
+store_infant-told-requires c = asks_stored_at _ _ c.args.local.now WriteFirst _ _ _ _ _ c.requires.follows c.requires.activity tt (ap First c.infant.ensures) c.first_word-first.ensures refl
+
+pub to_write_entry-done-requires : goal.to_write_entry-done-requires
+to_write_entry-done-requires c = follows_ranges _ _ _ c.requires.follows
+
+pub returns-clause-line : goal.returns-clause-line
+returns-clause-line c = c.to_write_entry-done.ensures ∙ next_at _ WriteFirst c.args.local.now _ c.requires.activity

@@ -1,0 +1,93 @@
+//! The events of a rebalance.
+//!
+//! Most of them freeze and gather the full row (`gathering`) and write the new ones (`writing`): a split makes some hundreds of these, each by
+//! its own step of the table. What is left, as the search for free rows and the exchange of the link, is put together in `going`.
+ghost use Rattle.std.specs.Prelude.{◌≡◌};
+ghost use Rattle.kw_world.specs.Sizes.{product};
+ghost use Rattle.kw_world.specs.Step.{next_of};
+ghost use Rattle.kw_world.specs.Transition.{outcome};
+ghost use Rattle.kw_world.specs.declared.event.StepDone.TheVariants.{Moved};
+ghost use Rattle.kw_table.specs.Passes.{view, Makes};
+ghost use Rattle.kw_follow.specs.Calling.{KeepsCalls};
+ghost use Rattle.kw_follow.specs.Following.{Follows, GoesTo, held};
+ghost use Rattle.kw_follow.specs.OwnEvents.{MetAs, MetOnly};
+ghost use Rattle.kw_follow.specs.Within.{IsWithinCall};
+
+use crate::gathering::{
+    freeze_entry, load_left_key, load_left_value, load_link, load_met_key, load_met_value,
+    load_met_version, look_at_entry, look_at_scan,
+};
+use crate::going::{Happened, event};
+use crate::writing::{
+    write_after, write_count, write_entry, write_first, write_key, write_least, write_next,
+    write_value, write_version,
+};
+use kw_table::{Pass, Shared};
+use kw_world::activity::Activity;
+use kw_world::event::Choice;
+use kw_world::local::Local;
+
+// The next event, by what the local does next: one that writes a new row, or any other one.
+#[inline(always)]
+fn write_event(shared: &Shared, pass: &mut Pass, local: &mut Local) -> Happened
+    requires follows { Follows shared.now pass.old local.old }
+    requires within { IsWithinCall local.old.activity }
+    ensures makes { Makes shared.now pass.old Choice.Go result.told pass.new }
+    ensures line { outcome local.new result.done ≡ next_of product shared.now.opening.rows Choice.Go
+        local.old result.told }
+{
+    match local.activity {
+        Activity::WriteCount => write_count(shared, pass, local),
+        Activity::WriteMin => write_least(shared, pass, local),
+        Activity::WriteNext => write_next(shared, pass, local),
+        Activity::WriteFirst => write_first(shared, pass, local),
+        Activity::WritePend(entry) => write_entry(shared, pass, local, entry),
+        Activity::WriteKey(cell) => write_key(shared, pass, local, cell),
+        Activity::WriteValue(cell) => write_value(shared, pass, local, cell),
+        Activity::WriteVersion(cell) => write_version(shared, pass, local, cell),
+        Activity::WriteAfter(cell) => write_after(shared, pass, local, cell),
+        _ => event(shared, pass, local, Choice::Go),
+    }
+}
+
+// The next event, by what the local does next: one that freezes or gathers the full row, or any other one.
+#[inline(always)]
+fn build_event(shared: &Shared, pass: &mut Pass, local: &mut Local) -> Happened
+    requires follows { Follows shared.now pass.old local.old }
+    requires within { IsWithinCall local.old.activity }
+    ensures makes { Makes shared.now pass.old Choice.Go result.told pass.new }
+    ensures line { outcome local.new result.done ≡ next_of product shared.now.opening.rows Choice.Go
+        local.old result.told }
+{
+    match local.activity {
+        Activity::FreezeLook(entry) => look_at_entry(shared, pass, local, entry),
+        Activity::Freeze(entry) => freeze_entry(shared, pass, local, entry),
+        Activity::ScanLook(seat) => look_at_scan(shared, pass, local, seat),
+        Activity::TakeFrom => load_link(shared, pass, local),
+        Activity::TakeKey => load_met_key(shared, pass, local),
+        Activity::TakeVersion => load_met_version(shared, pass, local),
+        Activity::TakeValue => load_met_value(shared, pass, local),
+        Activity::TakeRestKey => load_left_key(shared, pass, local),
+        Activity::TakeRestValue => load_left_value(shared, pass, local),
+        _ => write_event(shared, pass, local),
+    }
+}
+
+/// Makes the next event in the middle of a call, as `go` does with the choice `Go`. Those of a rebalance that freeze and gather the full row
+/// and write the new ones are made by steps of their own. The answer is what the event was told. Takes no memory.
+#[inline(always)]
+pub fn go_build(shared: &Shared, pass: &mut Pass, local: &mut Local) -> u64
+    requires follows { Follows shared.now pass.old local.old }
+    requires within { IsWithinCall local.old.activity }
+    ensures goes { GoesTo shared.now pass.old pass.new }
+    ensures follows { Follows shared.now pass.new local.new }
+    ensures line { outcome local.new Moved ≡ next_of product (view pass.old).opening.rows Choice.Go
+        local.old result }
+    ensures met { MetAs pass.old pass.new local.old Choice.Go result }
+    ensures only { MetOnly pass.old pass.new local.old.activity result }
+    ensures calls { KeepsCalls pass.old pass.new }
+    ensures held { held pass.new ≡ held pass.old }
+{
+    let happened = build_event(shared, pass, local);
+    happened.told
+}

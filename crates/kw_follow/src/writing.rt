@@ -1,0 +1,190 @@
+//! The events that write a new row, each by its own step of the table.
+//!
+//! Each stores one word of the new row at hand: its count, its least key, the link after it and the first link of its list, its entries, and
+//! then four words for each cell that it has and one for each other. No other seat reads the row before it is linked. What the local does
+//! next says which step it is, as in `putting`; `building` asks for it.
+ghost use Rattle.std.specs.Prelude.{◌≡◌};
+ghost use Rattle.kw_world.specs.Sizes.{product};
+ghost use Rattle.kw_world.specs.Step.{next_of};
+ghost use Rattle.kw_world.specs.Transition.{outcome};
+ghost use Rattle.kw_table.specs.Passes.{Makes};
+ghost use Rattle.kw_follow.specs.Following.{Follows};
+
+use crate::going::Happened;
+use kw_step_rebal::infant::infant;
+use kw_step_rebal::infant_words::{
+    count_word, first_word, key_word, least_word, next_word, rising_after_word, value_word,
+    version_word,
+};
+use kw_step_rebal::resume::to;
+use kw_step_rebal::resume_write::{to_write_cell, to_write_entry};
+use kw_table::{Pass, Shared, store_infant};
+use kw_words::layout::Name;
+use kw_words::pend::Pend;
+use kw_world::activity::Activity;
+use kw_world::event::Choice;
+use kw_world::local::Local;
+
+// Stores its count.
+#[inline(always)]
+pub(crate) fn write_count(shared: &Shared, pass: &mut Pass, local: &mut Local) -> Happened
+    requires follows { Follows shared.now pass.old local.old }
+    requires activity { local.old.activity ≡ Activity.WriteCount }
+    ensures makes { Makes shared.now pass.old Choice.Go result.told pass.new }
+    ensures line { outcome local.new result.done ≡ next_of product shared.now.opening.rows Choice.Go
+        local.old result.told }
+{
+    let word = Name::Count(infant(local));
+    let count = count_word(local);
+    let told = store_infant(shared, pass, Choice::Go, word, count);
+    let done = to(local, Activity::WriteMin);
+    Happened { told, done }
+}
+
+// Stores its least key.
+#[inline(always)]
+pub(crate) fn write_least(shared: &Shared, pass: &mut Pass, local: &mut Local) -> Happened
+    requires follows { Follows shared.now pass.old local.old }
+    requires activity { local.old.activity ≡ Activity.WriteMin }
+    ensures makes { Makes shared.now pass.old Choice.Go result.told pass.new }
+    ensures line { outcome local.new result.done ≡ next_of product shared.now.opening.rows Choice.Go
+        local.old result.told }
+{
+    let word = Name::Min(infant(local));
+    let least = least_word(local);
+    let told = store_infant(shared, pass, Choice::Go, word, least);
+    let done = to(local, Activity::WriteNext);
+    Happened { told, done }
+}
+
+// Stores the link to the row after it.
+#[inline(always)]
+pub(crate) fn write_next(shared: &Shared, pass: &mut Pass, local: &mut Local) -> Happened
+    requires follows { Follows shared.now pass.old local.old }
+    requires activity { local.old.activity ≡ Activity.WriteNext }
+    ensures makes { Makes shared.now pass.old Choice.Go result.told pass.new }
+    ensures line { outcome local.new result.done ≡ next_of product shared.now.opening.rows Choice.Go
+        local.old result.told }
+{
+    let word = Name::Next(infant(local));
+    let next = next_word(local);
+    let told = store_infant(shared, pass, Choice::Go, word, next);
+    let done = to(local, Activity::WriteFirst);
+    Happened { told, done }
+}
+
+// Stores the first link of its list.
+#[inline(always)]
+pub(crate) fn write_first(shared: &Shared, pass: &mut Pass, local: &mut Local) -> Happened
+    requires follows { Follows shared.now pass.old local.old }
+    requires activity { local.old.activity ≡ Activity.WriteFirst }
+    ensures makes { Makes shared.now pass.old Choice.Go result.told pass.new }
+    ensures line { outcome local.new result.done ≡ next_of product shared.now.opening.rows Choice.Go
+        local.old result.told }
+{
+    let word = Name::First(infant(local));
+    let first = first_word(local);
+    let told = store_infant(shared, pass, Choice::Go, word, first);
+    let done = to_write_entry(local, 0);
+    Happened { told, done }
+}
+
+// Stores that the entry of a seat is idle.
+#[inline(always)]
+pub(crate) fn write_entry(
+    shared: &Shared,
+    pass: &mut Pass,
+    local: &mut Local,
+    entry: u32,
+) -> Happened
+    requires follows { Follows shared.now pass.old local.old }
+    requires activity { local.old.activity ≡ Activity.WritePend entry }
+    ensures makes { Makes shared.now pass.old Choice.Go result.told pass.new }
+    ensures line { outcome local.new result.done ≡ next_of product shared.now.opening.rows Choice.Go
+        local.old result.told }
+{
+    let word = Name::Pend(infant(local), entry);
+    let idle = Pend::Idle.pack();
+    let told = store_infant(shared, pass, Choice::Go, word, idle);
+    let done = to_write_entry(local, entry + 1);
+    Happened { told, done }
+}
+
+// Stores the key of a cell.
+#[inline(always)]
+pub(crate) fn write_key(shared: &Shared, pass: &mut Pass, local: &mut Local, cell: u32) -> Happened
+    requires follows { Follows shared.now pass.old local.old }
+    requires activity { local.old.activity ≡ Activity.WriteKey cell }
+    ensures makes { Makes shared.now pass.old Choice.Go result.told pass.new }
+    ensures line { outcome local.new result.done ≡ next_of product shared.now.opening.rows Choice.Go
+        local.old result.told }
+{
+    let word = Name::Key(infant(local), cell);
+    let key = key_word(local, cell);
+    let told = store_infant(shared, pass, Choice::Go, word, key);
+    let done = to(local, Activity::WriteValue(cell));
+    Happened { told, done }
+}
+
+// Stores the value of a cell.
+#[inline(always)]
+pub(crate) fn write_value(
+    shared: &Shared,
+    pass: &mut Pass,
+    local: &mut Local,
+    cell: u32,
+) -> Happened
+    requires follows { Follows shared.now pass.old local.old }
+    requires activity { local.old.activity ≡ Activity.WriteValue cell }
+    ensures makes { Makes shared.now pass.old Choice.Go result.told pass.new }
+    ensures line { outcome local.new result.done ≡ next_of product shared.now.opening.rows Choice.Go
+        local.old result.told }
+{
+    let word = Name::Value(infant(local), cell);
+    let value = value_word(local, cell);
+    let told = store_infant(shared, pass, Choice::Go, word, value);
+    let done = to(local, Activity::WriteVersion(cell));
+    Happened { told, done }
+}
+
+// Stores the version of a cell, and that it has none where the row has no cell for it.
+#[inline(always)]
+pub(crate) fn write_version(
+    shared: &Shared,
+    pass: &mut Pass,
+    local: &mut Local,
+    cell: u32,
+) -> Happened
+    requires follows { Follows shared.now pass.old local.old }
+    requires activity { local.old.activity ≡ Activity.WriteVersion cell }
+    ensures makes { Makes shared.now pass.old Choice.Go result.told pass.new }
+    ensures line { outcome local.new result.done ≡ next_of product shared.now.opening.rows Choice.Go
+        local.old result.told }
+{
+    let word = Name::Version(infant(local), cell);
+    let version = version_word(local, cell);
+    let told = store_infant(shared, pass, Choice::Go, word, version);
+    let done = to(local, Activity::WriteAfter(cell));
+    Happened { told, done }
+}
+
+// Stores the link after a cell.
+#[inline(always)]
+pub(crate) fn write_after(
+    shared: &Shared,
+    pass: &mut Pass,
+    local: &mut Local,
+    cell: u32,
+) -> Happened
+    requires follows { Follows shared.now pass.old local.old }
+    requires activity { local.old.activity ≡ Activity.WriteAfter cell }
+    ensures makes { Makes shared.now pass.old Choice.Go result.told pass.new }
+    ensures line { outcome local.new result.done ≡ next_of product shared.now.opening.rows Choice.Go
+        local.old result.told }
+{
+    let word = Name::After(infant(local), cell);
+    let behind = rising_after_word(local, cell);
+    let told = store_infant(shared, pass, Choice::Go, word, behind);
+    let done = to_write_cell(local, cell + 1);
+    Happened { told, done }
+}
