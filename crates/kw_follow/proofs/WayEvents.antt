@@ -1,11 +1,13 @@
 -- The events that every call makes on its way: what each asks, and what follows.
-use Rattle.std.proofs.Common.{◌≡◌, ◌<◌, ◌≤◌, ◌∙◌, ℕ, true, arith, ap, sym, subst, length}
+use Rattle.std.proofs.Common.{◌≡◌, ◌<◌, ◌≤◌, ◌∙◌, ℕ, true, arith, refl, ap, sym, subst, length}
 use Rattle.kw_words.specs.declared.kind.Kind.TheVariants as kind
-use Rattle.kw_words.specs.declared.layout.Name.TheVariants.{Epoch}
+use Rattle.kw_words.specs.State.{state_of}
+use Rattle.kw_words.specs.declared.layout.Name.TheVariants.{Epoch, State}
 use Rattle.kw_words.specs.declared.sizes.TheConstants.{SEATS}
 use Rattle.kw_model.specs.declared.call.Call.{Call}
-use Rattle.kw_world.specs.declared.activity.Activity.TheVariants.{Idle, Look}
-use Rattle.kw_world.specs.declared.event.Choice.TheVariants.{Begin}
+use Rattle.kw_world.specs.declared.activity.Activity.{Activity}
+use Rattle.kw_world.specs.declared.activity.Activity.TheVariants.{Idle, Look, Start}
+use Rattle.kw_world.specs.declared.event.Choice.TheVariants.{Begin, Guess}
 use Rattle.kw_world.specs.declared.local.Local.{Local}
 use Rattle.kw_world.specs.declared.operation.Action.TheVariants.{Load}
 use Rattle.kw_world.specs.Local.{resting}
@@ -13,13 +15,17 @@ use Rattle.kw_world.specs.Sane.{IsActivity, marks_by}
 use Rattle.kw_world.specs.Sizes.{product}
 use Rattle.kw_world.specs.Step.{is_skipped, next_of, transition_of}
 use Rattle.kw_world.specs.Table.{transition}
+use Rattle.kw_world.specs.WalkTransitions.{guess_met, offered}
+use Rattle.kw_core.specs.Stages.{IsBusy}
 use Rattle.kw_core.specs.Events.{is_call_in_range, may_begin}
 use Rattle.kw_table.specs.declared.pass.Pass.{Pass}
 use Rattle.kw_table.specs.declared.shared.Shared.{Shared}
 use Rattle.kw_table.specs.Passes.{view, operation, Asks, IsPassOf}
 use Rattle.kw_table.specs.Views.{local_in}
 use Rattle.kw_follow.specs.Following.{Follows, activity_in}
-use Rattle.kw_follow.proofs.OneEvent.{follows_ranges, follows_room}
+use Rattle.kw_follow.specs.Within.{IsWithinCall}
+use Rattle.std.proofs.lemmas.Bool.Decides.{nat_tests}
+use Rattle.kw_follow.proofs.OneEvent.{asks, begins_in, follows_ranges, follows_room, moves_in}
 
 -- the entry at which a reader looks is one of a seat, and so many cells are remembered at most
 pub entry_below : (s : Shared) (p : Pass) (l : Local) (i : ℕ) → Follows s p l → l.activity ≡ Look i → i < SEATS
@@ -45,3 +51,23 @@ asks_epoch s p call of idle range = record {
 pub begins_at : (rows : ℕ) (call : Call) (l : Local) (told : ℕ) → l ≡ resting 0 → (transition product Idle 0 (Begin call) l).next rows told ≡ next_of product rows (Begin call) l told
 unfolding transition_of
 begins_at rows call l told rests = ap (λ a. (transition product a 0 (Begin call) l).next rows told) (sym (ap (λ (k : Local). k.activity) rests))
+
+-- a guess at a row of the table is offered
+pub offered_guess : (rows r : ℕ) → r < rows → offered rows (Guess r) ≡ Guess r
+offered_guess rows r below = grind (arith, nat_tests)
+
+-- a walk that is to begin at a row of the table loads the state of that row
+pub asks_guess : (s : Shared) (p : Pass) (l : Local) (r : ℕ) → Follows s p l → l.activity ≡ Start → r < s.opening.rows → Asks s p (Guess r) (operation kind.LoadState (State r) Load)
+unfolding transition_of
+asks_guess s p l r f is below =
+    let b : IsBusy l.activity = subst IsBusy (sym is) tt in
+    asks s p (Guess r) l s.opening.rows (view p).number (Guess r) _ f (begins_in s p l (Guess r) f b) (moves_in s p l (Guess r) f b) refl refl (sym (offered_guess _ r below)) (ap (λ x. (transition product x (view p).number (Guess r) l).operation) (sym is))
+
+-- and what follows is what the line says
+pub next_guess : (rows r : ℕ) (l : Local) (told : ℕ) → l.activity ≡ Start → r < rows → guess_met r (state_of told) l ≡ next_of product rows (offered rows (Guess r)) l told
+unfolding transition_of
+next_guess rows r l told is below = ap (λ x. (transition product x 0 (Guess r) l).next rows told) (sym is) ∙ ap (λ o. next_of product rows o l told) (sym (offered_guess rows r below))
+
+-- a walk that is yet to begin is in the middle of its call
+pub starts_within : (a : Activity) → a ≡ Start → IsWithinCall a
+starts_within a is = subst IsWithinCall (sym is) tt

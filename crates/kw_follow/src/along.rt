@@ -1,15 +1,16 @@
 //! The events that every call makes: as it begins, on its way to its row, at the entries there, and as it ends; each by its own step of the
 //! table.
 //!
-//! A call loads the epoch and announces it, loads the link from the head and the link after each row that it passes, and announces no epoch
-//! any more at its end; a reader looks at each entry of its row. What the local does next says which step it is, as in `putting`; every
+//! A call loads the epoch and announces it, loads the link from the head, or the state and the least key of a guessed row, and the link after each
+//! row that it passes, and announces no epoch any more at its end; a reader looks at each entry of its row. What the local does next says which step it is, as in `putting`; every
 //! other event is put together in `going`.
-ghost use Rattle.std.specs.Prelude.{◌≡◌, true};
+ghost use Rattle.std.specs.Prelude.{◌≡◌, ◌<◌, true, false};
 ghost use Rattle.kw_core.specs.Events.{is_call_in_range};
 ghost use Rattle.kw_world.specs.Local.{resting};
 ghost use Rattle.kw_world.specs.Sizes.{product};
 ghost use Rattle.kw_world.specs.Step.{next_of};
 ghost use Rattle.kw_world.specs.Transition.{outcome};
+ghost use Rattle.kw_world.specs.WalkTransitions.{offered};
 ghost use Rattle.kw_world.specs.declared.event.StepDone.TheVariants.{Moved};
 ghost use Rattle.kw_table.specs.Passes.{view, IsPassOf, Makes};
 ghost use Rattle.kw_follow.specs.Calling.{KeepsCalls};
@@ -17,14 +18,15 @@ ghost use Rattle.kw_follow.specs.Following.{Follows, GoesTo, activity_in, held};
 ghost use Rattle.kw_follow.specs.OwnEvents.{MetAs, MetOnly};
 ghost use Rattle.kw_follow.specs.Within.{IsWithinCall};
 
-use crate::going::{Happened, event};
+use crate::going::{Happened, event, go};
 use kw_model::call::Call;
 use kw_step_put::resume::end_call;
 use kw_step_put::resume_entries::look;
 use kw_step_put::resume_scan::{begin, enter};
-use kw_step_rows::resume::{first, link, walk_min};
+use kw_step_rows::resume::{first, guess, guess_min, link, walk_min};
 use kw_table::{
-    Pass, Shared, clear_pass, load_epoch, load_head, load_link, load_min, load_pend, store_pass,
+    Pass, Shared, clear_pass, load_epoch, load_head, load_link, load_min, load_pend,
+    load_state, store_pass,
 };
 use kw_words::layout::Name;
 use kw_words::plain::pack_pass;
@@ -106,6 +108,36 @@ fn load_first_row(shared: &Shared, pass: &mut Pass, local: &mut Local) -> Happen
     Happened { told, done }
 }
 
+// Loads the state of a row of the table, with which a walk begins that is to begin there.
+#[inline(always)]
+fn load_guessed_state(shared: &Shared, pass: &mut Pass, local: &mut Local, row: u32) -> Happened
+    requires follows { Follows shared.now pass.old local.old }
+    requires activity { local.old.activity ≡ Activity.Start }
+    requires in_range { row < shared.now.opening.rows }
+    ensures makes { Makes shared.now pass.old (Choice.Guess row) result.told pass.new }
+    ensures line { outcome local.new result.done ≡ next_of product shared.now.opening.rows
+        (offered shared.now.opening.rows (Choice.Guess row)) local.old result.told }
+{
+    let told = load_state(shared, pass, Choice::Guess(row), Name::State(row));
+    let done = guess(local, row, told);
+    Happened { told, done }
+}
+
+// Loads the least key of that row.
+#[inline(always)]
+fn load_guessed_least(shared: &Shared, pass: &mut Pass, local: &mut Local) -> Happened
+    requires follows { Follows shared.now pass.old local.old }
+    requires activity { local.old.activity ≡ Activity.GuessMin }
+    ensures makes { Makes shared.now pass.old Choice.Go result.told pass.new }
+    ensures line { outcome local.new result.done ≡ next_of product shared.now.opening.rows Choice.Go
+        local.old result.told }
+{
+    let word = Name::Min(local.row);
+    let told = load_min(shared, pass, Choice::Go, word);
+    let done = guess_min(local, told);
+    Happened { told, done }
+}
+
 // Loads the link after the row.
 #[inline(always)]
 fn load_next_row(shared: &Shared, pass: &mut Pass, local: &mut Local) -> Happened
@@ -163,6 +195,7 @@ fn event_along(shared: &Shared, pass: &mut Pass, local: &mut Local) -> Happened
     match local.activity {
         Activity::Enter => announce_epoch(shared, pass, local),
         Activity::Start => load_first_row(shared, pass, local),
+        Activity::GuessMin => load_guessed_least(shared, pass, local),
         Activity::Walk => load_next_row(shared, pass, local),
         Activity::WalkMin => load_least_key(shared, pass, local),
         Activity::Look(entry) => load_entry(shared, pass, local, entry),
@@ -186,5 +219,26 @@ pub fn go_along(shared: &Shared, pass: &mut Pass, local: &mut Local) -> u64
     ensures held { held pass.new ≡ held pass.old }
 {
     let happened = event_along(shared, pass, local);
+    happened.told
+}
+
+/// Makes the first event of a walk that is to begin at this row, as `go` does with the choice `Guess(row)`. The answer is what the event was told.
+/// Takes no memory.
+#[inline(always)]
+pub fn go_guess(shared: &Shared, pass: &mut Pass, local: &mut Local, row: u32) -> u64
+    requires follows { Follows shared.now pass.old local.old }
+    requires start { local.old.activity ≡ Activity.Start }
+    ensures goes { GoesTo shared.now pass.old pass.new }
+    ensures follows { Follows shared.now pass.new local.new }
+    ensures line { outcome local.new Moved ≡ next_of product (view pass.old).opening.rows
+        (offered (view pass.old).opening.rows (Choice.Guess row)) local.old result }
+    ensures met { MetAs pass.old pass.new local.old (Choice.Guess row) result }
+    ensures calls { KeepsCalls pass.old pass.new }
+    ensures held { held pass.new ≡ held pass.old }
+{
+    if row >= shared.rows() {
+        return go(shared, pass, local, Choice::Guess(row));
+    }
+    let happened = load_guessed_state(shared, pass, local, row);
     happened.told
 }

@@ -5,6 +5,7 @@ ghost use Rattle.kw_index.specs.Turns.{handed_back};
 use crate::entries::{Entries, Entry};
 use crate::index::{Copied, Index, Published, TRIES, WRITE_TRIES};
 use crate::memory::Memory;
+use crate::own::{GUESSES_BEFORE_COPY, OwnEntries};
 use std::alloc::Global;
 use std::sync::atomic::{AtomicBool, Ordering};
 use std::test::Fail;
@@ -175,6 +176,57 @@ fn a_publication_between_copy_and_publish_is_kept(rt: HostRuntime) -> Result<(),
     assert_eq!(rt; (mine_done, index.number()), (true, 3));
     let guesses = (index.guess(0), index.guess(50), index.guess(100));
     assert_eq!(rt; guesses, (Some(0), Some(1), Some(2)));
+    Ok(())
+}
+
+/// Guesses by own entries, so many times, the row of key 100.
+fn guess_again(own: &mut OwnEntries, index: &Index, times: u32) -> Option<u32> {
+    let mut row = None;
+    for _ in 0..times {
+        row = own.guess(index, 100);
+    }
+    row
+}
+
+// A publication is copied once it was met so many times, and not before; what is guessed is what is published from the first time on.
+#[test]
+fn own_entries_are_copied_where_a_publication_lasts(rt: HostRuntime) -> Result<(), Fail> {
+    let index = Index::new(rt.alloc(), 4)?;
+    let mut own = OwnEntries::new(rt.alloc(), 4)?;
+    let entries = two_rows(rt.alloc(), 3)?;
+    assert_eq!(rt;
+        guess_again(&mut own, &index, GUESSES_BEFORE_COPY - 1),
+        Some(0)
+    );
+    let (_, mut spare) = parts(index.publish(entries, index.number()));
+    assert_eq!(rt;
+        guess_again(&mut own, &index, GUESSES_BEFORE_COPY - 1),
+        Some(3)
+    );
+    assert_eq!(rt; own.entries.list(), [].as_slice());
+    assert_eq!(rt; guess_again(&mut own, &index, 1), Some(3));
+    assert_eq!(rt; own.entries.list(), [entry(0, 0), entry(100, 3)].as_slice());
+    assert_eq!(rt;
+        (own.guess(&index, 99), own.guess(&index, 100)),
+        (Some(0), Some(3))
+    );
+    spare.place(entry(100, 1));
+    let (done, _) = parts(index.publish(spare, index.number()));
+    assert_eq!(rt; (done, own.guess(&index, 100)), (true, Some(1)));
+    assert_eq!(rt; own.entries.list(), [entry(0, 0), entry(100, 3)].as_slice());
+    Ok(())
+}
+
+// Entries with room for those of another map are not taken for this one's.
+#[test]
+fn own_entries_of_another_map_are_not_asked(rt: HostRuntime) -> Result<(), Fail> {
+    let index = Index::new(rt.alloc(), 4)?;
+    let mut own = OwnEntries::new(rt.alloc(), 5)?;
+    assert_eq!(rt;
+        guess_again(&mut own, &index, 2 * GUESSES_BEFORE_COPY),
+        Some(0)
+    );
+    assert_eq!(rt; own.entries.list(), [].as_slice());
     Ok(())
 }
 

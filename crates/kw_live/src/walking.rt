@@ -9,10 +9,9 @@ ghost use Rattle.kw_live.specs.Stages.{arrived, guessing};
 ghost use Rattle.kw_live.specs.Walking.{IsUnderWay, WalksOn};
 
 use kw_core::stage::Stage;
-use kw_follow::{go, go_along};
+use kw_follow::{go_along, go_guess};
 use kw_table::{Pass, Shared};
 use kw_world::activity::Activity;
-use kw_world::event::Choice;
 use kw_world::local::Local;
 
 /// Walks to the row whose range holds the key that the call wants.
@@ -55,7 +54,7 @@ pub(crate) fn set_out(shared: &Shared, pass: &mut Pass, local: &mut Local, guess
 {
     match guess {
         Some(row) => {
-            go(shared, pass, local, Choice::Guess(row));
+            go_guess(shared, pass, local, row);
         }
         None => {
             go_along(shared, pass, local);

@@ -4,10 +4,10 @@
 //! what stands here; it makes the walks short. The new rows are published once they are normal, since a walk begins at no other row; and before
 //! the seat forgets them, which it does as it retires the full one.
 ghost use Rattle.std.specs.Prelude.{◌≡◌};
-ghost use Rattle.kw_index.specs.Turns.{handed_back};
 
 use kw_index::entries::{Entries, Entry};
 use kw_index::index::{Copied, Index, Published};
+use kw_index::own::OwnEntries;
 use kw_table::Hints;
 use kw_world::activity::Activity;
 use kw_world::local::Local;
@@ -20,17 +20,17 @@ const PUBLICATIONS: u32 = 8;
 /// The full row is gone then, and each new row has its least key. The hints have other entries afterwards, and the last new row as the one behind
 /// which the pass searches next. Where others publish again and again just then, or there are no hints, the index is not told: its guesses in this
 /// range lead to the first row, until a rebalance there is published. Takes no memory.
-pub(crate) fn tell_index(index: &Index, hints: &mut Option<Hints>, local: &Local) {
+pub(crate) fn tell_index(index: &Index, hints: &mut Option<Box<Hints>>, local: &Local) {
     let Activity::Number = local.activity else {
         return;
     };
-    if let Some(lent) = hints.take() {
-        *hints = Some(published_by(index, lent, local));
+    if let Some(hints) = hints {
+        publish_by(index, hints, local);
     }
 }
 
 /// The row behind which a search for free rows begins: that of the hints, and else the full row.
-pub(crate) fn behind(hints: &Option<Hints>, local: &Local) -> u32 {
+pub(crate) fn behind(hints: &Option<Box<Hints>>, local: &Local) -> u32 {
     match hints {
         Some(hints) => hints.behind,
         None => local.row,
@@ -38,28 +38,23 @@ pub(crate) fn behind(hints: &Option<Hints>, local: &Local) -> u32 {
 }
 
 // Publishes the rows by these hints.
-fn published_by(index: &Index, hints: Hints, local: &Local) -> Hints {
-    if hints.spare.rows() != index.rows() {
-        return hints;
+fn publish_by(index: &Index, hints: &mut Hints, local: &Local) {
+    if let Some(row) = local.rebalance.taken.as_slice().last() {
+        hints.behind = *row;
     }
-    let behind = match local.rebalance.taken.as_slice().last() {
-        Some(row) => *row,
-        None => hints.behind,
-    };
-    Hints {
-        spare: published(index, hints.spare, local),
-        behind,
+    if let Some(spare) = hints.spare.take() {
+        hints.spare = Some(exchanged(index, spare, &mut hints.own, local));
     }
 }
 
-// Publishes these entries, or gives up; other entries with as much room come back.
-fn published(index: &Index, spare: Entries, local: &Local) -> Entries
-    requires { spare.rows ≡ index.now }
-    ensures { result.rows ≡ index.now }
-{
+// Publishes these entries where they are for an index of this size, or gives up; other entries with as much room come back.
+fn exchanged(index: &Index, spare: Entries, own: &mut OwnEntries, local: &Local) -> Entries {
     let mut entries = spare;
     for _ in 0..PUBLICATIONS {
-        match publish_once(index, entries, local) {
+        if entries.rows() != index.rows() {
+            return entries;
+        }
+        match publish_once(index, entries, own, local) {
             Published::Done(others) => return others,
             Published::Busy(same) => entries = same,
         }
@@ -67,10 +62,10 @@ fn published(index: &Index, spare: Entries, local: &Local) -> Entries
     entries
 }
 
-// One publication. The number is asked for before the copy: where another one came between, this one would lose it, and is not made.
-fn publish_once(index: &Index, spare: Entries, local: &Local) -> Published
+// One publication. The number is asked for before the copy: where another one came between, this one would lose it, and is not made. Own entries
+// that are of the publication before are edited alike.
+fn publish_once(index: &Index, spare: Entries, own: &mut OwnEntries, local: &Local) -> Published
     requires { spare.rows ≡ index.now }
-    ensures { (handed_back result).rows ≡ index.now }
 {
     let number = index.number();
     let mut entries = spare;
@@ -78,7 +73,19 @@ fn publish_once(index: &Index, spare: Entries, local: &Local) -> Published
         return Published::Busy(entries);
     }
     edit(&mut entries, local);
-    index.publish(entries, number)
+    let published = index.publish(entries, number);
+    if let Published::Done(_) = published {
+        follow(own, number, local);
+    }
+    published
+}
+
+// Own entries that are of this publication become those of the next one, which has these new rows.
+fn follow(own: &mut OwnEntries, number: u32, local: &Local) {
+    if own.number == Some(number) {
+        edit(&mut own.entries, local);
+        own.number = Some(number.wrapping_add(1));
+    }
 }
 
 // Each new row comes with its least key, and the full row goes. In this order nothing is searched for: the first new row takes the place of the

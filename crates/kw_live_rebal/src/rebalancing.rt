@@ -54,7 +54,7 @@ pub fn rebalance<R: Wait>(
     rt: &R,
     shared: &Shared,
     index: &Index,
-    hints: &mut Option<Hints>,
+    hints: &mut Option<Box<Hints>>,
     pass: &mut Pass,
     local: &mut Local,
 ) -> Rebalanced
@@ -120,7 +120,7 @@ fn finish<R: Wait>(
     rt: &R,
     shared: &Shared,
     index: &Index,
-    hints: &mut Option<Hints>,
+    hints: &mut Option<Box<Hints>>,
     pass: &mut Pass,
     local: &mut Local,
 )
@@ -143,7 +143,7 @@ fn finish<R: Wait>(
 }
 
 // The choice with which the next event is made.
-fn choice_at(local: &Local, index: &Index, hints: &Option<Hints>) -> Choice
+fn choice_at(local: &Local, index: &Index, hints: &Option<Box<Hints>>) -> Choice
     ensures { is_stop result ≡ false }
 {
     match local.activity {

@@ -29,7 +29,7 @@ use kw_live::{TryPut, enter, enter_anew, leave, locate, read_row, try_put};
 use kw_live_rebal::{Rebalanced, rebalance};
 use kw_model::call::{Call, Reply};
 use kw_model::memory::Memory;
-use kw_table::{Hints, Pass, Shared};
+use kw_table::{Hints, Pass, Shared, guess};
 use kw_world::activity::Activity;
 use kw_world::local::Local;
 use std::alloc::Global;
@@ -117,7 +117,8 @@ impl Kiwi {
         ensures ordered { IsOrdered (view pass.new) }
     {
         let mut local = pass.lend();
-        let found = self.get_by(pass, &mut local, key);
+        let guess = pass.guess(&self.index, key);
+        let found = self.get_by(pass, &mut local, key, guess);
         pass.give(local);
         found
     }
@@ -175,7 +176,8 @@ impl Kiwi {
         ensures ordered { IsOrdered (view pass.new) }
     {
         let mut local = pass.lend();
-        let scanned = self.scan_by(pass, &mut local, from, to, into);
+        let guess = pass.guess(&self.index, from);
+        let scanned = self.scan_by(pass, &mut local, from, to, guess, into);
         pass.give(local);
         scanned
     }
@@ -229,7 +231,7 @@ impl Kiwi {
         rt: &R,
         pass: &mut Pass,
         local: &mut Local,
-        hints: &mut Option<Hints>,
+        hints: &mut Option<Box<Hints>>,
         call: Call,
     ) -> Result<(), PutEnd>
         requires table { IsPassOf self.now.shared pass.old }
@@ -244,8 +246,8 @@ impl Kiwi {
     {
         enter(&self.shared, pass, local, call);
         for _ in rt.forever() {
-            let guess = self.index.guess(local.want);
-            locate(&self.shared, pass, local, guess);
+            let row = guess(hints, &self.index, local.want);
+            locate(&self.shared, pass, local, row);
             if let TryPut::Done = try_put(&self.shared, pass, local) {
                 leave(&self.shared, pass, local);
                 return Ok(());
@@ -264,7 +266,7 @@ impl Kiwi {
         rt: &R,
         pass: &mut Pass,
         local: &mut Local,
-        hints: &mut Option<Hints>,
+        hints: &mut Option<Box<Hints>>,
     ) -> Option<PutEnd>
         requires follows { Follows self.now.shared pass.old local.old }
         requires activity { local.old.activity ≡ Activity.BalClock }
@@ -285,7 +287,14 @@ impl Kiwi {
         }
     }
 
-    fn get_by(&self, pass: &mut Pass, local: &mut Local, key: u32) -> Option<u64>
+    // A get, whose walk begins at the guess, if there is one.
+    fn get_by(
+        &self,
+        pass: &mut Pass,
+        local: &mut Local,
+        key: u32,
+        guess: Option<u32>,
+    ) -> Option<u64>
         requires table { IsPassOf self.now.shared pass.old }
         requires idle { activity_in pass.old ≡ Activity.Idle }
         requires rested { local.old ≡ resting 0 }
@@ -295,7 +304,6 @@ impl Kiwi {
         ensures calls { Calls pass.old pass.new (Call.Get key) (found result) }
     {
         enter(&self.shared, pass, local, Call::Get(key));
-        let guess = self.index.guess(key);
         locate(&self.shared, pass, local, guess);
         read_row(&self.shared, pass, local);
         match leave(&self.shared, pass, local) {
@@ -304,12 +312,14 @@ impl Kiwi {
         }
     }
 
+    // A scan, whose walk to its first row begins at the guess, if there is one.
     fn scan_by<G: Gather>(
         &self,
         pass: &mut Pass,
         local: &mut Local,
         from: u32,
         to: u32,
+        guess: Option<u32>,
         into: &mut G,
     ) -> Result<(), ScanEnd>
         requires table { IsPassOf self.now.shared pass.old }
@@ -328,7 +338,6 @@ impl Kiwi {
             leave(&self.shared, pass, local);
             return Err(ScanEnd::Spent);
         }
-        let guess = self.index.guess(from);
         let gathered = gather_rows(&self.shared, pass, local, guess, to, into);
         leave(&self.shared, pass, local);
         match gathered {

@@ -1,7 +1,7 @@
 //! What a seat knows after an event of its walk.
 //!
-//! The running map makes the events of a walk from the first row on by steps of their own, and calls `first`, `link` and `walk_min` for
-//! what follows.
+//! The running map makes the events of a walk by steps of their own, and calls `first`, `guess`, `guess_min`, `link` and `walk_min` for what
+//! follows.
 ghost use Rattle.std.specs.Prelude.{◌≡◌, if◌then◌else◌};
 ghost use Rattle.kw_words.specs.Link.{link_of};
 ghost use Rattle.kw_words.specs.State.{state_of};
@@ -74,8 +74,8 @@ pub fn first(local: &mut Local, found: u64) -> StepDone
     to(local, Activity::Walk)
 }
 
-// The seat was told the state of the guessed row.
-fn guess(local: &mut Local, row: u32, found: u64) -> StepDone
+/// The seat was told the state of the guessed row.
+pub fn guess(local: &mut Local, row: u32, found: u64) -> StepDone
     ensures { outcome local.new result ≡ guess_met row (state_of found) local.old }
 {
     match State::unpack(found) {
@@ -87,8 +87,8 @@ fn guess(local: &mut Local, row: u32, found: u64) -> StepDone
     }
 }
 
-// The seat was told the least key of the guessed row.
-fn guess_min(local: &mut Local, found: u64) -> StepDone
+/// The seat was told the least key of the guessed row.
+pub fn guess_min(local: &mut Local, found: u64) -> StepDone
     ensures { outcome local.new result ≡ guess_min (key_of_word found) local.old }
 {
     let least = unpack_key(found);

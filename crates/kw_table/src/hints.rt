@@ -1,17 +1,25 @@
 //! What a pass has with it for an index of the rows.
 //!
-//! An index says at which row to begin for a key. A rebalance that won has replaced rows, and publishes an index that knows the new ones.
-//! What it needs for that is made with the table, so that a call takes no memory for it. All of it is for speed: no clause says what hints
-//! hold, and whoever finds none with a pass goes on without.
+//! An index says at which row to begin for a key. A pass guesses from entries of its own while these are what is published. A rebalance that won has
+//! replaced rows, and publishes an index that knows the new ones. What all that needs is made with the table, so that a call takes no memory for
+//! it. It is for speed alone: no clause says what hints hold, and whoever finds none with a pass goes on without.
+ghost use Rattle.std.specs.Prelude.{◌≡◌, ◌<◌, IfSome};
+ghost use Rattle.kw_table.specs.Passes.{view};
+
+use crate::pass::Pass;
 use kw_index::entries::Entries;
+use kw_index::index::Index;
+use kw_index::own::OwnEntries;
 use kw_model::memory::Memory;
 use std::alloc::Global;
 
-/// What a pass has to publish an index with, and where it searches for free rows.
+/// What a pass guesses with and publishes an index with, and where it searches for free rows.
 #[derive(Drop)]
 pub struct Hints {
+    /// The entries from which the pass guesses.
+    pub own: OwnEntries,
     /// Entries for a next index. A rebalance that won copies the index into them, edits and publishes them, and has others from then on.
-    pub spare: Entries,
+    pub spare: Option<Entries>,
     /// The row behind which the pass searches for free rows first. At the start it is the pass's number times (rows / passes), so that
     /// passes search apart.
     pub behind: u32,
@@ -20,9 +28,36 @@ pub struct Hints {
 impl Hints {
     // Hints with room for the entries of so many rows.
     pub(crate) fn new(alloc: Global, rows: u32, behind: u32) -> Result<Hints, Memory> {
-        match Entries::new(alloc, rows) {
-            Ok(spare) => Ok(Hints { spare, behind }),
-            Err(_) => Err(Memory),
+        match (OwnEntries::new(alloc, rows), Entries::new(alloc, rows)) {
+            (Ok(own), Ok(spare)) => Ok(Hints {
+                own,
+                spare: Some(spare),
+                behind,
+            }),
+            _ => Err(Memory),
         }
+    }
+}
+
+/// A row to begin at for the key: by the hints' own entries where there are hints, and else by a turn at the index.
+///
+/// The row is below the index's number of rows. Takes no memory.
+pub fn guess(hints: &mut Option<Box<Hints>>, index: &Index, key: u32) -> Option<u32>
+    ensures { IfSome result (λ row. row < index.now) }
+{
+    match hints {
+        Some(hints) => hints.own.guess(index, key),
+        None => index.guess(key),
+    }
+}
+
+impl Pass {
+    /// The same by the pass's hints.
+    pub fn guess(&mut self, index: &Index, key: u32) -> Option<u32>
+        ensures table { self.new.seat.table_id ≡ self.old.seat.table_id }
+        ensures view { view self.new ≡ view self.old }
+        ensures local { self.new.local ≡ self.old.local }
+    {
+        guess(&mut self.hints, index, key)
     }
 }

@@ -34,7 +34,7 @@ impl Pass {
     /// Takes the hints out, for a put or a delete, which gives them back by `give_hints`.
     ///
     /// None comes only where they are out already, and then the call goes on without them. Takes no memory.
-    pub fn lend_hints(&mut self) -> Option<Hints>
+    pub fn lend_hints(&mut self) -> Option<Box<Hints>>
         ensures table { self.new.seat.table_id ≡ self.old.seat.table_id }
         ensures view { view self.new ≡ view self.old }
         ensures local { self.new.local ≡ self.old.local }
@@ -43,7 +43,7 @@ impl Pass {
     }
 
     /// Gives the hints back after a call, and drops those that were there, if any. Takes no memory.
-    pub fn give_hints(&mut self, hints: Option<Hints>)
+    pub fn give_hints(&mut self, hints: Option<Box<Hints>>)
         ensures table { self.new.seat.table_id ≡ self.old.seat.table_id }
         ensures view { view self.new ≡ view self.old }
         ensures local { self.new.local ≡ self.old.local }

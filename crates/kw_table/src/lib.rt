@@ -32,7 +32,7 @@ mod tests_rebalance_kinds;
 #[cfg(test)]
 mod tests_slot;
 
-pub use hints::Hints;
+pub use hints::{Hints, guess};
 pub use kinds::{
     add_count, announce, clear_pass, clear_pend, clear_scan, draw, help_stamp, insert, load_after,
     load_clock, load_count, load_epoch, load_head, load_key, load_link, load_min, load_pend,

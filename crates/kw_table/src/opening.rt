@@ -97,7 +97,7 @@ impl Shared {
         let mut passes = Vec::new(alloc);
         for number in 0..seats {
             let local = Box::new(alloc, Local::idle(alloc))?;
-            let hints = Hints::new(alloc, rows, number * (rows / seats))?;
+            let hints = Box::new(alloc, Hints::new(alloc, rows, number * (rows / seats))?)?;
             let pass = self.deal(&mut rest, number, local, hints);
             passes.push(pass)?;
         }
@@ -105,7 +105,7 @@ impl Shared {
     }
 
     // Cuts off the first of the seats that have no pass yet.
-    fn deal(&self, rest: &mut Seat<(), View>, number: u32, local: Box<Local>, hints: Hints) -> Pass
+    fn deal(&self, rest: &mut Seat<(), View>, number: u32, local: Box<Local>, hints: Box<Hints>) -> Pass
         requires table { rest.old.table_id ≡ self.now.table.shared.table_id }
         requires rest { rest.old.me ≡ (rest_view self.now.opening number, []) }
         requires some { number < self.now.opening.seats }

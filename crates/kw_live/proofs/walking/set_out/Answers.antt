@@ -4,7 +4,7 @@ use Rattle.kw_live.proofs.WalkStages.{sets_out}
 use Rattle.kw_live.proofs.walking.set_out.Goals as goal
 
 pub returns-in-Some-clause-walks : goal.returns-in-Some-clause-walks
-returns-in-Some-clause-walks c = sets_out c.args.local.now c.go.new.local c.go.result (view c.args.pass.now).opening.rows (Some c.in-Some.row) c.requires.start c.go.ensures.line
+returns-in-Some-clause-walks c = sets_out c.args.local.now c.go_guess.new.local c.go_guess.result (view c.args.pass.now).opening.rows (Some c.in-Some.row) c.requires.start c.go_guess.ensures.line
 
 pub returns-in-None-clause-walks : goal.returns-in-None-clause-walks
 returns-in-None-clause-walks c = sets_out c.args.local.now c.go_along.new.local c.go_along.result (view c.args.pass.now).opening.rows None c.requires.start c.go_along.ensures.line
