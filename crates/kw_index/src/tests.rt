@@ -2,6 +2,7 @@
 ghost use Rattle.std.specs.Prelude.{◌≡◌, ◌<◌, IfOk};
 ghost use Rattle.kw_index.specs.Turns.{handed_back};
 
+use crate::change::Change;
 use crate::entries::{Entries, Entry};
 use crate::index::{Copied, Index, Published, TRIES, WRITE_TRIES};
 use crate::memory::Memory;
@@ -227,6 +228,79 @@ fn own_entries_of_another_map_are_not_asked(rt: HostRuntime) -> Result<(), Fail>
         Some(0)
     );
     assert_eq!(rt; own.entries.list(), [].as_slice());
+    Ok(())
+}
+
+/// A change by which these rows, each with its least key, come in the place of one.
+fn change(gone: u32, placed: &[Entry]) -> Change {
+    let mut change = Change::without(gone);
+    for entry in placed {
+        change.place(*entry);
+    }
+    change
+}
+
+// Each of two callers publishes twice, the first one in a row, so that it goes on from its own change, and then over the other's. What each
+// publishes has all that was published before, as a third list, which is copied, shows.
+#[test]
+fn own_publications_are_made_over_those_of_others(rt: HostRuntime) -> Result<(), Fail> {
+    let index = Index::new(rt.alloc(), 9)?;
+    let mut first = OwnEntries::new(rt.alloc(), 9)?;
+    let mut other = OwnEntries::new(rt.alloc(), 9)?;
+    guess_again(&mut first, &index, GUESSES_BEFORE_COPY);
+    let done = (
+        first.publish(&index, change(0, &[entry(0, 1), entry(50, 2)])),
+        first.publish(&index, change(2, &[entry(50, 3), entry(70, 4)])),
+        other.publish(&index, change(1, &[entry(0, 5), entry(20, 6)])),
+        first.publish(&index, change(4, &[entry(70, 7)])),
+        other.publish(&index, change(6, &[entry(20, 8)])),
+    );
+    assert_eq!(rt; done, (true, true, true, true, true));
+    let mut shown = Entries::new(rt.alloc(), 9)?;
+    assert_eq!(rt; index.copy(&mut shown), Copied::Done);
+    let all = [entry(0, 5), entry(20, 8), entry(50, 3), entry(70, 7)];
+    assert_eq!(rt; shown.list(), all.as_slice());
+    assert_eq!(rt; index.number(), 6);
+    Ok(())
+}
+
+// Own entries that are of the last publication are those of the caller's next one too.
+#[test]
+fn own_entries_follow_the_callers_publications(rt: HostRuntime) -> Result<(), Fail> {
+    let index = Index::new(rt.alloc(), 4)?;
+    let mut own = OwnEntries::new(rt.alloc(), 4)?;
+    guess_again(&mut own, &index, GUESSES_BEFORE_COPY);
+    let done = own.publish(&index, change(0, &[entry(0, 1), entry(50, 2)]));
+    assert_eq!(rt;
+        (done, own.guess(&index, 49), own.guess(&index, 50)),
+        (true, Some(1), Some(2))
+    );
+    assert_eq!(rt; own.entries.list(), [entry(0, 1), entry(50, 2)].as_slice());
+    Ok(())
+}
+
+// Nothing is published over an index of another size.
+#[test]
+fn own_entries_of_another_map_are_not_published(rt: HostRuntime) -> Result<(), Fail> {
+    let index = Index::new(rt.alloc(), 4)?;
+    let mut own = OwnEntries::new(rt.alloc(), 5)?;
+    assert_eq!(rt; own.publish(&index, change(0, &[entry(0, 4)])), false);
+    assert_eq!(rt; (index.number(), index.guess(0)), (1, Some(0)));
+    Ok(())
+}
+
+// The ninth row of a change is left out.
+#[test]
+fn a_change_brings_eight_rows_at_most(rt: HostRuntime) -> Result<(), Fail> {
+    let mut entries = Entries::new(rt.alloc(), 16)?;
+    let mut rows = [entry(0, 0); 9];
+    for (at, row) in rows.iter_mut().enumerate() {
+        row.min = at as u32;
+        row.row = at as u32;
+    }
+    entries.apply(&change(3, &rows));
+    let left = [0, 1, 2, 4, 5, 6, 7].map(|row| entry(row, row));
+    assert_eq!(rt; entries.list(), left.as_slice());
     Ok(())
 }
 

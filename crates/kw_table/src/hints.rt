@@ -7,7 +7,6 @@ ghost use Rattle.std.specs.Prelude.{◌≡◌, ◌<◌, IfSome};
 ghost use Rattle.kw_table.specs.Passes.{view};
 
 use crate::pass::Pass;
-use kw_index::entries::Entries;
 use kw_index::index::Index;
 use kw_index::own::OwnEntries;
 use kw_model::memory::Memory;
@@ -16,10 +15,8 @@ use std::alloc::Global;
 /// What a pass guesses with and publishes an index with, and where it searches for free rows.
 #[derive(Drop)]
 pub struct Hints {
-    /// The entries from which the pass guesses.
+    /// The entries from which the pass guesses, and those that a rebalance of its own publishes.
     pub own: OwnEntries,
-    /// Entries for a next index. A rebalance that won copies the index into them, edits and publishes them, and has others from then on.
-    pub spare: Option<Entries>,
     /// The row behind which the pass searches for free rows first. At the start it is the pass's number times (rows / passes), so that
     /// passes search apart.
     pub behind: u32,
@@ -28,13 +25,9 @@ pub struct Hints {
 impl Hints {
     // Hints with room for the entries of so many rows.
     pub(crate) fn new(alloc: Global, rows: u32, behind: u32) -> Result<Hints, Memory> {
-        match (OwnEntries::new(alloc, rows), Entries::new(alloc, rows)) {
-            (Ok(own), Ok(spare)) => Ok(Hints {
-                own,
-                spare: Some(spare),
-                behind,
-            }),
-            _ => Err(Memory),
+        match OwnEntries::new(alloc, rows) {
+            Ok(own) => Ok(Hints { own, behind }),
+            Err(_) => Err(Memory),
         }
     }
 }
