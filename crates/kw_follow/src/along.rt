@@ -2,8 +2,8 @@
 //! table.
 //!
 //! A call loads the epoch and announces it, loads the link from the head, or the state and the least key of a guessed row, and the link after each
-//! row that it passes, and announces no epoch any more at its end; a reader looks at each entry of its row. What the local does next says which step it is, as in `putting`; every
-//! other event is put together in `going`.
+//! row that it passes, and announces no epoch any more at its end; a reader looks at each entry of its row. What the local does next says which
+//! step it is, as in `putting`; every other event is put together in `going`.
 ghost use Rattle.std.specs.Prelude.{◌≡◌, ◌<◌, true, false};
 ghost use Rattle.kw_core.specs.Events.{is_call_in_range};
 ghost use Rattle.kw_world.specs.Local.{resting};
@@ -25,8 +25,8 @@ use kw_step_put::resume_entries::look;
 use kw_step_put::resume_scan::{begin, enter};
 use kw_step_rows::resume::{first, guess, guess_min, link, walk_min};
 use kw_table::{
-    Pass, Shared, clear_pass, load_epoch, load_head, load_link, load_min, load_pend,
-    load_state, store_pass,
+    Pass, Shared, clear_pass, load_epoch, load_head, load_link, load_min, load_pend, load_state,
+    store_pass,
 };
 use kw_words::layout::Name;
 use kw_words::plain::pack_pass;

@@ -18,8 +18,8 @@ use kw_world::local::Local;
 ///
 /// A walk that is yet to begin begins at the guessed row where there is a guess, where that is a row of the table, in the normal state,
 /// and one whose least key is not above the key; every other walk begins at the first row. Its first event has the choice
-/// `Guess(row)` where there is a guess, and else `Go`. The call then stands at its row: the local's `row`, `next` and `upper` are that row, the one after
-/// it and the least key of that one. Least keys rise from row to row, so that the walk ends. Takes no memory.
+/// `Guess(row)` where there is a guess, and else `Go`. The call then stands at its row: the local's `row`, `next` and `upper` are that row, the one
+/// after it and the least key of that one. Least keys rise from row to row, so that the walk ends. Takes no memory.
 pub fn locate(shared: &Shared, pass: &mut Pass, local: &mut Local, guess: Option<u32>)
     requires follows { Follows shared.now pass.old local.old }
     requires going { is_walking local.old.activity ≡ true }

@@ -105,7 +105,13 @@ impl Shared {
     }
 
     // Cuts off the first of the seats that have no pass yet.
-    fn deal(&self, rest: &mut Seat<(), View>, number: u32, local: Box<Local>, hints: Box<Hints>) -> Pass
+    fn deal(
+        &self,
+        rest: &mut Seat<(), View>,
+        number: u32,
+        local: Box<Local>,
+        hints: Box<Hints>,
+    ) -> Pass
         requires table { rest.old.table_id ≡ self.now.table.shared.table_id }
         requires rest { rest.old.me ≡ (rest_view self.now.opening number, []) }
         requires some { number < self.now.opening.seats }
