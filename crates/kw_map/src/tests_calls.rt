@@ -20,12 +20,12 @@ const LAST_CLOCK: u64 = 281474976710656;
 /// How many cells a row has.
 const ROW: u32 = 64;
 
-/// A map of 64 rows, whose clock begins here, and its one pass.
-fn open_one(alloc: Global, clock: u64) -> Result<(Kiwi, Pass), Memory>
-    requires { IsOpening product (record { rows = 64; seats = 1; clock = clock; epoch = 1 }) }
+/// A map of so many rows, whose clock begins here, and its one pass.
+pub(crate) fn open_one(alloc: Global, rows: u32, clock: u64) -> Result<(Kiwi, Pass), Memory>
+    requires { IsOpening product (record { rows = rows; seats = 1; clock = clock; epoch = 1 }) }
     ensures { IfOk result (λ made. IsIdle made.0 made.1) }
 {
-    let (kiwi, mut passes) = Kiwi::open_at(alloc, 64, 1, clock, 1)?;
+    let (kiwi, mut passes) = Kiwi::open_at(alloc, rows, 1, clock, 1)?;
     let Some(pass) = passes.pop() else {
         unreachable!()
     };
@@ -72,7 +72,7 @@ fn put_again<R: Wait>(
 // A row that is full of keys is replaced by two, which have what it had.
 #[test]
 fn a_full_row_is_split(rt: HostRuntime) -> Result<(), Fail> {
-    let (kiwi, mut pass) = open_one(rt.alloc(), 1)?;
+    let (kiwi, mut pass) = open_one(rt.alloc(), 64, 1)?;
     assert_eq!(rt; put_each(&rt, &kiwi, &mut pass, 0, ROW + 1, 7), Ok(()));
     assert_eq!(rt; kiwi.get(&mut pass, 0), Some(7));
     assert_eq!(rt; kiwi.get(&mut pass, 64), Some(7));
@@ -89,7 +89,7 @@ fn a_full_row_is_split(rt: HostRuntime) -> Result<(), Fail> {
 // A row that is full of one key is replaced by one that has its last value: the puts 65, 128 and 191 do so.
 #[test]
 fn puts_of_one_key_never_end(rt: HostRuntime) -> Result<(), Fail> {
-    let (kiwi, mut pass) = open_one(rt.alloc(), 1)?;
+    let (kiwi, mut pass) = open_one(rt.alloc(), 64, 1)?;
     assert_eq!(rt; put_again(&rt, &kiwi, &mut pass, 7, 1, 201), Ok(()));
     assert_eq!(rt; kiwi.get(&mut pass, 7), Some(200));
     Ok(())
@@ -98,7 +98,7 @@ fn puts_of_one_key_never_end(rt: HostRuntime) -> Result<(), Fail> {
 // A delete at a full row rebalances it as a put does, and then the key is gone.
 #[test]
 fn a_delete_is_refused_at_a_full_row_no_more(rt: HostRuntime) -> Result<(), Fail> {
-    let (kiwi, mut pass) = open_one(rt.alloc(), 1)?;
+    let (kiwi, mut pass) = open_one(rt.alloc(), 64, 1)?;
     assert_eq!(rt; put_each(&rt, &kiwi, &mut pass, 0, ROW, 7), Ok(()));
     assert_eq!(rt; kiwi.delete(&rt, &mut pass, 1), Ok(()));
     assert_eq!(rt; kiwi.get(&mut pass, 1), None);
@@ -111,7 +111,7 @@ fn a_delete_is_refused_at_a_full_row_no_more(rt: HostRuntime) -> Result<(), Fail
 // After 62 splits 63 of the 64 rows are live, and the next split needs two. Whoever asks for no new row is not refused.
 #[test]
 fn no_rows_are_left(rt: HostRuntime) -> Result<(), Fail> {
-    let (kiwi, mut pass) = open_one(rt.alloc(), 1)?;
+    let (kiwi, mut pass) = open_one(rt.alloc(), 64, 1)?;
     assert_eq!(rt; put_each(&rt, &kiwi, &mut pass, 1, 2049, 1), Ok(()));
     assert_eq!(rt; kiwi.put(&rt, &mut pass, 2049, 1), Err(PutEnd::NoRows));
     assert_eq!(rt; kiwi.put(&rt, &mut pass, 2049, 1), Err(PutEnd::NoRows));
@@ -127,7 +127,7 @@ fn no_rows_are_left(rt: HostRuntime) -> Result<(), Fail> {
 
 #[test]
 fn a_scan_stops_where_the_gatherer_stops(rt: HostRuntime) -> Result<(), Fail> {
-    let (kiwi, mut pass) = open_one(rt.alloc(), 1)?;
+    let (kiwi, mut pass) = open_one(rt.alloc(), 64, 1)?;
     assert_eq!(rt; put_each(&rt, &kiwi, &mut pass, 10, 15, 1), Ok(()));
     let mut roomy = Roomy::new(3);
     assert_eq!(rt;
@@ -142,7 +142,7 @@ fn a_scan_stops_where_the_gatherer_stops(rt: HostRuntime) -> Result<(), Fail> {
 // No scan begins, and no full row is replaced; the puts that its row has room for are made.
 #[test]
 fn only_what_needs_a_version_is_refused_where_they_are_spent(rt: HostRuntime) -> Result<(), Fail> {
-    let (kiwi, mut pass) = open_one(rt.alloc(), LAST_CLOCK)?;
+    let (kiwi, mut pass) = open_one(rt.alloc(), 64, LAST_CLOCK)?;
     let mut sum = SumGather::new();
     assert_eq!(rt; kiwi.scan(&mut pass, 0, 10, &mut sum), Err(ScanEnd::Spent));
     assert_eq!(rt; put_again(&rt, &kiwi, &mut pass, 5, 50, 114), Ok(()));

@@ -3,6 +3,7 @@ ghost use Rattle.kw_map.specs.Kiwi.{IsIdle};
 
 use crate::gather_numbers::SumGather;
 use crate::kiwi::{Kiwi, PutEnd};
+use crate::tests_calls::open_one;
 use kw_table::Pass;
 use std::sync::Wait;
 use std::test::Fail;
@@ -28,10 +29,7 @@ fn put_rising<R: Wait>(rt: &R, kiwi: &Kiwi, pass: &mut Pass) -> Result<(), PutEn
 // rebalances it.
 #[test]
 fn calls_at_the_last_of_many_rows_load_few_links(rt: HostRuntime) -> Result<(), Fail> {
-    let (kiwi, mut passes) = Kiwi::open(rt.alloc(), 16_384, 1)?;
-    let Some(mut pass) = passes.pop() else {
-        panic!(rt; "a pass");
-    };
+    let (kiwi, mut pass) = open_one(rt.alloc(), 16_384, 1)?;
     assert_eq!(rt; put_rising(&rt, &kiwi, &mut pass), Ok(()));
     let mut walked = Vec::new(rt.alloc());
     walked.push(pass.walked())?;

@@ -6,6 +6,7 @@ ghost use Rattle.std.specs.Prelude.{◌≡◌, true, IfOk};
 ghost use Rattle.kw_core.specs.Events.{is_call_in_range};
 ghost use Rattle.kw_table.specs.Passes.{view, IsPassOf};
 ghost use Rattle.kw_table.specs.Views.{local_in};
+ghost use Rattle.kw_world.specs.Local.{resting};
 
 use super::*;
 use crate::tests_kinds::{ALL, advance, begin, play};
@@ -186,12 +187,22 @@ const HELPS_A_SCAN: [(Kind, u64); 10] = [
     (Kind::LoadScan, 0),
 ];
 
+// A table of two rows, and its two passes.
+fn open_two(alloc: Global) -> Result<(Shared, Pass, Pass), Memory>
+    ensures table { IfOk result (λ made. IsPassOf made.0 made.1 × IsPassOf made.0 made.2) }
+    ensures idle { IfOk result (λ made. (local_in (view made.1) ≡ resting 0)
+        × (local_in (view made.2) ≡ resting 0)) }
+{
+    let (shared, mut passes) = Shared::open(alloc, 2, 2, 1, 1)?;
+    let (Some(second), Some(first)) = (passes.pop(), passes.pop()) else {
+        unreachable!()
+    };
+    Ok((shared, first, second))
+}
+
 #[test]
 fn a_rebalance_helps_a_scan(rt: HostRuntime) -> Result<(), Fail> {
-    let (shared, mut passes) = Shared::open(rt.alloc(), 2, 2, 1, 1)?;
-    let (Some(mut scanner), Some(mut putter)) = (passes.pop(), passes.pop()) else {
-        return Err("two passes")?;
-    };
+    let (shared, mut putter, mut scanner) = open_two(rt.alloc())?;
     let (mut put, _) = begin(rt.alloc(), &shared, &mut putter, Call::Put(7, 1))?;
     play(rt.alloc(), &shared, &mut putter, &mut put, ALL)?;
     put_many(
