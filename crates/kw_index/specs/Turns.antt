@@ -1,6 +1,6 @@
 -- What a turn at the slot of an index shows, and what a call that takes one answers.
 -- A turn that gained its right shows the entries that stood in the slot at that moment, and one that gained none shows nothing.
-use Rattle.std.specs.Prelude.{ℕ, ◌≡◌, ◌⊎◌, Option, None, MatchOption}
+use Rattle.std.specs.Prelude.{ℕ, ◌≡◌, Option, None, MatchOption}
 use Rattle.kw_index.specs.Entries.{Listing, IsOf, IsGuess}
 use Rattle.kw_index.specs.declared.index.Copied.{Copied}
 use Rattle.kw_index.specs.declared.index.Published.{Published}
@@ -8,10 +8,6 @@ use Rattle.kw_index.specs.declared.index.Published.{Published}
 -- the guess of the entries that a turn showed, or none where it gained no right
 abbrev pub IsShownGuess : ℕ → ℕ → Option ℕ → Type 0
 IsShownGuess rows key result = (turn : Option Listing) × MatchOption turn (result ≡ None) (λ shown. IsOf rows shown × IsGuess shown.list key result)
-
--- the guess of a caller's own entries, if they are lawful ones of the map, or of those that a turn showed
-abbrev pub IsOwnGuess : ℕ → Listing → ℕ → Option ℕ → Type 0
-IsOwnGuess rows own key result = (IsOf rows own × IsGuess own.list key result) ⊎ IsShownGuess rows key result
 
 -- the entries that a turn showed took the place of the old ones, or these stayed where it gained no right
 abbrev pub IsShownCopy : ℕ → Listing → Listing → Copied → Type 0

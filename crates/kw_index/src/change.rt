@@ -2,24 +2,38 @@
 //!
 //! A rebalance puts new rows in the place of one: each of them comes with its least key, and the one goes. The same change is made in several lists
 //! of entries, one after the other, so it is a value of its own. It has room for `MOST_PLACED` rows.
-ghost use Rattle.std.specs.Prelude.{◌≡◌};
+ghost use Rattle.std.specs.Prelude.{◌≡◌, ◌<◌, ◌≤◌, [], ◌∷◌, ◌++◌, length};
+ghost use Rattle.kw_index.specs.Changes.{with_change};
 
 use crate::entries::{Entries, Entry};
 use arrayvec::ArrayVec;
+use std::marker::Model;
 
 /// The most rows that one change brings: one more than a rebalance takes.
 pub const MOST_PLACED: usize = 8;
 
 /// New rows in the place of one.
+///
+/// Seen as the list of the entries of the new rows, in the order in which they are placed, and the row that goes.
 #[derive(Debug, Drop)]
 pub struct Change {
     placed: ArrayVec<Entry, MOST_PLACED>,
     gone: u32,
 }
 
+impl Model for Change {
+    ghost use Rattle.kw_index.specs.Changes.{Replacement};
+
+    ghost Value = { Replacement };
+
+    ghost view = { λ change. record { placed = change.placed.items; gone = change.gone } };
+}
+
 impl Change {
     /// This row goes, and no row comes as yet.
-    pub fn without(gone: u32) -> Change {
+    pub fn without(gone: u32) -> Change
+        ensures { result ≡ record { placed = []; gone = gone } }
+    {
         Change {
             placed: ArrayVec::new(),
             gone,
@@ -27,7 +41,13 @@ impl Change {
     }
 
     /// This row comes too, with its least key. It is left out where the change has `MOST_PLACED` rows already. Takes no memory.
-    pub fn place(&mut self, entry: Entry) {
+    pub fn place(&mut self, entry: Entry)
+        ensures room { length self.old.placed < MOST_PLACED → self.new ≡ record {
+          placed = self.old.placed ++ entry ∷ [];
+          gone = self.old.gone;
+        } }
+        ensures full { MOST_PLACED ≤ length self.old.placed → self.new ≡ self.old }
+    {
         if !self.placed.is_full() {
             self.placed.push(entry);
         }
@@ -39,7 +59,7 @@ impl Entries {
     ///
     /// In this order nothing is searched for: the first new row takes the place of the one that goes, which then has no entry any more.
     pub fn apply(&mut self, change: &Change)
-        ensures { self.new.rows ≡ self.old.rows }
+        ensures { self.new ≡ with_change change.now self.old }
     {
         for entry in change.placed.as_slice() {
             self.place(*entry);

@@ -6,8 +6,8 @@
 //!
 //! `entries` has the list and its edits, which one thread owns; `index` the slot in which the published list stands, and what threads ask
 //! of it; `own` the lists that one caller guesses from without a turn and publishes, and `change` what a publication changes; `memory` the one
-//! error. What an edit leaves and what a guess is stands in `specs/Entries.antt`, and what a turn at the slot shows in `specs/Turns.antt`. Nothing here
-//! waits, and nothing but the making of entries and of an index takes memory.
+//! error. What an edit leaves and what a guess is stands in `specs/Entries.antt`, what a change leaves in `specs/Changes.antt`, and what a turn at
+//! the slot shows in `specs/Turns.antt`. Nothing here waits, and nothing but the making of entries and of an index takes memory.
 #![tactic(auto)]
 
 pub mod change;

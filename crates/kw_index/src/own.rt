@@ -1,14 +1,16 @@
 //! A caller's own entries, from which it guesses, and others that it publishes.
 //!
 //! A turn at the slot writes the slot's word twice, so that threads which guess at once wait for each other's writes. A caller with entries of its
-//! own guesses from these while the slot has the number of the publication that they are of: it loads the slot's word and writes nothing. Where the
-//! slot has another number, the guess is made by a turn. The entries are copied anew once so many guesses in a row have met the same other number:
-//! where others publish all the time, nothing is copied in vain.
+//! own guesses from these, and touches nothing that others write. Others may have published since: then the row that is guessed may be in use no more,
+//! which whoever knows the rows sees at the row, and asks for a guess by a turn. The entries are copied anew once so many guesses were made so: where
+//! others publish all the time, what is copied serves for many guesses, as most rows stay.
 //!
 //! Whoever publishes exchanges spare entries for those in the slot. What comes back is one publication behind what was published, and the change that
 //! made that is known: so where nobody else publishes in between, both lists are brought up by changes alone, whatever the number of rows.
-ghost use Rattle.std.specs.Prelude.{◌≡◌, ◌<◌, [], IfOk, IfSome, IsTrue};
-ghost use Rattle.kw_index.specs.Turns.{IsOwnGuess};
+ghost use Rattle.std.specs.Prelude.{◌≡◌, ◌≢◌, ◌<◌, [], IfOk, IfSome, IsTrue, Some, None};
+ghost use Rattle.kw_index.specs.Changes.{with_change, number_before, number_after};
+ghost use Rattle.kw_index.specs.Entries.{IsOf, IsGuess};
+ghost use Rattle.kw_index.specs.Turns.{IsShownGuess};
 
 use crate::change::Change;
 use crate::entries::Entries;
@@ -16,22 +18,21 @@ use crate::index::{Copied, Index, Published};
 use crate::memory::Memory;
 use std::alloc::Global;
 
-/// How many guesses in a row meet a newer publication before it is copied.
+/// How many guesses are made anew before the published entries are copied.
 pub const GUESSES_BEFORE_COPY: u32 = 32;
 
 /// How often a publication is begun, where others come between.
 const PUBLICATIONS: u32 = 8;
 
-/// Entries that a caller guesses from while no others are published, and spare ones for its next publication.
+/// Entries that a caller guesses from, and spare ones for its next publication.
 ///
-/// A number of a publication is None where it is not known.
+/// A number of a publication is None where the entries are of none: not copied yet, or changed since.
 #[derive(Drop)]
 pub struct OwnEntries {
     pub(crate) entries: Entries,
     number: Option<u32>,
-    // The other publication that the last guesses met, and how many of them in a row did.
-    met: u32,
-    times: u32,
+    // How many guesses were made anew since the entries were copied.
+    misses: u32,
     // None only while it is being published.
     spare: Option<Entries>,
     spare_number: Option<u32>,
@@ -49,29 +50,38 @@ impl OwnEntries {
         Ok(OwnEntries {
             entries,
             number: None,
-            met: 0,
-            times: 0,
+            misses: 0,
             spare: Some(spare),
             spare_number: None,
             last: Change::without(rows),
         })
     }
 
-    /// A row to begin at for the key, as `Index::guess` tells it: from these entries while they are those that are published, and else by a turn.
+    /// A row to begin at for the key by these entries, whatever was published since they were copied: it may be in use no more.
     ///
-    /// None comes only where the guess took a turn that gained no right to read, or each minimum is above the key. A row is below the number of
-    /// rows. Takes no memory.
-    pub fn guess(&mut self, index: &Index, key: u32) -> Option<u32>
-        ensures shown { IsOwnGuess index.now self.old.entries key result }
+    /// None where each minimum is above the key, and where the entries have room for another number of rows than the index. A row is below
+    /// the number of rows. Takes no memory.
+    pub fn guess(&self, index: &Index, key: u32) -> Option<u32>
+        ensures shown { IfSome result (λ row. IsOf index.now self.now.entries
+            × IsGuess self.now.entries.list key (Some row)) }
         ensures in_range { IfSome result (λ row. row < index.now) }
     {
-        let number = index.number();
         // entries that are guessed from have to be lawful, as all are
         let _ = self.entries.list();
-        if self.is_of(index, number) {
-            return self.entries.guess(key);
+        if self.entries.rows() == index.rows() {
+            self.entries.guess(key)
+        } else {
+            None
         }
-        self.meet(index, number);
+    }
+
+    /// The same as `Index::guess` tells it: for a key whose row by the own entries is in use no more. Once `GUESSES_BEFORE_COPY` guesses were
+    /// made so, the own entries become those that are published. Takes no memory.
+    pub fn guess_anew(&mut self, index: &Index, key: u32) -> Option<u32>
+        ensures shown { IsShownGuess index.now key result }
+        ensures in_range { IfSome result (λ row. row < index.now) }
+    {
+        self.miss(index);
         index.guess(key)
     }
 
@@ -82,17 +92,14 @@ impl OwnEntries {
         self.number == Some(number) && self.entries.rows() == index.rows()
     }
 
-    // A guess has met this other publication, which is copied once enough guesses have. No entries are copied from an index of another size.
-    fn meet(&mut self, index: &Index, number: u32) {
-        if self.met != number {
-            self.met = number;
-            self.times = 0;
-        }
-        self.times = self.times.saturating_add(1);
-        if self.times < GUESSES_BEFORE_COPY || self.entries.rows() != index.rows() {
+    // The own entries did not serve for a guess: they are copied anew where they often did not. No entries are copied from an index of another size.
+    fn miss(&mut self, index: &Index) {
+        self.misses = self.misses.saturating_add(1);
+        if self.misses < GUESSES_BEFORE_COPY || self.entries.rows() != index.rows() {
             return;
         }
-        self.times = 0;
+        self.misses = 0;
+        let number = index.number();
         if let Copied::Done = index.copy(&mut self.entries) {
             self.number = Some(number);
         }
@@ -142,7 +149,10 @@ impl OwnEntries {
     // The spare entries become those of this publication, which is the last. Whether they could be had.
     fn bring_up(&self, index: &Index, number: u32, spare: &mut Entries) -> bool
         requires { spare.old.rows ≡ index.now }
-        ensures { spare.new.rows ≡ spare.old.rows }
+        ensures rows { spare.new.rows ≡ spare.old.rows }
+        // spare entries that are one publication behind are brought up by what the last one changed
+        ensures changed { self.now.spare_number ≡ Some (number_before number)
+            → IsTrue result × (spare.new ≡ with_change self.now.last spare.old) }
     {
         if self.spare_number == Some(number.wrapping_sub(1)) {
             spare.apply(&self.last);
@@ -158,11 +168,16 @@ impl OwnEntries {
         }
     }
 
-    // Own entries that are of this publication become those of the next one, which this change has made.
-    fn follow(&mut self, number: u32, change: &Change) {
-        if self.number == Some(number) {
-            self.entries.apply(change);
-            self.number = Some(number.wrapping_add(1));
-        }
+    // The change is made in the own entries too, after its publication. They are of that where they were of the one before it.
+    fn follow(&mut self, number: u32, change: &Change)
+        ensures entries { self.new.entries ≡ with_change change.now self.old.entries }
+        ensures next { self.old.number ≡ Some number → self.new.number ≡ Some (number_after number) }
+        ensures other { self.old.number ≢ Some number → self.new.number ≡ None }
+    {
+        self.entries.apply(change);
+        self.number = match self.number {
+            Some(own) if own == number => Some(number.wrapping_add(1)),
+            _ => None,
+        };
     }
 }

@@ -180,31 +180,30 @@ fn a_publication_between_copy_and_publish_is_kept(rt: HostRuntime) -> Result<(),
     Ok(())
 }
 
-/// Guesses by own entries, so many times, the row of key 100.
+/// Guesses anew, so many times, the row of key 100.
 fn guess_again(own: &mut OwnEntries, index: &Index, times: u32) -> Option<u32> {
     let mut row = None;
     for _ in 0..times {
-        row = own.guess(index, 100);
+        row = own.guess_anew(index, 100);
     }
     row
 }
 
-// A publication is copied once it was met so many times, and not before; what is guessed is what is published from the first time on.
+// What is published is copied once so many guesses were made anew, and not before. Own entries are guessed from whatever is published since.
 #[test]
-fn own_entries_are_copied_where_a_publication_lasts(rt: HostRuntime) -> Result<(), Fail> {
+fn own_entries_are_copied_where_they_often_do_not_serve(rt: HostRuntime) -> Result<(), Fail> {
     let index = Index::new(rt.alloc(), 4)?;
     let mut own = OwnEntries::new(rt.alloc(), 4)?;
     let entries = two_rows(rt.alloc(), 3)?;
-    assert_eq!(rt;
-        guess_again(&mut own, &index, GUESSES_BEFORE_COPY - 1),
-        Some(0)
-    );
     let (_, mut spare) = parts(index.publish(entries, index.number()));
     assert_eq!(rt;
         guess_again(&mut own, &index, GUESSES_BEFORE_COPY - 1),
         Some(3)
     );
-    assert_eq!(rt; own.entries.list(), [].as_slice());
+    assert_eq!(rt;
+        (own.entries.list(), own.guess(&index, 100)),
+        ([].as_slice(), None)
+    );
     assert_eq!(rt; guess_again(&mut own, &index, 1), Some(3));
     assert_eq!(rt; own.entries.list(), [entry(0, 0), entry(100, 3)].as_slice());
     assert_eq!(rt;
@@ -213,7 +212,10 @@ fn own_entries_are_copied_where_a_publication_lasts(rt: HostRuntime) -> Result<(
     );
     spare.place(entry(100, 1));
     let (done, _) = parts(index.publish(spare, index.number()));
-    assert_eq!(rt; (done, own.guess(&index, 100)), (true, Some(1)));
+    assert_eq!(rt;
+        (done, own.guess(&index, 100), own.guess_anew(&index, 100)),
+        (true, Some(3), Some(1))
+    );
     assert_eq!(rt; own.entries.list(), [entry(0, 0), entry(100, 3)].as_slice());
     Ok(())
 }
@@ -222,12 +224,18 @@ fn own_entries_are_copied_where_a_publication_lasts(rt: HostRuntime) -> Result<(
 #[test]
 fn own_entries_of_another_map_are_not_asked(rt: HostRuntime) -> Result<(), Fail> {
     let index = Index::new(rt.alloc(), 4)?;
+    let other = Index::new(rt.alloc(), 5)?;
     let mut own = OwnEntries::new(rt.alloc(), 5)?;
     assert_eq!(rt;
         guess_again(&mut own, &index, 2 * GUESSES_BEFORE_COPY),
         Some(0)
     );
     assert_eq!(rt; own.entries.list(), [].as_slice());
+    guess_again(&mut own, &other, GUESSES_BEFORE_COPY);
+    assert_eq!(rt;
+        (own.guess(&other, 7), own.guess(&index, 7)),
+        (Some(0), None)
+    );
     Ok(())
 }
 
@@ -264,18 +272,26 @@ fn own_publications_are_made_over_those_of_others(rt: HostRuntime) -> Result<(),
     Ok(())
 }
 
-// Own entries that are of the last publication are those of the caller's next one too.
+// The caller's own publications change its own entries too, also where others published meanwhile, and what they changed is not there.
 #[test]
 fn own_entries_follow_the_callers_publications(rt: HostRuntime) -> Result<(), Fail> {
-    let index = Index::new(rt.alloc(), 4)?;
-    let mut own = OwnEntries::new(rt.alloc(), 4)?;
+    let index = Index::new(rt.alloc(), 9)?;
+    let mut own = OwnEntries::new(rt.alloc(), 9)?;
+    let mut other = OwnEntries::new(rt.alloc(), 9)?;
     guess_again(&mut own, &index, GUESSES_BEFORE_COPY);
     let done = own.publish(&index, change(0, &[entry(0, 1), entry(50, 2)]));
     assert_eq!(rt;
         (done, own.guess(&index, 49), own.guess(&index, 50)),
         (true, Some(1), Some(2))
     );
-    assert_eq!(rt; own.entries.list(), [entry(0, 1), entry(50, 2)].as_slice());
+    let between = other.publish(&index, change(1, &[entry(0, 3)]));
+    let done = own.publish(&index, change(2, &[entry(50, 4), entry(80, 5)]));
+    assert_eq!(rt; (between, done), (true, true));
+    assert_eq!(rt;
+        own.entries.list(),
+        [entry(0, 1), entry(50, 4), entry(80, 5)].as_slice()
+    );
+    assert_eq!(rt; (index.guess(49), index.guess(80)), (Some(3), Some(5)));
     Ok(())
 }
 

@@ -29,6 +29,10 @@ pub fn read_row(shared: &Shared, pass: &mut Pass, local: &mut Local)
     ensures cells { All (λ cell. IsValue cell.value) local.new.gathered }
     ensures calls { KeepsCalls pass.old pass.new }
 {
+    if local.has_read {
+        // a scan's next row, which no guess was made for
+        shared.warm(local.row);
+    }
     look_at_entries(shared, pass, local);
     read_list(shared, pass, local);
 }

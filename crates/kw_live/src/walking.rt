@@ -54,6 +54,7 @@ pub(crate) fn set_out(shared: &Shared, pass: &mut Pass, local: &mut Local, guess
 {
     match guess {
         Some(row) => {
+            shared.warm(row);
             go_guess(shared, pass, local, row);
         }
         None => {

@@ -12,8 +12,8 @@ use kw_world::local::Local;
 
 /// Tells the index of a rebalance that won, where its new rows are normal and the full one is not yet retired; elsewhere nothing is done.
 ///
-/// The full row is gone then, and each new row has its least key. The hints have other entries afterwards, and the last new row as the one behind
-/// which the pass searches next. Where others publish again and again just then, or there are no hints, the index is not told: its guesses in this
+/// The full row is gone then, and each new row has its least key. The hints have other entries afterwards, and the pass searches behind the last
+/// new row next. Where others publish again and again just then, or there are no hints, the index is not told: its guesses in this
 /// range lead to the first row, until a rebalance there is published. Takes no memory.
 pub(crate) fn tell_index(index: &Index, hints: &mut Option<Box<Hints>>, local: &Local) {
     let Activity::Number = local.activity else {
@@ -24,18 +24,19 @@ pub(crate) fn tell_index(index: &Index, hints: &mut Option<Box<Hints>>, local: &
     }
 }
 
-/// The row behind which a search for free rows begins: that of the hints, and else the full row.
-pub(crate) fn behind(hints: &Option<Box<Hints>>, local: &Local) -> u32 {
+/// The row at which a search for free rows begins: that of the hints, and else the one behind the full row.
+pub(crate) fn search_start(hints: &Option<Box<Hints>>, local: &Local) -> u32 {
     match hints {
-        Some(hints) => hints.behind,
-        None => local.row,
+        Some(hints) => hints.window.start(),
+        None => local.row.saturating_add(1),
     }
 }
 
 // Publishes the rows by these hints.
 fn publish_by(index: &Index, hints: &mut Hints, local: &Local) {
-    if let Some(row) = local.rebalance.taken.as_slice().last() {
-        hints.behind = *row;
+    let taken = local.rebalance.taken.as_slice();
+    if let Some(row) = taken.last() {
+        hints.window.took(*row, taken.len() as u32);
     }
     hints.own.publish(index, change_of(local));
 }

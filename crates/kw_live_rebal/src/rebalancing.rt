@@ -16,7 +16,7 @@ ghost use Rattle.kw_follow.specs.OwnEvents.{MetAs};
 ghost use Rattle.kw_follow.specs.Within.{IsWithinCall};
 ghost use Rattle.kw_live_rebal.specs.Rebalancing.{HasEnded, stands_after};
 
-use crate::publishing::{behind, tell_index};
+use crate::publishing::{search_start, tell_index};
 use kw_follow::{go, go_build};
 use kw_index::index::Index;
 use kw_table::{Hints, Pass, Shared};
@@ -47,7 +47,7 @@ pub enum Rebalanced {
 /// table; `Spent` only where a load of this call found the clock or the epoch at `SPENT` or above. The row is the one that the call works on at
 /// that event: its own, or one before it.
 ///
-/// The search for free rows begins behind the row that the hints name, and the walk to the row before the full one where the index guesses;
+/// The search for free rows begins at the row that the hints name, and the walk to the row before the full one where the index guesses;
 /// where the exchange is won the index is told of the new rows. No clause rests on any of it. Takes no memory. It may wait for others: all that
 /// is said here is said for a call that returns.
 pub fn rebalance<R: Wait>(
@@ -77,6 +77,7 @@ pub fn rebalance<R: Wait>(
                 return Rebalanced::Done;
             }
             _ => {
+                warm_new_row(shared, local);
                 let choice = choice_at(local, index, hints);
                 go_on(shared, pass, local, choice);
             }
@@ -101,6 +102,16 @@ fn go_on(shared: &Shared, pass: &mut Pass, local: &mut Local, choice: Choice) ->
     match choice {
         Choice::Go => go_build(shared, pass, local),
         _ => go(shared, pass, local, choice),
+    }
+}
+
+// A new row whose words are written next is loaded first: it may lie far away, and each word is written by one step.
+#[inline(always)]
+fn warm_new_row(shared: &Shared, local: &Local) {
+    if let Activity::WriteCount = local.activity {
+        if let Some(row) = local.rebalance.taken.as_slice().get(local.rebalance.at) {
+            shared.warm_whole(*row);
+        }
     }
 }
 
@@ -147,7 +158,7 @@ fn choice_at(local: &Local, index: &Index, hints: &Option<Box<Hints>>) -> Choice
     ensures { is_stop result ≡ false }
 {
     match local.activity {
-        Activity::SeekFirst => Choice::Guess(behind(hints, local).saturating_add(1)),
+        Activity::SeekFirst => Choice::Guess(search_start(hints, local)),
         Activity::Before => match guess_before(local, index) {
             Some(row) => Choice::Guess(row),
             None => Choice::Go,

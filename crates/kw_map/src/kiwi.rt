@@ -29,7 +29,7 @@ use kw_live::{TryPut, enter, enter_anew, leave, locate, read_row, try_put};
 use kw_live_rebal::{Rebalanced, rebalance};
 use kw_model::call::{Call, Reply};
 use kw_model::memory::Memory;
-use kw_table::{Hints, Pass, Shared, guess};
+use kw_table::{Hints, Pass, Shared};
 use kw_world::activity::Activity;
 use kw_world::local::Local;
 use std::alloc::Global;
@@ -117,7 +117,7 @@ impl Kiwi {
         ensures ordered { IsOrdered (view pass.new) }
     {
         let mut local = pass.lend();
-        let guess = pass.guess(&self.index, key);
+        let guess = pass.guess(&self.shared, &self.index, key);
         let found = self.get_by(pass, &mut local, key, guess);
         pass.give(local);
         found
@@ -176,7 +176,7 @@ impl Kiwi {
         ensures ordered { IsOrdered (view pass.new) }
     {
         let mut local = pass.lend();
-        let guess = pass.guess(&self.index, from);
+        let guess = pass.guess(&self.shared, &self.index, from);
         let scanned = self.scan_by(pass, &mut local, from, to, guess, into);
         pass.give(local);
         scanned
@@ -246,7 +246,7 @@ impl Kiwi {
     {
         enter(&self.shared, pass, local, call);
         for _ in rt.forever() {
-            let row = guess(hints, &self.index, local.want);
+            let row = self.shared.guess(hints, &self.index, local.want);
             locate(&self.shared, pass, local, row);
             if let TryPut::Done = try_put(&self.shared, pass, local) {
                 leave(&self.shared, pass, local);

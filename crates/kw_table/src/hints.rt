@@ -1,12 +1,15 @@
 //! What a pass has with it for an index of the rows.
 //!
-//! An index says at which row to begin for a key. A pass guesses from entries of its own while these are what is published. A rebalance that won has
-//! replaced rows, and publishes an index that knows the new ones. What all that needs is made with the table, so that a call takes no memory for
-//! it. It is for speed alone: no clause says what hints hold, and whoever finds none with a pass goes on without.
+//! An index says at which row to begin for a key. A pass guesses from entries of its own, and sees at the row that they name whether it is still in use;
+//! where it is not, the index is asked. A rebalance that won has replaced rows, and publishes an index that knows the new ones. What all that needs
+//! is made with the table, so that a call takes no memory for it. It is for speed alone: no clause says what hints hold, and whoever finds none with
+//! a pass goes on without.
 ghost use Rattle.std.specs.Prelude.{◌≡◌, ◌<◌, IfSome};
 ghost use Rattle.kw_table.specs.Passes.{view};
 
 use crate::pass::Pass;
+use crate::shared::Shared;
+use crate::window::Window;
 use kw_index::index::Index;
 use kw_index::own::OwnEntries;
 use kw_model::memory::Memory;
@@ -17,40 +20,54 @@ use std::alloc::Global;
 pub struct Hints {
     /// The entries from which the pass guesses, and those that a rebalance of its own publishes.
     pub own: OwnEntries,
-    /// The row behind which the pass searches for free rows first. At the start it is the pass's number times (rows / passes), so that
-    /// passes search apart.
-    pub behind: u32,
+    /// Where the pass searches for free rows first. It begins at the pass's number times (rows / passes), so that passes search apart.
+    pub window: Window,
 }
 
 impl Hints {
-    // Hints with room for the entries of so many rows.
-    pub(crate) fn new(alloc: Global, rows: u32, behind: u32) -> Result<Hints, Memory> {
+    // Hints with room for the entries of so many rows, by which the pass searches from this row on.
+    pub(crate) fn new(alloc: Global, rows: u32, first: u32) -> Result<Hints, Memory> {
         match OwnEntries::new(alloc, rows) {
-            Ok(own) => Ok(Hints { own, behind }),
+            Ok(own) => Ok(Hints {
+                own,
+                window: Window::new(rows, first),
+            }),
             Err(_) => Err(Memory),
+        }
+    }
+
+    // A row to begin at for the key: by the own entries, where the row that they name serves, and else by a turn at the index.
+    fn guess(&mut self, shared: &Shared, index: &Index, key: u32) -> Option<u32>
+        ensures { IfSome result (λ row. row < index.now) }
+    {
+        match self.own.guess(index, key) {
+            Some(row) if shared.serves(row, key) => Some(row),
+            _ => self.own.guess_anew(index, key),
         }
     }
 }
 
-/// A row to begin at for the key: by the hints' own entries where there are hints, and else by a turn at the index.
-///
-/// The row is below the index's number of rows. Takes no memory.
-pub fn guess(hints: &mut Option<Box<Hints>>, index: &Index, key: u32) -> Option<u32>
-    ensures { IfSome result (λ row. row < index.now) }
-{
-    match hints {
-        Some(hints) => hints.own.guess(index, key),
-        None => index.guess(key),
+impl Shared {
+    /// A row to begin at for the key: by the hints' own entries where there are hints and the row is in use, and else by a turn at the index.
+    ///
+    /// The row is below the index's number of rows. Takes no memory.
+    pub fn guess(&self, hints: &mut Option<Box<Hints>>, index: &Index, key: u32) -> Option<u32>
+        ensures { IfSome result (λ row. row < index.now) }
+    {
+        match hints {
+            Some(hints) => hints.guess(self, index, key),
+            None => index.guess(key),
+        }
     }
 }
 
 impl Pass {
     /// The same by the pass's hints.
-    pub fn guess(&mut self, index: &Index, key: u32) -> Option<u32>
+    pub fn guess(&mut self, shared: &Shared, index: &Index, key: u32) -> Option<u32>
         ensures table { self.new.seat.table_id ≡ self.old.seat.table_id }
         ensures view { view self.new ≡ view self.old }
         ensures local { self.new.local ≡ self.old.local }
     {
-        guess(&mut self.hints, index, key)
+        shared.guess(&mut self.hints, index, key)
     }
 }

@@ -7,8 +7,9 @@
 //!
 //! `opening` makes a table and its passes, `kinds` and `rebalance_kinds` have one step for each kind of event and `steps` the one that
 //! takes any, and `meeting` lets passes see what others have seen. `pass` and `shared` hold the two types, and `rule` the rule and what a
-//! step tells its caller; `lending` hands out the local that a pass has with it, and its `hints`. Each step is one atomic operation on one
-//! word. Whoever stands above needs the contracts of these calls alone, and goes on by the laws over valid lists of events.
+//! step tells its caller; `lending` hands out the local that a pass has with it, and its `hints`. `warming` loads rows ahead of walks, and `window`
+//! says where to search for free rows: both are for speed alone. Each step is one atomic operation on one word. Whoever stands above needs the
+//! contracts of these calls alone, and goes on by the laws over valid lists of events.
 #![tactic(auto)]
 
 mod hints;
@@ -23,6 +24,8 @@ mod rule;
 mod shared;
 mod slot;
 mod steps;
+mod warming;
+mod window;
 #[cfg(test)]
 mod tests;
 #[cfg(test)]
@@ -32,7 +35,7 @@ mod tests_rebalance_kinds;
 #[cfg(test)]
 mod tests_slot;
 
-pub use hints::{Hints, guess};
+pub use hints::Hints;
 pub use kinds::{
     add_count, announce, clear_pass, clear_pend, clear_scan, draw, help_stamp, insert, load_after,
     load_clock, load_count, load_epoch, load_head, load_key, load_link, load_min, load_pend,
@@ -49,3 +52,4 @@ pub use rebalance_kinds::{
 pub use rule::Rules;
 pub use shared::Shared;
 pub use steps::make;
+pub use window::Window;

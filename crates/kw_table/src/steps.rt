@@ -33,7 +33,7 @@ fn walked_after(walked: u64, kind: Kind) -> u64
 impl Shared {
     // Where the word lies.
     #[inline(always)]
-    fn slot(&self, word: Name) -> usize
+    pub(crate) fn slot(&self, word: Name) -> usize
         requires { IsWithin SEATS CELLS self.now.opening.rows word }
         ensures slot { result ≡ slot word }
         ensures below { result < slots self.now.opening.rows }

@@ -153,7 +153,7 @@ fn a_pass_counts_the_links_of_rows_that_it_loads(rt: HostRuntime) -> Result<(), 
     Ok(())
 }
 
-// Of 64 rows and 2 passes the first searches behind row 0, and the second behind row 32.
+// Of 64 rows and 2 passes the first searches from row 0 on, and the second from row 32 on.
 #[test]
 fn hints_are_lent_and_given_back(rt: HostRuntime) -> Result<(), Fail> {
     let (_shared, mut passes) = Shared::open(rt.alloc(), 64, 2, 1, 1)?;
@@ -163,12 +163,11 @@ fn hints_are_lent_and_given_back(rt: HostRuntime) -> Result<(), Fail> {
     let (Some(mut lent), Some(others)) = (second.lend_hints(), first.lend_hints()) else {
         return Err("hints")?;
     };
-    assert_eq!(rt; lent.behind, 32);
-    assert_eq!(rt; others.behind, 0);
+    assert_eq!(rt; (lent.window.start(), others.window.start()), (32, 0));
     assert!(rt; second.lend_hints().is_none());
-    lent.behind = 40;
+    lent.window.took(39, 2);
     second.give_hints(Some(lent));
-    let again = second.lend_hints().map(|hints| hints.behind);
+    let again = second.lend_hints().map(|hints| hints.window.start());
     assert_eq!(rt; again, Some(40));
     Ok(())
 }

@@ -1,7 +1,9 @@
 //! Where words lie, worked by hand: 4 words of the whole map and 3 for each of 8 seats have a line of 8 words each, and the rows follow,
 //! of 5 words, one for each seat and 4 for each of 64 cells.
 use crate::opening::opening_words;
+use crate::shared::Shared;
 use crate::slot::{WORDS_A_LINE, slot, slots};
+use crate::warming::SMALLEST_COLD;
 use kw_words::layout::Name;
 use kw_world::opening::Opening;
 use std::test::Fail;
@@ -41,5 +43,17 @@ fn a_run_begins_with_four_words_at_their_slots(rt: HostRuntime) -> Result<(), Fa
     assert_eq!(rt; words.as_slice().get(16), Some(&1));
     assert_eq!(rt; words.as_slice().get(224), Some(&2));
     assert_eq!(rt; words.iter().filter(|word| **word > 0).count(), 4);
+    Ok(())
+}
+
+// Of a table whose rows are loaded before a walk, and of rows that it lacks.
+#[test]
+fn any_row_may_be_asked_to_be_loaded(rt: HostRuntime) -> Result<(), Fail> {
+    let (shared, _passes) = Shared::open(rt.alloc(), SMALLEST_COLD, 1, 1, 1)?;
+    for row in [0, SMALLEST_COLD - 1, SMALLEST_COLD, u32::MAX] {
+        shared.warm(row);
+        shared.warm_whole(row);
+    }
+    assert_eq!(rt; shared.rows(), SMALLEST_COLD);
     Ok(())
 }

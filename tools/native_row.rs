@@ -1,0 +1,267 @@
+//! The figures of `kw_bench` on a map of one row, for a native loop over the same words: what the machine itself takes for the loads and
+//! exchanges that the map's calls make, with nothing kept of what was met and nothing checked.
+//!
+//! One file, which stands on Rust's standard library alone; no gate runs it. Build it by `rustc -O -o /tmp/native_row tools/native_row.rs`,
+//! run `native_row N` and `kw_bench N` in turn, and compare what they print: the calls, the keys, their orders and the columns are the same.
+
+use std::array;
+use std::env;
+use std::hint::black_box;
+use std::sync::atomic::{AtomicU64, Ordering::SeqCst};
+use std::sync::Barrier;
+use std::thread;
+use std::time::{Duration, Instant};
+
+const SEATS: usize = 8;
+const CELLS: usize = 64;
+
+/// Whose the keys of a row's cells are.
+#[derive(Clone, Copy)]
+enum Keys {
+    Different,
+    One,
+}
+
+impl Keys {
+    fn of_cell(self, number: usize) -> u64 {
+        match self {
+            Keys::Different => number as u64,
+            Keys::One => 0,
+        }
+    }
+    fn words(self) -> &'static str {
+        match self {
+            Keys::Different => "different keys",
+            Keys::One => "one key",
+        }
+    }
+}
+
+/// A put's words in its row. A link is 0 at the end of the list, and else a cell's place and one.
+#[derive(Default)]
+struct Cell {
+    key: AtomicU64,
+    value: AtomicU64,
+    version: AtomicU64,
+    next: AtomicU64,
+}
+
+/// The words of a row: what it counts, the first link of its list by key and falling version, an entry for each seat, and the cells.
+struct Row {
+    state: AtomicU64,
+    least: AtomicU64,
+    count: AtomicU64,
+    first: AtomicU64,
+    entries: [AtomicU64; SEATS],
+    cells: [Cell; CELLS],
+}
+
+/// What all rows share.
+struct Clock {
+    epoch: AtomicU64,
+    version: AtomicU64,
+    pass: AtomicU64,
+}
+
+impl Row {
+    fn new() -> Box<Row> {
+        Box::new(Row {
+            state: AtomicU64::new(0),
+            least: AtomicU64::new(0),
+            count: AtomicU64::new(0),
+            first: AtomicU64::new(0),
+            entries: array::from_fn(|_| AtomicU64::new(0)),
+            cells: array::from_fn(|_| Cell::default()),
+        })
+    }
+
+    fn is_quiet(&self) -> bool {
+        self.entries.iter().fold(0, |bits, entry| bits | entry.load(SeqCst)) == 0
+    }
+
+    /// The value of the newest cell of a key, where no put is under way.
+    fn get(&self, key: u64) -> Option<u64> {
+        if !self.is_quiet() {
+            return None;
+        }
+        let (mut newest, mut found) = (0, None);
+        let mut link = &self.first;
+        loop {
+            let Some(place) = link.load(SeqCst).checked_sub(1) else {
+                return found;
+            };
+            let cell = &self.cells[place as usize];
+            let its_key = cell.key.load(SeqCst);
+            if its_key > key {
+                return found;
+            }
+            if its_key == key {
+                let version = cell.version.load(SeqCst);
+                let value = cell.value.load(SeqCst);
+                if version > newest {
+                    (newest, found) = (version, Some(value));
+                }
+            }
+            link = &cell.next;
+        }
+    }
+
+    /// Adds the newest pair of each key of a range.
+    fn scan(&self, from: u64, to: u64, pairs: &mut Vec<(u64, u64)>) {
+        if !self.is_quiet() {
+            return;
+        }
+        let mut last = None;
+        let mut link = &self.first;
+        while let Some(place) = link.load(SeqCst).checked_sub(1) {
+            let cell = &self.cells[place as usize];
+            let key = cell.key.load(SeqCst);
+            if key > to {
+                return;
+            }
+            link = &cell.next;
+            if key < from {
+                continue;
+            }
+            black_box(cell.version.load(SeqCst));
+            let value = cell.value.load(SeqCst);
+            if last != Some(key) {
+                last = Some(key);
+                pairs.push((key, value));
+            }
+        }
+    }
+
+    /// The link at which a cell of this key and version goes in, and where that link leads.
+    fn place_for(&self, key: u64, version: u64) -> (&AtomicU64, u64) {
+        let mut link = &self.first;
+        loop {
+            let held = link.load(SeqCst);
+            let Some(place) = held.checked_sub(1) else {
+                return (link, held);
+            };
+            let cell = &self.cells[place as usize];
+            let its_key = cell.key.load(SeqCst);
+            if its_key > key || (its_key == key && cell.version.load(SeqCst) <= version) {
+                return (link, held);
+            }
+            link = &cell.next;
+        }
+    }
+
+    fn put(&self, clock: &Clock, key: u64, value: u64) {
+        clock.pass.store(clock.epoch.load(SeqCst), SeqCst);
+        black_box(self.state.load(SeqCst));
+        black_box(self.least.load(SeqCst));
+        let place = self.count.fetch_add(1, SeqCst);
+        let cell = &self.cells[place as usize];
+        cell.key.store(key, SeqCst);
+        cell.value.store(value, SeqCst);
+        let pending = 1 + 4 * place;
+        let _ = self.entries[0].compare_exchange(0, pending, SeqCst, SeqCst);
+        let version = clock.version.load(SeqCst);
+        let stamped = pending + 1 + (version << 15);
+        let _ = self.entries[0].compare_exchange(pending, stamped, SeqCst, SeqCst);
+        cell.version.store(version, SeqCst);
+        let (link, held) = self.place_for(key, version);
+        cell.next.store(held, SeqCst);
+        let _ = link.compare_exchange(held, place + 1, SeqCst, SeqCst);
+        self.entries[0].store(0, SeqCst);
+        clock.pass.store(0, SeqCst);
+    }
+}
+
+/// A row with this load.
+fn filled(cells: usize, keys: Keys) -> Box<Row> {
+    let clock = new_clock();
+    let row = Row::new();
+    for number in 0..cells {
+        row.put(&clock, keys.of_cell(number), number as u64 + 1);
+    }
+    row
+}
+
+fn new_clock() -> Clock {
+    Clock {
+        epoch: AtomicU64::new(1),
+        version: AtomicU64::new(1),
+        pass: AtomicU64::new(0),
+    }
+}
+
+/// How long so many threads take, each for the calls; the time goes from when all are ready.
+fn time_threads(count: usize, calls: impl Fn() + Sync) -> Duration {
+    let barrier = Barrier::new(count + 1);
+    thread::scope(|scope| {
+        for _ in 0..count {
+            scope.spawn(|| {
+                barrier.wait();
+                calls();
+            });
+        }
+        barrier.wait();
+        Instant::now()
+    })
+    .elapsed()
+}
+
+fn print_reads(name: &str, cells: usize, keys: Keys, calls: usize, ask: impl Fn() + Sync) {
+    let [one, two, four] = [1, 2, 4].map(|count| time_threads(count, &ask).as_nanos().max(1));
+    let calls = calls.max(1) as u128;
+    println!(
+        "{name:<5}{cells:>6}  {:<15}{:>6}{:>6}{:>6}{:>8}{:>8}",
+        keys.words(),
+        one / calls,
+        two / calls,
+        four / calls,
+        200 * one / two,
+        400 * one / four
+    );
+}
+
+fn print_load(cells: usize, keys: Keys, calls: usize) {
+    let row = filled(cells, keys);
+    print_reads("get", cells, keys, calls, || {
+        for call in 0..calls {
+            black_box(row.get(keys.of_cell(call % cells)));
+        }
+    });
+    print_reads("scan", cells, keys, calls, || {
+        let mut pairs = Vec::with_capacity(CELLS);
+        for _ in 0..calls {
+            pairs.clear();
+            row.scan(0, u64::from(u32::MAX), &mut pairs);
+            black_box(&pairs);
+        }
+    });
+    let maps = calls / cells;
+    let mut took = Duration::ZERO;
+    for _ in 0..maps {
+        let (clock, row) = (new_clock(), Row::new());
+        let start = Instant::now();
+        for number in 0..cells {
+            row.put(&clock, keys.of_cell(number), number as u64);
+        }
+        took += start.elapsed();
+        black_box(&row);
+    }
+    println!(
+        "{:<5}{cells:>6}  {:<15}{:>6}",
+        "put",
+        keys.words(),
+        took.as_nanos() / (maps * cells).max(1) as u128
+    );
+}
+
+fn main() {
+    let Some(calls) = env::args().nth(1).and_then(|word| word.parse().ok()) else {
+        println!("native_row N: makes N calls of each kind on one row, and prints what each took, as kw_bench does");
+        return;
+    };
+    println!("nanoseconds a call, by one thread and by each of two and of four; and how many calls two and four make where one makes 100");
+    println!("{:<5}{:>6}  {:<15}{:>6}{:>6}{:>6}{:>8}{:>8}", "call", "cells", "keys", "one", "two", "four", "by two", "by four");
+    for quarters in 1..=4 {
+        print_load(CELLS / 4 * quarters, Keys::Different, calls);
+        print_load(CELLS / 4 * quarters, Keys::One, calls);
+    }
+}
