@@ -36,14 +36,27 @@ impl Hints {
         }
     }
 
-    // A row to begin at for the key: by the own entries, where the row that they name serves, and else by a turn at the index.
+    // A row to begin at for the key: by the own entries, where the row that they name serves, and else by a turn.
     fn guess(&mut self, shared: &Shared, index: &Index, key: u32) -> Option<u32>
         ensures { IfSome result (λ row. row < index.now) }
     {
         match self.own.guess(index, key) {
             Some(row) if shared.serves(row, key) => Some(row),
-            _ => self.own.guess_anew(index, key),
+            _ => self.guess_anew(shared, index, key),
         }
+    }
+
+    // The same by a turn. A row that is being replaced just then does not serve, and no others are published yet: the walk begins at the row on its
+    // left, since it would begin at the first row of the map else.
+    fn guess_anew(&mut self, shared: &Shared, index: &Index, key: u32) -> Option<u32>
+        ensures { IfSome result (λ row. row < index.now) }
+    {
+        let row = self.own.guess_anew(index, key)?;
+        if shared.serves(row, key) {
+            return Some(row);
+        }
+        let below = shared.least(row)?.checked_sub(1)?;
+        self.own.guess(index, below)
     }
 }
 

@@ -45,6 +45,15 @@ impl Shared {
             && self.peek(Name::Min(row)) <= u64::from(key)
     }
 
+    /// The least key that the row may hold just now; none where the table has no such row.
+    pub(crate) fn least(&self, row: u32) -> Option<u32> {
+        if row < self.opening.rows {
+            u32::try_from(self.peek(Name::Min(row))).ok()
+        } else {
+            None
+        }
+    }
+
     // Whether the table has the row, and is so large that it may lie far away.
     fn is_cold(&self, row: u32) -> bool
         ensures { IsTrue result → row < self.now.opening.rows }
