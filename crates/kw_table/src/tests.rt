@@ -10,6 +10,7 @@ ghost use Rattle.kw_table.specs.Passes.{view, IsPassOf};
 ghost use Rattle.kw_table.specs.Views.{local_in};
 
 use super::*;
+use crate::tests_kinds::{Player, open_two};
 use kw_core::step::{operation, resume};
 use kw_model::call::{Call, Reply};
 use kw_model::memory::Memory;
@@ -44,40 +45,55 @@ fn advance(
     resume(local, rows, offered, told)
 }
 
-// Begins the first call of a pass, which is one event. Gives what its seat knows.
-fn begin(alloc: Global, shared: &Shared, pass: &mut Pass, call: Call) -> Result<Local, Memory>
-    requires table { IsPassOf shared.now pass.old }
-    requires idle { local_in (view pass.old) ≡ resting 0 }
+// Begins the first call of a pass, which is one event.
+fn begin(shared: &Shared, player: &mut Player, call: Call) -> Result<(), Memory>
+    requires table { IsPassOf shared.now player.old.pass }
+    requires knows { player.old.local ≡ local_in (view player.old.pass) }
+    requires idle { player.old.local ≡ resting 0 }
     requires range { is_call_in_range call ≡ true }
-    ensures table { IfOk result (λ _. IsPassOf shared.now pass.new) }
-    ensures knows { IfOk result (λ local. local ≡ local_in (view pass.new)) }
+    ensures table { IfOk result (λ _. IsPassOf shared.now player.new.pass) }
+    ensures knows { IfOk result (λ _. player.new.local ≡ local_in (view player.new.pass)) }
 {
-    let mut local = Local::idle(alloc);
-    advance(shared, pass, &mut local, Choice::Begin(call))?;
-    Ok(local)
+    advance(
+        shared,
+        &mut player.pass,
+        &mut player.local,
+        Choice::Begin(call),
+    )?;
+    Ok(())
 }
 
 // Makes the next events of a call, at most this many. Gives the reply, if the call has ended.
-fn play(
-    shared: &Shared,
-    pass: &mut Pass,
-    local: &mut Local,
-    most: u32,
-) -> Result<Option<Reply>, Memory>
-    requires table { IsPassOf shared.now pass.old }
-    requires knows { local.old ≡ local_in (view pass.old) }
-    ensures table { IfOk result (λ _. IsPassOf shared.now pass.new) }
-    ensures knows { IfOk result (λ _. local.new ≡ local_in (view pass.new)) }
+fn play(shared: &Shared, player: &mut Player, most: u32) -> Result<Option<Reply>, Memory>
+    requires table { IsPassOf shared.now player.old.pass }
+    requires knows { player.old.local ≡ local_in (view player.old.pass) }
+    ensures table { IfOk result (λ _. IsPassOf shared.now player.new.pass) }
+    ensures knows { IfOk result (λ _. player.new.local ≡ local_in (view player.new.pass)) }
 {
     for _ in 0..most {
-        if local.activity.skips(Choice::Go) {
+        if player.local.activity.skips(Choice::Go) {
             return Ok(None);
         }
-        if let StepDone::Ended(reply) = advance(shared, pass, local, Choice::Go)? {
+        let done = advance(shared, &mut player.pass, &mut player.local, Choice::Go)?;
+        if let StepDone::Ended(reply) = done {
             return Ok(Some(reply));
         }
     }
     Ok(None)
+}
+
+// A table whose second pass has begun this call, and whose first has begun a put.
+fn begin_two(alloc: Global, call: Call) -> Result<(Shared, Player, Player), Memory>
+    requires { is_call_in_range call ≡ true }
+    ensures putter { IfOk result (λ made. IsPassOf made.0 made.1.pass
+        × (made.1.local ≡ local_in (view made.1.pass))) }
+    ensures reader { IfOk result (λ made. IsPassOf made.0 made.2.pass
+        × (made.2.local ≡ local_in (view made.2.pass))) }
+{
+    let (shared, mut putter, mut reader) = open_two(alloc)?;
+    begin(&shared, &mut reader, call)?;
+    begin(&shared, &mut putter, Call::Put(5, 50))?;
+    Ok((shared, putter, reader))
 }
 
 // The replies of a put, and of a call of another pass that comes after the put's first event and this many more.
@@ -88,16 +104,11 @@ fn within_a_put(
 ) -> Result<(Option<Reply>, Option<Reply>), Memory>
     requires { is_call_in_range call ≡ true }
 {
-    let (shared, mut passes) = Shared::open(alloc, 64, 2, 1, 1)?;
-    let (Some(mut reader), Some(mut putter)) = (passes.pop(), passes.pop()) else {
-        return Ok((None, None));
-    };
-    let mut read = begin(alloc, &shared, &mut reader, call)?;
-    let mut put = begin(alloc, &shared, &mut putter, Call::Put(5, 50))?;
-    play(&shared, &mut putter, &mut put, more)?;
-    let found = play(&shared, &mut reader, &mut read, ALL)?;
-    let done = play(&shared, &mut putter, &mut put, ALL)?;
-    meet(&shared, &mut putter, &mut reader);
+    let (shared, mut putter, mut reader) = begin_two(alloc, call)?;
+    play(&shared, &mut putter, more)?;
+    let found = play(&shared, &mut reader, ALL)?;
+    let done = play(&shared, &mut putter, ALL)?;
+    meet(&shared, &mut putter.pass, &mut reader.pass);
     Ok((done, found))
 }
 
@@ -132,43 +143,55 @@ fn a_scan_finds_the_pair_that_was_stamped_before_it_drew(rt: HostRuntime) -> Res
     Ok(())
 }
 
+// How many links of rows a put has loaded after its first event and this many more, and another pass that has seen them.
+fn walked_within_a_put(alloc: Global, more: u32) -> Result<(u64, u64), Memory> {
+    let (shared, mut putter, mut other) = begin_two(alloc, Call::Get(5))?;
+    play(&shared, &mut putter, more)?;
+    meet(&shared, &mut putter.pass, &mut other.pass);
+    Ok((putter.pass.walked(), other.pass.walked()))
+}
+
 // The fourth event of a put, the first after its row is found at the head, loads the link to the next row, of which there is none. The others
 // load no link of a row, and neither does what other passes do.
 #[test]
 fn a_pass_counts_the_links_of_rows_that_it_loads(rt: HostRuntime) -> Result<(), Fail> {
-    let (shared, mut passes) = Shared::open(rt.alloc(), 64, 2, 1, 1)?;
-    let (Some(mut other), Some(mut putter)) = (passes.pop(), passes.pop()) else {
-        return Err("two passes")?;
-    };
-    begin(rt.alloc(), &shared, &mut other, Call::Get(5))?;
-    let mut put = begin(rt.alloc(), &shared, &mut putter, Call::Put(5, 50))?;
-    play(&shared, &mut putter, &mut put, 2)?;
-    assert_eq!(rt; putter.walked(), 0);
-    play(&shared, &mut putter, &mut put, 1)?;
-    assert_eq!(rt; putter.walked(), 1);
-    play(&shared, &mut putter, &mut put, ALL)?;
-    meet(&shared, &mut putter, &mut other);
-    assert_eq!(rt; putter.walked(), 1);
-    assert_eq!(rt; other.walked(), 0);
+    for (more, walked) in [(2, 0), (3, 1), (ALL, 1)] {
+        assert_eq!(rt; walked_within_a_put(rt.alloc(), more)?, (walked, 0));
+    }
     Ok(())
+}
+
+// The two passes of a table of 64 rows.
+fn passes_of_64_rows(alloc: Global) -> Result<(Pass, Pass), Memory> {
+    let (_shared, mut passes) = Shared::open(alloc, 64, 2, 1, 1)?;
+    let (Some(second), Some(first)) = (passes.pop(), passes.pop()) else {
+        unreachable!()
+    };
+    Ok((first, second))
+}
+
+// The row that a search of the pass asks first, where it then takes two rows, this one last. None where its hints are not lent just once.
+fn search(pass: &mut Pass, last: u32) -> Option<u32> {
+    let mut lent = pass.lend_hints()?;
+    if pass.lend_hints().is_some() {
+        return None;
+    }
+    let start = lent.window.start();
+    lent.window.took(last, 2);
+    pass.give_hints(Some(lent));
+    Some(start)
 }
 
 // Of 64 rows and 2 passes the first searches from row 0 on, and the second from row 32 on.
 #[test]
 fn hints_are_lent_and_given_back(rt: HostRuntime) -> Result<(), Fail> {
-    let (_shared, mut passes) = Shared::open(rt.alloc(), 64, 2, 1, 1)?;
-    let (Some(mut second), Some(mut first)) = (passes.pop(), passes.pop()) else {
-        return Err("two passes")?;
-    };
-    let (Some(mut lent), Some(others)) = (second.lend_hints(), first.lend_hints()) else {
-        return Err("hints")?;
-    };
-    assert_eq!(rt; (lent.window.start(), others.window.start()), (32, 0));
-    assert!(rt; second.lend_hints().is_none());
-    lent.window.took(39, 2);
-    second.give_hints(Some(lent));
-    let again = second.lend_hints().map(|hints| hints.window.start());
-    assert_eq!(rt; again, Some(40));
+    let (mut first, mut second) = passes_of_64_rows(rt.alloc())?;
+    let starts = [
+        search(&mut first, 7),
+        search(&mut second, 39),
+        search(&mut second, 41),
+    ];
+    assert_eq!(rt; starts, [Some(0), Some(32), Some(40)]);
     Ok(())
 }
 

@@ -3,6 +3,9 @@
 //! The words that they find are those of runs that were worked by hand from the encodings: a clock and an epoch of 1, row 0 as the first
 //! row, whose state is 2, its key 5 and its value 10, which is 10 above 2^63 in its word. What a store leaves shows in a load or an
 //! exchange that comes later, where one of this table loads that word.
+//!
+//! A test is a list of turns that two passes take, and what each turn was told. One loop makes the turns of every list, so that their
+//! events are proved once.
 ghost use Rattle.std.specs.Prelude.{◌≡◌, true, false, IfOk};
 ghost use Rattle.kw_world.specs.Local.{resting};
 ghost use Rattle.kw_world.specs.Sane.{CanBegin};
@@ -16,6 +19,7 @@ use kw_core::step::{operation, resume};
 use kw_model::call::Call;
 use kw_model::memory::Memory;
 use kw_words::kind::Kind;
+use kw_world::activity::Activity;
 use kw_world::event::Choice;
 use kw_world::local::Local;
 use kw_world::operation::{Action, Operation};
@@ -179,8 +183,64 @@ fn make_by_kind(shared: &Shared, pass: &mut Pass, choice: Choice, does: Operatio
     }
 }
 
+// A pass, and what its seat knows.
+#[derive(Drop)]
+pub(crate) struct Player {
+    pub(crate) pass: Pass,
+    pub(crate) local: Local,
+}
+
+// A table of two rows, and its two passes, the first one first.
+pub(crate) fn open_two(alloc: Global) -> Result<(Shared, Player, Player), Memory>
+    ensures first { IfOk result (λ made. IsPassOf made.0 made.1.pass
+        × (made.1.local ≡ local_in (view made.1.pass))) }
+    ensures second { IfOk result (λ made. IsPassOf made.0 made.2.pass
+        × (made.2.local ≡ local_in (view made.2.pass))) }
+    ensures idle { IfOk result (λ made. (made.1.local ≡ resting 0) × (made.2.local ≡ resting 0)) }
+{
+    let (shared, mut passes) = Shared::open(alloc, 2, 2, 1, 1)?;
+    let (Some(second), Some(first)) = (passes.pop(), passes.pop()) else {
+        unreachable!()
+    };
+    let first = Player {
+        pass: first,
+        local: Local::idle(alloc),
+    };
+    let second = Player {
+        pass: second,
+        local: Local::idle(alloc),
+    };
+    Ok((shared, first, second))
+}
+
+// Which of the two passes takes a turn.
+#[derive(Clone, Copy)]
+pub(crate) enum Who {
+    First,
+    Second,
+}
+
+// What a pass does in its turn. An idle one alone begins a call.
+#[derive(Clone, Copy)]
+pub(crate) enum Turn {
+    // The first event of a put: its key, then its value.
+    Put(u32, u32),
+    // The first event of a get.
+    Get(u32),
+    // The first event of a scan.
+    Scan(u32, u32),
+    // The next event, where the walk begins at this row.
+    Guess(u32),
+    // The next events of the call, this many, or fewer where it ends.
+    Go(u32),
+    // This many whole puts of one key and the value 1.
+    Puts(u32, u32),
+    // This many whole puts of the key and the next ones, with the value 1.
+    PutsFrom(u32, u32),
+}
+
 // The next event of a pass by the call of its kind. Gives the kind and what it was told.
-pub(crate) fn advance(
+fn advance(
     shared: &Shared,
     pass: &mut Pass,
     local: &mut Local,
@@ -202,45 +262,164 @@ pub(crate) fn advance(
     Ok((does.kind, told))
 }
 
-// The next events of a call, this many, or fewer where the call ends.
-pub(crate) fn play(
+// The first event of a call, where the seat is idle and has begun no more than so many.
+fn begin(
     alloc: Global,
     shared: &Shared,
-    pass: &mut Pass,
-    local: &mut Local,
-    many: u32,
+    player: &mut Player,
+    call: Call,
 ) -> Result<Vec<(Kind, u64)>, Memory>
-    requires table { IsPassOf shared.now pass.old }
-    requires knows { local.old ≡ local_in (view pass.old) }
-    ensures table { IfOk result (λ _. IsPassOf shared.now pass.new) }
-    ensures knows { IfOk result (λ _. local.new ≡ local_in (view pass.new)) }
+    requires table { IsPassOf shared.now player.old.pass }
+    requires knows { player.old.local ≡ local_in (view player.old.pass) }
+    requires range { is_call_in_range call ≡ true }
+    ensures table { IfOk result (λ _. IsPassOf shared.now player.new.pass) }
+    ensures knows { IfOk result (λ _. player.new.local ≡ local_in (view player.new.pass)) }
 {
     let mut made = Vec::new(alloc);
-    for _ in 0..many {
-        if local.activity.skips(Choice::Go) {
-            break;
+    if let Activity::Idle = player.local.activity {
+        if player.local.number < ALL {
+            made.push(advance(
+                shared,
+                &mut player.pass,
+                &mut player.local,
+                Choice::Begin(call),
+            )?)?;
         }
-        made.push(advance(shared, pass, local, Choice::Go)?)?;
     }
     Ok(made)
 }
 
-// The first event of a pass's first call.
-pub(crate) fn begin(
+// The next event of a call, with this choice.
+fn guess(
     alloc: Global,
     shared: &Shared,
-    pass: &mut Pass,
-    call: Call,
-) -> Result<(Local, (Kind, u64)), Memory>
-    requires table { IsPassOf shared.now pass.old }
-    requires idle { local_in (view pass.old) ≡ resting 0 }
-    requires range { is_call_in_range call ≡ true }
-    ensures table { IfOk result (λ _. IsPassOf shared.now pass.new) }
-    ensures knows { IfOk result (λ made. made.0 ≡ local_in (view pass.new)) }
+    player: &mut Player,
+    row: u32,
+) -> Result<Vec<(Kind, u64)>, Memory>
+    requires table { IsPassOf shared.now player.old.pass }
+    requires knows { player.old.local ≡ local_in (view player.old.pass) }
+    ensures table { IfOk result (λ _. IsPassOf shared.now player.new.pass) }
+    ensures knows { IfOk result (λ _. player.new.local ≡ local_in (view player.new.pass)) }
 {
-    let mut local = Local::idle(alloc);
-    let first = advance(shared, pass, &mut local, Choice::Begin(call))?;
-    Ok((local, first))
+    let mut made = Vec::new(alloc);
+    let choice = Choice::Guess(row);
+    if !player.local.activity.skips(choice) {
+        made.push(advance(shared, &mut player.pass, &mut player.local, choice)?)?;
+    }
+    Ok(made)
+}
+
+// The next events of a call, this many, or fewer where the call ends.
+fn play(
+    alloc: Global,
+    shared: &Shared,
+    player: &mut Player,
+    many: u32,
+) -> Result<Vec<(Kind, u64)>, Memory>
+    requires table { IsPassOf shared.now player.old.pass }
+    requires knows { player.old.local ≡ local_in (view player.old.pass) }
+    ensures table { IfOk result (λ _. IsPassOf shared.now player.new.pass) }
+    ensures knows { IfOk result (λ _. player.new.local ≡ local_in (view player.new.pass)) }
+{
+    let mut made = Vec::new(alloc);
+    for _ in 0..many {
+        if player.local.activity.skips(Choice::Go) {
+            break;
+        }
+        made.push(advance(shared, &mut player.pass, &mut player.local, Choice::Go)?)?;
+    }
+    Ok(made)
+}
+
+// Whole puts with value 1, this many: of one key, or, where keys rise, of it and the next ones. What they are told is not kept.
+fn put_many(
+    alloc: Global,
+    shared: &Shared,
+    player: &mut Player,
+    many: u32,
+    key: u32,
+    rises: bool,
+) -> Result<Vec<(Kind, u64)>, Memory>
+    requires table { IsPassOf shared.now player.old.pass }
+    requires knows { player.old.local ≡ local_in (view player.old.pass) }
+    ensures table { IfOk result (λ _. IsPassOf shared.now player.new.pass) }
+    ensures knows { IfOk result (λ _. player.new.local ≡ local_in (view player.new.pass)) }
+{
+    for i in 0..many {
+        let next = if rises { key.saturating_add(i) } else { key };
+        begin(alloc, shared, player, Call::Put(next, 1))?;
+        play(alloc, shared, player, ALL)?;
+    }
+    Ok(Vec::new(alloc))
+}
+
+// A turn of a pass. Gives the kinds of its events and what they were told.
+fn take_turn(
+    alloc: Global,
+    shared: &Shared,
+    player: &mut Player,
+    turn: Turn,
+) -> Result<Vec<(Kind, u64)>, Memory>
+    requires table { IsPassOf shared.now player.old.pass }
+    requires knows { player.old.local ≡ local_in (view player.old.pass) }
+    ensures table { IfOk result (λ _. IsPassOf shared.now player.new.pass) }
+    ensures knows { IfOk result (λ _. player.new.local ≡ local_in (view player.new.pass)) }
+{
+    match turn {
+        Turn::Put(key, value) => begin(alloc, shared, player, Call::Put(key, u64::from(value))),
+        Turn::Get(key) => begin(alloc, shared, player, Call::Get(key)),
+        Turn::Scan(from, upto) => begin(alloc, shared, player, Call::Scan(from, upto)),
+        Turn::Guess(row) => guess(alloc, shared, player, row),
+        Turn::Go(many) => play(alloc, shared, player, many),
+        Turn::Puts(many, key) => put_many(alloc, shared, player, many, key, false),
+        Turn::PutsFrom(many, key) => put_many(alloc, shared, player, many, key, true),
+    }
+}
+
+// A turn of one of two passes.
+fn take_turn_of(
+    alloc: Global,
+    shared: &Shared,
+    first: &mut Player,
+    second: &mut Player,
+    who: Who,
+    turn: Turn,
+) -> Result<Vec<(Kind, u64)>, Memory>
+    requires first { IsPassOf shared.now first.old.pass
+        × (first.old.local ≡ local_in (view first.old.pass)) }
+    requires second { IsPassOf shared.now second.old.pass
+        × (second.old.local ≡ local_in (view second.old.pass)) }
+    ensures first { IfOk result (λ _. IsPassOf shared.now first.new.pass
+        × (first.new.local ≡ local_in (view first.new.pass))) }
+    ensures second { IfOk result (λ _. IsPassOf shared.now second.new.pass
+        × (second.new.local ≡ local_in (view second.new.pass))) }
+{
+    match who {
+        Who::First => take_turn(alloc, shared, first, turn),
+        Who::Second => take_turn(alloc, shared, second, turn),
+    }
+}
+
+// What two passes of a table of two rows are told when they take these turns, turn by turn.
+pub(crate) fn take_turns(
+    alloc: Global,
+    turns: &[(Who, Turn)],
+) -> Result<Vec<Vec<(Kind, u64)>>, Memory> {
+    let (shared, mut first, mut second) = open_two(alloc)?;
+    let mut told = Vec::new(alloc);
+    for turn in turns {
+        let made = take_turn_of(alloc, &shared, &mut first, &mut second, turn.0, turn.1)?;
+        told.push(made)?;
+    }
+    Ok(told)
+}
+
+// What the turn of this number was told; nothing, where there was none.
+pub(crate) fn told_at(told: &[Vec<(Kind, u64)>], turn: usize) -> &[(Kind, u64)] {
+    match told.get(turn) {
+        Some(made) => made.as_slice(),
+        None => &[],
+    }
 }
 
 // A put of key 5 and value 10 up to its stamp: row 0 is the first row and has no next one, its count is 0, and the seat's entry is idle.
@@ -301,20 +480,25 @@ const PUT_FROM_ITS_STAMP: [(Kind, u64); 7] = [
 fn a_put_and_the_scan_that_helps_it_find_the_words_of_their_kinds(
     rt: HostRuntime,
 ) -> Result<(), Fail> {
-    let (shared, mut passes) = Shared::open(rt.alloc(), 64, 2, 1, 1)?;
-    let (Some(mut scanner), Some(mut putter)) = (passes.pop(), passes.pop()) else {
-        return Err("two passes")?;
-    };
-    let (mut put, put_began) = begin(rt.alloc(), &shared, &mut putter, Call::Put(5, 10))?;
-    let until_its_stamp = play(rt.alloc(), &shared, &mut putter, &mut put, 9)?;
-    let (mut scan, scan_began) = begin(rt.alloc(), &shared, &mut scanner, Call::Scan(0, 9))?;
-    let scanned = play(rt.alloc(), &shared, &mut scanner, &mut scan, ALL)?;
-    let from_its_stamp = play(rt.alloc(), &shared, &mut putter, &mut put, ALL)?;
-    assert_eq!(rt; put_began, (Kind::LoadEpoch, 1));
-    assert_eq!(rt; until_its_stamp.as_slice(), PUT_UNTIL_ITS_STAMP.as_slice());
-    assert_eq!(rt; scan_began, (Kind::LoadEpoch, 1));
-    assert_eq!(rt; scanned.as_slice(), SCAN_THAT_HELPS.as_slice());
-    assert_eq!(rt; from_its_stamp.as_slice(), PUT_FROM_ITS_STAMP.as_slice());
+    let told = take_turns(
+        rt.alloc(),
+        &[
+            (Who::First, Turn::Put(5, 10)),
+            (Who::First, Turn::Go(9)),
+            (Who::Second, Turn::Scan(0, 9)),
+            (Who::Second, Turn::Go(ALL)),
+            (Who::First, Turn::Go(ALL)),
+        ],
+    )?;
+    for (turn, finds) in [
+        (0, [(Kind::LoadEpoch, 1)].as_slice()),
+        (1, PUT_UNTIL_ITS_STAMP.as_slice()),
+        (2, [(Kind::LoadEpoch, 1)].as_slice()),
+        (3, SCAN_THAT_HELPS.as_slice()),
+        (4, PUT_FROM_ITS_STAMP.as_slice()),
+    ] {
+        assert_eq!(rt; told_at(&told, turn), finds, "in turn {turn}");
+    }
     Ok(())
 }
 
@@ -339,20 +523,18 @@ const GET_BY_ITS_GUESS: [(Kind, u64); 14] = [
 
 #[test]
 fn a_get_that_guesses_its_row_finds_what_a_put_stored(rt: HostRuntime) -> Result<(), Fail> {
-    let (shared, mut passes) = Shared::open(rt.alloc(), 64, 2, 1, 1)?;
-    let (Some(mut getter), Some(mut putter)) = (passes.pop(), passes.pop()) else {
-        return Err("two passes")?;
-    };
-    let (mut put, _) = begin(rt.alloc(), &shared, &mut putter, Call::Put(5, 10))?;
-    play(rt.alloc(), &shared, &mut putter, &mut put, ALL)?;
-    let (mut get, _) = begin(rt.alloc(), &shared, &mut getter, Call::Get(5))?;
-    play(rt.alloc(), &shared, &mut getter, &mut get, 1)?;
-    if get.activity.skips(Choice::Guess(0)) {
-        return Err("the get has ended")?;
-    }
-    let guessed = advance(&shared, &mut getter, &mut get, Choice::Guess(0))?;
-    assert_eq!(rt; guessed, (Kind::LoadState, 2));
-    let made = play(rt.alloc(), &shared, &mut getter, &mut get, 14)?;
-    assert_eq!(rt; made.as_slice(), GET_BY_ITS_GUESS.as_slice());
+    let told = take_turns(
+        rt.alloc(),
+        &[
+            (Who::First, Turn::Put(5, 10)),
+            (Who::First, Turn::Go(ALL)),
+            (Who::Second, Turn::Get(5)),
+            (Who::Second, Turn::Go(1)),
+            (Who::Second, Turn::Guess(0)),
+            (Who::Second, Turn::Go(14)),
+        ],
+    )?;
+    assert_eq!(rt; told_at(&told, 4), [(Kind::LoadState, 2)].as_slice());
+    assert_eq!(rt; told_at(&told, 5), GET_BY_ITS_GUESS.as_slice());
     Ok(())
 }

@@ -1,76 +1,14 @@
 //! The calls of the kinds of a rebalance, each made in its place.
 //!
 //! The words that they find are those of a model of the events in another language. A row's state is 2 as a word where it is normal, 3 where it
-//! is a leader that has not decided, 11 where it leads alone, 0 where it is free, 1 where seat 0 writes it, and 13 where it is retired with number 1.
-ghost use Rattle.std.specs.Prelude.{◌≡◌, true, IfOk};
-ghost use Rattle.kw_core.specs.Events.{is_call_in_range};
-ghost use Rattle.kw_table.specs.Passes.{view, IsPassOf};
-ghost use Rattle.kw_table.specs.Views.{local_in};
-ghost use Rattle.kw_world.specs.Local.{resting};
-
-use super::*;
-use crate::tests_kinds::{ALL, advance, begin, play};
-use kw_model::call::Call;
-use kw_model::memory::Memory;
+//! is a leader that has not decided, 11 where it leads alone, 0 where it is free, 1 where seat 0 writes it, and 13 where it is retired with
+//! number 1.
+use crate::tests_kinds::{ALL, Turn, Who, take_turns, told_at};
 use kw_words::kind::Kind;
-use kw_world::activity::Activity;
-use kw_world::event::Choice;
-use kw_world::local::Local;
-use std::alloc::Global;
 use std::test::Fail;
 
 // How many puts fill an empty row.
 const ROW: u32 = 64;
-
-// The first event of a pass's next call, where its seat is idle and has begun no more than so many.
-fn begin_next(shared: &Shared, pass: &mut Pass, local: &mut Local, call: Call) -> Result<(), Memory>
-    requires table { IsPassOf shared.now pass.old }
-    requires knows { local.old ≡ local_in (view pass.old) }
-    requires range { is_call_in_range call ≡ true }
-    ensures table { IfOk result (λ _. IsPassOf shared.now pass.new) }
-    ensures knows { IfOk result (λ _. local.new ≡ local_in (view pass.new)) }
-{
-    if let Activity::Idle = local.activity {
-        if local.number < ALL {
-            advance(shared, pass, local, Choice::Begin(call))?;
-        }
-    }
-    Ok(())
-}
-
-// Puts with value 1, this many: of one key, or, where keys rise, of it and the next ones.
-fn put_many(
-    alloc: Global,
-    shared: &Shared,
-    pass: &mut Pass,
-    local: &mut Local,
-    many: u32,
-    key: u32,
-    rises: bool,
-) -> Result<(), Memory>
-    requires table { IsPassOf shared.now pass.old }
-    requires knows { local.old ≡ local_in (view pass.old) }
-    ensures table { IfOk result (λ _. IsPassOf shared.now pass.new) }
-    ensures knows { IfOk result (λ _. local.new ≡ local_in (view pass.new)) }
-{
-    for i in 0..many {
-        let next = if rises { key.saturating_add(i) } else { key };
-        begin_next(shared, pass, local, Call::Put(next, 1))?;
-        play(alloc, shared, pass, local, ALL)?;
-    }
-    Ok(())
-}
-
-// How many of the events are of this kind and were told this.
-fn count(made: &[(Kind, u64)], kind: Kind, told: u64) -> u32 {
-    let mut many: u32 = 0;
-    for event in made {
-        if event.0 == kind && event.1 == told {
-            many = many.saturating_add(1);
-        }
-    }
-    many
-}
 
 // The put of a full row comes to its row, which is a normal one of 64 cells, and begins to rebalance it.
 const REBALANCE_BEGINS: [(Kind, u64); 11] = [
@@ -85,6 +23,26 @@ const REBALANCE_BEGINS: [(Kind, u64); 11] = [
     (Kind::MarkLink, 0),
     (Kind::Decide, 3),
     (Kind::FreezeCount, 64),
+];
+
+// The entries of the seats are idle, and are frozen one after the other.
+const FREEZES_ENTRIES: [(Kind, u64); 16] = [
+    (Kind::LoadPend, 0),
+    (Kind::FreezePend, 0),
+    (Kind::LoadPend, 0),
+    (Kind::FreezePend, 0),
+    (Kind::LoadPend, 0),
+    (Kind::FreezePend, 0),
+    (Kind::LoadPend, 0),
+    (Kind::FreezePend, 0),
+    (Kind::LoadPend, 0),
+    (Kind::FreezePend, 0),
+    (Kind::LoadPend, 0),
+    (Kind::FreezePend, 0),
+    (Kind::LoadPend, 0),
+    (Kind::FreezePend, 0),
+    (Kind::LoadPend, 0),
+    (Kind::FreezePend, 0),
 ];
 
 // Row 0 is led alone, and row 1 is free.
@@ -135,40 +93,43 @@ const REPLACES_THE_NEXT_ROW: [(Kind, u64); 7] = [
     (Kind::LoadEpoch, 3),
 ];
 
+// One pass fills a row, rebalances it, and fills and rebalances the new one.
+const TWO_REBALANCES: [(Who, Turn); 17] = [
+    (Who::First, Turn::Puts(ROW, 7)),
+    (Who::First, Turn::Put(7, 1)),
+    (Who::First, Turn::Go(11)),
+    (Who::First, Turn::Go(16)),
+    (Who::First, Turn::Go(8)),
+    (Who::First, Turn::Go(256)),
+    (Who::First, Turn::Go(1)),
+    (Who::First, Turn::Go(3)),
+    (Who::First, Turn::Go(142)),
+    (Who::First, Turn::Go(10)),
+    (Who::First, Turn::Go(ALL)),
+    (Who::First, Turn::Puts(ROW - 2, 7)),
+    (Who::First, Turn::Put(7, 2)),
+    (Who::First, Turn::Go(292)),
+    (Who::First, Turn::Go(11)),
+    (Who::First, Turn::Go(142)),
+    (Who::First, Turn::Go(7)),
+];
+
 #[test]
 fn a_full_row_is_replaced_and_used_again(rt: HostRuntime) -> Result<(), Fail> {
-    let (shared, mut passes) = Shared::open(rt.alloc(), 2, 1, 1, 1)?;
-    let Some(mut pass) = passes.pop() else {
-        return Err("a pass")?;
-    };
-    let (mut put, _) = begin(rt.alloc(), &shared, &mut pass, Call::Put(7, 1))?;
-    play(rt.alloc(), &shared, &mut pass, &mut put, ALL)?;
-    put_many(rt.alloc(), &shared, &mut pass, &mut put, ROW - 1, 7, false)?;
-    begin_next(&shared, &mut pass, &mut put, Call::Put(7, 1))?;
-    let begins = play(rt.alloc(), &shared, &mut pass, &mut put, 11)?;
-    let entries = play(rt.alloc(), &shared, &mut pass, &mut put, 16)?;
-    let scans = play(rt.alloc(), &shared, &mut pass, &mut put, 8)?;
-    let list = play(rt.alloc(), &shared, &mut pass, &mut put, 257)?;
-    let takes = play(rt.alloc(), &shared, &mut pass, &mut put, 3)?;
-    let stores = play(rt.alloc(), &shared, &mut pass, &mut put, 142)?;
-    let replaces = play(rt.alloc(), &shared, &mut pass, &mut put, 10)?;
-    play(rt.alloc(), &shared, &mut pass, &mut put, ALL)?;
-    assert_eq!(rt; begins.as_slice(), REBALANCE_BEGINS.as_slice());
-    assert_eq!(rt; count(&entries, Kind::LoadPend, 0), 8);
-    assert_eq!(rt; count(&entries, Kind::FreezePend, 0), 8);
-    assert_eq!(rt; count(&scans, Kind::LoadScan, 0), 8);
-    assert_eq!(rt; list.last(), Some(&(Kind::LoadAfter, 0)));
-    assert_eq!(rt; takes.as_slice(), TAKES_A_ROW.as_slice());
-    assert_eq!(rt; count(&stores, Kind::StoreInfant, 0), 142);
-    assert_eq!(rt; replaces.as_slice(), REPLACES_THE_ROW.as_slice());
-    put_many(rt.alloc(), &shared, &mut pass, &mut put, ROW - 2, 7, false)?;
-    begin_next(&shared, &mut pass, &mut put, Call::Put(7, 2))?;
-    play(rt.alloc(), &shared, &mut pass, &mut put, 292)?;
-    let again = play(rt.alloc(), &shared, &mut pass, &mut put, 11)?;
-    play(rt.alloc(), &shared, &mut pass, &mut put, 142)?;
-    let ends = play(rt.alloc(), &shared, &mut pass, &mut put, 7)?;
-    assert_eq!(rt; again.as_slice(), USES_A_ROW_AGAIN.as_slice());
-    assert_eq!(rt; ends.as_slice(), REPLACES_THE_NEXT_ROW.as_slice());
+    let told = take_turns(rt.alloc(), TWO_REBALANCES.as_slice())?;
+    for (turn, finds) in [
+        (2, REBALANCE_BEGINS.as_slice()),
+        (3, FREEZES_ENTRIES.as_slice()),
+        (4, [(Kind::LoadScan, 0); 8].as_slice()),
+        (6, [(Kind::LoadAfter, 0)].as_slice()),
+        (7, TAKES_A_ROW.as_slice()),
+        (8, [(Kind::StoreInfant, 0); 142].as_slice()),
+        (9, REPLACES_THE_ROW.as_slice()),
+        (14, USES_A_ROW_AGAIN.as_slice()),
+        (16, REPLACES_THE_NEXT_ROW.as_slice()),
+    ] {
+        assert_eq!(rt; told_at(&told, turn), finds, "in turn {turn}");
+    }
     Ok(())
 }
 
@@ -187,39 +148,20 @@ const HELPS_A_SCAN: [(Kind, u64); 10] = [
     (Kind::LoadScan, 0),
 ];
 
-// A table of two rows, and its two passes.
-fn open_two(alloc: Global) -> Result<(Shared, Pass, Pass), Memory>
-    ensures table { IfOk result (λ made. IsPassOf made.0 made.1 × IsPassOf made.0 made.2) }
-    ensures idle { IfOk result (λ made. (local_in (view made.1) ≡ resting 0)
-        × (local_in (view made.2) ≡ resting 0)) }
-{
-    let (shared, mut passes) = Shared::open(alloc, 2, 2, 1, 1)?;
-    let (Some(second), Some(first)) = (passes.pop(), passes.pop()) else {
-        unreachable!()
-    };
-    Ok((shared, first, second))
-}
-
 #[test]
 fn a_rebalance_helps_a_scan(rt: HostRuntime) -> Result<(), Fail> {
-    let (shared, mut putter, mut scanner) = open_two(rt.alloc())?;
-    let (mut put, _) = begin(rt.alloc(), &shared, &mut putter, Call::Put(7, 1))?;
-    play(rt.alloc(), &shared, &mut putter, &mut put, ALL)?;
-    put_many(
+    let told = take_turns(
         rt.alloc(),
-        &shared,
-        &mut putter,
-        &mut put,
-        ROW - 1,
-        7,
-        false,
+        &[
+            (Who::First, Turn::Puts(ROW, 7)),
+            (Who::Second, Turn::Scan(0, 9)),
+            (Who::Second, Turn::Go(3)),
+            (Who::First, Turn::Put(7, 1)),
+            (Who::First, Turn::Go(27)),
+            (Who::First, Turn::Go(10)),
+        ],
     )?;
-    let (mut scan, _) = begin(rt.alloc(), &shared, &mut scanner, Call::Scan(0, 9))?;
-    play(rt.alloc(), &shared, &mut scanner, &mut scan, 3)?;
-    begin_next(&shared, &mut putter, &mut put, Call::Put(7, 1))?;
-    play(rt.alloc(), &shared, &mut putter, &mut put, 27)?;
-    let helps = play(rt.alloc(), &shared, &mut putter, &mut put, 10)?;
-    assert_eq!(rt; helps.as_slice(), HELPS_A_SCAN.as_slice());
+    assert_eq!(rt; told_at(&told, 5), HELPS_A_SCAN.as_slice());
     Ok(())
 }
 
@@ -234,16 +176,15 @@ const GIVES_A_ROW_BACK: [(Kind, u64); 5] = [
 
 #[test]
 fn a_row_that_is_one_too_few_is_given_back(rt: HostRuntime) -> Result<(), Fail> {
-    let (shared, mut passes) = Shared::open(rt.alloc(), 2, 1, 1, 1)?;
-    let Some(mut pass) = passes.pop() else {
-        return Err("a pass")?;
-    };
-    let (mut put, _) = begin(rt.alloc(), &shared, &mut pass, Call::Put(0, 1))?;
-    play(rt.alloc(), &shared, &mut pass, &mut put, ALL)?;
-    put_many(rt.alloc(), &shared, &mut pass, &mut put, ROW - 1, 1, true)?;
-    begin_next(&shared, &mut pass, &mut put, Call::Put(64, 1))?;
-    play(rt.alloc(), &shared, &mut pass, &mut put, 292)?;
-    let gives = play(rt.alloc(), &shared, &mut pass, &mut put, ALL)?;
-    assert_eq!(rt; gives.as_slice(), GIVES_A_ROW_BACK.as_slice());
+    let told = take_turns(
+        rt.alloc(),
+        &[
+            (Who::First, Turn::PutsFrom(ROW, 0)),
+            (Who::First, Turn::Put(64, 1)),
+            (Who::First, Turn::Go(292)),
+            (Who::First, Turn::Go(ALL)),
+        ],
+    )?;
+    assert_eq!(rt; told_at(&told, 3), GIVES_A_ROW_BACK.as_slice());
     Ok(())
 }

@@ -19,12 +19,15 @@ fn pass_words_have_a_line_each(rt: HostRuntime) {
 
 #[test]
 fn words_of_rows_lie_side_by_side(rt: HostRuntime) {
-    assert_eq!(rt; slot(2, Name::Turn), 24);
-    assert_eq!(rt; slot(2, Name::Scan(0)), 96);
-    assert_eq!(rt; slot(2, Name::Pin(7)), 216);
-    assert_eq!(rt; slot(2, Name::State(0)), 224);
-    assert_eq!(rt; slot(2, Name::Count(0)), 225);
-    assert_eq!(rt; slot(2, Name::State(1)), 493);
+    let found = [
+        slot(2, Name::Turn),
+        slot(2, Name::Scan(0)),
+        slot(2, Name::Pin(7)),
+        slot(2, Name::State(0)),
+        slot(2, Name::Count(0)),
+        slot(2, Name::State(1)),
+    ];
+    assert_eq!(rt; found, [24, 96, 216, 224, 225, 493]);
     assert_eq!(rt; slots(2), 762);
 }
 
@@ -37,11 +40,10 @@ fn a_run_begins_with_four_words_at_their_slots(rt: HostRuntime) -> Result<(), Fa
         epoch: 7,
     };
     let words = opening_words(rt.alloc(), opening)?;
+    let words = words.as_slice();
+    let found = [words.get(0), words.get(8), words.get(16), words.get(224)];
+    assert_eq!(rt; found, [Some(&5), Some(&7), Some(&1), Some(&2)]);
     assert_eq!(rt; words.len(), 493);
-    assert_eq!(rt; words.as_slice().get(0), Some(&5));
-    assert_eq!(rt; words.as_slice().get(8), Some(&7));
-    assert_eq!(rt; words.as_slice().get(16), Some(&1));
-    assert_eq!(rt; words.as_slice().get(224), Some(&2));
     assert_eq!(rt; words.iter().filter(|word| **word > 0).count(), 4);
     Ok(())
 }

@@ -4,4 +4,4 @@ use Rattle.kw_table.specs.Views.{local_in}
 use Rattle.kw_table.proofs.tests.play.Given as goal
 
 abbrev pub invariant-loop : goal.invariant-loop
-invariant-loop l = IsPassOf l.shared l.pass × (l.local ≡ local_in (view l.pass))
+invariant-loop l = IsPassOf l.shared l.player.pass × (l.player.local ≡ local_in (view l.player.pass))
