@@ -24,8 +24,6 @@ mod rule;
 mod shared;
 mod slot;
 mod steps;
-mod warming;
-mod window;
 #[cfg(test)]
 mod tests;
 #[cfg(test)]
@@ -34,6 +32,8 @@ mod tests_kinds;
 mod tests_rebalance_kinds;
 #[cfg(test)]
 mod tests_slot;
+mod warming;
+mod window;
 
 pub use hints::Hints;
 pub use kinds::{
