@@ -1,5 +1,5 @@
-//! The figures of `kw_bench` on a map of one row, for a native loop over the same words: what the machine itself takes for the loads and
-//! exchanges that the map's calls make, with nothing kept of what was met and nothing checked.
+//! The figures of `kw_bench` on a map of one row, for native code over the same words: what the machine itself takes for the loads, stores and
+//! exchanges that the events of the map's calls make, with nothing kept of what was met, nothing checked and nothing helped.
 //!
 //! One file, which stands on Rust's standard library alone; no gate runs it. Build it by `rustc -O -o /tmp/native_row tools/native_row.rs`,
 //! run `native_row N` and `kw_bench N` in turn, and compare what they print: the calls, the keys, their orders and the columns are the same.
@@ -46,33 +46,116 @@ struct Cell {
     next: AtomicU64,
 }
 
-/// The words of a row: what it counts, the first link of its list by key and falling version, an entry for each seat, and the cells.
+/// The words of a row: its state, how many cells it gave, its least key, the links to the next row and to the first cell of its list by key and
+/// falling version, an entry for each seat, and the cells.
 struct Row {
     state: AtomicU64,
-    least: AtomicU64,
     count: AtomicU64,
+    least: AtomicU64,
+    next: AtomicU64,
     first: AtomicU64,
     entries: [AtomicU64; SEATS],
     cells: [Cell; CELLS],
 }
 
-/// What all rows share.
-struct Clock {
-    epoch: AtomicU64,
-    version: AtomicU64,
-    pass: AtomicU64,
+/// A word on cache lines of its own.
+#[derive(Default)]
+#[repr(align(128))]
+struct Alone(AtomicU64);
+
+/// The words of no row: the clock, the epoch, and for each seat the epoch that it announces and its scan.
+struct Rowless {
+    clock: Alone,
+    epoch: Alone,
+    passes: [Alone; SEATS],
+    scans: [Alone; SEATS],
+}
+
+impl Rowless {
+    fn new() -> Rowless {
+        Rowless {
+            clock: Alone(AtomicU64::new(1)),
+            epoch: Alone(AtomicU64::new(1)),
+            passes: array::from_fn(|_| Alone::default()),
+            scans: array::from_fn(|_| Alone::default()),
+        }
+    }
+
+    fn enter(&self, seat: usize) {
+        self.passes[seat].0.store(self.epoch.0.load(SeqCst), SeqCst);
+    }
+
+    fn leave(&self, seat: usize) {
+        self.passes[seat].0.store(0, SeqCst);
+    }
+
+    /// The version of a scan: it waits, draws and settles.
+    fn draw(&self, seat: usize) -> u64 {
+        let waits = 1 + 2 * self.clock.0.load(SeqCst);
+        self.scans[seat].0.store(waits, SeqCst);
+        let version = self.clock.0.fetch_add(1, SeqCst);
+        let _ = self.scans[seat].0.compare_exchange(waits, 2 * version, SeqCst, SeqCst);
+        version
+    }
+}
+
+/// The words of a map of one row.
+struct Map {
+    rowless: Rowless,
+    row: Row,
+}
+
+impl Map {
+    fn new() -> Box<Map> {
+        Box::new(Map {
+            rowless: Rowless::new(),
+            row: Row::new(),
+        })
+    }
+
+    fn get(&self, seat: usize, key: u64) -> Option<u64> {
+        self.rowless.enter(seat);
+        self.row.find();
+        let found = self.row.get(key);
+        self.rowless.leave(seat);
+        found
+    }
+
+    fn scan(&self, seat: usize, from: u64, to: u64, pairs: &mut Vec<(u64, u64)>) {
+        self.rowless.enter(seat);
+        let version = self.rowless.draw(seat);
+        self.row.find();
+        self.row.scan(from, to, version, pairs);
+        self.rowless.scans[seat].0.store(0, SeqCst);
+        self.rowless.leave(seat);
+    }
+
+    fn put(&self, seat: usize, key: u64, value: u64) {
+        self.rowless.enter(seat);
+        self.row.find();
+        self.row.put(seat, &self.rowless.clock.0, key, value);
+        self.rowless.leave(seat);
+    }
 }
 
 impl Row {
-    fn new() -> Box<Row> {
-        Box::new(Row {
-            state: AtomicU64::new(0),
-            least: AtomicU64::new(0),
+    fn new() -> Row {
+        Row {
+            state: AtomicU64::new(2),
             count: AtomicU64::new(0),
+            least: AtomicU64::new(0),
+            next: AtomicU64::new(0),
             first: AtomicU64::new(0),
             entries: array::from_fn(|_| AtomicU64::new(0)),
             cells: array::from_fn(|_| Cell::default()),
-        })
+        }
+    }
+
+    /// The walk to this row, where it was guessed.
+    fn find(&self) {
+        black_box(self.state.load(SeqCst));
+        black_box(self.least.load(SeqCst));
+        black_box(self.next.load(SeqCst));
     }
 
     fn is_quiet(&self) -> bool {
@@ -106,8 +189,8 @@ impl Row {
         }
     }
 
-    /// Adds the newest pair of each key of a range.
-    fn scan(&self, from: u64, to: u64, pairs: &mut Vec<(u64, u64)>) {
+    /// Adds the newest pair of each key of a range, of those up to the version.
+    fn scan(&self, from: u64, to: u64, upto: u64, pairs: &mut Vec<(u64, u64)>) {
         if !self.is_quiet() {
             return;
         }
@@ -123,9 +206,9 @@ impl Row {
             if key < from {
                 continue;
             }
-            black_box(cell.version.load(SeqCst));
+            let version = cell.version.load(SeqCst);
             let value = cell.value.load(SeqCst);
-            if last != Some(key) {
+            if version <= upto && last != Some(key) {
                 last = Some(key);
                 pairs.push((key, value));
             }
@@ -149,63 +232,58 @@ impl Row {
         }
     }
 
-    fn put(&self, clock: &Clock, key: u64, value: u64) {
-        clock.pass.store(clock.epoch.load(SeqCst), SeqCst);
-        black_box(self.state.load(SeqCst));
-        black_box(self.least.load(SeqCst));
+    fn put(&self, seat: usize, clock: &AtomicU64, key: u64, value: u64) {
+        black_box(self.count.load(SeqCst));
         let place = self.count.fetch_add(1, SeqCst);
         let cell = &self.cells[place as usize];
         cell.key.store(key, SeqCst);
         cell.value.store(value, SeqCst);
+        let entry = &self.entries[seat];
         let pending = 1 + 4 * place;
-        let _ = self.entries[0].compare_exchange(0, pending, SeqCst, SeqCst);
-        let version = clock.version.load(SeqCst);
+        let _ = entry.compare_exchange(0, pending, SeqCst, SeqCst);
+        let version = clock.load(SeqCst);
         let stamped = pending + 1 + (version << 15);
-        let _ = self.entries[0].compare_exchange(pending, stamped, SeqCst, SeqCst);
+        let _ = entry.compare_exchange(pending, stamped, SeqCst, SeqCst);
         cell.version.store(version, SeqCst);
         let (link, held) = self.place_for(key, version);
         cell.next.store(held, SeqCst);
         let _ = link.compare_exchange(held, place + 1, SeqCst, SeqCst);
-        self.entries[0].store(0, SeqCst);
-        clock.pass.store(0, SeqCst);
+        entry.store(0, SeqCst);
     }
 }
 
-/// A row with this load.
-fn filled(cells: usize, keys: Keys) -> Box<Row> {
-    let clock = new_clock();
-    let row = Row::new();
+/// A map whose row has this load.
+fn filled(cells: usize, keys: Keys) -> Box<Map> {
+    let map = Map::new();
     for number in 0..cells {
-        row.put(&clock, keys.of_cell(number), number as u64 + 1);
+        map.put(0, keys.of_cell(number), number as u64 + 1);
     }
-    row
+    map
 }
 
-fn new_clock() -> Clock {
-    Clock {
-        epoch: AtomicU64::new(1),
-        version: AtomicU64::new(1),
-        pass: AtomicU64::new(0),
-    }
+/// How long so many threads take, each for the calls: from when the first one begins to when the last one ends.
+fn time_threads(count: usize, calls: impl Fn(usize) + Sync) -> Duration {
+    let barrier = Barrier::new(count);
+    let spans: Vec<(Instant, Instant)> = thread::scope(|scope| {
+        let threads: Vec<_> = (0..count)
+            .map(|seat| {
+                let (barrier, calls) = (&barrier, &calls);
+                scope.spawn(move || {
+                    barrier.wait();
+                    let start = Instant::now();
+                    calls(seat);
+                    (start, Instant::now())
+                })
+            })
+            .collect();
+        threads.into_iter().map(|thread| thread.join().unwrap()).collect()
+    });
+    let first = spans.iter().map(|span| span.0).min().unwrap();
+    let last = spans.iter().map(|span| span.1).max().unwrap();
+    last - first
 }
 
-/// How long so many threads take, each for the calls; the time goes from when all are ready.
-fn time_threads(count: usize, calls: impl Fn() + Sync) -> Duration {
-    let barrier = Barrier::new(count + 1);
-    thread::scope(|scope| {
-        for _ in 0..count {
-            scope.spawn(|| {
-                barrier.wait();
-                calls();
-            });
-        }
-        barrier.wait();
-        Instant::now()
-    })
-    .elapsed()
-}
-
-fn print_reads(name: &str, cells: usize, keys: Keys, calls: usize, ask: impl Fn() + Sync) {
+fn print_reads(name: &str, cells: usize, keys: Keys, calls: usize, ask: impl Fn(usize) + Sync) {
     let [one, two, four] = [1, 2, 4].map(|count| time_threads(count, &ask).as_nanos().max(1));
     let calls = calls.max(1) as u128;
     println!(
@@ -220,30 +298,30 @@ fn print_reads(name: &str, cells: usize, keys: Keys, calls: usize, ask: impl Fn(
 }
 
 fn print_load(cells: usize, keys: Keys, calls: usize) {
-    let row = filled(cells, keys);
-    print_reads("get", cells, keys, calls, || {
+    let map = filled(cells, keys);
+    print_reads("get", cells, keys, calls, |seat| {
         for call in 0..calls {
-            black_box(row.get(keys.of_cell(call % cells)));
+            black_box(map.get(seat, keys.of_cell(call % cells)));
         }
     });
-    print_reads("scan", cells, keys, calls, || {
+    print_reads("scan", cells, keys, calls, |seat| {
         let mut pairs = Vec::with_capacity(CELLS);
         for _ in 0..calls {
             pairs.clear();
-            row.scan(0, u64::from(u32::MAX), &mut pairs);
+            map.scan(seat, 0, u64::from(u32::MAX), &mut pairs);
             black_box(&pairs);
         }
     });
     let maps = calls / cells;
     let mut took = Duration::ZERO;
     for _ in 0..maps {
-        let (clock, row) = (new_clock(), Row::new());
+        let map = Map::new();
         let start = Instant::now();
         for number in 0..cells {
-            row.put(&clock, keys.of_cell(number), number as u64);
+            map.put(0, keys.of_cell(number), number as u64);
         }
         took += start.elapsed();
-        black_box(&row);
+        black_box(&map);
     }
     println!(
         "{:<5}{cells:>6}  {:<15}{:>6}",

@@ -2,7 +2,7 @@
 //!
 //! The contract of `run_on_map` says what the list of events of a whole run has, whatever the workers did beside each other, and what the
 //! answers are worth: `specs/Running.antt` and `specs/Headline.antt`. `replay` and `gen_command` print such answers.
-ghost use Rattle.std.specs.Prelude.{◌≡◌, ◌<◌, ◌^◌, [], length, map, All, IfOk};
+ghost use Rattle.std.specs.Prelude.{◌≡◌, ◌<◌, ◌^◌, ◌++◌, [], length, map, All, IfOk};
 ghost use Rattle.std.specs.List.{AllByRecursion};
 ghost use Rattle.kw_line.specs.Line.{IsItem};
 ghost use Rattle.kw_table.specs.Meetings.{front_seen};
@@ -25,6 +25,18 @@ use std::alloc::Global;
 use std::sync::Wait;
 use std::thread::Threads;
 
+/// The answers of some blocks and then those of one more. Those of the first block are not copied: most inputs have many lines and few blocks.
+fn joined(answers: Vec<Answer>, more: Vec<Answer>) -> Result<Vec<Answer>, Memory>
+    ensures { IfOk result (λ all. all.items ≡ answers.items ++ more.items) }
+{
+    if answers.is_empty() {
+        return Ok(more);
+    }
+    let (mut all, mut more) = (answers, more);
+    all.append(&mut more)?;
+    Ok(all)
+}
+
 /// Answers the blocks in order.
 fn play_all<R: Threads + Wait + Sync, G: Gate + Sync>(
     rt: &R,
@@ -45,9 +57,9 @@ fn play_all<R: Threads + Wait + Sync, G: Gate + Sync>(
     let mut passes = passes;
     let mut answers = Vec::new(alloc);
     for block in blocks {
-        let (next, mut more) = play(rt, alloc, kiwi, block, passes, crew.gate)?;
+        let (next, more) = play(rt, alloc, kiwi, block, passes, crew.gate)?;
         passes = next;
-        answers.append(&mut more)?;
+        answers = joined(answers, more)?;
     }
     Ok((passes, answers))
 }

@@ -28,7 +28,7 @@ loop-block-preserved g c =
     let workers : b.workers ≡ c.args.crew.now.workers = ap (λ (x : Dealt). x.workers) c.block-item.is ∙ c.requires.workers c.loop-block.block-index b lt in
     record {
       together = subst (λ n. AreTogether c.args.kiwi.now n (front_seen c.in_ok-next.next.items) c.in_ok-next.next.items) workers c.in_ok-next.ensures.together;
-      ran = ran_step _ _ _ _ b _ _ _ _ _ inv.together.some lt c.block-item.is workers c.in_ok-append.ensures.items inv.ran c.in_ok-next.ensures.grew;
+      ran = ran_step _ _ _ _ b _ _ _ _ _ inv.together.some lt c.block-item.is workers c.in_ok-answers.ensures inv.ran c.in_ok-next.ensures.grew;
     }
 
 pub returns-clause-ran : goal.returns-clause-ran
