@@ -1,7 +1,11 @@
 //! The order of a history that is made event by event.
-ghost use Rattle.std.specs.Prelude.{◌≡◌, IfOk, None};
-ghost use Rattle.kw_laws.specs.Example.{example};
-ghost use Rattle.kw_core.specs.declared.history.Change.TheVariants as change;
+//!
+//! Each call's events are noted by a function of their own, whose clause gives the history behind them in full: the proof of one
+//! call then does not carry the events of those before it.
+ghost use Rattle.std.specs.Prelude.{◌≡◌, ◌∷◌, [], IfOk, OnOk, take};
+ghost use Rattle.kw_core.specs.HistoryLaws.{HistoryLaws};
+ghost use Rattle.kw_core.specs.Noted.{IsWithin, noted, nothing_yet};
+ghost use Rattle.kw_laws.specs.Example.{events, the_put, call_0, call_1, call_2, example};
 
 use super::*;
 use kw_core::history::{Change, Drawn, Logged};
@@ -9,40 +13,36 @@ use kw_model::pair_list::PairList;
 use kw_words::kind::Kind;
 use std::test::Fail;
 
-// an event
-fn event(seat: u32, kind: Kind, clock: u64) -> Logged
-    ensures { result ≡ record { clock = clock; seat = seat; kind = kind } }
+// one more event, with what it changed
+fn note(
+    history: &mut History,
+    seat: u32,
+    kind: Kind,
+    clock: u64,
+    change: Change,
+) -> Result<(), Memory>
+    requires { IsWithin history.old change }
+    ensures { OnOk result (history.new ≡ noted history.old
+        (record { clock = clock; seat = seat; kind = kind }) change) }
 {
-    Logged { clock, seat, kind }
+    history.note(Logged { clock, seat, kind }, change)
 }
 
-// a call that ends with this reply and answered no put
-fn ends(call: usize, reply: Reply) -> Change
-    ensures { result ≡ change.Ends call reply None None }
+// put 5 7 by seat 0
+fn put(history: &mut History) -> Result<(), Memory>
+    requires { history.old ≡ nothing_yet }
+    ensures { OnOk result (history.new ≡ record {
+      log = take 6 events;
+      attempts = the_put ∷ [];
+      calls = call_0 ∷ [];
+    }) }
 {
-    Change::Ends {
-        call,
-        reply,
-        answer: None,
-        draw: None,
-    }
-}
-
-// put 5 7, get 5, scan 0 9 and get 6, one after the other
-fn example(alloc: Global) -> Result<History, Memory>
-    ensures { IfOk result (λ history. history ≡ example) }
-{
-    let mut history = History::new(alloc);
-    let call = Call::Put(5, 7);
-    let number = 1;
-    history.note(
-        event(0, Kind::LoadEpoch, 1),
-        Change::Begins {
-            seat: 0,
-            number,
-            call,
-        },
-    )?;
+    let begins = Change::Begins {
+        seat: 0,
+        number: 1,
+        call: Call::Put(5, 7),
+    };
+    note(history, 0, Kind::LoadEpoch, 1, begins)?;
     let adds = Change::Adds {
         call: 0,
         seat: 0,
@@ -51,77 +51,138 @@ fn example(alloc: Global) -> Result<History, Memory>
         row: 0,
         cell: 0,
     };
-    history.note(event(0, Kind::AddCount, 1), adds)?;
-    history.note(event(0, Kind::Announce, 1), Change::Announces(0))?;
-    history.note(event(0, Kind::LoadClock, 1), Change::Nothing)?;
+    note(history, 0, Kind::AddCount, 1, adds)?;
+    note(history, 0, Kind::Announce, 1, Change::Announces(0))?;
+    note(history, 0, Kind::LoadClock, 1, Change::Nothing)?;
     let stamps = Change::Stamps {
         attempt: 0,
         version: 1,
         load: 3,
     };
-    history.note(event(0, Kind::Stamp, 1), stamps)?;
-    history.note(event(0, Kind::ClearPass, 1), ends(0, Reply::Done))?;
-    let call = Call::Get(5);
-    history.note(
-        event(1, Kind::LoadEpoch, 1),
-        Change::Begins {
-            seat: 1,
-            number,
-            call,
-        },
-    )?;
-    let found = Change::Ends {
+    note(history, 0, Kind::Stamp, 1, stamps)?;
+    let ends = Change::Ends {
+        call: 0,
+        reply: Reply::Done,
+        answer: None,
+        draw: None,
+    };
+    note(history, 0, Kind::ClearPass, 1, ends)?;
+    Ok(())
+}
+
+// get 5 by seat 1, behind it
+fn get_put(history: &mut History) -> Result<(), Memory>
+    requires { history.old ≡ record {
+      log = take 6 events;
+      attempts = the_put ∷ [];
+      calls = call_0 ∷ [];
+    } }
+    ensures { OnOk result (history.new ≡ record {
+      log = take 8 events;
+      attempts = the_put ∷ [];
+      calls = call_0 ∷ call_1 ∷ [];
+    }) }
+{
+    let begins = Change::Begins {
+        seat: 1,
+        number: 1,
+        call: Call::Get(5),
+    };
+    note(history, 1, Kind::LoadEpoch, 1, begins)?;
+    let ends = Change::Ends {
         call: 1,
         reply: Reply::Value(7),
         answer: Some(0),
         draw: None,
     };
-    history.note(event(1, Kind::ClearPass, 1), found)?;
-    let call = Call::Scan(0, 9);
-    let number = 2;
-    history.note(
-        event(0, Kind::LoadEpoch, 1),
-        Change::Begins {
-            seat: 0,
-            number,
-            call,
-        },
-    )?;
-    history.note(event(0, Kind::Draw, 1), Change::Nothing)?;
+    note(history, 1, Kind::ClearPass, 1, ends)?;
+    Ok(())
+}
+
+// scan 0 9 by seat 0, behind these
+fn scan(alloc: Global, history: &mut History) -> Result<(), Memory>
+    requires { history.old ≡ record {
+      log = take 8 events;
+      attempts = the_put ∷ [];
+      calls = call_0 ∷ call_1 ∷ [];
+    } }
+    ensures { OnOk result (history.new ≡ record {
+      log = take 11 events;
+      attempts = the_put ∷ [];
+      calls = call_0 ∷ call_1 ∷ call_2 ∷ [];
+    }) }
+{
     let mut pairs = PairList::new(alloc);
     pairs.push(5, 7)?;
-    let given = Change::Ends {
+    let begins = Change::Begins {
+        seat: 0,
+        number: 2,
+        call: Call::Scan(0, 9),
+    };
+    note(history, 0, Kind::LoadEpoch, 1, begins)?;
+    note(history, 0, Kind::Draw, 1, Change::Nothing)?;
+    let ends = Change::Ends {
         call: 2,
         reply: Reply::Pairs(pairs),
         answer: None,
         draw: Some(Drawn { at: 9, version: 1 }),
     };
-    history.note(event(0, Kind::ClearPass, 2), given)?;
-    let call = Call::Get(6);
-    history.note(
-        event(1, Kind::LoadEpoch, 2),
-        Change::Begins {
-            seat: 1,
-            number,
-            call,
-        },
-    )?;
-    history.note(event(1, Kind::ClearPass, 2), ends(3, Reply::Absent))?;
+    note(history, 0, Kind::ClearPass, 2, ends)?;
+    Ok(())
+}
+
+// get 6 by seat 1, behind these
+fn get_none(history: &mut History) -> Result<(), Memory>
+    requires { history.old ≡ record {
+      log = take 11 events;
+      attempts = the_put ∷ [];
+      calls = call_0 ∷ call_1 ∷ call_2 ∷ [];
+    } }
+    ensures { OnOk result (history.new ≡ example) }
+{
+    let begins = Change::Begins {
+        seat: 1,
+        number: 2,
+        call: Call::Get(6),
+    };
+    note(history, 1, Kind::LoadEpoch, 2, begins)?;
+    let ends = Change::Ends {
+        call: 3,
+        reply: Reply::Absent,
+        answer: None,
+        draw: None,
+    };
+    note(history, 1, Kind::ClearPass, 2, ends)?;
+    Ok(())
+}
+
+// put 5 7, get 5, scan 0 9 and get 6, one after the other
+fn four_calls(alloc: Global) -> Result<History, Memory>
+    ensures { IfOk result HistoryLaws }
+{
+    let mut history = History::new(alloc);
+    put(&mut history)?;
+    get_put(&mut history)?;
+    scan(alloc, &mut history)?;
+    get_none(&mut history)?;
     Ok(history)
 }
 
 #[test]
 fn orders_calls_by_their_points(rt: HostRuntime) -> Result<(), Fail> {
-    let history = example(rt.alloc())?;
-    let names = order(rt.alloc(), &history)?;
-    let name = |seat, number| CallName { seat, number };
-    let want = [name(0, 1), name(1, 1), name(0, 2), name(1, 2)];
-    assert_eq!(rt; names.as_slice(), want.as_slice());
-    let points = points(rt.alloc(), &history)?;
-    let at = points
-        .iter()
-        .map(|point| point.at)
-        .collect::<Vec<u64>>(rt.alloc())?;
-    assert_eq!(rt; at.as_slice(), [3, 6, 9, 11].as_slice());
+    let history = four_calls(rt.alloc())?;
+    let put = CallName { seat: 0, number: 1 };
+    let get = CallName { seat: 1, number: 1 };
+    let scan = CallName { seat: 0, number: 2 };
+    let none = CallName { seat: 1, number: 2 };
+    let want = [put, get, scan, none];
+    assert_eq!(rt; order(rt.alloc(), &history)?.as_slice(), want.as_slice());
+    let want = [
+        Point { call: put, at: 3 },
+        Point { call: get, at: 6 },
+        Point { call: scan, at: 9 },
+        Point { call: none, at: 11 },
+    ];
+    assert_eq!(rt; points(rt.alloc(), &history)?.as_slice(), want.as_slice());
     Ok(())
 }
