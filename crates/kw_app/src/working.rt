@@ -54,7 +54,7 @@ pub fn work<R: Wait, G: Gate>(
     ensures goes { GoesTo kiwi.now.shared pass.old pass.new }
     ensures works { IfOk result (λ answers. Works pass.old pass.new lines.now answers.items) }
 {
-    let mut answers = Vec::new(alloc);
+    let mut answers = Vec::with_capacity(alloc, lines.len())?;
     for line in lines {
         gate.before(worker, line.number);
         let answer = ask(rt, alloc, kiwi, pass, *line)?;

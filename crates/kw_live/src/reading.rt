@@ -70,9 +70,22 @@ fn read_list(shared: &Shared, pass: &mut Pass, local: &mut Local)
 }
 
 // The next event along the list, and those that follow on the same cell. What the reader does next is known between them, so that each
-// goes over to the next one at once.
+// goes over to the next one at once; and most come to the next cell by its link, which is asked for first.
 #[inline(always)]
 fn read_cell(shared: &Shared, pass: &mut Pass, local: &mut Local)
+    requires follows { Follows shared.now pass.old local.old }
+    requires reading { is_reading_list local.old.activity ≡ true }
+    ensures { ReadsOn shared.now pass.old local.old pass.new local.new }
+{
+    match local.activity {
+        Activity::ListFrom => read_linked(shared, pass, local),
+        _ => read_on(shared, pass, local),
+    }
+}
+
+// The same, from the link of the list on.
+#[inline(always)]
+fn read_linked(shared: &Shared, pass: &mut Pass, local: &mut Local)
     requires follows { Follows shared.now pass.old local.old }
     requires reading { is_reading_list local.old.activity ≡ true }
     ensures { ReadsOn shared.now pass.old local.old pass.new local.new }

@@ -26,7 +26,7 @@ pub fn collect(
     let mut parts = parts;
     let workers = block.workers();
     let mut next = vec![in alloc; 0usize; workers as usize]?;
-    let mut answers = Vec::new(alloc);
+    let mut answers = Vec::with_capacity(alloc, block.lines().len())?;
     for line in block.lines() {
         let worker = line.worker(workers) as usize;
         let answer = take_answer(&mut parts, worker, next[worker]);

@@ -8,7 +8,7 @@ pub loop-line-init : goal.loop-line-init
 loop-line-init g c = record {
   idle = c.requires.idle;
   goes = record { of_table = c.requires.idle.of_map; number = refl; opening = refl; seen = prefix_self _ };
-  works = subst (λ x. Works c.args.pass.now c.args.pass.now [] x) (sym c.new-answers.ensures.items) (works_none c.args.pass.now);
+  works = subst (λ x. Works c.args.pass.now c.args.pass.now [] x) (sym c.in_ok-answers.ensures.items) (works_none c.args.pass.now);
 }
 
 pub loop-line-preserved : goal.loop-line-preserved

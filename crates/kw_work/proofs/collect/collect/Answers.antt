@@ -60,7 +60,7 @@ loop-line-init c =
       lengths = λ w. refl;
       rest = λ w k lt le. refl;
       next = λ w lt. ap (λ (x : List ℕ). get_or x w 0) zeros ∙ (get_or-replicate _ _ _ _ lt ∙ ap length (sym (part-nil c.workers-workers.result w)));
-      answers = c.new-answers.ensures.items ∙ ap (map (λ (a : Answered). a.answer)) (sym (merge-nil c.workers-workers.result (answers_of c.args.parts.items) no_answer []));
+      answers = c.in_ok-answers.ensures.items ∙ ap (map (λ (a : Answered). a.answer)) (sym (merge-nil c.workers-workers.result (answers_of c.args.parts.items) no_answer []));
     }
 
 pub take_answer-answer-requires-clause-place : goal.take_answer-answer-requires-clause-place
