@@ -59,11 +59,12 @@ impl OwnEntries {
 
     /// A row to begin at for the key by these entries, whatever was published since they were copied: it may be in use no more.
     ///
-    /// None where each minimum is above the key, and where the entries have room for another number of rows than the index. A row is below
+    /// None exactly where each minimum is above the key, or the entries have room for another number of rows than the index. A row is below
     /// the number of rows. Takes no memory.
     pub fn guess(&self, index: &Index, key: u32) -> Option<u32>
-        ensures shown { IfSome result (λ row. IsOf index.now self.now.entries
-            × IsGuess self.now.entries.list key (Some row)) }
+        ensures shown { self.now.entries.rows ≡ index.now → IsOf index.now self.now.entries
+            × IsGuess self.now.entries.list key result }
+        ensures other_size { self.now.entries.rows ≢ index.now → result ≡ None }
         ensures in_range { IfSome result (λ row. row < index.now) }
     {
         // entries that are guessed from have to be lawful, as all are
