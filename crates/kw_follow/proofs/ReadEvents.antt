@@ -7,6 +7,8 @@ use Rattle.kw_model.specs.declared.call.Call.{Call}
 use Rattle.kw_model.specs.declared.call.Call.TheVariants.{Put, Del, Get, Scan}
 use Rattle.kw_world.specs.declared.activity.Activity.{Activity}
 use Rattle.kw_world.specs.declared.activity.Activity.TheVariants.{ListFrom, ListKey, ListVer, ListVal, RestKey, RestVal}
+use mathlib.Core.List.{IsPrefix}
+use Rattle.kw_world.specs.declared.event.Choice.{Choice}
 use Rattle.kw_world.specs.declared.event.Choice.TheVariants.{Go}
 use Rattle.kw_world.specs.declared.local.Local.{Local}
 use Rattle.kw_world.specs.declared.operation.Action.TheVariants.{Load}
@@ -23,9 +25,11 @@ use Rattle.kw_table.specs.declared.pass.Pass.{Pass}
 use Rattle.kw_table.specs.declared.shared.Shared.{Shared}
 use Rattle.kw_table.specs.Passes.{view, operation, Asks, Makes}
 use Rattle.kw_table.specs.Views.{local_in}
-use Rattle.kw_follow.specs.Following.{CarriesOn, Follows, carried}
-use Rattle.kw_follow.proofs.Growing.{IsStaying}
-use Rattle.kw_follow.proofs.OneEvent.{follows_from, same_activity}
+use Rattle.kw_table.proofs.Prefixes.{prefix_longer}
+use Rattle.kw_follow.specs.Cursors.{ReadsWord}
+use Rattle.kw_follow.specs.Following.{CarriesOn, Follows, GoesTo, carried}
+use Rattle.kw_follow.proofs.Growing.{IsStaying, keeps}
+use Rattle.kw_follow.proofs.OneEvent.{follows_from, makes_met, same_activity}
 use Rattle.kw_follow.proofs.PutEvents.{asks_at, next_at}
 
 -- Where a reader is.
@@ -66,6 +70,25 @@ read_follows s p q l m told a f makes is on =
     ∙ (ap (λ (x : Local). carried ((transition product a 0 Go x).next rows told).local) seat
     ∙ (ap (λ (x : Outcome). carried x.local) (next_at rows a k told (same_activity s p l f ∙ is))
     ∙ ap carried (sym (seat_reads s p q told makes))))))
+
+-- and the pass has gone on by it
+pub goes_by : (s : Shared) (p q : Pass) (c : Choice) (told : ℕ) → Makes s p c told q → GoesTo s p q
+goes_by s p q c told makes = record {
+  of_table = makes.of_table;
+  number = makes.step.number;
+  opening = makes.step.opening;
+  seen = subst (λ es. IsPrefix (view p).seen es) (sym makes.step.seen) (prefix_longer _ _ _ makes.step.later);
+}
+
+-- a reader along its row's list was told a word
+pub reads_word : (s : Shared) (p q : Pass) (l : Local) (told : ℕ) → Follows s p l → Makes s p Go told q → IsTaking l.activity → ReadsWord s p l told q
+reads_word s p q l told f makes taking = record {
+  makes = makes;
+  goes = goes_by s p q Go told makes;
+  seat = seat_reads s p q told makes;
+  met = makes_met f makes;
+  calls = keeps makes (taking_stays _ (subst IsTaking (sym (same_activity s p l f)) taking));
+}
 
 -- What carries on.
 

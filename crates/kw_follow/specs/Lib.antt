@@ -2,3 +2,4 @@ pub mod Following
 pub mod Calling
 pub mod OwnEvents
 pub mod Within
+pub mod Cursors

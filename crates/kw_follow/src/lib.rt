@@ -14,6 +14,7 @@
 
 mod along;
 mod building;
+mod cursor;
 mod drawing;
 mod gathering;
 mod going;
@@ -23,7 +24,8 @@ mod writing;
 
 pub use along::{go_along, go_guess};
 pub use building::go_build;
+pub use cursor::Cursor;
 pub use drawing::go_draw;
 pub use going::{begin, clear, end, go};
 pub use putting::go_put;
-pub use reading::go_read;
+pub use reading::{go_read, met_key, met_link};

@@ -154,9 +154,9 @@ pub fn go_read(shared: &Shared, pass: &mut Pass, local: &mut Local) -> u64
 
 // What follows from the events.
 
-// The reader was told the link at which it stands.
+/// The reader was told the link at which it stands. Takes no memory.
 #[inline(always)]
-fn met_link(local: &mut Local, found: u64)
+pub fn met_link(local: &mut Local, found: u64)
     requires { local.old.walked ≤ CELLS }
     ensures { CarriesOn (list_met product (cell_of_link_word found)) local.old local.new }
 {
@@ -169,9 +169,9 @@ fn met_link(local: &mut Local, found: u64)
     }
 }
 
-// It was told the key of the cell that it met.
+/// It was told the key of the cell that it met. Takes no memory.
 #[inline(always)]
-fn met_key(local: &mut Local, found: u64)
+pub fn met_key(local: &mut Local, found: u64)
     ensures { CarriesOn (list_key (key_of_word found)) local.old local.new }
 {
     let key = unpack_key(found);

@@ -6,3 +6,4 @@ pub mod WalkStages
 pub mod Drawing
 pub mod Starting
 pub mod Anew
+pub mod CursorEvents

@@ -10,6 +10,7 @@
 #![tactic(auto)]
 
 mod entering;
+mod listing;
 mod putting;
 mod reading;
 mod walking;

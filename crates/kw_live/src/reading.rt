@@ -5,6 +5,7 @@ ghost use Rattle.kw_follow.specs.Calling.{KeepsCalls};
 ghost use Rattle.kw_follow.specs.Following.{Follows, GoesTo, held};
 ghost use Rattle.kw_live.specs.Reading.{HasRead, LooksOn, ReadsOn, is_looking, is_reading_list};
 
+use crate::listing::read_listed;
 use kw_follow::{go_along, go_read};
 use kw_table::{Pass, Shared};
 use kw_world::activity::Activity;
@@ -65,60 +66,20 @@ fn read_list(shared: &Shared, pass: &mut Pass, local: &mut Local)
     ensures calls { KeepsCalls pass.old pass.new }
 {
     while is_reading_list(&local.activity) {
-        read_cell(shared, pass, local);
+        read_cells(shared, pass, local);
     }
 }
 
-// The next event along the list, and those that follow on the same cell. What the reader does next is known between them, so that each
-// goes over to the next one at once; and most come to the next cell by its link, which is asked for first.
+// The events along the list, from its link to where it leaves the list, or one event at a cell that is remembered.
 #[inline(always)]
-fn read_cell(shared: &Shared, pass: &mut Pass, local: &mut Local)
+fn read_cells(shared: &Shared, pass: &mut Pass, local: &mut Local)
     requires follows { Follows shared.now pass.old local.old }
     requires reading { is_reading_list local.old.activity ≡ true }
     ensures { ReadsOn shared.now pass.old local.old pass.new local.new }
 {
     match local.activity {
-        Activity::ListFrom => read_linked(shared, pass, local),
+        Activity::ListFrom => read_listed(shared, pass, local),
         _ => read_on(shared, pass, local),
-    }
-}
-
-// The same, from the link of the list on.
-#[inline(always)]
-fn read_linked(shared: &Shared, pass: &mut Pass, local: &mut Local)
-    requires follows { Follows shared.now pass.old local.old }
-    requires reading { is_reading_list local.old.activity ≡ true }
-    ensures { ReadsOn shared.now pass.old local.old pass.new local.new }
-{
-    read_on(shared, pass, local);
-    if let Activity::ListKey = local.activity {
-        read_key(shared, pass, local);
-    }
-}
-
-// The same, from the key of a cell on.
-#[inline(always)]
-fn read_key(shared: &Shared, pass: &mut Pass, local: &mut Local)
-    requires follows { Follows shared.now pass.old local.old }
-    requires reading { is_reading_list local.old.activity ≡ true }
-    ensures { ReadsOn shared.now pass.old local.old pass.new local.new }
-{
-    read_on(shared, pass, local);
-    if let Activity::ListVer = local.activity {
-        read_version(shared, pass, local);
-    }
-}
-
-// The same, from the version of a cell on.
-#[inline(always)]
-fn read_version(shared: &Shared, pass: &mut Pass, local: &mut Local)
-    requires follows { Follows shared.now pass.old local.old }
-    requires reading { is_reading_list local.old.activity ≡ true }
-    ensures { ReadsOn shared.now pass.old local.old pass.new local.new }
-{
-    read_on(shared, pass, local);
-    if let Activity::ListVal = local.activity {
-        read_on(shared, pass, local);
     }
 }
 

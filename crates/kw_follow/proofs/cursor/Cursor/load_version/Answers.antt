@@ -1,0 +1,12 @@
+use Rattle.std.proofs.Common.{refl}
+use Rattle.kw_world.specs.declared.activity.Activity.TheVariants.{ListVer}
+use Rattle.kw_follow.specs.Cursors.{with_cursor}
+use Rattle.kw_follow.proofs.PutEvents.{asks_at}
+use Rattle.kw_follow.proofs.ReadEvents.{reads_word}
+use Rattle.kw_follow.proofs.cursor.Cursor.load_version.Goals as goal
+
+pub load_version-requires : goal.load_version-requires
+load_version-requires c = asks_at _ _ (with_cursor ListVer c.args.self c.args.local.now) ListVer c.requires refl tt
+
+pub returns : goal.returns
+returns c = reads_word _ _ _ _ _ c.requires c.load_version.ensures tt

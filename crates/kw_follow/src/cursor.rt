@@ -1,0 +1,166 @@
+//! A reader's cursor along the list of its row, and the events by which it goes on.
+//!
+//! A reader makes two events for each cell that it passes and four for each that it gathers. All that changes between them is how far it has come
+//! and which cell it has at hand. So code that goes along a list keeps these in a `Cursor`, which lies in registers, and leaves all else of
+//! the reader's local where it was: `with_cursor` says which local the two stand for. Once it has come to the end of the list or to a key above its
+//! range, it writes the cursor back, and goes on by `met_link` or `met_key`.
+ghost use Rattle.std.specs.Prelude.{◌≡◌, ◌≤◌, unwrap_or};
+ghost use Rattle.kw_words.specs.Plain.{value_of_word, version_of_word};
+ghost use Rattle.kw_words.specs.declared.sizes.TheConstants.{CELLS};
+ghost use Rattle.kw_follow.specs.Cursors.{ReadsWord, forgetting, gathering_at, past, reached, with_cursor};
+ghost use Rattle.kw_follow.specs.Following.{Follows};
+
+use kw_cells::cell::Cell;
+use kw_step_put::operation::link_name;
+use kw_table::{Pass, Shared, load_after, load_key, load_value, load_version};
+use kw_words::layout::Name;
+use kw_words::plain::{unpack_value, unpack_version};
+use kw_words::sizes::CELL_COUNT;
+use kw_world::activity::Activity;
+use kw_world::event::Choice;
+use kw_world::local::Local;
+
+/// How far a reader has come along the list of its row, and the cell that it has at hand.
+#[derive(Clone, Copy, Debug, PartialEq, Eq)]
+pub struct Cursor {
+    /// The row whose list it is.
+    pub row: u32,
+    /// The cell after whose link the reader goes on; none at the row's first link.
+    pub link: Option<u32>,
+    /// The cell at hand, which is the one that was met last.
+    pub place: u32,
+    /// How many cells were met, and never more than there are cells.
+    pub walked: u32,
+    /// The key of the cell at hand, where it is in the range of the call.
+    pub key: u32,
+    /// The version of the cell at hand, once it was loaded.
+    pub version: u64,
+}
+
+impl Cursor {
+    /// The cursor of a reader with this local.
+    #[inline(always)]
+    pub fn of(local: &Local) -> Cursor
+        ensures { with_cursor local.now.activity result local.now ≡ local.now }
+    {
+        Cursor {
+            row: local.row,
+            link: local.link,
+            place: local.place,
+            walked: local.walked,
+            key: local.place_key,
+            version: local.place_version,
+        }
+    }
+
+    /// Writes the cursor back into the local of a reader that is at this activity.
+    #[inline(always)]
+    pub fn write(self, local: &mut Local, activity: Activity)
+        ensures { local.new ≡ with_cursor activity self local.old }
+    {
+        local.activity = activity;
+        local.row = self.row;
+        local.link = self.link;
+        local.place = self.place;
+        local.walked = self.walked;
+        local.place_key = self.key;
+        local.place_version = self.version;
+    }
+
+    /// The link led to this cell, which is not remembered any more.
+    #[inline(always)]
+    pub fn reach(self, local: &mut Local, cell: u32) -> Cursor
+        requires { self.walked ≤ CELLS }
+        ensures cursor { result ≡ reached cell self }
+        ensures local { local.new ≡ forgetting cell local.old }
+    {
+        local.remembered.forget(cell);
+        let mut next = self;
+        next.place = cell;
+        next.walked = (self.walked + 1).min(CELL_COUNT);
+        next
+    }
+
+    /// The cell at hand has this key.
+    #[inline(always)]
+    pub fn with_key(self, key: u32) -> Cursor
+        ensures { result ≡ record self { key = key } }
+    {
+        let mut next = self;
+        next.key = key;
+        next
+    }
+
+    /// The reader was told the version of the cell at hand. A cell without one counts as one of version 1; no list has such a cell.
+    #[inline(always)]
+    pub fn with_version(self, found: u64) -> Cursor
+        ensures { result ≡ record self { version = unwrap_or (version_of_word found) 1 } }
+    {
+        let mut next = self;
+        next.version = unpack_version(found).unwrap_or(1);
+        next
+    }
+
+    /// The reader goes on to the link after the cell at hand.
+    #[inline(always)]
+    pub fn past(self) -> Cursor
+        ensures { result ≡ past self }
+    {
+        let mut next = self;
+        next.link = Some(self.place);
+        next
+    }
+
+    /// The reader was told the value of the cell at hand, which is gathered. Takes no memory.
+    #[inline(always)]
+    pub fn gather(self, local: &mut Local, found: u64)
+        ensures { local.new ≡ gathering_at self (value_of_word found) local.old }
+    {
+        local.gathered.gather(Cell {
+            key: self.key,
+            place: self.place,
+            version: self.version,
+            value: unpack_value(found),
+        });
+    }
+
+    /// Loads the link at which the reader stands. The answer is what the event was told. Takes no memory.
+    #[inline(always)]
+    pub fn load_link(self, shared: &Shared, pass: &mut Pass, local: &Local) -> u64
+        requires { Follows shared.now pass.old (with_cursor Activity.ListFrom self local.now) }
+        ensures { ReadsWord shared.now pass.old (with_cursor Activity.ListFrom self local.now) result pass.new }
+    {
+        let link = link_name(self.row, self.link);
+        load_after(shared, pass, Choice::Go, link)
+    }
+
+    /// Loads the key of the cell at hand. The answer is what the event was told. Takes no memory.
+    #[inline(always)]
+    pub fn load_key(self, shared: &Shared, pass: &mut Pass, local: &Local) -> u64
+        requires { Follows shared.now pass.old (with_cursor Activity.ListKey self local.now) }
+        ensures { ReadsWord shared.now pass.old (with_cursor Activity.ListKey self local.now) result pass.new }
+    {
+        let key = Name::Key(self.row, self.place);
+        load_key(shared, pass, Choice::Go, key)
+    }
+
+    /// Loads the version of the cell at hand. The answer is what the event was told. Takes no memory.
+    #[inline(always)]
+    pub fn load_version(self, shared: &Shared, pass: &mut Pass, local: &Local) -> u64
+        requires { Follows shared.now pass.old (with_cursor Activity.ListVer self local.now) }
+        ensures { ReadsWord shared.now pass.old (with_cursor Activity.ListVer self local.now) result pass.new }
+    {
+        let version = Name::Version(self.row, self.place);
+        load_version(shared, pass, Choice::Go, version)
+    }
+
+    /// Loads the value of the cell at hand. The answer is what the event was told. Takes no memory.
+    #[inline(always)]
+    pub fn load_value(self, shared: &Shared, pass: &mut Pass, local: &Local) -> u64
+        requires { Follows shared.now pass.old (with_cursor Activity.ListVal self local.now) }
+        ensures { ReadsWord shared.now pass.old (with_cursor Activity.ListVal self local.now) result pass.new }
+    {
+        let value = Name::Value(self.row, self.place);
+        load_value(shared, pass, Choice::Go, value)
+    }
+}

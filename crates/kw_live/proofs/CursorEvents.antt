@@ -1,0 +1,175 @@
+-- The events of a reader whose cursor goes along the list of its row: what follows it after each, and what they come to.
+use Rattle.std.proofs.Common.{arith, ◌≡◌, ℕ, ◌<◌, ◌≤◌, Some, unwrap_or, Bool, true, false, nat_lt, nat_le, if◌then◌else◌, Option, List, refl, sym, ◌∙◌, ap, subst}
+use Rattle.kw_model.specs.declared.call.Call.{Call}
+use Rattle.kw_words.specs.Plain.{key_of_word, value_of_word, version_of_word, cell_of_link_word}
+use Rattle.kw_world.specs.declared.activity.Activity.TheVariants.{ListFrom, ListKey, ListVer, ListVal}
+use Rattle.kw_world.specs.declared.event.Choice.TheVariants.{Go}
+use Rattle.kw_world.specs.declared.local.Local.{Local}
+use Rattle.kw_world.specs.Calls.{first_key, last_key}
+use Rattle.kw_world.specs.ReadTransitions.{list_key, list_met, list_past, to_rest}
+use Rattle.kw_world.specs.Sizes.{product}
+use Rattle.kw_world.specs.Transition.{Outcome, to}
+use Rattle.kw_table.specs.declared.pass.Pass.{Pass}
+use Rattle.kw_table.specs.declared.shared.Shared.{Shared}
+use Rattle.kw_follow.specs.declared.cursor.Cursor.{Cursor}
+use Rattle.kw_follow.specs.Calling.{KeepsCalls}
+use Rattle.kw_follow.specs.Cursors.{ReadsWord, forgetting, gathering_at, past, reached, with_cursor}
+use Rattle.kw_follow.specs.Following.{CarriesOn, Follows, GoesTo, carried, held}
+use Rattle.kw_follow.proofs.OwnEvents.{goes_trans}
+use Rattle.kw_follow.proofs.ReadEvents.{passed_on, read_follows}
+use Rattle.kw_live.specs.Reading.{HasRead, ReadsOn, is_reading_list, reads_ahead}
+use Rattle.kw_live.proofs.ReadEvent.{reads, reads_on, reads_trans}
+
+-- One event.
+
+module _ {s : Shared} {p q : Pass} {l m : Local} {told : ℕ} where
+  -- it is a reading
+  pub one_word : Follows s p l → ReadsWord s p l told q → Follows s q m → is_reading_list l.activity ≡ true → ReadsOn s p l q m
+  one_word f word after reading =
+      let read = reads s p q l m told f word.goes after word.seat word.met reading in
+      record {
+        goes = word.goes;
+        follows = after;
+        calls = word.calls;
+        call = read.call;
+        version = read.version;
+        on = read.on;
+        ends = read.ends;
+        fewer = read.fewer;
+      }
+
+module _ {s : Shared} {p q : Pass} {told : ℕ} (l : Local) (w : Cursor) where
+  -- the link led to a cell
+  pub link_led : (x : Cursor) (m : Local) (cell : ℕ) → x ≡ reached cell w → m ≡ forgetting cell l → cell_of_link_word told ≡ Some cell → Follows s p (with_cursor ListFrom w l) → ReadsWord s p (with_cursor ListFrom w l) told q → ReadsOn s p (with_cursor ListFrom w l) q (with_cursor ListKey x m)
+  link_led x m cell is left leads f word =
+      let k : ℕ → List (ℕ × ℕ) → Local = λ begun added. record (with_cursor ListFrom w l) { number = begun; pairs = added } in
+      let after : Follows s q (with_cursor ListKey (reached cell w) (forgetting cell l)) =
+      read_follows s p q (with_cursor ListFrom w l) (with_cursor ListKey (reached cell w) (forgetting cell l)) told ListFrom f word.makes refl (record {
+        carries = λ begun added. ap (λ o. carried (list_met product o (k begun added)).local) (sym leads);
+        number = refl;
+        pairs = refl;
+      })
+      in
+      subst (λ (y : Cursor). ReadsOn s p (with_cursor ListFrom w l) q (with_cursor ListKey y m)) (sym is)
+      (subst (λ (n : Local). ReadsOn s p (with_cursor ListFrom w l) q (with_cursor ListKey (reached cell w) n)) (sym left) (one_word f word after refl))
+
+  -- it led to none: the walk is over
+  pub link_ended : (k m : Local) → k ≡ with_cursor ListFrom w l → CarriesOn (list_met product (cell_of_link_word told)) k m → Follows s p (with_cursor ListFrom w l) → ReadsWord s p (with_cursor ListFrom w l) told q → ReadsOn s p (with_cursor ListFrom w l) q m
+  link_ended k m written on f word =
+      let own : CarriesOn (list_met product (cell_of_link_word told)) (with_cursor ListFrom w l) m = subst (λ (n : Local). CarriesOn (list_met product (cell_of_link_word told)) n m) written on in
+      one_word f word (read_follows s p q (with_cursor ListFrom w l) m told ListFrom f word.makes refl own) refl
+
+  -- the key of the cell is below the range: it is passed
+  pub key_below : (x : Cursor) → x ≡ past w → key_of_word told < first_key l.call → Follows s p (with_cursor ListKey w l) → ReadsWord s p (with_cursor ListKey w l) told q → ReadsOn s p (with_cursor ListKey w l) q (with_cursor ListFrom x l)
+  key_below x is below f word =
+      let after : Follows s q (with_cursor ListFrom (past w) l) =
+      read_follows s p q (with_cursor ListKey w l) (with_cursor ListFrom (past w) l) told ListKey f word.makes refl
+      (passed_on (key_of_word told) (with_cursor ListKey w l) (with_cursor ListFrom (past w) l) below (record { carries = λ begun added. refl; number = refl; pairs = refl }))
+      in
+      subst (λ (y : Cursor). ReadsOn s p (with_cursor ListKey w l) q (with_cursor ListFrom y l)) (sym is) (one_word f word after refl)
+
+  -- it is in the range: the cell is read on
+  pub key_within : (x : Cursor) (key : ℕ) → x ≡ record w { key = key } → key ≡ key_of_word told → first_key l.call ≤ key → key ≤ last_key l.call → Follows s p (with_cursor ListKey w l) → ReadsWord s p (with_cursor ListKey w l) told q → ReadsOn s p (with_cursor ListKey w l) q (with_cursor ListVer x l)
+  key_within x key is keyed from upto f word =
+      let k : ℕ → List (ℕ × ℕ) → Local = λ begun added. record (with_cursor ListKey w l) { number = begun; pairs = added } in
+      let above : nat_lt key (first_key l.call) ≡ false = grind (arith) in
+      let within : nat_le key (last_key l.call) ≡ true = grind (arith) in
+      let after : Follows s q (with_cursor ListVer (record w { key = key }) l) =
+      read_follows s p q (with_cursor ListKey w l) (with_cursor ListVer (record w { key = key }) l) told ListKey f word.makes refl (record {
+        carries = λ begun added.
+            ap (λ (b : Bool). carried (if b then to ListVer (record (k begun added) { place_key = key }) else to_rest (k begun added)).local) (sym within)
+            ∙ (ap (λ (b : Bool). carried (if b then list_past (k begun added) else if nat_le key (last_key l.call) then to ListVer (record (k begun added) { place_key = key }) else to_rest (k begun added)).local) (sym above)
+            ∙ ap (λ n. carried (list_key n (k begun added)).local) keyed);
+        number = refl;
+        pairs = refl;
+      })
+      in
+      subst (λ (y : Cursor). ReadsOn s p (with_cursor ListKey w l) q (with_cursor ListVer y l)) (sym is) (one_word f word after refl)
+
+  -- it is above the range: the walk is over
+  pub key_above : (k m : Local) → k ≡ with_cursor ListKey w l → CarriesOn (list_key (key_of_word told)) k m → Follows s p (with_cursor ListKey w l) → ReadsWord s p (with_cursor ListKey w l) told q → ReadsOn s p (with_cursor ListKey w l) q m
+  key_above k m written on f word =
+      let own : CarriesOn (list_key (key_of_word told)) (with_cursor ListKey w l) m = subst (λ (n : Local). CarriesOn (list_key (key_of_word told)) n m) written on in
+      one_word f word (read_follows s p q (with_cursor ListKey w l) m told ListKey f word.makes refl own) refl
+
+  -- its version was told
+  pub version_told : (x : Cursor) → x ≡ record w { version = unwrap_or (version_of_word told) 1 } → Follows s p (with_cursor ListVer w l) → ReadsWord s p (with_cursor ListVer w l) told q → ReadsOn s p (with_cursor ListVer w l) q (with_cursor ListVal x l)
+  version_told x is f word =
+      let after : Follows s q (with_cursor ListVal (record w { version = unwrap_or (version_of_word told) 1 }) l) =
+      read_follows s p q (with_cursor ListVer w l) _ told ListVer f word.makes refl (record { carries = λ begun added. refl; number = refl; pairs = refl })
+      in
+      subst (λ (y : Cursor). ReadsOn s p (with_cursor ListVer w l) q (with_cursor ListVal y l)) (sym is) (one_word f word after refl)
+
+  -- its value was told: the cell is gathered, and passed
+  pub value_told : (x : Cursor) (m : Local) → x ≡ past w → m ≡ gathering_at w (value_of_word told) l → Follows s p (with_cursor ListVal w l) → ReadsWord s p (with_cursor ListVal w l) told q → ReadsOn s p (with_cursor ListVal w l) q (with_cursor ListFrom x m)
+  value_told x m is put f word =
+      let after : Follows s q (with_cursor ListFrom (past w) (gathering_at w (value_of_word told) l)) =
+      read_follows s p q (with_cursor ListVal w l) _ told ListVal f word.makes refl (record { carries = λ begun added. refl; number = refl; pairs = refl })
+      in
+      subst (λ (y : Cursor). ReadsOn s p (with_cursor ListVal w l) q (with_cursor ListFrom y m)) (sym is)
+      (subst (λ (n : Local). ReadsOn s p (with_cursor ListVal w l) q (with_cursor ListFrom (past w) n)) (sym put) (one_word f word after refl))
+
+-- Both events of a reader that meets a cell.
+
+module _ {s : Shared} {p q r : Pass} {link word : ℕ} (l m : Local) (w x : Cursor) (cell : ℕ) (is : x ≡ reached cell w) (left : m ≡ forgetting cell l) (leads : cell_of_link_word link ≡ Some cell) (f : Follows s p (with_cursor ListFrom w l)) (first : ReadsWord s p (with_cursor ListFrom w l) link q) (second : ReadsWord s q (with_cursor ListKey x m) word r) where
+  led : ReadsOn s p (with_cursor ListFrom w l) q (with_cursor ListKey x m)
+  led = link_led l w x m cell is left leads f first
+
+  -- the bounds of the call stay
+  bound_stays : (bound_of : Option Call → ℕ) (bound : ℕ) (call : Option Call) → bound ≡ bound_of call → l.call ≡ call → bound ≡ bound_of m.call
+  bound_stays bound_of bound call has same = has ∙ ap bound_of (sym (ap (λ (k : Local). k.call) left ∙ same))
+
+  pub cell_passed : (y : Cursor) (key from : ℕ) (call : Option Call) → y ≡ past x → key ≡ key_of_word word → from ≡ first_key call → l.call ≡ call → key < from → ReadsOn s p (with_cursor ListFrom w l) r (with_cursor ListFrom y m)
+  cell_passed y key from call passes keyed has same below =
+      let under : key_of_word word < first_key m.call = subst (λ n. n < first_key m.call) keyed (subst (λ n. key < n) (bound_stays first_key from call has same) below) in
+      reads_trans s p q r _ _ _ refl led (key_below m x y passes under led.follows second)
+
+  pub cell_within : (y : Cursor) (key from upto : ℕ) (call : Option Call) → y ≡ record x { key = key } → key ≡ key_of_word word → from ≡ first_key call → upto ≡ last_key call → l.call ≡ call → from ≤ key → key ≤ upto → ReadsOn s p (with_cursor ListFrom w l) r (with_cursor ListVer y m)
+  cell_within y key from upto call holds keyed begins ends same above below =
+      let over : first_key m.call ≤ key = subst (λ n. n ≤ key) (bound_stays first_key from call begins same) above in
+      let under : key ≤ last_key m.call = subst (λ n. key ≤ n) (bound_stays last_key upto call ends same) below in
+      reads_trans s p q r _ _ _ refl led (key_within m x y key holds keyed over under led.follows second)
+
+  pub cell_above : (k n : Local) → k ≡ with_cursor ListKey x m → CarriesOn (list_key (key_of_word word)) k n → ReadsOn s p (with_cursor ListFrom w l) r n
+  cell_above k n written on = reads_trans s p q r _ _ _ refl led (key_above m x k n written on led.follows second)
+
+-- What stays while a cursor goes along the list.
+
+pub record IsListing (s : Shared) (o : Pass) (l : Local) (p : Pass) (m : Local) : Type 0 where
+  pub goes : GoesTo s o p
+  pub follows : Follows s p m
+  pub calls : KeepsCalls o p
+  pub call : m.call ≡ l.call
+  pub version : m.version ≡ l.version
+  pub want : m.want ≡ l.want
+  pub held : held p ≡ held o
+  pub fewer : reads_ahead m ≤ reads_ahead l
+
+module _ {s : Shared} {o p q : Pass} {l m n : Local} (before : IsListing s o l p m) (more : ReadsOn s p m q n) where
+  -- one reading more, after which the cursor is still in the list
+  pub lists_on : is_reading_list n.activity ≡ true → IsListing s o l q n
+  lists_on reading =
+      let on = more.on reading in
+      record {
+        goes = goes_trans s o p q before.goes more.goes;
+        follows = more.follows;
+        calls = more.calls ∙ before.calls;
+        call = more.call ∙ before.call;
+        version = more.version ∙ before.version;
+        want = on.0 ∙ before.want;
+        held = on.1 ∙ before.held;
+        fewer = omega (arith, before.fewer, more.fewer);
+      }
+
+  -- one reading more, with which the walk is over
+  pub lists_to : ReadsOn s o l q n
+  lists_to = record {
+    goes = goes_trans s o p q before.goes more.goes;
+    follows = more.follows;
+    calls = more.calls ∙ before.calls;
+    call = more.call ∙ before.call;
+    version = more.version ∙ before.version;
+    on = λ e. let on = more.on e in (on.0 ∙ before.want, on.1 ∙ before.held);
+    ends = λ e. reads_on l m n _ _ _ before.call before.version before.want before.held (more.ends e);
+    fewer = omega (arith, before.fewer, more.fewer);
+  }

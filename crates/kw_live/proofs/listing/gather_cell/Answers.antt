@@ -1,0 +1,12 @@
+use Rattle.std.proofs.Common.{refl}
+use Rattle.kw_live.proofs.CursorEvents.{value_told, version_told}
+use Rattle.kw_live.proofs.ReadEvent.{reads_trans}
+use Rattle.kw_live.proofs.listing.gather_cell.Goals as goal
+
+pub load_value-value-requires : goal.load_value-value-requires
+load_value-value-requires c = (version_told c.args.local.now _ _ c.with_version-read.ensures c.requires c.load_version-version.ensures).follows
+
+pub returns : goal.returns
+returns c =
+    let told = version_told c.args.local.now _ _ c.with_version-read.ensures c.requires c.load_version-version.ensures in
+    reads_trans _ _ _ _ _ _ _ refl told (value_told c.args.local.now _ _ _ c.past.ensures c.gather.ensures told.follows c.load_value-value.ensures)

@@ -1,0 +1,63 @@
+//! The walk of a reader along the list of its row.
+//!
+//! Most of what a get or a scan does is this: so the cells are passed and gathered in one loop, whose cursor the reader's local gets back once the walk
+//! is over. What the reader remembers of the entries and did not meet here, it reads after it, as `reading` says.
+ghost use Rattle.std.specs.Prelude.{◌≡◌, ◌≤◌};
+ghost use Rattle.kw_world.specs.Calls.{first_key, last_key};
+ghost use Rattle.kw_follow.specs.Cursors.{with_cursor};
+ghost use Rattle.kw_follow.specs.Following.{Follows};
+ghost use Rattle.kw_live.specs.Reading.{ReadsOn};
+
+use kw_follow::{Cursor, met_key, met_link};
+use kw_table::{Pass, Shared};
+use kw_words::plain::{unpack_cell_link, unpack_key};
+use kw_world::activity::Activity;
+use kw_world::calls::{first_key, last_key};
+use kw_world::local::Local;
+
+/// Goes along the list from the link at which the reader stands, to the end of the list or to the first cell above the range, and on to
+/// what the reader does after it. Takes no memory.
+pub(crate) fn read_listed(shared: &Shared, pass: &mut Pass, local: &mut Local)
+    requires follows { Follows shared.now pass.old local.old }
+    requires activity { local.old.activity ≡ Activity.ListFrom }
+    ensures { ReadsOn shared.now pass.old local.old pass.new local.new }
+{
+    let first = first_key(local.call);
+    let last = last_key(local.call);
+    let mut cursor = Cursor::of(local);
+    loop {
+        let link = cursor.load_link(shared, pass, local);
+        let Some(cell) = unpack_cell_link(link) else {
+            cursor.write(local, Activity::ListFrom);
+            met_link(local, link);
+            return;
+        };
+        let met = cursor.reach(local, cell);
+        let word = met.load_key(shared, pass, local);
+        let key = unpack_key(word);
+        if key < first {
+            cursor = met.past();
+        } else if key <= last {
+            let ranged = met.with_key(key);
+            cursor = gather_cell(shared, pass, local, ranged);
+        } else {
+            met.write(local, Activity::ListKey);
+            met_key(local, word);
+            return;
+        }
+    }
+}
+
+// Reads the cell at hand, whose key is in the range, and gathers it. The answer is the cursor at the link after it.
+#[inline(always)]
+fn gather_cell(shared: &Shared, pass: &mut Pass, local: &mut Local, cursor: Cursor) -> Cursor
+    requires { Follows shared.now pass.old (with_cursor Activity.ListVer cursor local.old) }
+    ensures { ReadsOn shared.now pass.old (with_cursor Activity.ListVer cursor local.old)
+        pass.new (with_cursor Activity.ListFrom result local.new) }
+{
+    let version = cursor.load_version(shared, pass, local);
+    let read = cursor.with_version(version);
+    let value = read.load_value(shared, pass, local);
+    read.gather(local, value);
+    read.past()
+}
