@@ -1,6 +1,8 @@
 -- The middle of a call, and where in it a scan gets its version.
+use Rattle.std.specs.Prelude.{ℕ}
 use Rattle.kw_world.specs.declared.activity.Activity.{Activity}
-use Rattle.kw_world.specs.declared.activity.Activity.TheVariants.{Idle, ScanClock, ScanWait, ScanDraw, ScanSettle, ListFrom, ListKey, ListVer, ListVal, RestKey, RestVal, ClearScan, Leave}
+use Rattle.kw_world.specs.declared.activity.Activity.TheVariants.{Idle, Look, ScanClock, ScanWait, ScanDraw, ScanSettle, ListFrom, ListKey, ListVer, ListVal, RestKey, RestVal, ClearScan, Leave}
+use Rattle.kw_world.specs.declared.local.Local.{Local}
 
 -- the seat is in the middle of a call, and its next event neither ends the call or a scan nor reads a cell
 abbrev pub IsWithinCall : Activity → Type 0
@@ -22,3 +24,7 @@ IsDrawing ScanWait = Unit {0}
 IsDrawing ScanDraw = Unit {0}
 IsDrawing ScanSettle = Unit {0}
 IsDrawing _ = ⊥
+
+-- the local of a reader that looks at the entry of this seat next
+abbrev pub looking : ℕ → Local → Local
+looking i l = record l { activity = Look i }

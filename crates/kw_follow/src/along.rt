@@ -4,9 +4,12 @@
 //! A call loads the epoch and announces it, loads the link from the head, or the state and the least key of a guessed row, and the link after each
 //! row that it passes, and announces no epoch any more at its end; a reader looks at each entry of its row. What the local does next says which
 //! step it is, as in `putting`; every other event is put together in `going`.
-ghost use Rattle.std.specs.Prelude.{◌≡◌, ◌<◌, true, false};
+ghost use Rattle.std.specs.Prelude.{◌≡◌, ◌<◌, true, false, length};
+ghost use Rattle.kw_words.specs.Pend.{pend_of};
+ghost use Rattle.kw_words.specs.declared.sizes.TheConstants.{SEATS};
 ghost use Rattle.kw_core.specs.Events.{is_call_in_range};
 ghost use Rattle.kw_world.specs.Local.{resting};
+ghost use Rattle.kw_world.specs.ReadTransitions.{look_met};
 ghost use Rattle.kw_world.specs.Sizes.{product};
 ghost use Rattle.kw_world.specs.Step.{next_of};
 ghost use Rattle.kw_world.specs.Transition.{outcome};
@@ -16,7 +19,7 @@ ghost use Rattle.kw_table.specs.Passes.{view, IsPassOf, Makes};
 ghost use Rattle.kw_follow.specs.Calling.{KeepsCalls};
 ghost use Rattle.kw_follow.specs.Following.{Follows, GoesTo, activity_in, held};
 ghost use Rattle.kw_follow.specs.OwnEvents.{MetAs, MetOnly};
-ghost use Rattle.kw_follow.specs.Within.{IsWithinCall};
+ghost use Rattle.kw_follow.specs.Within.{IsWithinCall, looking};
 
 use crate::going::{Happened, event, go};
 use kw_model::call::Call;
@@ -32,7 +35,7 @@ use kw_words::layout::Name;
 use kw_words::plain::pack_pass;
 use kw_world::activity::Activity;
 use kw_world::answer::Answer;
-use kw_world::event::Choice;
+use kw_world::event::{Choice, StepDone};
 use kw_world::local::Local;
 
 // Loads the epoch, by which a call begins.
@@ -168,18 +171,38 @@ fn load_least_key(shared: &Shared, pass: &mut Pass, local: &mut Local) -> Happen
     Happened { told, done }
 }
 
-// Loads the entry of this seat.
+/// Loads the entry of this seat, for a reader that looks at it next. The answer is what the event was told, and `meet_entry` says what
+/// follows. So code that looks at many entries at which nothing is announced leaves its local as it is meanwhile. Takes no memory.
 #[inline(always)]
-fn load_entry(shared: &Shared, pass: &mut Pass, local: &mut Local, entry: u32) -> Happened
+pub fn load_entry(shared: &Shared, pass: &mut Pass, local: &Local, entry: u32) -> u64
+    requires { Follows shared.now pass.old (looking entry local.now) }
+    ensures { Makes shared.now pass.old Choice.Go result pass.new }
+{
+    let word = Name::Pend(local.row, entry);
+    load_pend(shared, pass, Choice::Go, word)
+}
+
+/// The reader was told the entry of this seat. Takes no memory.
+#[inline(always)]
+pub fn meet_entry(local: &mut Local, entry: u32, found: u64) -> StepDone
+    requires entry { entry < SEATS }
+    requires room { length local.old.remembered < SEATS }
+    ensures { outcome local.new result ≡ look_met product entry (pend_of found) local.old }
+{
+    look(local, entry, found)
+}
+
+// Looks at the entry of this seat.
+#[inline(always)]
+fn look_at_entry(shared: &Shared, pass: &mut Pass, local: &mut Local, entry: u32) -> Happened
     requires follows { Follows shared.now pass.old local.old }
     requires activity { local.old.activity ≡ Activity.Look entry }
     ensures makes { Makes shared.now pass.old Choice.Go result.told pass.new }
     ensures line { outcome local.new result.done ≡ next_of product shared.now.opening.rows Choice.Go
         local.old result.told }
 {
-    let word = Name::Pend(local.row, entry);
-    let told = load_pend(shared, pass, Choice::Go, word);
-    let done = look(local, entry, told);
+    let told = load_entry(shared, pass, local, entry);
+    let done = meet_entry(local, entry, told);
     Happened { told, done }
 }
 
@@ -198,7 +221,7 @@ fn event_along(shared: &Shared, pass: &mut Pass, local: &mut Local) -> Happened
         Activity::GuessMin => load_guessed_least(shared, pass, local),
         Activity::Walk => load_next_row(shared, pass, local),
         Activity::WalkMin => load_least_key(shared, pass, local),
-        Activity::Look(entry) => load_entry(shared, pass, local, entry),
+        Activity::Look(entry) => look_at_entry(shared, pass, local, entry),
         _ => event(shared, pass, local, Choice::Go),
     }
 }

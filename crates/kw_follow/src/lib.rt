@@ -22,7 +22,7 @@ mod putting;
 mod reading;
 mod writing;
 
-pub use along::{go_along, go_guess};
+pub use along::{go_along, go_guess, load_entry, meet_entry};
 pub use building::go_build;
 pub use cursor::Cursor;
 pub use drawing::go_draw;

@@ -1,5 +1,6 @@
 -- How a reader looks at the entries of a row, one after the other.
-use Rattle.std.proofs.Common.{◌≡◌, ℕ, ◌+◌, ◌*◌, ◌-◌, ◌<◌, Bool, true, false, nat_lt, ◌==◌, if◌then◌else◌, Option, Some, None, arith, refl, sym, ◌∙◌, ap, subst}
+use Rattle.std.proofs.Common.{◌≡◌, ℕ, ◌+◌, ◌*◌, ◌-◌, ◌<◌, ◌≤◌, Bool, true, false, nat_lt, ◌==◌, if◌then◌else◌, Option, Some, None, arith, refl, sym, ◌∙◌, ap, subst}
+use Rattle.std.proofs.lemmas.Bool.{lt-ltb}
 use Rattle.std.proofs.lemmas.Bool.Decides.{nat_tests}
 use Rattle.kw_words.specs.declared.pend.Pend.{Pend}
 use Rattle.kw_words.specs.declared.pend.Pend.TheVariants.{Idle, Pending, Stamped, Frozen}
@@ -8,6 +9,7 @@ use Rattle.kw_words.specs.Plain.{key_of_word}
 use Rattle.kw_world.specs.declared.activity.Activity.{Activity}
 use Rattle.kw_world.specs.declared.activity.Activity.TheVariants.{Look, LookKey, LookClock, LookHelp, ListFrom}
 use Rattle.kw_world.specs.declared.event.Choice.TheVariants.{Go}
+use Rattle.kw_world.specs.declared.event.StepDone.{StepDone}
 use Rattle.kw_world.specs.declared.event.StepDone.TheVariants.{Moved}
 use Rattle.kw_world.specs.declared.local.Local.{Local}
 use Rattle.kw_world.specs.Calls.{is_in_range}
@@ -19,17 +21,18 @@ use Rattle.kw_world.specs.Table.{transition}
 use Rattle.kw_puts.proofs.Owners.{true_false}
 use Rattle.kw_table.specs.declared.pass.Pass.{Pass}
 use Rattle.kw_table.specs.declared.shared.Shared.{Shared}
+use Rattle.kw_table.specs.Passes.{view, Makes}
+use Rattle.kw_table.proofs.Prefixes.{prefix_self}
 use Rattle.kw_follow.specs.Calling.{KeepsCalls}
 use Rattle.kw_follow.specs.Following.{Follows, GoesTo, held}
-use Rattle.kw_live.specs.Reading.{LooksOn, is_looking}
-
--- how many events of looking a reader has yet to make at most, by the entry that it is at
-abbrev pub look_ahead : Sizes → Activity → ℕ → ℕ
-look_ahead z (Look i) looked = 4 * (z.seats - i) + 4
-look_ahead z LookKey looked = 4 * (z.seats - looked) + 3
-look_ahead z LookClock looked = 4 * (z.seats - looked) + 2
-look_ahead z LookHelp looked = 4 * (z.seats - looked) + 1
-look_ahead z _ looked = 0
+use Rattle.kw_follow.specs.Within.{IsWithinCall, looking}
+use Rattle.kw_follow.proofs.Carrying.{IsGoingOn}
+use Rattle.kw_follow.proofs.Growing.{keeps}
+use Rattle.kw_follow.proofs.OneEvent.{Went, goes_in, goes_stay, went, went_follows, went_held, went_line, within_goes}
+use Rattle.kw_follow.proofs.OwnEvents.{goes_trans}
+use Rattle.kw_follow.proofs.PutEvents.{next_at}
+use Rattle.kw_follow.proofs.ReadEvents.{goes_by}
+use Rattle.kw_live.specs.Reading.{LooksFurther, LooksOn, is_looking, look_ahead, looks_ahead}
 
 -- the event was a look, and there are fewer to make
 pub record Looked (z : Sizes) (l m : Local) (ahead : ℕ) : Type 0 where
@@ -86,6 +89,51 @@ look_goes l m rows told line u = subst (λ k. Looked product l k (look_ahead pro
 pub looks_trans : (l m n : Local) → LooksOn l m → LooksOn m n → LooksOn l n
 looks_trans l m n a b = record { call = b.call ∙ a.call; want = b.want ∙ a.want; version = b.version ∙ a.version; stage = b.stage }
 
+-- One event of a pass, and of code that follows it.
+
+-- a reader that looks is in the middle of its call
+looking_within : (a : Activity) → is_looking a ≡ true → IsWithinCall a
+looking_within (Look i) u = tt
+looking_within LookKey u = tt
+looking_within LookClock u = tt
+looking_within LookHelp u = tt
+looking_within _ u = true_false u refl
+
+module _ {s : Shared} {p q : Pass} {told : ℕ} (l m : Local) (done : StepDone) (f : Follows s p l) (makes : Makes s p Go told q) (u : is_looking l.activity ≡ true) (line : outcome m done ≡ next_of product s.opening.rows Go l told) where
+  -- code goes on by the table
+  went_on : Went s p q Go l m done told
+  went_on = went s p q Go l m done told s.opening.rows Go f makes refl refl line
+
+  going : IsGoingOn l.activity
+  going = within_goes l.activity (looking_within l.activity u)
+
+  pub looks_by : LooksFurther s p l q m
+  looks_by =
+      let looked = look_goes l m (view p).opening.rows told (went_line went_on going) u in
+      record {
+        goes = goes_by s p q Go told makes;
+        follows = went_follows went_on going;
+        calls = keeps makes (goes_stay _ (goes_in s p l f going));
+        held = went_held went_on going refl;
+        looks = looked.looks;
+        fewer = looked.fewer;
+      }
+
+-- The looks at entries at which nothing is announced.
+
+module _ {s : Shared} {p q : Pass} {told : ℕ} (l : Local) (i : ℕ) (f : Follows s p (looking i l)) (makes : Makes s p Go told q) where
+  -- the next entry is looked at
+  idle_line : pend_of told ≡ Some Idle → i + 1 < product.seats → outcome (looking (i + 1) l) Moved ≡ look_met product i (pend_of told) (looking i l)
+  idle_line idle more =
+      ap (λ (b : Bool). let o : Outcome = if b then to (Look (i + 1)) (looking i l) else to ListFrom (looking i l) in o) (sym (lt-ltb (i + 1) product.seats more))
+      ∙ ap (λ (e : Option Pend). look_met product i e (looking i l)) (sym idle)
+
+  pub passes_idle : pend_of told ≡ Some Idle → i + 1 < product.seats → LooksFurther s p (looking i l) q (looking (i + 1) l)
+  passes_idle idle more = looks_by (looking i l) (looking (i + 1) l) Moved f makes refl (idle_line idle more ∙ next_at _ (Look i) (looking i l) told refl)
+
+  pub meets_entry : (m : Local) (done : StepDone) → outcome m done ≡ look_met product i (pend_of told) (looking i l) → LooksFurther s p (looking i l) q m
+  meets_entry m done line = looks_by (looking i l) m done f makes refl (line ∙ next_at _ (Look i) (looking i l) told refl)
+
 -- What stays through all looks.
 pub record IsLookingOn (s : Shared) (o : Pass) (l : Local) (p : Pass) (m : Local) : Type 0 where
   pub goes : GoesTo s o p
@@ -93,3 +141,38 @@ pub record IsLookingOn (s : Shared) (o : Pass) (l : Local) (p : Pass) (m : Local
   pub calls : KeepsCalls o p
   pub held : held p ≡ held o
   pub looks : LooksOn l m
+  pub fewer : looks_ahead m ≤ looks_ahead l
+
+-- a reader begins to look at an entry
+pub begins_looking : (s : Shared) (p : Pass) (l : Local) (i : ℕ) → Follows s p l → l.activity ≡ Look i → IsLookingOn s p l p (looking i l)
+begins_looking s p l i f is = record {
+  goes = record { of_table = f.of_table; number = refl; opening = refl; seen = prefix_self _ };
+  follows = subst (λ (a : Activity). Follows s p (record l { activity = a })) is f;
+  calls = refl;
+  held = refl;
+  looks = record { call = refl; want = refl; version = refl; stage = λ e. true_false refl e };
+  fewer = subst (λ (a : Activity). look_ahead product (Look i) l.looked ≤ look_ahead product a l.looked) (sym is) (omega (arith));
+}
+
+module _ {s : Shared} {o p q : Pass} {l m n : Local} (before : IsLookingOn s o l p m) (more : LooksFurther s p m q n) where
+  -- looks more, after which the reader may have more to make
+  pub looking_on : IsLookingOn s o l q n
+  looking_on = record {
+    goes = goes_trans s o p q before.goes more.goes;
+    follows = more.follows;
+    calls = more.calls ∙ before.calls;
+    held = more.held ∙ before.held;
+    looks = looks_trans l m n before.looks more.looks;
+    fewer = omega (arith, before.fewer, more.fewer);
+  }
+
+  -- all of them together
+  pub looked_on : LooksFurther s o l q n
+  looked_on = record {
+    goes = goes_trans s o p q before.goes more.goes;
+    follows = more.follows;
+    calls = more.calls ∙ before.calls;
+    held = more.held ∙ before.held;
+    looks = looks_trans l m n before.looks more.looks;
+    fewer = omega (arith, before.fewer, more.fewer);
+  }

@@ -40,6 +40,27 @@ pub record LooksOn (l m : Local) : Type 0 where
   pub version : m.version ≡ l.version
   pub stage : is_looking m.activity ≡ false → m.activity ≡ ListFrom
 
+-- how many events of looking a reader has yet to make at most, by the entry that it is at
+abbrev pub look_ahead : Sizes → Activity → ℕ → ℕ
+look_ahead z (Look i) looked = 4 * (z.seats - i) + 4
+look_ahead z LookKey looked = 4 * (z.seats - looked) + 3
+look_ahead z LookClock looked = 4 * (z.seats - looked) + 2
+look_ahead z LookHelp looked = 4 * (z.seats - looked) + 1
+look_ahead z _ looked = 0
+
+-- the same, of what code knows
+abbrev pub looks_ahead : Local → ℕ
+looks_ahead l = look_ahead product l.activity l.looked
+
+-- the reader went on with its looks by one event or more, and has fewer to make
+pub record LooksFurther (s : Shared) (p : Pass) (l : Local) (q : Pass) (m : Local) : Type 0 where
+  pub goes : GoesTo s p q
+  pub follows : Follows s q m
+  pub calls : KeepsCalls p q
+  pub held : held q ≡ held p
+  pub looks : LooksOn l m
+  pub fewer : looks_ahead m < looks_ahead l
+
 -- a scan that wanted this key goes on with the next row, whose least key it then wants: it is above the one that it wanted and not above
 -- the range, and the keys of all pairs of this row are below it
 pub record GoesOn (want upto version : ℕ) (m : Local) : Type 0 where

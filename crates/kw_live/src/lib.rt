@@ -11,6 +11,7 @@
 
 mod entering;
 mod listing;
+mod looking;
 mod putting;
 mod reading;
 mod walking;

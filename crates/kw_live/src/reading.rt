@@ -3,10 +3,11 @@ ghost use Rattle.std.specs.Prelude.{◌≡◌, All, true};
 ghost use Rattle.kw_words.specs.Plain.{IsValue};
 ghost use Rattle.kw_follow.specs.Calling.{KeepsCalls};
 ghost use Rattle.kw_follow.specs.Following.{Follows, GoesTo, held};
-ghost use Rattle.kw_live.specs.Reading.{HasRead, LooksOn, ReadsOn, is_looking, is_reading_list};
+ghost use Rattle.kw_live.specs.Reading.{HasRead, ReadsOn, is_reading_list};
 
 use crate::listing::read_listed;
-use kw_follow::{go_along, go_read};
+use crate::looking::look_at_entries;
+use kw_follow::go_read;
 use kw_table::{Pass, Shared};
 use kw_world::activity::Activity;
 use kw_world::local::Local;
@@ -36,22 +37,6 @@ pub fn read_row(shared: &Shared, pass: &mut Pass, local: &mut Local)
     }
     look_at_entries(shared, pass, local);
     read_list(shared, pass, local);
-}
-
-// The looks at the entries. The reader then stands at the first link of the row's list.
-fn look_at_entries(shared: &Shared, pass: &mut Pass, local: &mut Local)
-    requires follows { Follows shared.now pass.old local.old }
-    requires activity { local.old.activity ≡ Activity.Look 0 }
-    ensures goes { GoesTo shared.now pass.old pass.new }
-    ensures follows { Follows shared.now pass.new local.new }
-    ensures looks { LooksOn local.old local.new }
-    ensures activity { local.new.activity ≡ Activity.ListFrom }
-    ensures calls { KeepsCalls pass.old pass.new }
-    ensures held { held pass.new ≡ held pass.old }
-{
-    while is_looking(&local.activity) {
-        go_along(shared, pass, local);
-    }
 }
 
 // The walk along the row's list, and what is left after it, to the end of the row.
@@ -91,17 +76,6 @@ fn read_on(shared: &Shared, pass: &mut Pass, local: &mut Local)
     ensures { ReadsOn shared.now pass.old local.old pass.new local.new }
 {
     go_read(shared, pass, local);
-}
-
-// Whether the reader looks at the entries of the row.
-#[inline(always)]
-pub(crate) fn is_looking(activity: &Activity) -> bool
-    ensures { result ≡ is_looking activity.now }
-{
-    match activity {
-        Activity::Look(_) | Activity::LookKey | Activity::LookClock | Activity::LookHelp => true,
-        _ => false,
-    }
 }
 
 // Whether the reader reads the cells of the row.

@@ -1,0 +1,19 @@
+use Rattle.std.proofs.Common.{◌∙◌, ap, sym, subst}
+use Rattle.kw_world.specs.declared.activity.Activity.TheVariants.{Look}
+use Rattle.kw_world.specs.declared.local.Local.{Local}
+use Rattle.kw_follow.specs.Following.{Follows}
+use Rattle.kw_follow.proofs.PutEvents.{next_at}
+use Rattle.kw_follow.proofs.WayEvents.{entry_below, entry_room}
+use Rattle.kw_follow.proofs.along.look_at_entry.Goals as goal
+
+pub load_entry-told-requires : goal.load_entry-told-requires
+load_entry-told-requires c = subst (λ a. Follows c.args.shared.now c.args.pass.now (record c.args.local.now { activity = a })) c.requires.activity c.requires.follows
+
+pub meet_entry-done-requires-clause-entry : goal.meet_entry-done-requires-clause-entry
+meet_entry-done-requires-clause-entry c = entry_below _ _ c.args.local.now _ c.requires.follows c.requires.activity
+
+pub meet_entry-done-requires-clause-room : goal.meet_entry-done-requires-clause-room
+meet_entry-done-requires-clause-room c = entry_room _ _ c.args.local.now _ c.requires.follows c.requires.activity
+
+pub returns-clause-line : goal.returns-clause-line
+returns-clause-line c = c.meet_entry-done.ensures ∙ next_at _ (Look c.args.entry) c.args.local.now _ c.requires.activity

@@ -1,0 +1,89 @@
+//! The looks of a reader at the entries of its row.
+//!
+//! A put that is announced in an entry may not be listed yet, so a reader looks at the entry of each seat before it goes along the list. Mostly
+//! nothing is announced: such entries are looked at one after the other, and the reader's local is left as it is meanwhile. It is brought up at the
+//! first entry of another kind, or at the last one.
+ghost use Rattle.std.specs.Prelude.{◌≡◌, IsTrue, Some, true};
+ghost use Rattle.kw_words.specs.Pend.{pend_of};
+ghost use Rattle.kw_words.specs.declared.pend.Pend.{Pend};
+ghost use Rattle.kw_follow.specs.Calling.{KeepsCalls};
+ghost use Rattle.kw_follow.specs.Following.{Follows, GoesTo, held};
+ghost use Rattle.kw_live.specs.Reading.{LooksFurther, LooksOn, is_looking};
+
+use kw_follow::{go_along, load_entry, meet_entry};
+use kw_table::{Pass, Shared};
+use kw_words::pend::Pend;
+use kw_words::sizes::SEAT_COUNT;
+use kw_world::activity::Activity;
+use kw_world::local::Local;
+
+/// Looks at all entries, and helps the puts that it meets there. The reader then stands at the first link of the row's list. Takes no memory.
+pub(crate) fn look_at_entries(shared: &Shared, pass: &mut Pass, local: &mut Local)
+    requires follows { Follows shared.now pass.old local.old }
+    requires activity { local.old.activity ≡ Activity.Look 0 }
+    ensures goes { GoesTo shared.now pass.old pass.new }
+    ensures follows { Follows shared.now pass.new local.new }
+    ensures looks { LooksOn local.old local.new }
+    ensures activity { local.new.activity ≡ Activity.ListFrom }
+    ensures calls { KeepsCalls pass.old pass.new }
+    ensures held { held pass.new ≡ held pass.old }
+{
+    while is_looking(&local.activity) {
+        look_on(shared, pass, local);
+    }
+}
+
+// The looks from an entry on, or the next event at one where a put has no version yet.
+#[inline(always)]
+fn look_on(shared: &Shared, pass: &mut Pass, local: &mut Local)
+    requires follows { Follows shared.now pass.old local.old }
+    requires looking { is_looking local.old.activity ≡ true }
+    ensures { LooksFurther shared.now pass.old local.old pass.new local.new }
+{
+    match local.activity {
+        Activity::Look(entry) => look_from(shared, pass, local, entry),
+        _ => {
+            go_along(shared, pass, local);
+        }
+    }
+}
+
+// The looks from the entry of this seat on, to the first at which something is announced, or to the last one.
+#[inline(always)]
+fn look_from(shared: &Shared, pass: &mut Pass, local: &mut Local, entry: u32)
+    requires follows { Follows shared.now pass.old local.old }
+    requires activity { local.old.activity ≡ Activity.Look entry }
+    ensures { LooksFurther shared.now pass.old local.old pass.new local.new }
+{
+    let mut at = entry;
+    loop {
+        let found = load_entry(shared, pass, local, at);
+        let next = at + 1;
+        if next < SEAT_COUNT && is_idle(found) {
+            at = next;
+        } else {
+            local.activity = Activity::Look(at);
+            meet_entry(local, at, found);
+            return;
+        }
+    }
+}
+
+// Whether nothing is announced in the entry.
+#[inline(always)]
+fn is_idle(found: u64) -> bool
+    ensures { IsTrue result → pend_of found ≡ Some Pend.Idle }
+{
+    matches!(Pend::unpack(found), Some(Pend::Idle))
+}
+
+// Whether the reader looks at the entries of the row.
+#[inline(always)]
+fn is_looking(activity: &Activity) -> bool
+    ensures { result ≡ is_looking activity.now }
+{
+    match activity {
+        Activity::Look(_) | Activity::LookKey | Activity::LookClock | Activity::LookHelp => true,
+        _ => false,
+    }
+}
