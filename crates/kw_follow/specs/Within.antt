@@ -1,4 +1,4 @@
--- The middle of a call, and where in it a scan gets its version.
+-- The middle of a call, where in it a scan gets its version, and where a reader is at the cells that it remembers.
 use Rattle.kw_world.specs.declared.activity.Activity.{Activity}
 use Rattle.kw_world.specs.declared.activity.Activity.TheVariants.{Idle, ScanClock, ScanWait, ScanDraw, ScanSettle, ListFrom, ListKey, ListVer, ListVal, RestKey, RestVal, ClearScan, Leave}
 
@@ -22,3 +22,9 @@ IsDrawing ScanWait = Unit {0}
 IsDrawing ScanDraw = Unit {0}
 IsDrawing ScanSettle = Unit {0}
 IsDrawing _ = ⊥
+
+-- a reader is at a cell that it remembers of the entries and did not meet in the list of its row
+abbrev pub IsAtRemembered : Activity → Type 0
+IsAtRemembered RestKey = Unit {0}
+IsAtRemembered RestVal = Unit {0}
+IsAtRemembered _ = ⊥
