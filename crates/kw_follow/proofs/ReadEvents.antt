@@ -28,6 +28,7 @@ use Rattle.kw_table.specs.Views.{local_in}
 use Rattle.kw_table.proofs.Prefixes.{prefix_longer}
 use Rattle.kw_follow.specs.Cursors.{ReadsWord}
 use Rattle.kw_follow.specs.Following.{CarriesOn, Follows, GoesTo, carried}
+use Rattle.kw_follow.specs.Within.{IsAtRemembered}
 use Rattle.kw_follow.proofs.Growing.{IsStaying, keeps}
 use Rattle.kw_follow.proofs.OneEvent.{follows_from, makes_met, same_activity}
 use Rattle.kw_follow.proofs.PutEvents.{asks_at, next_at}
@@ -42,6 +43,12 @@ taking_stays ListVal m = tt
 taking_stays RestKey m = tt
 taking_stays RestVal m = tt
 taking_stays _ m = absurd m
+
+-- it reads the row also at a cell that it remembers
+pub remembered_taking : (a : Activity) → IsAtRemembered a → IsTaking a
+remembered_taking RestKey m = tt
+remembered_taking RestVal m = tt
+remembered_taking _ m = absurd m
 
 -- the load of a link
 pub asks_list_link : (s : Shared) (p : Pass) (l : Local) (n : Name) → Follows s p l → l.activity ≡ ListFrom → n ≡ link_name l.row l.link → Asks s p Go (operation kind.LoadAfter n Load)

@@ -1,4 +1,4 @@
--- The middle of a call, and where in it a scan gets its version.
+-- The middle of a call, where in it a scan gets its version, and where a reader is at the cells that it remembers or at an entry.
 use Rattle.std.specs.Prelude.{ℕ}
 use Rattle.kw_world.specs.declared.activity.Activity.{Activity}
 use Rattle.kw_world.specs.declared.activity.Activity.TheVariants.{Idle, Look, ScanClock, ScanWait, ScanDraw, ScanSettle, ListFrom, ListKey, ListVer, ListVal, RestKey, RestVal, ClearScan, Leave}
@@ -28,3 +28,9 @@ IsDrawing _ = ⊥
 -- the local of a reader that looks at the entry of this seat next
 abbrev pub looking : ℕ → Local → Local
 looking i l = record l { activity = Look i }
+
+-- a reader is at a cell that it remembers of the entries and did not meet in the list of its row
+abbrev pub IsAtRemembered : Activity → Type 0
+IsAtRemembered RestKey = Unit {0}
+IsAtRemembered RestVal = Unit {0}
+IsAtRemembered _ = ⊥

@@ -1,13 +1,14 @@
-//! The events of a reader along the list of its row, each by its own step of the table.
+//! The events of a reader at the cells that it remembers, each by its own step of the table, and what follows from the words that it is told.
 //!
-//! A reader makes two events for each cell that it passes and four for each that it gathers; what it remembers of the entries and did not
-//! meet it reads at the end. The end of a row has no event of its own: it follows the one that ends the walk, or reads the last remembered cell. There the core keeps the pairs of a scan, which takes
-//! memory; code that follows a pass does not, so that it passes the end by itself here. All else of an event is the core's.
+//! A reader goes along the list of its row by a `Cursor`, as `cursor` says; what it remembers of the entries and did not meet there it
+//! reads after it, by one event for the key of a cell and one more for the value where the key is in the range of its call. The end of a row
+//! has no event of its own: it follows the one that ends the walk, or reads the last remembered cell. There the core keeps the pairs of a
+//! scan, which takes memory; code that follows a pass does not, so that it passes the end by itself here. All else of an event is the
+//! core's.
 ghost use Rattle.std.specs.Prelude.{◌≡◌, ◌≤◌};
-ghost use Rattle.kw_words.specs.Plain.{key_of_word, value_of_word, version_of_word, cell_of_link_word};
+ghost use Rattle.kw_words.specs.Plain.{key_of_word, value_of_word, cell_of_link_word};
 ghost use Rattle.kw_words.specs.declared.sizes.TheConstants.{CELLS};
-ghost use Rattle.kw_core.specs.Stages.{IsTaking};
-ghost use Rattle.kw_world.specs.ReadTransitions.{get_answered, list_key, list_met, list_past, list_version, rest_key, row_read, row_scanned, to_rest, gathering};
+ghost use Rattle.kw_world.specs.ReadTransitions.{get_answered, list_key, list_met, list_past, rest_key, row_read, row_scanned, to_rest, gathering};
 ghost use Rattle.kw_world.specs.Sizes.{product};
 ghost use Rattle.kw_world.specs.Step.{next_of};
 ghost use Rattle.kw_table.specs.Passes.{view, Makes};
@@ -15,12 +16,12 @@ ghost use Rattle.kw_table.specs.Views.{local_in};
 ghost use Rattle.kw_follow.specs.Calling.{KeepsCalls};
 ghost use Rattle.kw_follow.specs.Following.{CarriesOn, Follows, GoesTo};
 ghost use Rattle.kw_follow.specs.OwnEvents.{MetAs};
+ghost use Rattle.kw_follow.specs.Within.{IsAtRemembered};
 
 use kw_cells::in_order::first_fit;
 use kw_model::call::Call;
-use kw_step_put::operation::link_name;
-use kw_step_put::reading::{gather, hold_version, meet, pass_cell, take_remembered};
-use kw_table::{Pass, Shared, load_after, load_key, load_value, load_version};
+use kw_step_put::reading::{gather, meet, pass_cell, take_remembered};
+use kw_table::{Pass, Shared, load_key, load_value};
 use kw_words::layout::Name;
 use kw_words::plain::{unpack_cell_link, unpack_key};
 use kw_world::activity::Activity;
@@ -29,62 +30,6 @@ use kw_world::calls::{first_key, is_in_range, last_key};
 use kw_world::event::Choice;
 use kw_world::limits::NEWEST;
 use kw_world::local::Local;
-
-// Loads the link at which the reader stands. The answer is what it was told.
-#[inline(always)]
-fn load_next(shared: &Shared, pass: &mut Pass, local: &mut Local) -> u64
-    requires follows { Follows shared.now pass.old local.old }
-    requires activity { local.old.activity ≡ Activity.ListFrom }
-    ensures makes { Makes shared.now pass.old Choice.Go result pass.new }
-    ensures follows { Follows shared.now pass.new local.new }
-{
-    let link = link_name(local.row, local.link);
-    let told = load_after(shared, pass, Choice::Go, link);
-    met_link(local, told);
-    told
-}
-
-// Loads the key of the cell that the reader has met.
-#[inline(always)]
-fn load_listed_key(shared: &Shared, pass: &mut Pass, local: &mut Local) -> u64
-    requires follows { Follows shared.now pass.old local.old }
-    requires activity { local.old.activity ≡ Activity.ListKey }
-    ensures makes { Makes shared.now pass.old Choice.Go result pass.new }
-    ensures follows { Follows shared.now pass.new local.new }
-{
-    let key = Name::Key(local.row, local.place);
-    let told = load_key(shared, pass, Choice::Go, key);
-    met_key(local, told);
-    told
-}
-
-// Loads the version of that cell.
-#[inline(always)]
-fn load_listed_version(shared: &Shared, pass: &mut Pass, local: &mut Local) -> u64
-    requires follows { Follows shared.now pass.old local.old }
-    requires activity { local.old.activity ≡ Activity.ListVer }
-    ensures makes { Makes shared.now pass.old Choice.Go result pass.new }
-    ensures follows { Follows shared.now pass.new local.new }
-{
-    let version = Name::Version(local.row, local.place);
-    let told = load_version(shared, pass, Choice::Go, version);
-    met_version(local, told);
-    told
-}
-
-// Loads the value of that cell, which is gathered.
-#[inline(always)]
-fn load_listed_value(shared: &Shared, pass: &mut Pass, local: &mut Local) -> u64
-    requires follows { Follows shared.now pass.old local.old }
-    requires activity { local.old.activity ≡ Activity.ListVal }
-    ensures makes { Makes shared.now pass.old Choice.Go result pass.new }
-    ensures follows { Follows shared.now pass.new local.new }
-{
-    let value = Name::Value(local.row, local.place);
-    let told = load_value(shared, pass, Choice::Go, value);
-    met_value(local, told);
-    told
-}
 
 // Loads the key of a remembered cell that was not met.
 #[inline(always)]
@@ -114,33 +59,29 @@ fn load_rest_value(shared: &Shared, pass: &mut Pass, local: &mut Local) -> u64
     told
 }
 
-// The next event along the list, by what the local does next.
+// The next event at a remembered cell, by what the local does next.
 #[inline(always)]
-fn read_event(shared: &Shared, pass: &mut Pass, local: &mut Local) -> u64
+fn remembered_event(shared: &Shared, pass: &mut Pass, local: &mut Local) -> u64
     requires follows { Follows shared.now pass.old local.old }
-    requires reading { IsTaking local.old.activity }
+    requires remembered { IsAtRemembered local.old.activity }
     ensures makes { Makes shared.now pass.old Choice.Go result pass.new }
     ensures follows { Follows shared.now pass.new local.new }
 {
     match local.activity {
-        Activity::ListFrom => load_next(shared, pass, local),
-        Activity::ListKey => load_listed_key(shared, pass, local),
-        Activity::ListVer => load_listed_version(shared, pass, local),
-        Activity::ListVal => load_listed_value(shared, pass, local),
         Activity::RestKey => load_rest_key(shared, pass, local),
         Activity::RestVal => load_rest_value(shared, pass, local),
         _ => unreachable!(),
     }
 }
 
-/// Makes the next event of a reader that goes along its row's list, and passes the end of the row, which has no event of its own. The
-/// answer is what the event was told.
+/// Makes the next event of a reader that is at a cell which it remembers and did not meet in its row's list, and passes the end of the
+/// row, which has no event of its own. The answer is what the event was told.
 ///
 /// Takes no memory: the pairs of a scan are for the caller to take from `gathered`, and `seat` says what they are.
 #[inline(always)]
-pub fn go_read(shared: &Shared, pass: &mut Pass, local: &mut Local) -> u64
+pub fn go_remembered(shared: &Shared, pass: &mut Pass, local: &mut Local) -> u64
     requires follows { Follows shared.now pass.old local.old }
-    requires reading { IsTaking local.old.activity }
+    requires remembered { IsAtRemembered local.old.activity }
     ensures goes { GoesTo shared.now pass.old pass.new }
     ensures follows { Follows shared.now pass.new local.new }
     ensures seat { local_in (view pass.new)
@@ -149,7 +90,7 @@ pub fn go_read(shared: &Shared, pass: &mut Pass, local: &mut Local) -> u64
     ensures met { MetAs pass.old pass.new local.old Choice.Go result }
     ensures calls { KeepsCalls pass.old pass.new }
 {
-    read_event(shared, pass, local)
+    remembered_event(shared, pass, local)
 }
 
 // What follows from the events.
@@ -183,24 +124,6 @@ pub fn met_key(local: &mut Local, found: u64)
     } else {
         go_to_rest(local);
     }
-}
-
-// It was told the version of that cell.
-#[inline(always)]
-fn met_version(local: &mut Local, found: u64)
-    ensures { CarriesOn (list_version (version_of_word found)) local.old local.new }
-{
-    hold_version(local, found);
-    local.activity = Activity::ListVal;
-}
-
-// It was told the value of that cell.
-#[inline(always)]
-fn met_value(local: &mut Local, found: u64)
-    ensures { CarriesOn (λ l. list_past (gathering product (value_of_word found) l)) local.old local.new }
-{
-    gather(local, found);
-    go_on_past(local);
 }
 
 // The walk passes the cell that it met.

@@ -3,12 +3,11 @@ use Rattle.std.proofs.Common.{arith, ◌≡◌, ℕ, ◌<◌, ◌≤◌, Some, u
 use Rattle.kw_model.specs.declared.call.Call.{Call}
 use Rattle.kw_words.specs.Plain.{key_of_word, value_of_word, version_of_word, cell_of_link_word}
 use Rattle.kw_world.specs.declared.activity.Activity.TheVariants.{ListFrom, ListKey, ListVer, ListVal}
-use Rattle.kw_world.specs.declared.event.Choice.TheVariants.{Go}
 use Rattle.kw_world.specs.declared.local.Local.{Local}
 use Rattle.kw_world.specs.Calls.{first_key, last_key}
 use Rattle.kw_world.specs.ReadTransitions.{list_key, list_met, list_past, to_rest}
 use Rattle.kw_world.specs.Sizes.{product}
-use Rattle.kw_world.specs.Transition.{Outcome, to}
+use Rattle.kw_world.specs.Transition.{to}
 use Rattle.kw_table.specs.declared.pass.Pass.{Pass}
 use Rattle.kw_table.specs.declared.shared.Shared.{Shared}
 use Rattle.kw_follow.specs.declared.cursor.Cursor.{Cursor}
@@ -17,7 +16,7 @@ use Rattle.kw_follow.specs.Cursors.{ReadsWord, forgetting, gathering_at, past, r
 use Rattle.kw_follow.specs.Following.{CarriesOn, Follows, GoesTo, carried, held}
 use Rattle.kw_follow.proofs.OwnEvents.{goes_trans}
 use Rattle.kw_follow.proofs.ReadEvents.{passed_on, read_follows}
-use Rattle.kw_live.specs.Reading.{HasRead, ReadsOn, is_reading_list, reads_ahead}
+use Rattle.kw_live.specs.Reading.{ReadsOn, is_reading_list, reads_ahead}
 use Rattle.kw_live.proofs.ReadEvent.{reads, reads_on, reads_trans}
 
 -- One event.

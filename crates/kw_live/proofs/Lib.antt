@@ -7,3 +7,4 @@ pub mod Drawing
 pub mod Starting
 pub mod Anew
 pub mod CursorEvents
+pub mod AfterList

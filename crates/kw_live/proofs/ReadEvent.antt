@@ -16,14 +16,13 @@ use Rattle.kw_world.specs.Step.{next_of, transition_of}
 use Rattle.kw_laws.specs.Laws.{KeepsLaws}
 use Rattle.kw_reads.specs.Replies.{RisesBelow}
 use Rattle.kw_core.specs.Run.{history}
-use Rattle.kw_core.specs.Stages.{IsAtRow, IsCovering, IsTaking}
+use Rattle.kw_core.specs.Stages.{IsAtRow, IsCovering}
 use Rattle.kw_laws.proofs.LawProofs.{laws_hold}
 use Rattle.kw_puts.proofs.Owners.{true_false}
 use Rattle.kw_table.specs.declared.pass.Pass.{Pass}
 use Rattle.kw_table.specs.declared.shared.Shared.{Shared}
 use Rattle.kw_table.specs.Passes.{view}
 use Rattle.kw_table.specs.Views.{local_in}
-use Rattle.kw_follow.specs.Calling.{KeepsCalls}
 use Rattle.kw_follow.specs.Following.{Follows, GoesTo, activity_in, carried, held}
 use Rattle.kw_follow.specs.OwnEvents.{Met, MetAs}
 use Rattle.kw_follow.proofs.Fronts.{local_at, met_laws, met_local, met_told}
@@ -34,15 +33,7 @@ use Rattle.kw_live.proofs.ReadStages.{Ended, Goes, IsBelowNext, read_goes}
 
 -- Where a reader is.
 
-pub list_taking : (a : Activity) → is_reading_list a ≡ true → IsTaking a
-list_taking ListFrom u = tt
-list_taking ListKey u = tt
-list_taking ListVer u = tt
-list_taking ListVal u = tt
-list_taking RestKey u = tt
-list_taking RestVal u = tt
-list_taking _ u = true_false u refl
-
+-- one that reads the row is at it
 list_at_row : (a : Activity) → is_reading_list a ≡ true → IsAtRow a
 list_at_row ListFrom u = tt
 list_at_row ListKey u = tt
@@ -156,17 +147,7 @@ module _ (s : Shared) (p q : Pass) (l m : Local) (told : ℕ) (f : Follows s p l
   pub reads : Reads l m (held p) (held q)
   reads = subst (λ (y : Local). Reads y m (held p) (held q)) (sym f.carries) (subst (λ (y : Local). Reads (carried (local_in (view p))) y (held p) (held q)) (sym after.carries) reads_in)
 
--- What stays through all events of reading.
-pub record IsReadingOn (s : Shared) (o : Pass) (l : Local) (p : Pass) (m : Local) : Type 0 where
-  pub goes : GoesTo s o p
-  pub follows : Follows s p m
-  pub calls : KeepsCalls o p
-  pub call : m.call ≡ l.call
-  pub version : m.version ≡ l.version
-  pub on : is_reading_list m.activity ≡ true → (m.want ≡ l.want) × (held p ≡ held o)
-  pub ends : is_reading_list m.activity ≡ false → HasRead l m (held o) (held p)
-
--- one event more, of a reader that still reads the row with which it began
+-- One event more, of a reader that still reads the row with which it began.
 pub reads_on : (l m n : Local) (before during after : List (ℕ × ℕ)) → m.call ≡ l.call → m.version ≡ l.version → m.want ≡ l.want → during ≡ before → HasRead m n during after → HasRead l n before after
 reads_on l m n before during after call version want held read =
     subst (λ c. HasReadAs c l.want l.version n before after) call

@@ -33,6 +33,20 @@ is_reading_list RestKey = true
 is_reading_list RestVal = true
 is_reading_list _ = false
 
+-- the reader goes along the row's list
+abbrev pub is_listing : Activity → Bool
+is_listing ListFrom = true
+is_listing ListKey = true
+is_listing ListVer = true
+is_listing ListVal = true
+is_listing _ = false
+
+-- the reader is at a cell that it remembers of the entries and did not meet in the list
+abbrev pub is_at_remembered : Activity → Bool
+is_at_remembered RestKey = true
+is_at_remembered RestVal = true
+is_at_remembered _ = false
+
 -- while a reader looks at entries, what the call wants is as it was
 pub record LooksOn (l m : Local) : Type 0 where
   pub call : m.call ≡ l.call

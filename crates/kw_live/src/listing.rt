@@ -2,11 +2,11 @@
 //!
 //! Most of what a get or a scan does is this: so the cells are passed and gathered in one loop, whose cursor the reader's local gets back once the walk
 //! is over. What the reader remembers of the entries and did not meet here, it reads after it, as `reading` says.
-ghost use Rattle.std.specs.Prelude.{◌≡◌, ◌≤◌};
+ghost use Rattle.std.specs.Prelude.{◌≡◌, ◌≤◌, false};
 ghost use Rattle.kw_world.specs.Calls.{first_key, last_key};
 ghost use Rattle.kw_follow.specs.Cursors.{with_cursor};
 ghost use Rattle.kw_follow.specs.Following.{Follows};
-ghost use Rattle.kw_live.specs.Reading.{ReadsOn};
+ghost use Rattle.kw_live.specs.Reading.{ReadsOn, is_listing};
 
 use kw_follow::{Cursor, met_key, met_link};
 use kw_table::{Pass, Shared};
@@ -16,11 +16,12 @@ use kw_world::calls::{first_key, last_key};
 use kw_world::local::Local;
 
 /// Goes along the list from the link at which the reader stands, to the end of the list or to the first cell above the range, and on to
-/// what the reader does after it. Takes no memory.
+/// what the reader does after it: it is not in the list any more. Takes no memory.
 pub(crate) fn read_listed(shared: &Shared, pass: &mut Pass, local: &mut Local)
     requires follows { Follows shared.now pass.old local.old }
     requires activity { local.old.activity ≡ Activity.ListFrom }
-    ensures { ReadsOn shared.now pass.old local.old pass.new local.new }
+    ensures reads { ReadsOn shared.now pass.old local.old pass.new local.new }
+    ensures over { is_listing local.new.activity ≡ false }
 {
     let first = first_key(local.call);
     let last = last_key(local.call);

@@ -1,13 +1,13 @@
 //! The events of a get or a scan at a row.
-ghost use Rattle.std.specs.Prelude.{◌≡◌, All, true};
+ghost use Rattle.std.specs.Prelude.{◌≡◌, All, false, true};
 ghost use Rattle.kw_words.specs.Plain.{IsValue};
 ghost use Rattle.kw_follow.specs.Calling.{KeepsCalls};
 ghost use Rattle.kw_follow.specs.Following.{Follows, GoesTo, held};
-ghost use Rattle.kw_live.specs.Reading.{HasRead, ReadsOn, is_reading_list};
+ghost use Rattle.kw_live.specs.Reading.{HasRead, ReadsOn, is_at_remembered, is_listing};
 
 use crate::listing::read_listed;
 use crate::looking::look_at_entries;
-use kw_follow::go_read;
+use kw_follow::go_remembered;
 use kw_table::{Pass, Shared};
 use kw_world::activity::Activity;
 use kw_world::local::Local;
@@ -50,46 +50,30 @@ fn read_list(shared: &Shared, pass: &mut Pass, local: &mut Local)
     ensures read { HasRead local.old local.new (held pass.old) (held pass.new) }
     ensures calls { KeepsCalls pass.old pass.new }
 {
-    while is_reading_list(&local.activity) {
-        read_cells(shared, pass, local);
+    read_listed(shared, pass, local);
+    while is_at_remembered(&local.activity) {
+        read_on(shared, pass, local);
     }
 }
 
-// The events along the list, from its link to where it leaves the list, or one event at a cell that is remembered.
-#[inline(always)]
-fn read_cells(shared: &Shared, pass: &mut Pass, local: &mut Local)
-    requires follows { Follows shared.now pass.old local.old }
-    requires reading { is_reading_list local.old.activity ≡ true }
-    ensures { ReadsOn shared.now pass.old local.old pass.new local.new }
-{
-    match local.activity {
-        Activity::ListFrom => read_listed(shared, pass, local),
-        _ => read_on(shared, pass, local),
-    }
-}
-
-// One event along the list.
+// One event at a cell that the reader remembers and did not meet in the list. It does not come back to the list.
 #[inline(always)]
 fn read_on(shared: &Shared, pass: &mut Pass, local: &mut Local)
     requires follows { Follows shared.now pass.old local.old }
-    requires reading { is_reading_list local.old.activity ≡ true }
-    ensures { ReadsOn shared.now pass.old local.old pass.new local.new }
+    requires remembered { is_at_remembered local.old.activity ≡ true }
+    ensures reads { ReadsOn shared.now pass.old local.old pass.new local.new }
+    ensures over { is_listing local.new.activity ≡ false }
 {
-    go_read(shared, pass, local);
+    go_remembered(shared, pass, local);
 }
 
-// Whether the reader reads the cells of the row.
+// Whether the reader is at a cell that it remembers and did not meet in the list.
 #[inline(always)]
-pub(crate) fn is_reading_list(activity: &Activity) -> bool
-    ensures { result ≡ is_reading_list activity.now }
+fn is_at_remembered(activity: &Activity) -> bool
+    ensures { result ≡ is_at_remembered activity.now }
 {
     match activity {
-        Activity::ListFrom
-        | Activity::ListKey
-        | Activity::ListVer
-        | Activity::ListVal
-        | Activity::RestKey
-        | Activity::RestVal => true,
+        Activity::RestKey | Activity::RestVal => true,
         _ => false,
     }
 }

@@ -1,19 +1,23 @@
-use Rattle.kw_live.proofs.ReadEvent.{list_taking, reads}
+use Rattle.kw_live.proofs.AfterList.{remembered_at, remembered_over, remembered_reads}
+use Rattle.kw_live.proofs.ReadEvent.{reads}
 use Rattle.kw_live.proofs.reading.read_on.Goals as goal
 
-pub go_read-requires-clause-reading : goal.go_read-requires-clause-reading
-go_read-requires-clause-reading c = list_taking _ c.requires.reading
+pub go_remembered-requires-clause-remembered : goal.go_remembered-requires-clause-remembered
+go_remembered-requires-clause-remembered c = remembered_at _ c.requires.remembered
 
-pub returns : goal.returns
-returns c =
-    let read = reads _ _ _ _ _ _ c.requires.follows c.go_read.ensures.goes c.go_read.ensures.follows c.go_read.ensures.seat c.go_read.ensures.met c.requires.reading in
+pub returns-clause-reads : goal.returns-clause-reads
+returns-clause-reads c =
+    let read = reads _ _ _ _ _ _ c.requires.follows c.go_remembered.ensures.goes c.go_remembered.ensures.follows c.go_remembered.ensures.seat c.go_remembered.ensures.met (remembered_reads _ c.requires.remembered) in
     record {
-      goes = c.go_read.ensures.goes;
-      follows = c.go_read.ensures.follows;
-      calls = c.go_read.ensures.calls;
+      goes = c.go_remembered.ensures.goes;
+      follows = c.go_remembered.ensures.follows;
+      calls = c.go_remembered.ensures.calls;
       call = read.call;
       version = read.version;
       on = read.on;
       ends = read.ends;
       fewer = read.fewer;
     }
+
+pub returns-clause-over : goal.returns-clause-over
+returns-clause-over c = remembered_over _ _ _ _ _ _ c.requires.follows c.go_remembered.ensures.follows c.go_remembered.ensures.seat c.requires.remembered

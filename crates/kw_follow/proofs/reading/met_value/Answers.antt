@@ -1,5 +1,0 @@
-use Rattle.kw_follow.proofs.ReadEvents.{gathered_on}
-use Rattle.kw_follow.proofs.reading.met_value.Goals as goal
-
-pub returns : goal.returns
-returns c = gathered_on _ _ c.args.local.now _ _ c.gather.ensures.gathered c.go_on_past.ensures

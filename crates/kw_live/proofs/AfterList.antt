@@ -1,0 +1,136 @@
+-- Where a reader stands once it has left the list of its row: at a cell that it remembers, or past the row.
+use Rattle.std.proofs.Common.{arith, ◌≡◌, ℕ, ◌<◌, ◌≤◌, Bool, true, false, nat_lt, nat_le, if◌then◌else◌, Option, Some, None, [], refl, sym, ◌∙◌, ap, subst}
+use Rattle.kw_words.specs.Plain.{key_of_word, value_of_word}
+use Rattle.kw_model.specs.declared.call.Call.{Call}
+use Rattle.kw_model.specs.declared.call.Call.TheVariants.{Put, Del, Get, Scan}
+use Rattle.kw_world.specs.declared.activity.Activity.{Activity}
+use Rattle.kw_world.specs.declared.activity.Activity.TheVariants.{Walk, ListFrom, ListKey, ListVer, ListVal, RestKey, RestVal}
+use Rattle.kw_world.specs.declared.event.Choice.TheVariants.{Go}
+use Rattle.kw_world.specs.declared.local.Local.{Local}
+use Rattle.kw_world.specs.declared.marks.Mark.{Mark}
+use Rattle.kw_world.specs.Calls.{first_key, last_key, is_in_range}
+use Rattle.kw_world.specs.Marks.{least_mark}
+use Rattle.kw_world.specs.ReadTransitions.{gathering, list_key, list_met, list_past, rest_key, rest_of, row_read, scan_ended, scan_on, to_rest, with_pairs}
+use Rattle.kw_world.specs.Sizes.{Sizes, product}
+use Rattle.kw_world.specs.Step.{next_of, transition_of}
+use Rattle.kw_world.specs.Table.{transition}
+use Rattle.kw_world.specs.Transition.{to}
+use Rattle.kw_puts.proofs.Owners.{true_false}
+use Rattle.kw_table.specs.declared.pass.Pass.{Pass}
+use Rattle.kw_table.specs.declared.shared.Shared.{Shared}
+use Rattle.kw_table.specs.Passes.{view}
+use Rattle.kw_table.specs.Views.{local_in}
+use Rattle.kw_follow.specs.declared.cursor.Cursor.{Cursor}
+use Rattle.kw_follow.specs.Cursors.{forgetting, with_cursor}
+use Rattle.kw_follow.specs.Following.{CarriesOn, Follows}
+use Rattle.kw_follow.specs.Within.{IsAtRemembered}
+use Rattle.kw_live.specs.Reading.{ReadsOn, is_at_remembered, is_listing, is_reading_list}
+
+-- Where a reader is.
+
+-- at a cell that it remembers it still reads the row
+pub remembered_reads : (a : Activity) → is_at_remembered a ≡ true → is_reading_list a ≡ true
+remembered_reads RestKey u = refl
+remembered_reads RestVal u = refl
+remembered_reads _ u = true_false u refl
+
+-- and makes the event of such a cell
+pub remembered_at : (a : Activity) → is_at_remembered a ≡ true → IsAtRemembered a
+remembered_at RestKey u = tt
+remembered_at RestVal u = tt
+remembered_at _ u = true_false u refl
+
+-- where it is neither in the list nor at such a cell, it has read the row
+pub neither_reads : (a : Activity) → is_listing a ≡ false → is_at_remembered a ≡ false → is_reading_list a ≡ false
+neither_reads ListFrom u v = true_false refl u
+neither_reads ListKey u v = true_false refl u
+neither_reads ListVer u v = true_false refl u
+neither_reads ListVal u v = true_false refl u
+neither_reads RestKey u v = true_false refl v
+neither_reads RestVal u v = true_false refl v
+neither_reads _ u v = refl
+
+-- What leads out of the list, and not back to it.
+
+-- a scan at the end of a row
+scan_leaves : (next : Option ℕ) (upto : ℕ) (l : Local) → is_listing (scan_on next upto l).local.activity ≡ false
+scan_leaves None upto l = refl
+scan_leaves (Some r) upto l = met (nat_lt upto l.upper)
+  where
+    met : (b : Bool) → is_listing (if b then scan_ended l else to Walk (record l { row = r; lower = l.upper; want = l.upper; next = None; upper = 0 })).local.activity ≡ false
+    met true = refl
+    met false = refl
+
+-- any call at the end of a row
+row_leaves : (call : Option Call) (l : Local) → is_listing (row_read call l).local.activity ≡ false
+row_leaves (Some (Put key value)) l = refl
+row_leaves (Some (Del key)) l = refl
+row_leaves (Some (Get key)) l = refl
+row_leaves (Some (Scan from upto)) l = scan_leaves l.next upto (with_pairs upto l)
+row_leaves None l = refl
+
+-- a reader that goes on to what it remembers
+rest_leaves : (l : Local) → is_listing (to_rest l).local.activity ≡ false
+rest_leaves l = met (least_mark l.remembered)
+  where
+    met : (o : Option Mark) → is_listing (rest_of o l).local.activity ≡ false
+    met (Some m) = refl
+    met None = row_leaves l.call l
+
+-- one that was told the key of a remembered cell
+rest_key_leaves : (key : ℕ) (l : Local) → is_listing (rest_key key l).local.activity ≡ false
+rest_key_leaves key l = met (is_in_range l.call key)
+  where
+    met : (b : Bool) → is_listing (if b then to RestVal (record l { place_key = key }) else to_rest l).local.activity ≡ false
+    met true = refl
+    met false = rest_leaves l
+
+-- each event at such a cell
+event_leaves : (z : Sizes) (a : Activity) (k : Local) (rows told : ℕ) → is_at_remembered a ≡ true → is_listing ((transition z a 0 Go k).next rows told).local.activity ≡ false
+event_leaves z RestKey k rows told u = rest_key_leaves (key_of_word told) k
+event_leaves z RestVal k rows told u = rest_leaves (gathering z (value_of_word told) k)
+event_leaves z _ k rows told u = true_false u refl
+
+-- Code that follows.
+
+-- it made the event at a remembered cell
+pub remembered_over : (s : Shared) (p q : Pass) (l m : Local) (told : ℕ) → Follows s p l → Follows s q m → local_in (view q) ≡ (next_of product (view p).opening.rows Go (local_in (view p)) told).local → is_at_remembered l.activity ≡ true → is_listing m.activity ≡ false
+unfolding transition_of
+remembered_over s p q l m told f after seat at =
+    let k : Local = local_in (view p) in
+    ap (λ (x : Local). is_listing x.activity) after.carries
+    ∙ (ap (λ (x : Local). is_listing x.activity) seat
+    ∙ event_leaves product k.activity k (view p).opening.rows told (sym (ap (λ (x : Local). is_at_remembered x.activity) f.carries) ∙ at))
+
+-- a link led it to no cell
+pub link_over : (k m : Local) (cell : Option ℕ) → cell ≡ None → CarriesOn (list_met product cell) k m → is_listing m.activity ≡ false
+link_over k m cell none on =
+    let x : Local = record k { number = 0; pairs = [] } in
+    ap (λ (y : Local). is_listing y.activity) (on.carries 0 [])
+    ∙ (ap (λ (o : Option ℕ). is_listing (list_met product o x).local.activity) none
+    ∙ rest_leaves x)
+
+-- it was told a key above the range
+above_over : (k m : Local) (key : ℕ) → first_key k.call ≤ key → last_key k.call < key → CarriesOn (list_key key) k m → is_listing m.activity ≡ false
+above_over k m key from upto on =
+    let x : Local = record k { number = 0; pairs = [] } in
+    let lower : nat_lt key (first_key k.call) ≡ false = grind (arith) in
+    let higher : nat_le key (last_key k.call) ≡ false = grind (arith) in
+    ap (λ (y : Local). is_listing y.activity) (on.carries 0 [])
+    ∙ (ap (λ (b : Bool). is_listing (if b then list_past x else if nat_le key (last_key k.call) then to ListVer (record x { place_key = key }) else to_rest x).local.activity) lower
+    ∙ (ap (λ (b : Bool). is_listing (if b then to ListVer (record x { place_key = key }) else to_rest x).local.activity) higher
+    ∙ rest_leaves x))
+
+-- the same, of the local into which the cursor at that cell was written
+pub key_over : (l m k n : Local) (x : Cursor) (cell key word first last : ℕ) (call : Option Call) → m ≡ forgetting cell l → k ≡ with_cursor ListKey x m → l.call ≡ call → first ≡ first_key call → last ≡ last_key call → key ≡ key_of_word word → first ≤ key → last < key → CarriesOn (list_key (key_of_word word)) k n → is_listing n.activity ≡ false
+key_over l m k n x cell key word first last call left written same begins ends keyed from upto on =
+    let calls : k.call ≡ call = ap (λ (y : Local). y.call) written ∙ (ap (λ (y : Local). y.call) left ∙ same) in
+    above_over k n (key_of_word word)
+    (subst (λ (i : ℕ). i ≤ key_of_word word) (begins ∙ ap first_key (sym calls)) (subst (λ (i : ℕ). first ≤ i) keyed from))
+    (subst (λ (i : ℕ). i < key_of_word word) (ends ∙ ap last_key (sym calls)) (subst (λ (i : ℕ). last < i) keyed upto))
+    on
+
+-- What stays while a reader reads what it remembers: it has gone on since it came to the list, and is not in it any more.
+pub record IsOver (s : Shared) (o : Pass) (l : Local) (p : Pass) (m : Local) : Type 0 where
+  pub reads : ReadsOn s o l p m
+  pub over : is_listing m.activity ≡ false
