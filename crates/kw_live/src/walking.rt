@@ -8,7 +8,6 @@ ghost use Rattle.kw_live.specs.Meeting.{BeginsWith};
 ghost use Rattle.kw_live.specs.Stages.{arrived, guessing};
 ghost use Rattle.kw_live.specs.Walking.{IsUnderWay, WalksOn};
 
-use kw_core::stage::Stage;
 use kw_follow::{go_along, go_guess};
 use kw_table::{Pass, Shared};
 use kw_world::activity::Activity;
@@ -74,7 +73,22 @@ fn walk(shared: &Shared, pass: &mut Pass, local: &mut Local)
     ensures calls { KeepsCalls pass.old pass.new }
     ensures held { held pass.new ≡ held pass.old }
 {
-    while Stage::of(&local.activity).is_walking() {
+    while is_walking(&local.activity) {
         go_along(shared, pass, local);
+    }
+}
+
+// Whether the call is on its way along the rows. This is asked at each event, so it is no call of the core's `Stage`.
+#[inline(always)]
+fn is_walking(activity: &Activity) -> bool
+    ensures { result ≡ is_walking activity.now }
+{
+    match activity {
+        Activity::Start
+        | Activity::Head
+        | Activity::GuessMin
+        | Activity::Walk
+        | Activity::WalkMin => true,
+        _ => false,
     }
 }

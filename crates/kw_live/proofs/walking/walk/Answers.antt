@@ -1,11 +1,10 @@
-use Rattle.std.proofs.Common.{ap, ◌∙◌, sym}
-use Rattle.kw_core.specs.Stages.{is_walking_stage}
+use Rattle.std.proofs.Common.{◌∙◌, sym}
 use Rattle.kw_follow.proofs.OwnEvents.{goes_trans}
 use Rattle.kw_live.proofs.WalkStages.{walk_goes, walks_trans}
 use Rattle.kw_live.proofs.walking.walk.Goals as goal
 
 pub loop-pass-smaller : goal.loop-pass-smaller
-loop-pass-smaller c = (walk_goes _ _ _ _ _ _ _ c.go_along.ensures.goes c.go_along.ensures.met c.go_along.ensures.line (ap is_walking_stage (sym c.of.ensures) ∙ sym c.is_walking.ensures ∙ c.loop-pass-test.true)).fewer
+loop-pass-smaller c = (walk_goes _ _ _ _ _ _ _ c.go_along.ensures.goes c.go_along.ensures.met c.go_along.ensures.line (sym c.is_walking.ensures ∙ c.loop-pass-test.true)).fewer
 
 pub loop-pass-preserved : goal.loop-pass-preserved
 loop-pass-preserved c = record {
@@ -13,5 +12,5 @@ loop-pass-preserved c = record {
   follows = c.go_along.ensures.follows;
   calls = c.go_along.ensures.calls ∙ c.loop-pass.invariant.calls;
   held = c.go_along.ensures.held ∙ c.loop-pass.invariant.held;
-  walks = walks_trans _ _ _ c.loop-pass.invariant.walks (walk_goes _ _ _ _ _ _ _ c.go_along.ensures.goes c.go_along.ensures.met c.go_along.ensures.line (ap is_walking_stage (sym c.of.ensures) ∙ sym c.is_walking.ensures ∙ c.loop-pass-test.true)).walks;
+  walks = walks_trans _ _ _ c.loop-pass.invariant.walks (walk_goes _ _ _ _ _ _ _ c.go_along.ensures.goes c.go_along.ensures.met c.go_along.ensures.line (sym c.is_walking.ensures ∙ c.loop-pass-test.true)).walks;
 }
