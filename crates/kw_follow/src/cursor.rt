@@ -3,7 +3,7 @@
 //! A reader makes two events for each cell that it passes and four for each that it gathers. All that changes between them is how far it has come
 //! and which cell it has at hand. So code that goes along a list keeps these in a `Cursor`, which lies in registers, and leaves all else of
 //! the reader's local where it was: `with_cursor` says which local the two stand for. Once it has come to the end of the list or to a key above its
-//! range, it writes the cursor back, and goes on by `met_link` or `met_key`.
+//! range, it writes the cursor back, and goes on by `go_to_rest`.
 ghost use Rattle.std.specs.Prelude.{◌≡◌, ◌≤◌, unwrap_or};
 ghost use Rattle.kw_words.specs.Plain.{value_of_word, version_of_word};
 ghost use Rattle.kw_words.specs.declared.sizes.TheConstants.{CELLS};

@@ -29,4 +29,4 @@ pub use cursor::Cursor;
 pub use drawing::go_draw;
 pub use going::{begin, clear, end, go};
 pub use putting::go_put;
-pub use reading::{go_remembered, met_key, met_link};
+pub use reading::{go_remembered, go_to_rest};

@@ -5,10 +5,9 @@
 //! has no event of its own: it follows the one that ends the walk, or reads the last remembered cell. There the core keeps the pairs of a
 //! scan, which takes memory; code that follows a pass does not, so that it passes the end by itself here. All else of an event is the
 //! core's.
-ghost use Rattle.std.specs.Prelude.{◌≡◌, ◌≤◌};
-ghost use Rattle.kw_words.specs.Plain.{key_of_word, value_of_word, cell_of_link_word};
-ghost use Rattle.kw_words.specs.declared.sizes.TheConstants.{CELLS};
-ghost use Rattle.kw_world.specs.ReadTransitions.{get_answered, list_key, list_met, list_past, rest_key, row_read, row_scanned, to_rest, gathering};
+ghost use Rattle.std.specs.Prelude.{◌≡◌};
+ghost use Rattle.kw_words.specs.Plain.{key_of_word, value_of_word};
+ghost use Rattle.kw_world.specs.ReadTransitions.{get_answered, rest_key, row_read, row_scanned, to_rest, gathering};
 ghost use Rattle.kw_world.specs.Sizes.{product};
 ghost use Rattle.kw_world.specs.Step.{next_of};
 ghost use Rattle.kw_table.specs.Passes.{view, Makes};
@@ -20,13 +19,13 @@ ghost use Rattle.kw_follow.specs.Within.{IsAtRemembered};
 
 use kw_cells::in_order::first_fit;
 use kw_model::call::Call;
-use kw_step_put::reading::{gather, meet, pass_cell, take_remembered};
+use kw_step_put::reading::{gather, take_remembered};
 use kw_table::{Pass, Shared, load_key, load_value};
 use kw_words::layout::Name;
-use kw_words::plain::{unpack_cell_link, unpack_key};
+use kw_words::plain::unpack_key;
 use kw_world::activity::Activity;
 use kw_world::answer::Answer;
-use kw_world::calls::{first_key, is_in_range, last_key};
+use kw_world::calls::{first_key, is_in_range};
 use kw_world::event::Choice;
 use kw_world::limits::NEWEST;
 use kw_world::local::Local;
@@ -95,46 +94,6 @@ pub fn go_remembered(shared: &Shared, pass: &mut Pass, local: &mut Local) -> u64
 
 // What follows from the events.
 
-/// The reader was told the link at which it stands. Takes no memory.
-#[inline(always)]
-pub fn met_link(local: &mut Local, found: u64)
-    requires { local.old.walked ≤ CELLS }
-    ensures { CarriesOn (list_met product (cell_of_link_word found)) local.old local.new }
-{
-    match unpack_cell_link(found) {
-        Some(cell) => {
-            meet(local, cell);
-            local.activity = Activity::ListKey;
-        }
-        None => go_to_rest(local),
-    }
-}
-
-/// It was told the key of the cell that it met. Takes no memory.
-#[inline(always)]
-pub fn met_key(local: &mut Local, found: u64)
-    ensures { CarriesOn (list_key (key_of_word found)) local.old local.new }
-{
-    let key = unpack_key(found);
-    if key < first_key(local.call) {
-        go_on_past(local);
-    } else if key <= last_key(local.call) {
-        local.place_key = key;
-        local.activity = Activity::ListVer;
-    } else {
-        go_to_rest(local);
-    }
-}
-
-// The walk passes the cell that it met.
-#[inline(always)]
-fn go_on_past(local: &mut Local)
-    ensures { CarriesOn list_past local.old local.new }
-{
-    pass_cell(local);
-    local.activity = Activity::ListFrom;
-}
-
 // It was told the key of a remembered cell.
 fn left_key(local: &mut Local, found: u64)
     ensures { CarriesOn (rest_key (key_of_word found)) local.old local.new }
@@ -156,8 +115,8 @@ fn left_value(local: &mut Local, found: u64)
     go_to_rest(local);
 }
 
-// It goes on to a remembered cell that it did not meet, or the row is read.
-fn go_to_rest(local: &mut Local)
+/// The reader's walk along the list is over: it goes on to a cell that it remembers and did not meet, or the row is read. Takes no memory.
+pub fn go_to_rest(local: &mut Local)
     ensures { CarriesOn to_rest local.old local.new }
 {
     if take_remembered(local) {

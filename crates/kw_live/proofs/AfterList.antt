@@ -1,5 +1,5 @@
 -- Where a reader stands once it has left the list of its row: at a cell that it remembers, or past the row.
-use Rattle.std.proofs.Common.{arith, ◌≡◌, ℕ, ◌<◌, ◌≤◌, Bool, true, false, nat_lt, nat_le, if◌then◌else◌, Option, Some, None, [], refl, sym, ◌∙◌, ap, subst}
+use Rattle.std.proofs.Common.{◌≡◌, ℕ, Bool, true, false, nat_lt, if◌then◌else◌, Option, Some, None, [], refl, sym, ◌∙◌, ap}
 use Rattle.kw_words.specs.Plain.{key_of_word, value_of_word}
 use Rattle.kw_model.specs.declared.call.Call.{Call}
 use Rattle.kw_model.specs.declared.call.Call.TheVariants.{Put, Del, Get, Scan}
@@ -8,9 +8,9 @@ use Rattle.kw_world.specs.declared.activity.Activity.TheVariants.{Walk, ListFrom
 use Rattle.kw_world.specs.declared.event.Choice.TheVariants.{Go}
 use Rattle.kw_world.specs.declared.local.Local.{Local}
 use Rattle.kw_world.specs.declared.marks.Mark.{Mark}
-use Rattle.kw_world.specs.Calls.{first_key, last_key, is_in_range}
+use Rattle.kw_world.specs.Calls.{is_in_range}
 use Rattle.kw_world.specs.Marks.{least_mark}
-use Rattle.kw_world.specs.ReadTransitions.{gathering, list_key, list_met, list_past, rest_key, rest_of, row_read, scan_ended, scan_on, to_rest, with_pairs}
+use Rattle.kw_world.specs.ReadTransitions.{gathering, rest_key, rest_of, row_read, scan_ended, scan_on, to_rest, with_pairs}
 use Rattle.kw_world.specs.Sizes.{Sizes, product}
 use Rattle.kw_world.specs.Step.{next_of, transition_of}
 use Rattle.kw_world.specs.Table.{transition}
@@ -20,8 +20,6 @@ use Rattle.kw_table.specs.declared.pass.Pass.{Pass}
 use Rattle.kw_table.specs.declared.shared.Shared.{Shared}
 use Rattle.kw_table.specs.Passes.{view}
 use Rattle.kw_table.specs.Views.{local_in}
-use Rattle.kw_follow.specs.declared.cursor.Cursor.{Cursor}
-use Rattle.kw_follow.specs.Cursors.{forgetting, with_cursor}
 use Rattle.kw_follow.specs.Following.{CarriesOn, Follows}
 use Rattle.kw_follow.specs.Within.{IsAtRemembered}
 use Rattle.kw_live.specs.Reading.{ReadsOn, is_at_remembered, is_listing, is_reading_list}
@@ -102,33 +100,9 @@ remembered_over s p q l m told f after seat at =
     ∙ (ap (λ (x : Local). is_listing x.activity) seat
     ∙ event_leaves product k.activity k (view p).opening.rows told (sym (ap (λ (x : Local). is_at_remembered x.activity) f.carries) ∙ at))
 
--- a link led it to no cell
-pub link_over : (k m : Local) (cell : Option ℕ) → cell ≡ None → CarriesOn (list_met product cell) k m → is_listing m.activity ≡ false
-link_over k m cell none on =
-    let x : Local = record k { number = 0; pairs = [] } in
-    ap (λ (y : Local). is_listing y.activity) (on.carries 0 [])
-    ∙ (ap (λ (o : Option ℕ). is_listing (list_met product o x).local.activity) none
-    ∙ rest_leaves x)
-
--- it was told a key above the range
-above_over : (k m : Local) (key : ℕ) → first_key k.call ≤ key → last_key k.call < key → CarriesOn (list_key key) k m → is_listing m.activity ≡ false
-above_over k m key from upto on =
-    let x : Local = record k { number = 0; pairs = [] } in
-    let lower : nat_lt key (first_key k.call) ≡ false = grind (arith) in
-    let higher : nat_le key (last_key k.call) ≡ false = grind (arith) in
-    ap (λ (y : Local). is_listing y.activity) (on.carries 0 [])
-    ∙ (ap (λ (b : Bool). is_listing (if b then list_past x else if nat_le key (last_key k.call) then to ListVer (record x { place_key = key }) else to_rest x).local.activity) lower
-    ∙ (ap (λ (b : Bool). is_listing (if b then to ListVer (record x { place_key = key }) else to_rest x).local.activity) higher
-    ∙ rest_leaves x))
-
--- the same, of the local into which the cursor at that cell was written
-pub key_over : (l m k n : Local) (x : Cursor) (cell key word first last : ℕ) (call : Option Call) → m ≡ forgetting cell l → k ≡ with_cursor ListKey x m → l.call ≡ call → first ≡ first_key call → last ≡ last_key call → key ≡ key_of_word word → first ≤ key → last < key → CarriesOn (list_key (key_of_word word)) k n → is_listing n.activity ≡ false
-key_over l m k n x cell key word first last call left written same begins ends keyed from upto on =
-    let calls : k.call ≡ call = ap (λ (y : Local). y.call) written ∙ (ap (λ (y : Local). y.call) left ∙ same) in
-    above_over k n (key_of_word word)
-    (subst (λ (i : ℕ). i ≤ key_of_word word) (begins ∙ ap first_key (sym calls)) (subst (λ (i : ℕ). first ≤ i) keyed from))
-    (subst (λ (i : ℕ). i < key_of_word word) (ends ∙ ap last_key (sym calls)) (subst (λ (i : ℕ). last < i) keyed upto))
-    on
+-- its walk along the list is over
+pub rest_over : (k m : Local) → CarriesOn to_rest k m → is_listing m.activity ≡ false
+rest_over k m on = ap (λ (y : Local). is_listing y.activity) (on.carries 0 []) ∙ rest_leaves (record k { number = 0; pairs = [] })
 
 -- What stays while a reader reads what it remembers: it has gone on since it came to the list, and is not in it any more.
 pub record IsOver (s : Shared) (o : Pass) (l : Local) (p : Pass) (m : Local) : Type 0 where

@@ -1,5 +1,5 @@
 -- The events of a reader whose cursor goes along the list of its row: what follows it after each, and what they come to.
-use Rattle.std.proofs.Common.{arith, ◌≡◌, ℕ, ◌<◌, ◌≤◌, Some, unwrap_or, Bool, true, false, nat_lt, nat_le, if◌then◌else◌, Option, List, refl, sym, ◌∙◌, ap, subst}
+use Rattle.std.proofs.Common.{arith, ◌≡◌, ℕ, ◌<◌, ◌≤◌, Some, unwrap_or, Bool, true, false, nat_lt, nat_le, if◌then◌else◌, Option, None, List, refl, sym, ◌∙◌, ap, subst}
 use Rattle.kw_model.specs.declared.call.Call.{Call}
 use Rattle.kw_words.specs.Plain.{key_of_word, value_of_word, version_of_word, cell_of_link_word}
 use Rattle.kw_world.specs.declared.activity.Activity.TheVariants.{ListFrom, ListKey, ListVer, ListVal}
@@ -53,10 +53,18 @@ module _ {s : Shared} {p q : Pass} {told : ℕ} (l : Local) (w : Cursor) where
       (subst (λ (n : Local). ReadsOn s p (with_cursor ListFrom w l) q (with_cursor ListKey (reached cell w) n)) (sym left) (one_word f word after refl))
 
   -- it led to none: the walk is over
-  pub link_ended : (k m : Local) → k ≡ with_cursor ListFrom w l → CarriesOn (list_met product (cell_of_link_word told)) k m → Follows s p (with_cursor ListFrom w l) → ReadsWord s p (with_cursor ListFrom w l) told q → ReadsOn s p (with_cursor ListFrom w l) q m
-  link_ended k m written on f word =
-      let own : CarriesOn (list_met product (cell_of_link_word told)) (with_cursor ListFrom w l) m = subst (λ (n : Local). CarriesOn (list_met product (cell_of_link_word told)) n m) written on in
-      one_word f word (read_follows s p q (with_cursor ListFrom w l) m told ListFrom f word.makes refl own) refl
+  pub link_ended : (k m : Local) → k ≡ with_cursor ListFrom w l → cell_of_link_word told ≡ None → CarriesOn to_rest k m → Follows s p (with_cursor ListFrom w l) → ReadsWord s p (with_cursor ListFrom w l) told q → ReadsOn s p (with_cursor ListFrom w l) q m
+  link_ended k m written none on f word =
+      let x : ℕ → List (ℕ × ℕ) → Local = λ begun added. record (with_cursor ListFrom w l) { number = begun; pairs = added } in
+      let own : CarriesOn to_rest (with_cursor ListFrom w l) m = subst (λ (n : Local). CarriesOn to_rest n m) written on in
+      let after : Follows s q m =
+      read_follows s p q (with_cursor ListFrom w l) m told ListFrom f word.makes refl (record {
+        carries = λ begun added. own.carries begun added ∙ ap (λ o. carried (list_met product o (x begun added)).local) (sym none);
+        number = own.number;
+        pairs = own.pairs;
+      })
+      in
+      one_word f word after refl
 
   -- the key of the cell is below the range: it is passed
   pub key_below : (x : Cursor) → x ≡ past w → key_of_word told < first_key l.call → Follows s p (with_cursor ListKey w l) → ReadsWord s p (with_cursor ListKey w l) told q → ReadsOn s p (with_cursor ListKey w l) q (with_cursor ListFrom x l)
@@ -86,10 +94,24 @@ module _ {s : Shared} {p q : Pass} {told : ℕ} (l : Local) (w : Cursor) where
       subst (λ (y : Cursor). ReadsOn s p (with_cursor ListKey w l) q (with_cursor ListVer y l)) (sym is) (one_word f word after refl)
 
   -- it is above the range: the walk is over
-  pub key_above : (k m : Local) → k ≡ with_cursor ListKey w l → CarriesOn (list_key (key_of_word told)) k m → Follows s p (with_cursor ListKey w l) → ReadsWord s p (with_cursor ListKey w l) told q → ReadsOn s p (with_cursor ListKey w l) q m
-  key_above k m written on f word =
-      let own : CarriesOn (list_key (key_of_word told)) (with_cursor ListKey w l) m = subst (λ (n : Local). CarriesOn (list_key (key_of_word told)) n m) written on in
-      one_word f word (read_follows s p q (with_cursor ListKey w l) m told ListKey f word.makes refl own) refl
+  pub key_above : (k m : Local) (key : ℕ) → k ≡ with_cursor ListKey w l → key ≡ key_of_word told → first_key l.call ≤ key → last_key l.call < key → CarriesOn to_rest k m → Follows s p (with_cursor ListKey w l) → ReadsWord s p (with_cursor ListKey w l) told q → ReadsOn s p (with_cursor ListKey w l) q m
+  key_above k m key written keyed from upto on f word =
+      let x : ℕ → List (ℕ × ℕ) → Local = λ begun added. record (with_cursor ListKey w l) { number = begun; pairs = added } in
+      let own : CarriesOn to_rest (with_cursor ListKey w l) m = subst (λ (n : Local). CarriesOn to_rest n m) written on in
+      let above : nat_lt key (first_key l.call) ≡ false = grind (arith) in
+      let beyond : nat_le key (last_key l.call) ≡ false = grind (arith) in
+      let after : Follows s q m =
+      read_follows s p q (with_cursor ListKey w l) m told ListKey f word.makes refl (record {
+        carries = λ begun added.
+            own.carries begun added
+            ∙ (ap (λ (b : Bool). carried (if b then to ListVer (record (x begun added) { place_key = key }) else to_rest (x begun added)).local) (sym beyond)
+            ∙ (ap (λ (b : Bool). carried (if b then list_past (x begun added) else if nat_le key (last_key l.call) then to ListVer (record (x begun added) { place_key = key }) else to_rest (x begun added)).local) (sym above)
+            ∙ ap (λ n. carried (list_key n (x begun added)).local) keyed));
+        number = own.number;
+        pairs = own.pairs;
+      })
+      in
+      one_word f word after refl
 
   -- its version was told
   pub version_told : (x : Cursor) → x ≡ record w { version = unwrap_or (version_of_word told) 1 } → Follows s p (with_cursor ListVer w l) → ReadsWord s p (with_cursor ListVer w l) told q → ReadsOn s p (with_cursor ListVer w l) q (with_cursor ListVal x l)
@@ -129,8 +151,11 @@ module _ {s : Shared} {p q r : Pass} {link word : ℕ} (l m : Local) (w x : Curs
       let under : key ≤ last_key m.call = subst (λ n. key ≤ n) (bound_stays last_key upto call ends same) below in
       reads_trans s p q r _ _ _ refl led (key_within m x y key holds keyed over under led.follows second)
 
-  pub cell_above : (k n : Local) → k ≡ with_cursor ListKey x m → CarriesOn (list_key (key_of_word word)) k n → ReadsOn s p (with_cursor ListFrom w l) r n
-  cell_above k n written on = reads_trans s p q r _ _ _ refl led (key_above m x k n written on led.follows second)
+  pub cell_above : (k n : Local) (key from upto : ℕ) (call : Option Call) → k ≡ with_cursor ListKey x m → key ≡ key_of_word word → from ≡ first_key call → upto ≡ last_key call → l.call ≡ call → from ≤ key → upto < key → CarriesOn to_rest k n → ReadsOn s p (with_cursor ListFrom w l) r n
+  cell_above k n key from upto call written keyed begins ends same above beyond on =
+      let over : first_key m.call ≤ key = subst (λ n. n ≤ key) (bound_stays first_key from call begins same) above in
+      let under : last_key m.call < key = subst (λ n. n < key) (bound_stays last_key upto call ends same) beyond in
+      reads_trans s p q r _ _ _ refl led (key_above m x k n key written keyed over under on led.follows second)
 
 -- What stays while a cursor goes along the list.
 

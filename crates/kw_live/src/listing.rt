@@ -8,7 +8,7 @@ ghost use Rattle.kw_follow.specs.Cursors.{with_cursor};
 ghost use Rattle.kw_follow.specs.Following.{Follows};
 ghost use Rattle.kw_live.specs.Reading.{ReadsOn, is_listing};
 
-use kw_follow::{Cursor, met_key, met_link};
+use kw_follow::{Cursor, go_to_rest};
 use kw_table::{Pass, Shared};
 use kw_words::plain::{unpack_cell_link, unpack_key};
 use kw_world::activity::Activity;
@@ -30,7 +30,7 @@ pub(crate) fn read_listed(shared: &Shared, pass: &mut Pass, local: &mut Local)
         let link = cursor.load_link(shared, pass, local);
         let Some(cell) = unpack_cell_link(link) else {
             cursor.write(local, Activity::ListFrom);
-            met_link(local, link);
+            go_to_rest(local);
             return;
         };
         let met = cursor.reach(local, cell);
@@ -43,7 +43,7 @@ pub(crate) fn read_listed(shared: &Shared, pass: &mut Pass, local: &mut Local)
             cursor = gather_cell(shared, pass, local, ranged);
         } else {
             met.write(local, Activity::ListKey);
-            met_key(local, word);
+            go_to_rest(local);
             return;
         }
     }

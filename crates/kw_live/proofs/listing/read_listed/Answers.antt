@@ -1,20 +1,15 @@
-use Rattle.std.proofs.Common.{◌≤◌, refl, sym, ◌∙◌, subst}
-use Rattle.kw_words.specs.declared.sizes.TheConstants.{CELLS}
-use Rattle.kw_world.specs.declared.local.Local.{Local}
+use Rattle.std.proofs.Common.{refl, sym, ◌∙◌}
 use Rattle.kw_follow.proofs.OneEvent.{follows_ranges}
-use Rattle.kw_live.proofs.AfterList.{key_over, link_over}
+use Rattle.kw_live.proofs.AfterList.{rest_over}
 use Rattle.kw_live.proofs.CursorEvents.{cell_above, cell_passed, cell_within, link_ended, link_led, lists_on, lists_to}
 use Rattle.kw_live.proofs.ReadEvent.{reads_trans}
 use Rattle.kw_live.proofs.listing.read_listed.Goals as goal
 
-pub met_link-requires : goal.met_link-requires
-met_link-requires c = subst (λ (k : Local). k.walked ≤ CELLS) (sym c.write.ensures) (follows_ranges _ _ _ c.loop-cell.invariant.follows).walked
-
 pub returns-in_default-clause-reads : goal.returns-in_default-clause-reads
-returns-in_default-clause-reads c = lists_to c.loop-cell.invariant (link_ended c.loop-cell.local c.loop-cell.cursor _ _ c.write.ensures c.met_link.ensures c.loop-cell.invariant.follows c.load_link-link.ensures)
+returns-in_default-clause-reads c = lists_to c.loop-cell.invariant (link_ended c.loop-cell.local c.loop-cell.cursor _ _ c.write.ensures (sym c.unpack_cell_link.ensures.value ∙ c.in_default.is) c.go_to_rest.ensures c.loop-cell.invariant.follows c.load_link-link.ensures)
 
 pub returns-in_default-clause-over : goal.returns-in_default-clause-over
-returns-in_default-clause-over c = link_over _ _ _ (sym c.unpack_cell_link.ensures.value ∙ c.in_default.is) c.met_link.ensures
+returns-in_default-clause-over c = rest_over _ _ c.go_to_rest.ensures
 
 pub reach-met-requires : goal.reach-met-requires
 reach-met-requires c = (follows_ranges _ _ _ c.loop-cell.invariant.follows).walked
@@ -42,7 +37,7 @@ loop-cell-preserved c =
     lists_on c.loop-cell.invariant (reads_trans _ _ _ _ _ _ _ refl within c.gather_cell-cursor.ensures) refl
 
 pub returns-else-key-last-clause-reads : goal.returns-else-key-last-clause-reads
-returns-else-key-last-clause-reads c = lists_to c.loop-cell.invariant (cell_above c.loop-cell.local c.reach-met.new.local c.loop-cell.cursor c.reach-met.result _ c.reach-met.ensures.cursor c.reach-met.ensures.local (sym c.unpack_cell_link.ensures.value ∙ c.in-Some.is) c.loop-cell.invariant.follows c.load_link-link.ensures c.load_key-word.ensures _ _ c.write-else-key-last.ensures c.met_key.ensures)
+returns-else-key-last-clause-reads c = lists_to c.loop-cell.invariant (cell_above c.loop-cell.local c.reach-met.new.local c.loop-cell.cursor c.reach-met.result _ c.reach-met.ensures.cursor c.reach-met.ensures.local (sym c.unpack_cell_link.ensures.value ∙ c.in-Some.is) c.loop-cell.invariant.follows c.load_link-link.ensures c.load_key-word.ensures _ _ _ _ _ _ c.write-else-key-last.ensures c.unpack_key-key.ensures.value c.first_key-first.ensures c.last_key-last.ensures c.loop-cell.invariant.call c.if-key-first.false c.if-key-last.false c.go_to_rest-else-key-last.ensures)
 
 pub returns-else-key-last-clause-over : goal.returns-else-key-last-clause-over
-returns-else-key-last-clause-over c = key_over c.loop-cell.local c.reach-met.new.local _ _ c.reach-met.result _ _ _ _ _ _ c.reach-met.ensures.local c.write-else-key-last.ensures c.loop-cell.invariant.call c.first_key-first.ensures c.last_key-last.ensures c.unpack_key-key.ensures.value c.if-key-first.false c.if-key-last.false c.met_key.ensures
+returns-else-key-last-clause-over c = rest_over _ _ c.go_to_rest-else-key-last.ensures
