@@ -1,4 +1,4 @@
--- Where a reader's cursor is, and which local a cursor and the local that stays behind it stand for.
+-- Where the cursor of a reader or a put is, and which local a cursor and the local that stays behind it stand for.
 use Rattle.std.specs.Prelude.{◌≡◌, ℕ, Option, Some}
 use Rattle.kw_world.specs.declared.activity.Activity.{Activity}
 use Rattle.kw_world.specs.declared.activity.Activity.TheVariants.{ListVal}
@@ -18,7 +18,7 @@ use Rattle.kw_follow.specs.Calling.{KeepsCalls}
 use Rattle.kw_follow.specs.Following.{GoesTo}
 use Rattle.kw_follow.specs.OwnEvents.{MetAs}
 
--- the local of a reader at this activity whose cursor is here
+-- the local of a reader or a put at this activity whose cursor is here
 abbrev pub with_cursor : Activity → Cursor → Local → Local
 with_cursor a c l = record l { activity = a; row = c.row; link = c.link; place = c.place; walked = c.walked; place_key = c.key; place_version = c.version }
 
@@ -33,6 +33,10 @@ past c = record c { link = Some c.place }
 -- the cell need not be remembered any more
 abbrev pub forgetting : ℕ → Local → Local
 forgetting cell l = record l { remembered = unmarked cell l.remembered }
+
+-- the put holds what its link held, which is this cell
+abbrev pub holding : ℕ → Local → Local
+holding cell l = record l { held = Some cell }
 
 -- the cell at hand is gathered, with this value
 abbrev pub gathering_at : Cursor → Option ℕ → Local → Local

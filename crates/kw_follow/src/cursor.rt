@@ -1,13 +1,17 @@
-//! A reader's cursor along the list of its row, and the events by which it goes on.
+//! A cursor along the list of a row, and the events by which a reader, or a put that inserts its cell, goes on.
 //!
 //! A reader makes two events for each cell that it passes and four for each that it gathers. All that changes between them is how far it has come
 //! and which cell it has at hand. So code that goes along a list keeps these in a `Cursor`, which lies in registers, and leaves all else of
 //! the reader's local where it was: `with_cursor` says which local the two stand for. Once it has come to the end of the list or to a key above its
 //! range, it writes the cursor back, and goes on by `go_to_rest`.
+//!
+//! A put goes along the list in the same way, to where its own cell stands, by two events for each cell that it passes. It goes on from there by
+//! `meet_insert_link` or `meet_insert_key`.
 ghost use Rattle.std.specs.Prelude.{◌≡◌, ◌≤◌, unwrap_or};
 ghost use Rattle.kw_words.specs.Plain.{value_of_word, version_of_word};
 ghost use Rattle.kw_words.specs.declared.sizes.TheConstants.{CELLS};
-ghost use Rattle.kw_follow.specs.Cursors.{ReadsWord, forgetting, gathering_at, past, reached, with_cursor};
+ghost use Rattle.kw_table.specs.Passes.{Makes};
+ghost use Rattle.kw_follow.specs.Cursors.{ReadsWord, forgetting, gathering_at, holding, past, reached, with_cursor};
 ghost use Rattle.kw_follow.specs.Following.{Follows};
 
 use kw_cells::cell::Cell;
@@ -20,25 +24,25 @@ use kw_world::activity::Activity;
 use kw_world::event::Choice;
 use kw_world::local::Local;
 
-/// How far a reader has come along the list of its row, and the cell that it has at hand.
+/// How far a reader or a put has come along the list of its row, and the cell that it has at hand.
 #[derive(Clone, Copy, Debug, PartialEq, Eq)]
 pub struct Cursor {
     /// The row whose list it is.
     pub row: u32,
-    /// The cell after whose link the reader goes on; none at the row's first link.
+    /// The cell after whose link the walk goes on; none at the row's first link.
     pub link: Option<u32>,
     /// The cell at hand, which is the one that was met last.
     pub place: u32,
     /// How many cells were met, and never more than there are cells.
     pub walked: u32,
-    /// The key of the cell at hand, where it is in the range of the call.
+    /// The key of the cell at hand, where a reader has it in the range of its call.
     pub key: u32,
-    /// The version of the cell at hand, once it was loaded.
+    /// The version of the cell at hand, once a reader has loaded it.
     pub version: u64,
 }
 
 impl Cursor {
-    /// The cursor of a reader with this local.
+    /// The cursor of a reader or a put with this local.
     #[inline(always)]
     pub fn of(local: &Local) -> Cursor
         ensures { with_cursor local.now.activity result local.now ≡ local.now }
@@ -53,7 +57,7 @@ impl Cursor {
         }
     }
 
-    /// Writes the cursor back into the local of a reader that is at this activity.
+    /// Writes the cursor back into the local of a reader or a put that is at this activity.
     #[inline(always)]
     pub fn write(self, local: &mut Local, activity: Activity)
         ensures { local.new ≡ with_cursor activity self local.old }
@@ -81,6 +85,20 @@ impl Cursor {
         next
     }
 
+    /// The link led a put to this cell, and the put holds what the link held.
+    #[inline(always)]
+    pub fn meet(self, local: &mut Local, cell: u32) -> Cursor
+        requires { self.walked ≤ CELLS }
+        ensures cursor { result ≡ reached cell self }
+        ensures local { local.new ≡ holding cell local.old }
+    {
+        local.held = Some(cell);
+        let mut next = self;
+        next.place = cell;
+        next.walked = (self.walked + 1).min(CELL_COUNT);
+        next
+    }
+
     /// The cell at hand has this key.
     #[inline(always)]
     pub fn with_key(self, key: u32) -> Cursor
@@ -101,7 +119,7 @@ impl Cursor {
         next
     }
 
-    /// The reader goes on to the link after the cell at hand.
+    /// The walk goes on to the link after the cell at hand.
     #[inline(always)]
     pub fn past(self) -> Cursor
         ensures { result ≡ past self }
@@ -162,5 +180,25 @@ impl Cursor {
     {
         let value = Name::Value(self.row, self.place);
         load_value(shared, pass, Choice::Go, value)
+    }
+
+    /// Loads the link at which a put stands. The answer is what the event was told. Takes no memory.
+    #[inline(always)]
+    pub fn load_insert_link(self, shared: &Shared, pass: &mut Pass, local: &Local) -> u64
+        requires { Follows shared.now pass.old (with_cursor Activity.InsFrom self local.now) }
+        ensures { Makes shared.now pass.old Choice.Go result pass.new }
+    {
+        let link = link_name(self.row, self.link);
+        load_after(shared, pass, Choice::Go, link)
+    }
+
+    /// Loads the key of the cell that a put has at hand. The answer is what the event was told. Takes no memory.
+    #[inline(always)]
+    pub fn load_insert_key(self, shared: &Shared, pass: &mut Pass, local: &Local) -> u64
+        requires { Follows shared.now pass.old (with_cursor Activity.InsKey self local.now) }
+        ensures { Makes shared.now pass.old Choice.Go result pass.new }
+    {
+        let key = Name::Key(self.row, self.place);
+        load_key(shared, pass, Choice::Go, key)
     }
 }

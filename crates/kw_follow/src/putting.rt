@@ -1,9 +1,14 @@
 //! The events of a put at its row, each by its own step of the table.
 //!
 //! What the local does next says which step it is, and the core says what follows from the word that was found: nothing else is asked.
-//! A put makes nine events for its cell, and then goes along the row's list, with two or three events for each cell that it passes.
-ghost use Rattle.std.specs.Prelude.{◌≡◌, true};
+//! A put makes nine events for its cell, and then goes along the row's list, with two or three events for each cell that it passes. Code that
+//! passes many cells of lesser keys leaves the put's local as it is meanwhile and makes these events by a `Cursor`, as `cursor` says;
+//! `meet_insert_link` and `meet_insert_key` say what follows from the last of them.
+ghost use Rattle.std.specs.Prelude.{◌≡◌, ◌≤◌, true};
+ghost use Rattle.kw_words.specs.Plain.{cell_of_link_word, key_of_word};
+ghost use Rattle.kw_words.specs.declared.sizes.TheConstants.{CELLS};
 ghost use Rattle.kw_core.specs.Stages.{is_putting};
+ghost use Rattle.kw_world.specs.ListTransitions.{insert_from, insert_key};
 ghost use Rattle.kw_world.specs.Sizes.{product};
 ghost use Rattle.kw_world.specs.Step.{next_of};
 ghost use Rattle.kw_world.specs.Transition.{outcome};
@@ -29,7 +34,7 @@ use kw_words::plain::{pack_cell_link, pack_key, pack_value, pack_version};
 use kw_world::activity::Activity;
 use kw_world::answer::Answer;
 use kw_world::calls::{first_key, put_value};
-use kw_world::event::Choice;
+use kw_world::event::{Choice, StepDone};
 use kw_world::local::Local;
 
 // Loads the count of the row.
@@ -173,6 +178,23 @@ fn clear_entry(shared: &Shared, pass: &mut Pass, local: &mut Local) -> Happened
     let told = clear_pend(shared, pass, Choice::Go, entry, idle);
     let done = leave(local, Answer::Done);
     Happened { told, done }
+}
+
+/// The put was told the link at which it stands. Takes no memory.
+#[inline(always)]
+pub fn meet_insert_link(local: &mut Local, found: u64) -> StepDone
+    requires { local.old.walked ≤ CELLS }
+    ensures { outcome local.new result ≡ insert_from product (cell_of_link_word found) local.old }
+{
+    insert_from(local, found)
+}
+
+/// It was told the key of the cell that it met. Takes no memory.
+#[inline(always)]
+pub fn meet_insert_key(local: &mut Local, found: u64) -> StepDone
+    ensures { outcome local.new result ≡ insert_key (key_of_word found) local.old }
+{
+    insert_key(local, found)
 }
 
 // Loads the link at which the put stands.

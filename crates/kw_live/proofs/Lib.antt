@@ -2,6 +2,7 @@ pub mod ReadEvent
 pub mod ReadStages
 pub mod LookStages
 pub mod PutStages
+pub mod InsertStages
 pub mod WalkStages
 pub mod Drawing
 pub mod Starting

@@ -1,6 +1,6 @@
 -- How a put or a delete goes through its row, event by event: what it has found by then, and that each event takes it on.
 use Rattle.std.proofs.lemmas.Bool.Decides.{nat_tests}
-use Rattle.std.proofs.Common.{◌≡◌, ◌≢◌, ℕ, ◌+◌, ◌*◌, ◌-◌, ◌<◌, Bool, true, false, nat_lt, ◌==◌, if◌then◌else◌, Option, Some, None, unwrap_or, arith, refl, sym, ◌∙◌, ap, subst, inl, inr, eq-eqb}
+use Rattle.std.proofs.Common.{◌≡◌, ◌≢◌, ℕ, ◌<◌, Bool, true, false, nat_lt, ◌==◌, if◌then◌else◌, Option, Some, None, unwrap_or, arith, refl, sym, ◌∙◌, ap, subst, inl, inr, eq-eqb}
 use Rattle.kw_words.specs.declared.layout.Name.TheVariants as name
 use Rattle.kw_words.specs.declared.count.Count.{Count}
 use Rattle.kw_words.specs.declared.pend.Pend.{Pend}
@@ -37,6 +37,7 @@ use Rattle.kw_follow.specs.Calling.{KeepsCalls}
 use Rattle.kw_follow.specs.Following.{Follows, GoesTo, held}
 use Rattle.kw_follow.specs.OwnEvents.{Met, MetAs}
 use Rattle.kw_live.specs.Meeting.{IsFullCount, MetFull, TellsFull}
+use Rattle.kw_live.specs.Putting.{InsertsFurther, put_ahead}
 use Rattle.kw_core.specs.Stages.{is_putting}
 use Rattle.kw_follow.proofs.OwnEvents.{goes_trans, met_earlier}
 use Rattle.kw_follow.proofs.Fronts.{met_laws, met_local, met_told, met_row_below, local_at}
@@ -48,30 +49,6 @@ abbrev pub HasFound : Pass → Pass → Activity → Type 0
 HasFound p q (Leave Done) = Unit {0}
 HasFound p q BalClock = MetFull p q
 HasFound p q a = is_putting a ≡ true
-
--- how many events a put makes at most from one exchange that it loses to the next: to load a link, and the key and the version of the
--- cell that it meets there, for each cell; then to load the last link, to store its own, and to exchange
-abbrev pub each_walk : ℕ
-each_walk = 3 * CELLS + 4
-
--- how many events a put has yet to make at most, with so many cells met on its walk and so many exchanges lost. It meets fewer cells, and
--- loses fewer exchanges, than the row has cells
-abbrev pub put_ahead : Activity → ℕ → ℕ → ℕ
-put_ahead PutCount walked lost = CELLS * each_walk + each_walk + 8
-put_ahead PutAdd walked lost = CELLS * each_walk + each_walk + 7
-put_ahead PutKey walked lost = CELLS * each_walk + each_walk + 6
-put_ahead PutValue walked lost = CELLS * each_walk + each_walk + 5
-put_ahead Announce walked lost = CELLS * each_walk + each_walk + 4
-put_ahead PutClock walked lost = CELLS * each_walk + each_walk + 3
-put_ahead Stamp walked lost = CELLS * each_walk + each_walk + 2
-put_ahead PutVersion walked lost = CELLS * each_walk + each_walk + 1
-put_ahead InsFrom walked lost = (CELLS - lost) * each_walk + 3 * (CELLS - walked) + 4
-put_ahead InsKey walked lost = (CELLS - lost) * each_walk + 3 * (CELLS - walked) + 6
-put_ahead InsVer walked lost = (CELLS - lost) * each_walk + 3 * (CELLS - walked) + 5
-put_ahead InsSet walked lost = (CELLS - lost) * each_walk + 3
-put_ahead Insert walked lost = (CELLS - lost) * each_walk + 2
-put_ahead PutClear walked lost = 1
-put_ahead _ walked lost = 0
 
 -- What the events of a put find.
 
@@ -251,6 +228,24 @@ tries_on s o p q l m rows told t put goes follows calls held met line =
       fewer = on.fewer;
     }
 
--- two events, one after the other
-pub fewer_yet : (x y z : ℕ) → x < y → y < z → x < z
-fewer_yet x y z a b = omega (arith, a, b)
+-- a put that inserts its cell has found nothing yet by which its row is full
+inserting_found : (o q : Pass) (a : Activity) → IsInserting a → HasFound o q a
+inserting_found o q InsFrom i = refl
+inserting_found o q InsKey i = refl
+inserting_found o q InsVer i = refl
+inserting_found o q InsSet i = refl
+inserting_found o q Insert i = refl
+inserting_found o q _ i = absurd i
+
+-- so is it after the events of a walk along the list
+pub tries_further : (s : Shared) (o p q : Pass) (l m : Local) → IsTrying s o p l → InsertsFurther s p l q m → Tries s o q m (put_ahead l.activity l.walked l.lost)
+tries_further s o p q l m t more = record {
+  trying = record {
+    goes = goes_trans s o p q t.goes more.goes;
+    follows = more.follows;
+    calls = more.calls ∙ t.calls;
+    held = more.held ∙ t.held;
+    found = inserting_found o q m.activity more.inserting;
+  };
+  fewer = more.fewer;
+}

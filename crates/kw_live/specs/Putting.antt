@@ -1,11 +1,17 @@
--- How a put or a delete ends at its row.
-use Rattle.std.specs.Prelude.{◌≡◌, ℕ}
+-- How a put or a delete goes through its row, and how it ends there.
+use Rattle.std.specs.Prelude.{◌≡◌, ℕ, ◌+◌, ◌*◌, ◌-◌, ◌<◌}
+use Rattle.kw_words.specs.declared.sizes.TheConstants.{CELLS}
 use Rattle.kw_world.specs.declared.answer.Answer.TheVariants as answer
 use Rattle.kw_world.specs.declared.activity.Activity.{Activity}
-use Rattle.kw_world.specs.declared.activity.Activity.TheVariants.{BalClock, Leave}
+use Rattle.kw_world.specs.declared.activity.Activity.TheVariants.{PutCount, PutAdd, PutKey, PutValue, Announce, PutClock, Stamp, PutVersion, InsFrom, InsKey, InsVer, InsSet, Insert, PutClear, BalClock, Leave}
+use Rattle.kw_world.specs.declared.local.Local.{Local}
+use Rattle.kw_core.specs.Stages.{IsInserting}
+use Rattle.kw_follow.specs.Calling.{KeepsCalls}
+use Rattle.kw_follow.specs.Following.{Follows, GoesTo, held}
 use Rattle.kw_live.specs.declared.putting.TryPut.{TryPut}
 use Rattle.kw_live.specs.declared.putting.TryPut.TheVariants.{Done, RowFull}
 use Rattle.kw_table.specs.declared.pass.Pass.{Pass}
+use Rattle.kw_table.specs.declared.shared.Shared.{Shared}
 use Rattle.kw_live.specs.Meeting.{MetFull}
 
 -- where a put or a delete stands that ended so at its row
@@ -17,3 +23,36 @@ stands_after (RowFull row) = BalClock
 abbrev pub Tried : Pass → Pass → ℕ → TryPut → Type 0
 Tried p q row Done = Unit {0}
 Tried p q row (RowFull full) = (full ≡ row) × MetFull p q
+
+-- how many events a put makes at most from one exchange that it loses to the next: to load a link, and the key and the version of the
+-- cell that it meets there, for each cell; then to load the last link, to store its own, and to exchange
+abbrev pub each_walk : ℕ
+each_walk = 3 * CELLS + 4
+
+-- how many events a put has yet to make at most, with so many cells met on its walk and so many exchanges lost. It meets fewer cells, and
+-- loses fewer exchanges, than the row has cells
+abbrev pub put_ahead : Activity → ℕ → ℕ → ℕ
+put_ahead PutCount walked lost = CELLS * each_walk + each_walk + 8
+put_ahead PutAdd walked lost = CELLS * each_walk + each_walk + 7
+put_ahead PutKey walked lost = CELLS * each_walk + each_walk + 6
+put_ahead PutValue walked lost = CELLS * each_walk + each_walk + 5
+put_ahead Announce walked lost = CELLS * each_walk + each_walk + 4
+put_ahead PutClock walked lost = CELLS * each_walk + each_walk + 3
+put_ahead Stamp walked lost = CELLS * each_walk + each_walk + 2
+put_ahead PutVersion walked lost = CELLS * each_walk + each_walk + 1
+put_ahead InsFrom walked lost = (CELLS - lost) * each_walk + 3 * (CELLS - walked) + 4
+put_ahead InsKey walked lost = (CELLS - lost) * each_walk + 3 * (CELLS - walked) + 6
+put_ahead InsVer walked lost = (CELLS - lost) * each_walk + 3 * (CELLS - walked) + 5
+put_ahead InsSet walked lost = (CELLS - lost) * each_walk + 3
+put_ahead Insert walked lost = (CELLS - lost) * each_walk + 2
+put_ahead PutClear walked lost = 1
+put_ahead _ walked lost = 0
+
+-- a put has made events along its row's list, one or more. It still inserts its cell there, and has fewer to make
+pub record InsertsFurther (s : Shared) (p : Pass) (l : Local) (q : Pass) (m : Local) : Type 0 where
+  pub goes : GoesTo s p q
+  pub follows : Follows s q m
+  pub calls : KeepsCalls p q
+  pub held : held q ≡ held p
+  pub inserting : IsInserting m.activity
+  pub fewer : put_ahead m.activity m.walked m.lost < put_ahead l.activity l.walked l.lost

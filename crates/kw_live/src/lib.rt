@@ -10,6 +10,7 @@
 #![tactic(auto)]
 
 mod entering;
+mod inserting;
 mod listing;
 mod looking;
 mod putting;

@@ -1,10 +1,14 @@
 //! The events of a put or a delete at its row.
+//!
+//! The put asks for a cell, writes and announces it, stamps it, and inserts it in the list of the row. Each event is made by its own step, but for those
+//! by which it passes the cells of lesser keys: these are made in one loop, as `inserting` says.
 ghost use Rattle.std.specs.Prelude.{◌≡◌};
+ghost use Rattle.kw_core.specs.Stages.{is_putting};
 ghost use Rattle.kw_follow.specs.Calling.{KeepsCalls};
 ghost use Rattle.kw_follow.specs.Following.{Follows, GoesTo, held};
 ghost use Rattle.kw_live.specs.Putting.{Tried, stands_after};
 
-use kw_core::stage::Stage;
+use crate::inserting::pass_lesser;
 use kw_follow::go_put;
 use kw_table::{Pass, Shared};
 use kw_world::activity::Activity;
@@ -36,15 +40,40 @@ pub fn try_put(shared: &Shared, pass: &mut Pass, local: &mut Local) -> TryPut
     ensures held { held pass.new ≡ held pass.old }
 {
     let row = local.row;
-    while Stage::of(&local.activity).is_putting() {
-        go_put(shared, pass, local);
-        // Where it has met a cell it loads the key next. That this is known here spares it the question.
-        if let Activity::InsKey = local.activity {
-            go_put(shared, pass, local);
+    while is_putting(&local.activity) {
+        match local.activity {
+            Activity::InsFrom => pass_lesser(shared, pass, local),
+            _ => {
+                go_put(shared, pass, local);
+            }
         }
     }
     match &local.activity {
         Activity::Leave(_) => TryPut::Done,
         _ => TryPut::RowFull(row),
+    }
+}
+
+// Whether the put is at its row.
+#[inline(always)]
+fn is_putting(activity: &Activity) -> bool
+    ensures { result ≡ is_putting activity.now }
+{
+    match activity {
+        Activity::PutCount
+        | Activity::PutAdd
+        | Activity::PutKey
+        | Activity::PutValue
+        | Activity::Announce
+        | Activity::PutClock
+        | Activity::Stamp
+        | Activity::PutVersion
+        | Activity::InsFrom
+        | Activity::InsKey
+        | Activity::InsVer
+        | Activity::InsSet
+        | Activity::Insert
+        | Activity::PutClear => true,
+        _ => false,
     }
 }

@@ -1,6 +1,5 @@
-use Rattle.std.proofs.Common.{◌∙◌, ap, sym, subst}
+use Rattle.std.proofs.Common.{◌∙◌, subst}
 use Rattle.kw_world.specs.declared.activity.Activity.TheVariants.{Look}
-use Rattle.kw_world.specs.declared.local.Local.{Local}
 use Rattle.kw_follow.specs.Following.{Follows}
 use Rattle.kw_follow.proofs.PutEvents.{next_at}
 use Rattle.kw_follow.proofs.WayEvents.{entry_below, entry_room}

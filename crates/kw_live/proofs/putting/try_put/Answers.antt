@@ -1,36 +1,27 @@
 use Rattle.std.proofs.Common.{ap, ◌∙◌, refl, subst, sym}
 use Rattle.kw_world.specs.declared.activity.Activity.TheVariants.{Leave}
-use Rattle.kw_core.specs.Stages.{IsBusy, is_putting, is_putting_stage}
+use Rattle.kw_core.specs.Stages.{IsBusy}
 use Rattle.kw_follow.proofs.CallStays.{call_stays}
-use Rattle.kw_live.proofs.PutStages.{HasFound, fewer_yet, leaves_done, stands_full, tries_on}
+use Rattle.kw_live.proofs.PutStages.{HasFound, leaves_done, stands_full, tries_further, tries_on}
 use Rattle.kw_live.proofs.putting.try_put.Goals as goal
 
 pub go_put-requires-clause-putting : goal.go_put-requires-clause-putting
-go_put-requires-clause-putting c = ap is_putting_stage (sym c.of.ensures) ∙ sym c.is_putting.ensures ∙ c.loop-pass-test.true
+go_put-requires-clause-putting c = sym c.is_putting.ensures ∙ c.loop-pass-test.true
 
-pub go_put-requires-in-InsKey-clause-putting : goal.go_put-requires-in-InsKey-clause-putting
-go_put-requires-in-InsKey-clause-putting c = ap is_putting c.in-InsKey.is
+pub loop-pass-smaller-in-InsFrom : goal.loop-pass-smaller-in-InsFrom
+loop-pass-smaller-in-InsFrom c = (tries_further _ _ _ _ _ _ c.loop-pass.invariant c.pass_lesser.ensures).fewer
 
-pub loop-pass-smaller-in-InsKey : goal.loop-pass-smaller-in-InsKey
-loop-pass-smaller-in-InsKey c =
-    let one = tries_on _ _ _ _ _ _ _ _ c.loop-pass.invariant (ap is_putting_stage (sym c.of.ensures) ∙ sym c.is_putting.ensures ∙ c.loop-pass-test.true) c.go_put.ensures.goes c.go_put.ensures.follows c.go_put.ensures.calls c.go_put.ensures.held c.go_put.ensures.met c.go_put.ensures.line in
-    let two = tries_on _ _ _ _ _ _ _ _ one.trying (ap is_putting c.in-InsKey.is) c.go_put-in-InsKey.ensures.goes c.go_put-in-InsKey.ensures.follows c.go_put-in-InsKey.ensures.calls c.go_put-in-InsKey.ensures.held c.go_put-in-InsKey.ensures.met c.go_put-in-InsKey.ensures.line in
-    fewer_yet _ _ _ two.fewer one.fewer
-
-pub loop-pass-preserved-in-InsKey : goal.loop-pass-preserved-in-InsKey
-loop-pass-preserved-in-InsKey c =
-    let one = tries_on _ _ _ _ _ _ _ _ c.loop-pass.invariant (ap is_putting_stage (sym c.of.ensures) ∙ sym c.is_putting.ensures ∙ c.loop-pass-test.true) c.go_put.ensures.goes c.go_put.ensures.follows c.go_put.ensures.calls c.go_put.ensures.held c.go_put.ensures.met c.go_put.ensures.line in
-    let two = tries_on _ _ _ _ _ _ _ _ one.trying (ap is_putting c.in-InsKey.is) c.go_put-in-InsKey.ensures.goes c.go_put-in-InsKey.ensures.follows c.go_put-in-InsKey.ensures.calls c.go_put-in-InsKey.ensures.held c.go_put-in-InsKey.ensures.met c.go_put-in-InsKey.ensures.line in
-    two.trying
+pub loop-pass-preserved-in-InsFrom : goal.loop-pass-preserved-in-InsFrom
+loop-pass-preserved-in-InsFrom c = (tries_further _ _ _ _ _ _ c.loop-pass.invariant c.pass_lesser.ensures).trying
 
 pub loop-pass-smaller : goal.loop-pass-smaller
 loop-pass-smaller c =
-    let one = tries_on _ _ _ _ _ _ _ _ c.loop-pass.invariant (ap is_putting_stage (sym c.of.ensures) ∙ sym c.is_putting.ensures ∙ c.loop-pass-test.true) c.go_put.ensures.goes c.go_put.ensures.follows c.go_put.ensures.calls c.go_put.ensures.held c.go_put.ensures.met c.go_put.ensures.line in
+    let one = tries_on _ _ _ _ _ _ _ _ c.loop-pass.invariant (sym c.is_putting.ensures ∙ c.loop-pass-test.true) c.go_put.ensures.goes c.go_put.ensures.follows c.go_put.ensures.calls c.go_put.ensures.held c.go_put.ensures.met c.go_put.ensures.line in
     one.fewer
 
 pub loop-pass-preserved : goal.loop-pass-preserved
 loop-pass-preserved c =
-    let one = tries_on _ _ _ _ _ _ _ _ c.loop-pass.invariant (ap is_putting_stage (sym c.of.ensures) ∙ sym c.is_putting.ensures ∙ c.loop-pass-test.true) c.go_put.ensures.goes c.go_put.ensures.follows c.go_put.ensures.calls c.go_put.ensures.held c.go_put.ensures.met c.go_put.ensures.line in
+    let one = tries_on _ _ _ _ _ _ _ _ c.loop-pass.invariant (sym c.is_putting.ensures ∙ c.loop-pass-test.true) c.go_put.ensures.goes c.go_put.ensures.follows c.go_put.ensures.calls c.go_put.ensures.held c.go_put.ensures.met c.go_put.ensures.line in
     one.trying
 
 pub returns-in-Leave-clause-stands : goal.returns-in-Leave-clause-stands
@@ -41,7 +32,7 @@ returns-in-Leave-clause-call c = call_stays _ _ _ _ _ c.requires.follows c.loop-
 
 pub returns-in_default-activity : goal.returns-in_default-activity
 returns-in_default-activity c =
-    let full = stands_full c.args.pass.now c.loop-pass.pass _ c.loop-pass.invariant.found (ap is_putting_stage (sym c.of.ensures) ∙ sym c.is_putting.ensures ∙ c.loop-pass-test.false) c.in_default-activity.not-Leave in
+    let full = stands_full c.args.pass.now c.loop-pass.pass _ c.loop-pass.invariant.found (sym c.is_putting.ensures ∙ c.loop-pass-test.false) c.in_default-activity.not-Leave in
     record {
       goes = c.loop-pass.invariant.goes;
       follows = c.loop-pass.invariant.follows;

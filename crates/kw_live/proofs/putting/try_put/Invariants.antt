@@ -1,4 +1,5 @@
-use Rattle.kw_live.proofs.PutStages.{IsTrying, put_ahead}
+use Rattle.kw_live.specs.Putting.{put_ahead}
+use Rattle.kw_live.proofs.PutStages.{IsTrying}
 use Rattle.kw_live.proofs.putting.try_put.Given as goal
 
 abbrev pub invariant-loop-pass : goal.invariant-loop-pass

@@ -1,0 +1,185 @@
+-- How a put goes along the list of its row with its local left as it is: what follows each event, and what they come to.
+use Rattle.std.proofs.Common.{◌≡◌, ℕ, ◌<◌, ◌≤◌, Bool, true, false, nat_lt, ◌==◌, if◌then◌else◌, Option, Some, None, arith, refl, sym, ◌∙◌, ap, subst}
+use Rattle.std.proofs.lemmas.Bool.{lt-ltb}
+use Rattle.kw_model.specs.declared.call.Call.{Call}
+use Rattle.kw_words.specs.Plain.{cell_of_link_word, key_of_word}
+use Rattle.kw_world.specs.declared.activity.Activity.TheVariants.{InsFrom, InsKey, InsVer, InsSet}
+use Rattle.kw_world.specs.declared.event.Choice.TheVariants.{Go}
+use Rattle.kw_world.specs.declared.event.StepDone.{StepDone}
+use Rattle.kw_world.specs.declared.event.StepDone.TheVariants.{Moved}
+use Rattle.kw_world.specs.declared.local.Local.{Local}
+use Rattle.kw_world.specs.Calls.{first_key}
+use Rattle.kw_world.specs.ListTransitions.{insert_from, insert_key, insert_past}
+use Rattle.kw_world.specs.Sizes.{product}
+use Rattle.kw_world.specs.Step.{next_of}
+use Rattle.kw_world.specs.Transition.{Outcome, outcome, to}
+use Rattle.kw_core.specs.Stages.{IsInserting, is_putting}
+use Rattle.kw_table.specs.declared.pass.Pass.{Pass}
+use Rattle.kw_table.specs.declared.shared.Shared.{Shared}
+use Rattle.kw_table.specs.Passes.{view, Makes}
+use Rattle.kw_table.proofs.Prefixes.{prefix_self}
+use Rattle.kw_follow.specs.declared.cursor.Cursor.{Cursor}
+use Rattle.kw_follow.specs.Calling.{KeepsCalls}
+use Rattle.kw_follow.specs.Cursors.{holding, past, reached, with_cursor}
+use Rattle.kw_follow.specs.Following.{Follows, GoesTo, held}
+use Rattle.kw_follow.specs.Within.{IsWithinCall}
+use Rattle.kw_follow.proofs.Carrying.{IsGoingOn}
+use Rattle.kw_follow.proofs.Growing.{keeps}
+use Rattle.kw_follow.proofs.OneEvent.{Went, goes_in, goes_stay, went, went_follows, went_held, went_line, went_met, within_goes}
+use Rattle.kw_follow.proofs.OwnEvents.{goes_trans}
+use Rattle.kw_follow.proofs.PutEvents.{next_at, put_within}
+use Rattle.kw_follow.proofs.ReadEvents.{goes_by}
+use Rattle.kw_live.specs.Putting.{InsertsFurther, put_ahead}
+use Rattle.kw_live.proofs.PutStages.{put_goes}
+
+-- One event of a pass, and of code that follows it.
+
+-- a pass that makes no event
+stays : (s : Shared) (p : Pass) (l : Local) → Follows s p l → GoesTo s p p
+stays s p l f = record { of_table = f.of_table; number = refl; opening = refl; seen = prefix_self _ }
+
+module _ {s : Shared} {p q : Pass} {told : ℕ} (l m : Local) (done : StepDone) (f : Follows s p l) (makes : Makes s p Go told q) (put : is_putting l.activity ≡ true) (line : outcome m done ≡ next_of product s.opening.rows Go l told) where
+  -- code goes on by the table
+  went_on : Went s p q Go l m done told
+  went_on = went s p q Go l m done told s.opening.rows Go f makes refl refl line
+
+  -- it is in the middle of its call
+  within : IsWithinCall l.activity
+  within = put_within l.activity put
+
+  going : IsGoingOn l.activity
+  going = within_goes l.activity within
+
+  -- a put that still inserts its cell is further
+  pub inserts_by : IsInserting m.activity → InsertsFurther s p l q m
+  inserts_by inserting =
+      let goes = goes_by s p q Go told makes in
+      let on = put_goes s p p q l m (view p).opening.rows told (stays s p l f) goes (went_met went_on within) (went_line went_on going) put in
+      record {
+        goes = goes;
+        follows = went_follows went_on going;
+        calls = keeps makes (goes_stay _ (goes_in s p l f going));
+        held = went_held went_on going refl;
+        inserting = inserting;
+        fewer = on.fewer;
+      }
+
+-- The put still inserts its cell.
+
+-- once it was told a link
+from_link : (cell : Option ℕ) (l : Local) → IsInserting (insert_from product cell l).local.activity
+from_link (Some cell) l = tt
+from_link None l = tt
+
+-- once it was told a key
+from_key : (key : ℕ) (l : Local) → IsInserting (insert_key key l).local.activity
+from_key key l = met (nat_lt key (first_key l.call)) (key == first_key l.call)
+  where
+    met : (b c : Bool) → IsInserting (let x : Outcome = if b then insert_past l else if c then to InsVer l else to InsSet l in x).local.activity
+    met true c = tt
+    met false true = tt
+    met false false = tt
+
+-- One event, of a put whose cursor is here.
+
+module _ {s : Shared} {p q : Pass} {told : ℕ} (l : Local) (w : Cursor) where
+  -- the link led to a cell
+  pub link_met : (x : Cursor) (m : Local) (cell : ℕ) → x ≡ reached cell w → m ≡ holding cell l → cell_of_link_word told ≡ Some cell → Follows s p (with_cursor InsFrom w l) → Makes s p Go told q → InsertsFurther s p (with_cursor InsFrom w l) q (with_cursor InsKey x m)
+  link_met x m cell is left leads f makes =
+      let k : Local = with_cursor InsFrom w l in
+      let line : outcome (with_cursor InsKey (reached cell w) (holding cell l)) Moved ≡ insert_from product (cell_of_link_word told) k = ap (λ (o : Option ℕ). insert_from product o k) (sym leads) in
+      let on : InsertsFurther s p k q (with_cursor InsKey (reached cell w) (holding cell l)) = inserts_by k (with_cursor InsKey (reached cell w) (holding cell l)) Moved f makes refl (line ∙ next_at _ InsFrom k told refl) tt in
+      subst (λ (y : Cursor). InsertsFurther s p (with_cursor InsFrom w l) q (with_cursor InsKey y m)) (sym is)
+      (subst (λ (n : Local). InsertsFurther s p (with_cursor InsFrom w l) q (with_cursor InsKey (reached cell w) n)) (sym left) on)
+
+  -- the walk is left at the link
+  pub link_left : (k m : Local) (done : StepDone) → k ≡ with_cursor InsFrom w l → outcome m done ≡ insert_from product (cell_of_link_word told) k → Follows s p (with_cursor InsFrom w l) → Makes s p Go told q → InsertsFurther s p (with_cursor InsFrom w l) q m
+  link_left k m done written on f makes =
+      let line : outcome m done ≡ insert_from product (cell_of_link_word told) (with_cursor InsFrom w l) = on ∙ ap (λ (n : Local). insert_from product (cell_of_link_word told) n) written in
+      inserts_by (with_cursor InsFrom w l) m done f makes refl (line ∙ next_at _ InsFrom (with_cursor InsFrom w l) told refl)
+      (subst (λ (o : Outcome). IsInserting o.local.activity) (sym line) (from_link (cell_of_link_word told) (with_cursor InsFrom w l)))
+
+  -- the key of the cell is below the own one: it is passed
+  pub key_passed : (x : Cursor) → x ≡ past w → key_of_word told < first_key l.call → Follows s p (with_cursor InsKey w l) → Makes s p Go told q → InsertsFurther s p (with_cursor InsKey w l) q (with_cursor InsFrom x l)
+  key_passed x is below f makes =
+      let k : Local = with_cursor InsKey w l in
+      let line : outcome (with_cursor InsFrom (past w) l) Moved ≡ insert_key (key_of_word told) k =
+      ap (λ (b : Bool). let o : Outcome = if b then insert_past k else if key_of_word told == first_key k.call then to InsVer k else to InsSet k in o) (sym (lt-ltb (key_of_word told) (first_key l.call) below))
+      in
+      subst (λ (y : Cursor). InsertsFurther s p (with_cursor InsKey w l) q (with_cursor InsFrom y l)) (sym is)
+      (inserts_by k (with_cursor InsFrom (past w) l) Moved f makes refl (line ∙ next_at _ InsKey k told refl) tt)
+
+  -- the walk is left at the cell
+  pub key_left : (k m : Local) (done : StepDone) → k ≡ with_cursor InsKey w l → outcome m done ≡ insert_key (key_of_word told) k → Follows s p (with_cursor InsKey w l) → Makes s p Go told q → InsertsFurther s p (with_cursor InsKey w l) q m
+  key_left k m done written on f makes =
+      let line : outcome m done ≡ insert_key (key_of_word told) (with_cursor InsKey w l) = on ∙ ap (λ (n : Local). insert_key (key_of_word told) n) written in
+      inserts_by (with_cursor InsKey w l) m done f makes refl (line ∙ next_at _ InsKey (with_cursor InsKey w l) told refl)
+      (subst (λ (o : Outcome). IsInserting o.local.activity) (sym line) (from_key (key_of_word told) (with_cursor InsKey w l)))
+
+-- One event after the other.
+
+-- one walk, and then another one
+pub inserts_trans : {s : Shared} {p q r : Pass} (l m n : Local) → InsertsFurther s p l q m → InsertsFurther s q m r n → InsertsFurther s p l r n
+inserts_trans {s} {p} {q} {r} l m n a b = record {
+  goes = goes_trans s p q r a.goes b.goes;
+  follows = b.follows;
+  calls = b.calls ∙ a.calls;
+  held = b.held ∙ a.held;
+  inserting = b.inserting;
+  fewer = omega (arith, a.fewer, b.fewer);
+}
+
+-- A cell that the link led to.
+
+module _ {s : Shared} {p q r : Pass} {link word : ℕ} (l m : Local) (w x : Cursor) (cell : ℕ) (is : x ≡ reached cell w) (left : m ≡ holding cell l) (leads : cell_of_link_word link ≡ Some cell) (f : Follows s p (with_cursor InsFrom w l)) (first : Makes s p Go link q) (second : Makes s q Go word r) where
+  -- the put has met it
+  met : InsertsFurther s p (with_cursor InsFrom w l) q (with_cursor InsKey x m)
+  met = link_met l w x m cell is left leads f first
+
+  -- the call is as it was
+  call_stays : m.call ≡ l.call
+  call_stays = ap (λ (k : Local). k.call) left
+
+  -- it is passed
+  pub cell_passed : (y : Cursor) (key own : ℕ) (call : Option Call) → y ≡ past x → key ≡ key_of_word word → own ≡ first_key call → l.call ≡ call → key < own → InsertsFurther s p (with_cursor InsFrom w l) r (with_cursor InsFrom y m)
+  cell_passed y key own call passes keyed has same below =
+      let bound : own ≡ first_key m.call = has ∙ ap first_key (sym (call_stays ∙ same)) in
+      let under : key_of_word word < first_key m.call = subst (λ n. n < first_key m.call) keyed (subst (λ n. key < n) bound below) in
+      inserts_trans _ _ _ met (key_passed m x y passes under met.follows second)
+
+  -- the walk is left there
+  pub cell_left : (k n : Local) (done : StepDone) → k ≡ with_cursor InsKey x m → outcome n done ≡ insert_key (key_of_word word) k → InsertsFurther s p (with_cursor InsFrom w l) r n
+  cell_left k n done written on = inserts_trans _ _ _ met (key_left m x k n done written on met.follows second)
+
+-- What stays while a cursor goes along the list.
+
+pub record IsInsertingOn (s : Shared) (o : Pass) (l : Local) (p : Pass) (m : Local) : Type 0 where
+  pub goes : GoesTo s o p
+  pub follows : Follows s p m
+  pub calls : KeepsCalls o p
+  pub call : m.call ≡ l.call
+  pub held : held p ≡ held o
+  pub fewer : put_ahead m.activity m.walked m.lost ≤ put_ahead l.activity l.walked l.lost
+
+module _ {s : Shared} {o p q : Pass} {l m n : Local} (before : IsInsertingOn s o l p m) (more : InsertsFurther s p m q n) where
+  -- the walk goes on
+  pub inserts_on : n.call ≡ m.call → IsInsertingOn s o l q n
+  inserts_on same = record {
+    goes = goes_trans s o p q before.goes more.goes;
+    follows = more.follows;
+    calls = more.calls ∙ before.calls;
+    call = same ∙ before.call;
+    held = more.held ∙ before.held;
+    fewer = omega (arith, before.fewer, more.fewer);
+  }
+
+  -- the walk is over
+  pub inserts_to : InsertsFurther s o l q n
+  inserts_to = record {
+    goes = goes_trans s o p q before.goes more.goes;
+    follows = more.follows;
+    calls = more.calls ∙ before.calls;
+    held = more.held ∙ before.held;
+    inserting = more.inserting;
+    fewer = omega (arith, before.fewer, more.fewer);
+  }

@@ -1,0 +1,11 @@
+use Rattle.kw_world.specs.declared.activity.Activity.TheVariants.{InsFrom}
+use Rattle.kw_follow.specs.Cursors.{with_cursor}
+use Rattle.kw_live.specs.Putting.{put_ahead}
+use Rattle.kw_live.proofs.InsertStages.{IsInsertingOn}
+use Rattle.kw_live.proofs.inserting.pass_lesser.Given as goal
+
+abbrev pub invariant-loop-cell : goal.invariant-loop-cell
+invariant-loop-cell l = IsInsertingOn l.shared l.initial.pass l.initial.local l.pass (with_cursor InsFrom l.cursor l.local)
+
+abbrev pub decreases-loop-cell : goal.decreases-loop-cell
+decreases-loop-cell l = put_ahead InsFrom l.cursor.walked l.local.lost
