@@ -5,8 +5,9 @@
 //! follows the pass's seat; no call takes memory.
 //!
 //! `entering` begins calls, begins a put anew after a rebalance, gives a scan its version, and ends both; `walking` finds the row of a key;
-//! `putting` puts a cell into it, and `reading` reads it. Whoever stands above puts whole calls together from these, by their contracts, and
-//! knows no event.
+//! `putting` puts a cell into it, and `reading` reads it. The loops that take most of a call's time stand by themselves: `inserting` passes the
+//! cells of lesser keys for a put, `looking` looks at the entries of a row, and `listing` goes along its list. Whoever stands above puts whole
+//! calls together from these, by their contracts, and knows no event.
 #![tactic(auto)]
 
 mod entering;
