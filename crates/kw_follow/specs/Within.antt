@@ -1,4 +1,4 @@
--- The middle of a call, where in it a scan gets its version, and where a reader is at the cells that it remembers or at an entry.
+-- The middle of a call, where in it a scan gets its version, and where a reader is at the cells that it remembers or at an entry, and a call on its walk.
 use Rattle.std.specs.Prelude.{ℕ}
 use Rattle.kw_world.specs.declared.activity.Activity.{Activity}
 use Rattle.kw_world.specs.declared.activity.Activity.TheVariants.{Idle, Look, ScanClock, ScanWait, ScanDraw, ScanSettle, ListFrom, ListKey, ListVer, ListVal, RestKey, RestVal, ClearScan, Leave}
@@ -24,6 +24,10 @@ IsDrawing ScanWait = Unit {0}
 IsDrawing ScanDraw = Unit {0}
 IsDrawing ScanSettle = Unit {0}
 IsDrawing _ = ⊥
+
+-- the local of a call that is at this activity of its walk
+abbrev pub walking : Activity → Local → Local
+walking a l = record l { activity = a }
 
 -- the local of a reader that looks at the entry of this seat next
 abbrev pub looking : ℕ → Local → Local

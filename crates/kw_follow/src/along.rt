@@ -5,21 +5,23 @@
 //! row that it passes, and announces no epoch any more at its end; a reader looks at each entry of its row. What the local does next says which
 //! step it is, as in `putting`; every other event is put together in `going`.
 ghost use Rattle.std.specs.Prelude.{◌≡◌, ◌<◌, true, false, length};
+ghost use Rattle.kw_words.specs.Link.{link_of};
 ghost use Rattle.kw_words.specs.Pend.{pend_of};
+ghost use Rattle.kw_words.specs.Plain.{key_of_word};
 ghost use Rattle.kw_words.specs.declared.sizes.TheConstants.{SEATS};
 ghost use Rattle.kw_core.specs.Events.{is_call_in_range};
 ghost use Rattle.kw_world.specs.Local.{resting};
 ghost use Rattle.kw_world.specs.ReadTransitions.{look_met};
 ghost use Rattle.kw_world.specs.Sizes.{product};
 ghost use Rattle.kw_world.specs.Step.{next_of};
-ghost use Rattle.kw_world.specs.Transition.{outcome};
-ghost use Rattle.kw_world.specs.WalkTransitions.{offered};
+ghost use Rattle.kw_world.specs.Transition.{outcome, row_linked};
+ghost use Rattle.kw_world.specs.WalkTransitions.{link_met, offered, walk_min};
 ghost use Rattle.kw_world.specs.declared.event.StepDone.TheVariants.{Moved};
 ghost use Rattle.kw_table.specs.Passes.{view, IsPassOf, Makes};
 ghost use Rattle.kw_follow.specs.Calling.{KeepsCalls};
 ghost use Rattle.kw_follow.specs.Following.{Follows, GoesTo, activity_in, held};
 ghost use Rattle.kw_follow.specs.OwnEvents.{MetAs, MetOnly};
-ghost use Rattle.kw_follow.specs.Within.{IsWithinCall, looking};
+ghost use Rattle.kw_follow.specs.Within.{IsWithinCall, looking, walking};
 
 use crate::going::{Happened, event, go};
 use kw_model::call::Call;
@@ -141,7 +143,45 @@ fn load_guessed_least(shared: &Shared, pass: &mut Pass, local: &mut Local) -> Ha
     Happened { told, done }
 }
 
-// Loads the link after the row.
+/// Loads the link after the row, for a call that walks along the rows. The answer is what the event was told, and `meet_row_link` says what
+/// follows. Takes no memory.
+#[inline(always)]
+pub fn load_row_link(shared: &Shared, pass: &mut Pass, local: &Local) -> u64
+    requires { Follows shared.now pass.old (walking Activity.Walk local.now) }
+    ensures { Makes shared.now pass.old Choice.Go result pass.new }
+{
+    let word = Name::Next(local.row);
+    load_link(shared, pass, Choice::Go, word)
+}
+
+/// The call was told the link after its row. Takes no memory.
+#[inline(always)]
+pub fn meet_row_link(local: &mut Local, found: u64) -> StepDone
+    ensures { outcome local.new result ≡ link_met (row_linked (link_of found)) local.old }
+{
+    link(local, found)
+}
+
+/// Loads the least key of the row to which that link led. The answer is what the event was told, and `meet_row_least` says what follows. Takes no
+/// memory.
+#[inline(always)]
+pub fn load_row_least(shared: &Shared, pass: &mut Pass, local: &Local) -> u64
+    requires { Follows shared.now pass.old (walking Activity.WalkMin local.now) }
+    ensures { Makes shared.now pass.old Choice.Go result pass.new }
+{
+    let word = Name::Min(local.candidate);
+    load_min(shared, pass, Choice::Go, word)
+}
+
+/// The call was told the least key of that row. Takes no memory.
+#[inline(always)]
+pub fn meet_row_least(local: &mut Local, found: u64) -> StepDone
+    ensures { outcome local.new result ≡ walk_min (key_of_word found) local.old }
+{
+    walk_min(local, found)
+}
+
+// Goes on by the link after the row.
 #[inline(always)]
 fn load_next_row(shared: &Shared, pass: &mut Pass, local: &mut Local) -> Happened
     requires follows { Follows shared.now pass.old local.old }
@@ -150,13 +190,12 @@ fn load_next_row(shared: &Shared, pass: &mut Pass, local: &mut Local) -> Happene
     ensures line { outcome local.new result.done ≡ next_of product shared.now.opening.rows Choice.Go
         local.old result.told }
 {
-    let word = Name::Next(local.row);
-    let told = load_link(shared, pass, Choice::Go, word);
-    let done = link(local, told);
+    let told = load_row_link(shared, pass, local);
+    let done = meet_row_link(local, told);
     Happened { told, done }
 }
 
-// Loads the least key of the row after it.
+// Goes on by the least key of the row after it.
 #[inline(always)]
 fn load_least_key(shared: &Shared, pass: &mut Pass, local: &mut Local) -> Happened
     requires follows { Follows shared.now pass.old local.old }
@@ -165,9 +204,8 @@ fn load_least_key(shared: &Shared, pass: &mut Pass, local: &mut Local) -> Happen
     ensures line { outcome local.new result.done ≡ next_of product shared.now.opening.rows Choice.Go
         local.old result.told }
 {
-    let word = Name::Min(local.candidate);
-    let told = load_min(shared, pass, Choice::Go, word);
-    let done = walk_min(local, told);
+    let told = load_row_least(shared, pass, local);
+    let done = meet_row_least(local, told);
     Happened { told, done }
 }
 
@@ -263,5 +301,23 @@ pub fn go_guess(shared: &Shared, pass: &mut Pass, local: &mut Local, row: u32) -
         return go(shared, pass, local, Choice::Guess(row));
     }
     let happened = load_guessed_state(shared, pass, local, row);
+    happened.told
+}
+
+/// Loads the least key of a guessed row that is in use, as `go_along` does where the call tries a guessed row. The answer is what the event was told.
+/// Takes no memory.
+#[inline(always)]
+pub fn go_guess_min(shared: &Shared, pass: &mut Pass, local: &mut Local) -> u64
+    requires follows { Follows shared.now pass.old local.old }
+    requires guessing { local.old.activity ≡ Activity.GuessMin }
+    ensures goes { GoesTo shared.now pass.old pass.new }
+    ensures follows { Follows shared.now pass.new local.new }
+    ensures line { outcome local.new Moved ≡ next_of product (view pass.old).opening.rows Choice.Go
+        local.old result }
+    ensures met { MetAs pass.old pass.new local.old Choice.Go result }
+    ensures calls { KeepsCalls pass.old pass.new }
+    ensures held { held pass.new ≡ held pass.old }
+{
+    let happened = load_guessed_least(shared, pass, local);
     happened.told
 }

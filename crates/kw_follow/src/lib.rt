@@ -23,7 +23,10 @@ mod putting;
 mod reading;
 mod writing;
 
-pub use along::{go_along, go_guess, load_entry, meet_entry};
+pub use along::{
+    go_along, go_guess, go_guess_min, load_entry, load_row_least, load_row_link, meet_entry,
+    meet_row_least, meet_row_link,
+};
 pub use building::go_build;
 pub use cursor::Cursor;
 pub use drawing::go_draw;

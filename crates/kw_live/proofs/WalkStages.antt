@@ -1,5 +1,5 @@
 -- How a walk goes from row to row: each of its events takes it on, and the least keys that it knows rise.
-use Rattle.std.proofs.Common.{◌≡◌, ℕ, ◌+◌, ◌*◌, ◌-◌, ◌<◌, Bool, true, false, nat_le, nat_lt, if◌then◌else◌, Option, Some, None, arith, refl, sym, ◌∙◌, ap, subst, inl, inr}
+use Rattle.std.proofs.Common.{◌≡◌, ℕ, ◌+◌, ◌*◌, ◌-◌, ◌<◌, ◌≤◌, Bool, true, false, nat_le, nat_lt, if◌then◌else◌, Option, Some, None, arith, refl, sym, ◌∙◌, ap, subst, inl, inr}
 use Rattle.kw_words.specs.declared.layout.Name.TheVariants as name
 use Rattle.kw_words.specs.Link.{link_of}
 use Rattle.kw_words.specs.Plain.{key_of_word}
@@ -12,11 +12,12 @@ use Rattle.kw_world.specs.declared.activity.Activity.{Activity}
 use Rattle.kw_world.specs.declared.activity.Activity.TheVariants.{Start, Head, GuessMin, Walk, WalkMin}
 use Rattle.kw_world.specs.declared.event.Choice.{Choice}
 use Rattle.kw_world.specs.declared.event.Choice.TheVariants.{Go, Guess}
+use Rattle.kw_world.specs.declared.event.StepDone.{StepDone}
 use Rattle.kw_world.specs.declared.event.StepDone.TheVariants.{Moved}
 use Rattle.kw_world.specs.declared.local.Local.{Local}
 use Rattle.kw_core.specs.Stages.{is_walking}
 use Rattle.kw_world.specs.Transition.{Outcome, outcome, to, row_linked, row_or_first}
-use Rattle.kw_world.specs.WalkTransitions.{arrive, guess_met, link_met, offered}
+use Rattle.kw_world.specs.WalkTransitions.{arrive, guess_met, link_met, offered, walk_min}
 use Rattle.kw_world.specs.Sizes.{product}
 use Rattle.kw_world.specs.Step.{next_of, transition_of, word}
 use Rattle.kw_world.specs.Table.{transition}
@@ -25,24 +26,22 @@ use Rattle.kw_core.proofs.Arrows.{at_most}
 use Rattle.kw_puts.proofs.Owners.{true_false}
 use Rattle.kw_table.specs.declared.pass.Pass.{Pass}
 use Rattle.kw_table.specs.declared.shared.Shared.{Shared}
-use Rattle.kw_table.specs.Passes.{view}
-use Rattle.kw_table.proofs.Prefixes.{prefix_trans}
+use Rattle.kw_table.specs.Passes.{view, Makes}
+use Rattle.kw_table.proofs.Prefixes.{prefix_self, prefix_trans}
 use Rattle.kw_follow.specs.Calling.{KeepsCalls}
 use Rattle.kw_follow.specs.Following.{Follows, GoesTo, held}
 use Rattle.kw_follow.specs.OwnEvents.{Met, MetAs}
+use Rattle.kw_follow.specs.Within.{IsWithinCall, walking}
+use Rattle.kw_follow.proofs.Carrying.{IsGoingOn}
+use Rattle.kw_follow.proofs.Growing.{keeps}
+use Rattle.kw_follow.proofs.OneEvent.{Went, goes_in, goes_stay, went, went_follows, went_held, went_line, went_met, within_goes}
+use Rattle.kw_follow.proofs.OwnEvents.{goes_trans}
+use Rattle.kw_follow.proofs.PutEvents.{next_at}
+use Rattle.kw_follow.proofs.ReadEvents.{goes_by}
 use Rattle.kw_live.specs.Meeting.{BeginsWith}
 use Rattle.kw_live.specs.Stages.{arrived, guessing}
-use Rattle.kw_live.specs.Walking.{IsUnderWay, WalksOn}
+use Rattle.kw_live.specs.Walking.{IsUnderWay, WalksFurther, WalksOn, walk_ahead, walks_ahead}
 use Rattle.kw_follow.proofs.Fronts.{met_laws, met_local, met_told, local_at}
-
--- how many events a walk has yet to make at most, by the least key that it knows and the key that it wants
-abbrev pub walk_ahead : Activity → ℕ → ℕ → ℕ
-walk_ahead Start lower want = 2 * (want + 1) + 5
-walk_ahead GuessMin lower want = 2 * (want + 1) + 4
-walk_ahead Head lower want = 2 * (want + 1) + 3
-walk_ahead Walk lower want = 2 * (want + 1 - lower) + 2
-walk_ahead WalkMin lower want = 2 * (want + 1 - lower) + 1
-walk_ahead _ lower want = 0
 
 -- the event took the walk on, and it has fewer to make
 pub record Climbs (l m : Local) (ahead : ℕ) : Type 0 where
@@ -140,6 +139,68 @@ walks_trans l m n a b = record {
   stage = subst (λ c. IsUnderWay c n.activity) a.call b.stage;
 }
 
+-- One event of a pass, and of code that follows it.
+
+-- a call that walks is in the middle
+walking_within : (a : Activity) → is_walking a ≡ true → IsWithinCall a
+walking_within Start u = tt
+walking_within Head u = tt
+walking_within GuessMin u = tt
+walking_within Walk u = tt
+walking_within WalkMin u = tt
+walking_within _ u = true_false u refl
+
+module _ {s : Shared} {p q : Pass} {told : ℕ} (l m : Local) (done : StepDone) (f : Follows s p l) (makes : Makes s p Go told q) (u : is_walking l.activity ≡ true) (line : outcome m done ≡ next_of product s.opening.rows Go l told) where
+  -- code goes on by the table
+  went_on : Went s p q Go l m done told
+  went_on = went s p q Go l m done told s.opening.rows Go f makes refl refl line
+
+  within : IsWithinCall l.activity
+  within = walking_within l.activity u
+
+  going : IsGoingOn l.activity
+  going = within_goes l.activity within
+
+  pub walks_by : WalksFurther s p l q m
+  walks_by =
+      let goes = goes_by s p q Go told makes in
+      let climbed = walk_goes s p q l m (view p).opening.rows told goes (went_met went_on within) (went_line went_on going) u in
+      record {
+        goes = goes;
+        follows = went_follows went_on going;
+        calls = keeps makes (goes_stay _ (goes_in s p l f going));
+        held = went_held went_on going refl;
+        walks = climbed.walks;
+        fewer = climbed.fewer;
+      }
+
+-- The events by which a walk goes from row to row.
+
+module _ {s : Shared} {p q : Pass} {told : ℕ} (l : Local) where
+  -- the link led to a row
+  pub link_led : (r : ℕ) → row_linked (link_of told) ≡ Some r → Follows s p (walking Walk l) → Makes s p Go told q → WalksFurther s p (walking Walk l) q (walking WalkMin (record l { candidate = r }))
+  link_led r leads f makes =
+      walks_by (walking Walk l) (walking WalkMin (record l { candidate = r })) Moved f makes refl
+      (ap (λ o. link_met o (walking Walk l)) (sym leads) ∙ next_at _ Walk (walking Walk l) told refl)
+
+  -- what follows from a link that was told
+  pub link_told : (m : Local) (done : StepDone) → outcome m done ≡ link_met (row_linked (link_of told)) (walking Walk l) → Follows s p (walking Walk l) → Makes s p Go told q → WalksFurther s p (walking Walk l) q m
+  link_told m done line f makes = walks_by (walking Walk l) m done f makes refl (line ∙ next_at _ Walk (walking Walk l) told refl)
+
+  -- the row's least key is not above the wanted one: it is taken
+  pub row_taken : (key : ℕ) → key ≡ key_of_word told → key ≤ l.want → Follows s p (walking WalkMin l) → Makes s p Go told q → WalksFurther s p (walking WalkMin l) q (walking Walk (record l { row = l.candidate; lower = key }))
+  row_taken key keyed serves f makes =
+      let under : key_of_word told ≤ l.want = subst (λ n. n ≤ l.want) keyed serves in
+      let below : nat_le (key_of_word told) l.want ≡ true = grind (arith) in
+      subst (λ n. WalksFurther s p (walking WalkMin l) q (walking Walk (record l { row = l.candidate; lower = n }))) (sym keyed)
+      (walks_by (walking WalkMin l) (walking Walk (record l { row = l.candidate; lower = key_of_word told })) Moved f makes refl
+      (ap (λ (b : Bool). let o : Outcome = if b then to Walk (record (walking WalkMin l) { row = l.candidate; lower = key_of_word told }) else arrive l.call (record (walking WalkMin l) { next = Some l.candidate; upper = key_of_word told }) in o) (sym below)
+      ∙ next_at _ WalkMin (walking WalkMin l) told refl))
+
+  -- what follows from a least key that was told
+  pub least_told : (m : Local) (done : StepDone) → outcome m done ≡ walk_min (key_of_word told) (walking WalkMin l) → Follows s p (walking WalkMin l) → Makes s p Go told q → WalksFurther s p (walking WalkMin l) q m
+  least_told m done line f makes = walks_by (walking WalkMin l) m done f makes refl (line ∙ next_at _ WalkMin (walking WalkMin l) told refl)
+
 -- What stays through all events of a walk.
 pub record IsWalkingOn (s : Shared) (o : Pass) (l : Local) (p : Pass) (m : Local) : Type 0 where
   pub goes : GoesTo s o p
@@ -147,6 +208,52 @@ pub record IsWalkingOn (s : Shared) (o : Pass) (l : Local) (p : Pass) (m : Local
   pub calls : KeepsCalls o p
   pub held : held p ≡ held o
   pub walks : WalksOn l m
+  pub fewer : walks_ahead m ≤ walks_ahead l
+
+-- a walk that begins to go from row to row
+pub begins_walking : (s : Shared) (p : Pass) (l : Local) → Follows s p l → l.activity ≡ Walk → IsWalkingOn s p l p (walking Walk l)
+begins_walking s p l f is = record {
+  goes = record { of_table = f.of_table; number = refl; opening = refl; seen = prefix_self _ };
+  follows = subst (λ (a : Activity). Follows s p (walking a l)) is f;
+  calls = refl;
+  held = refl;
+  walks = record { call = refl; want = refl; version = refl; has_read = refl; stage = inl refl };
+  fewer = subst (λ (a : Activity). walk_ahead Walk l.lower l.want ≤ walk_ahead a l.lower l.want) (sym is) (omega (arith));
+}
+
+-- two parts of a walk
+pub further_trans : (s : Shared) (p q r : Pass) (l m n : Local) → WalksFurther s p l q m → WalksFurther s q m r n → WalksFurther s p l r n
+further_trans s p q r l m n a b = record {
+  goes = goes_trans s p q r a.goes b.goes;
+  follows = b.follows;
+  calls = b.calls ∙ a.calls;
+  held = b.held ∙ a.held;
+  walks = walks_trans l m n a.walks b.walks;
+  fewer = omega (arith, a.fewer, b.fewer);
+}
+
+module _ {s : Shared} {o p q : Pass} {l m n : Local} (before : IsWalkingOn s o l p m) (more : WalksFurther s p m q n) where
+  -- a part more, after which the walk may go on
+  pub walking_on : IsWalkingOn s o l q n
+  walking_on = record {
+    goes = goes_trans s o p q before.goes more.goes;
+    follows = more.follows;
+    calls = more.calls ∙ before.calls;
+    held = more.held ∙ before.held;
+    walks = walks_trans l m n before.walks more.walks;
+    fewer = omega (arith, before.fewer, more.fewer);
+  }
+
+  -- all of it together
+  pub walked_on : WalksFurther s o l q n
+  walked_on = record {
+    goes = goes_trans s o p q before.goes more.goes;
+    follows = more.follows;
+    calls = more.calls ∙ before.calls;
+    held = more.held ∙ before.held;
+    walks = walks_trans l m n before.walks more.walks;
+    fewer = omega (arith, before.fewer, more.fewer);
+  }
 
 -- what a pass began with it has begun with later too
 pub begins_on : (s : Shared) (p q r : Pass) (c : Choice) → GoesTo s q r → BeginsWith p q c → BeginsWith p r c

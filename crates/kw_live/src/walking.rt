@@ -1,15 +1,21 @@
 //! The walk along the rows to the one whose range holds a key.
 ghost use Rattle.std.specs.Prelude.{◌≡◌, true, Some};
+ghost use Rattle.kw_words.specs.Link.{link_of};
+ghost use Rattle.kw_world.specs.Transition.{row_linked};
 ghost use Rattle.kw_core.specs.Stages.{is_walking};
 ghost use Rattle.kw_table.specs.Passes.{view};
 ghost use Rattle.kw_follow.specs.Calling.{KeepsCalls};
 ghost use Rattle.kw_follow.specs.Following.{Follows, GoesTo, held};
 ghost use Rattle.kw_live.specs.Meeting.{BeginsWith};
 ghost use Rattle.kw_live.specs.Stages.{arrived, guessing};
-ghost use Rattle.kw_live.specs.Walking.{IsUnderWay, WalksOn};
+ghost use Rattle.kw_live.specs.Walking.{IsUnderWay, WalksFurther, WalksOn};
 
-use kw_follow::{go_along, go_guess};
+use kw_follow::{
+    go_along, go_guess, go_guess_min, load_row_least, load_row_link, meet_row_least, meet_row_link,
+};
 use kw_table::{Pass, Shared};
+use kw_words::link::Link;
+use kw_words::plain::unpack_key;
 use kw_world::activity::Activity;
 use kw_world::local::Local;
 
@@ -74,7 +80,65 @@ fn walk(shared: &Shared, pass: &mut Pass, local: &mut Local)
     ensures held { held pass.new ≡ held pass.old }
 {
     while is_walking(&local.activity) {
-        go_along(shared, pass, local);
+        walk_on(shared, pass, local);
+    }
+}
+
+// The events from row to row, or the next one of a call that tries a guessed row or begins at the first one.
+#[inline(always)]
+fn walk_on(shared: &Shared, pass: &mut Pass, local: &mut Local)
+    requires follows { Follows shared.now pass.old local.old }
+    requires walking { is_walking local.old.activity ≡ true }
+    ensures { WalksFurther shared.now pass.old local.old pass.new local.new }
+{
+    match local.activity {
+        Activity::Walk => pass_rows(shared, pass, local),
+        Activity::GuessMin => {
+            go_guess_min(shared, pass, local);
+        }
+        _ => {
+            go_along(shared, pass, local);
+        }
+    }
+}
+
+// Goes from row to row, up to the one whose range holds the wanted key. Of the local the row and its least key are brought up alone, where the walk
+// passes a row.
+#[inline(always)]
+fn pass_rows(shared: &Shared, pass: &mut Pass, local: &mut Local)
+    requires follows { Follows shared.now pass.old local.old }
+    requires activity { local.old.activity ≡ Activity.Walk }
+    ensures { WalksFurther shared.now pass.old local.old pass.new local.new }
+{
+    loop {
+        let link = load_row_link(shared, pass, local);
+        let Some(row) = linked(link) else {
+            local.activity = Activity::Walk;
+            meet_row_link(local, link);
+            return;
+        };
+        local.candidate = row;
+        let least = load_row_least(shared, pass, local);
+        let key = unpack_key(least);
+        if key <= local.want {
+            local.row = row;
+            local.lower = key;
+        } else {
+            local.activity = Activity::WalkMin;
+            meet_row_least(local, least);
+            return;
+        }
+    }
+}
+
+// The row that a link leads to.
+#[inline(always)]
+fn linked(found: u64) -> Option<u32>
+    ensures { result ≡ row_linked (link_of found) }
+{
+    match Link::unpack(found) {
+        Some(link) => link.row,
+        None => None,
     }
 }
 

@@ -1,10 +1,12 @@
-use Rattle.std.proofs.Common.{◌∙◌}
+use Rattle.std.proofs.Common.{◌∙◌, subst}
 use Rattle.kw_world.specs.declared.activity.Activity.TheVariants.{WalkMin}
-use Rattle.kw_follow.proofs.PutEvents.{asks_at, next_at}
+use Rattle.kw_follow.specs.Following.{Follows}
+use Rattle.kw_follow.specs.Within.{walking}
+use Rattle.kw_follow.proofs.PutEvents.{next_at}
 use Rattle.kw_follow.proofs.along.load_least_key.Goals as goal
 
-pub load_min-told-requires : goal.load_min-told-requires
-load_min-told-requires c = asks_at _ _ c.args.local.now WalkMin c.requires.follows c.requires.activity tt
+pub load_row_least-told-requires : goal.load_row_least-told-requires
+load_row_least-told-requires c = subst (λ a. Follows c.args.shared.now c.args.pass.now (walking a c.args.local.now)) c.requires.activity c.requires.follows
 
 pub returns-clause-line : goal.returns-clause-line
-returns-clause-line c = c.walk_min-done.ensures ∙ next_at _ WalkMin c.args.local.now _ c.requires.activity
+returns-clause-line c = c.meet_row_least-done.ensures ∙ next_at _ WalkMin c.args.local.now _ c.requires.activity

@@ -1,10 +1,12 @@
-use Rattle.std.proofs.Common.{◌∙◌}
+use Rattle.std.proofs.Common.{◌∙◌, subst}
 use Rattle.kw_world.specs.declared.activity.Activity.TheVariants.{Walk}
-use Rattle.kw_follow.proofs.PutEvents.{asks_at, next_at}
+use Rattle.kw_follow.specs.Following.{Follows}
+use Rattle.kw_follow.specs.Within.{walking}
+use Rattle.kw_follow.proofs.PutEvents.{next_at}
 use Rattle.kw_follow.proofs.along.load_next_row.Goals as goal
 
-pub load_link-told-requires : goal.load_link-told-requires
-load_link-told-requires c = asks_at _ _ c.args.local.now Walk c.requires.follows c.requires.activity tt
+pub load_row_link-told-requires : goal.load_row_link-told-requires
+load_row_link-told-requires c = subst (λ a. Follows c.args.shared.now c.args.pass.now (walking a c.args.local.now)) c.requires.activity c.requires.follows
 
 pub returns-clause-line : goal.returns-clause-line
-returns-clause-line c = c.link-done.ensures ∙ next_at _ Walk c.args.local.now _ c.requires.activity
+returns-clause-line c = c.meet_row_link-done.ensures ∙ next_at _ Walk c.args.local.now _ c.requires.activity
