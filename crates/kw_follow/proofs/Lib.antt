@@ -13,3 +13,4 @@ pub mod CallStays
 pub mod OwnEvents
 pub mod WayEvents
 pub mod BuildEvents
+pub mod RestingCall

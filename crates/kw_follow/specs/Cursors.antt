@@ -1,5 +1,6 @@
 -- Where the cursor of a reader or a put is, and which local a cursor and the local that stays behind it stand for.
-use Rattle.std.specs.Prelude.{◌≡◌, ℕ, Option, Some}
+use Rattle.std.specs.Prelude.{◌≡◌, ℕ, Option, Some, None}
+use Rattle.kw_cells.specs.declared.cell.Cell.{Cell}
 use Rattle.kw_world.specs.declared.activity.Activity.{Activity}
 use Rattle.kw_world.specs.declared.activity.Activity.TheVariants.{ListVal}
 use Rattle.kw_world.specs.declared.event.Choice.TheVariants.{Go}
@@ -22,6 +23,10 @@ use Rattle.kw_follow.specs.OwnEvents.{MetAs}
 abbrev pub with_cursor : Activity → Cursor → Local → Local
 with_cursor a c l = record l { activity = a; row = c.row; link = c.link; place = c.place; walked = c.walked; place_key = c.key; place_version = c.version }
 
+-- the cursor of a reader at the first link of this row's list
+abbrev pub first_of : ℕ → Cursor
+first_of row = record { row = row; link = None; place = 0; walked = 0; key = 0; version = 1 }
+
 -- the link led to this cell
 abbrev pub reached : ℕ → Cursor → Cursor
 reached cell c = record c { place = cell; walked = one_more product c.walked }
@@ -37,6 +42,10 @@ forgetting cell l = record l { remembered = unmarked cell l.remembered }
 -- the put holds what its link held, which is this cell
 abbrev pub holding : ℕ → Local → Local
 holding cell l = record l { held = Some cell }
+
+-- the cell at hand, with this value
+abbrev pub cell_at : Cursor → Option ℕ → Cell
+cell_at c value = record { key = c.key; place = c.place; version = c.version; value = value }
 
 -- the cell at hand is gathered, with this value
 abbrev pub gathering_at : Cursor → Option ℕ → Local → Local

@@ -3,3 +3,4 @@ pub mod Calling
 pub mod OwnEvents
 pub mod Within
 pub mod Cursors
+pub mod Ways

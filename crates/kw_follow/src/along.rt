@@ -143,15 +143,14 @@ fn load_guessed_least(shared: &Shared, pass: &mut Pass, local: &mut Local) -> Ha
     Happened { told, done }
 }
 
-/// Loads the link after the row, for a call that walks along the rows. The answer is what the event was told, and `meet_row_link` says what
-/// follows. Takes no memory.
+/// Loads the link after this row, for a call that walks along the rows and stands at it. The answer is what the event was told, and `meet_row_link`
+/// says what follows. Takes no memory.
 #[inline(always)]
-pub fn load_row_link(shared: &Shared, pass: &mut Pass, local: &Local) -> u64
-    requires { Follows shared.now pass.old (walking Activity.Walk local.now) }
+pub fn load_row_link(shared: &Shared, pass: &mut Pass, row: u32) -> u64
+    requires { (l : Local) × Follows shared.now pass.old (walking Activity.Walk l) × (l.row ≡ row) }
     ensures { Makes shared.now pass.old Choice.Go result pass.new }
 {
-    let word = Name::Next(local.row);
-    load_link(shared, pass, Choice::Go, word)
+    load_link(shared, pass, Choice::Go, Name::Next(row))
 }
 
 /// The call was told the link after its row. Takes no memory.
@@ -165,12 +164,12 @@ pub fn meet_row_link(local: &mut Local, found: u64) -> StepDone
 /// Loads the least key of the row to which that link led. The answer is what the event was told, and `meet_row_least` says what follows. Takes no
 /// memory.
 #[inline(always)]
-pub fn load_row_least(shared: &Shared, pass: &mut Pass, local: &Local) -> u64
-    requires { Follows shared.now pass.old (walking Activity.WalkMin local.now) }
+pub fn load_row_least(shared: &Shared, pass: &mut Pass, row: u32) -> u64
+    requires { (l : Local) × Follows shared.now pass.old (walking Activity.WalkMin l)
+        × (l.candidate ≡ row) }
     ensures { Makes shared.now pass.old Choice.Go result pass.new }
 {
-    let word = Name::Min(local.candidate);
-    load_min(shared, pass, Choice::Go, word)
+    load_min(shared, pass, Choice::Go, Name::Min(row))
 }
 
 /// The call was told the least key of that row. Takes no memory.
@@ -190,7 +189,7 @@ fn load_next_row(shared: &Shared, pass: &mut Pass, local: &mut Local) -> Happene
     ensures line { outcome local.new result.done ≡ next_of product shared.now.opening.rows Choice.Go
         local.old result.told }
 {
-    let told = load_row_link(shared, pass, local);
+    let told = load_row_link(shared, pass, local.row);
     let done = meet_row_link(local, told);
     Happened { told, done }
 }
@@ -204,20 +203,19 @@ fn load_least_key(shared: &Shared, pass: &mut Pass, local: &mut Local) -> Happen
     ensures line { outcome local.new result.done ≡ next_of product shared.now.opening.rows Choice.Go
         local.old result.told }
 {
-    let told = load_row_least(shared, pass, local);
+    let told = load_row_least(shared, pass, local.candidate);
     let done = meet_row_least(local, told);
     Happened { told, done }
 }
 
-/// Loads the entry of this seat, for a reader that looks at it next. The answer is what the event was told, and `meet_entry` says what
-/// follows. So code that looks at many entries at which nothing is announced leaves its local as it is meanwhile. Takes no memory.
+/// Loads the entry of this seat in the reader's row, for a reader that looks at it next. The answer is what the event was told, and `meet_entry`
+/// says what follows. So code that looks at many entries at which nothing is announced leaves its local as it is meanwhile. Takes no memory.
 #[inline(always)]
-pub fn load_entry(shared: &Shared, pass: &mut Pass, local: &Local, entry: u32) -> u64
-    requires { Follows shared.now pass.old (looking entry local.now) }
+pub fn load_entry(shared: &Shared, pass: &mut Pass, row: u32, entry: u32) -> u64
+    requires { (l : Local) × Follows shared.now pass.old (looking entry l) × (l.row ≡ row) }
     ensures { Makes shared.now pass.old Choice.Go result pass.new }
 {
-    let word = Name::Pend(local.row, entry);
-    load_pend(shared, pass, Choice::Go, word)
+    load_pend(shared, pass, Choice::Go, Name::Pend(row, entry))
 }
 
 /// The reader was told the entry of this seat. Takes no memory.
@@ -239,7 +237,7 @@ fn look_at_entry(shared: &Shared, pass: &mut Pass, local: &mut Local, entry: u32
     ensures line { outcome local.new result.done ≡ next_of product shared.now.opening.rows Choice.Go
         local.old result.told }
 {
-    let told = load_entry(shared, pass, local, entry);
+    let told = load_entry(shared, pass, local.row, entry);
     let done = meet_entry(local, entry, told);
     Happened { told, done }
 }

@@ -7,11 +7,11 @@
 //!
 //! A put goes along the list in the same way, to where its own cell stands, by two events for each cell that it passes. It goes on from there by
 //! `meet_insert_link` or `meet_insert_key`.
-ghost use Rattle.std.specs.Prelude.{◌≡◌, ◌≤◌, unwrap_or};
+ghost use Rattle.std.specs.Prelude.{◌≡◌, ◌<◌, unwrap_or};
 ghost use Rattle.kw_words.specs.Plain.{value_of_word, version_of_word};
 ghost use Rattle.kw_words.specs.declared.sizes.TheConstants.{CELLS};
 ghost use Rattle.kw_table.specs.Passes.{Makes};
-ghost use Rattle.kw_follow.specs.Cursors.{ReadsWord, forgetting, gathering_at, holding, past, reached, with_cursor};
+ghost use Rattle.kw_follow.specs.Cursors.{ReadsWord, cell_at, first_of, gathering_at, holding, past, reached, with_cursor};
 ghost use Rattle.kw_follow.specs.Following.{Follows};
 
 use kw_cells::cell::Cell;
@@ -19,7 +19,6 @@ use kw_step_put::operation::link_name;
 use kw_table::{Pass, Shared, load_after, load_key, load_value, load_version};
 use kw_words::layout::Name;
 use kw_words::plain::{unpack_value, unpack_version};
-use kw_words::sizes::CELL_COUNT;
 use kw_world::activity::Activity;
 use kw_world::event::Choice;
 use kw_world::local::Local;
@@ -42,6 +41,21 @@ pub struct Cursor {
 }
 
 impl Cursor {
+    /// The cursor of a reader that stands at the first link of this row's list, and has met no cell.
+    #[inline(always)]
+    pub fn first(row: u32) -> Cursor
+        ensures { result ≡ first_of row }
+    {
+        Cursor {
+            row,
+            link: None,
+            place: 0,
+            walked: 0,
+            key: 0,
+            version: 1,
+        }
+    }
+
     /// The cursor of a reader or a put with this local.
     #[inline(always)]
     pub fn of(local: &Local) -> Cursor
@@ -71,31 +85,29 @@ impl Cursor {
         local.place_version = self.version;
     }
 
-    /// The link led to this cell, which is not remembered any more.
+    /// The link led to this cell. The walk has met fewer cells than there are.
     #[inline(always)]
-    pub fn reach(self, local: &mut Local, cell: u32) -> Cursor
-        requires { self.walked ≤ CELLS }
-        ensures cursor { result ≡ reached cell self }
-        ensures local { local.new ≡ forgetting cell local.old }
+    pub fn reach(self, cell: u32) -> Cursor
+        requires { self.walked < CELLS }
+        ensures { result ≡ reached cell self }
     {
-        local.remembered.forget(cell);
         let mut next = self;
         next.place = cell;
-        next.walked = (self.walked + 1).min(CELL_COUNT);
+        next.walked = self.walked + 1;
         next
     }
 
-    /// The link led a put to this cell, and the put holds what the link held.
+    /// The link led a put to this cell, and the put holds what the link held. The walk has met fewer cells than there are.
     #[inline(always)]
     pub fn meet(self, local: &mut Local, cell: u32) -> Cursor
-        requires { self.walked ≤ CELLS }
+        requires { self.walked < CELLS }
         ensures cursor { result ≡ reached cell self }
         ensures local { local.new ≡ holding cell local.old }
     {
         local.held = Some(cell);
         let mut next = self;
         next.place = cell;
-        next.walked = (self.walked + 1).min(CELL_COUNT);
+        next.walked = self.walked + 1;
         next
     }
 
@@ -129,24 +141,33 @@ impl Cursor {
         next
     }
 
+    /// The cell at hand, of which a reader has loaded the key and the version and was told this value.
+    #[inline(always)]
+    pub fn cell(self, found: u64) -> Cell
+        ensures { result ≡ cell_at self (value_of_word found) }
+    {
+        Cell {
+            key: self.key,
+            place: self.place,
+            version: self.version,
+            value: unpack_value(found),
+        }
+    }
+
     /// The reader was told the value of the cell at hand, which is gathered. Takes no memory.
     #[inline(always)]
     pub fn gather(self, local: &mut Local, found: u64)
         ensures { local.new ≡ gathering_at self (value_of_word found) local.old }
     {
-        local.gathered.gather(Cell {
-            key: self.key,
-            place: self.place,
-            version: self.version,
-            value: unpack_value(found),
-        });
+        local.gathered.gather(self.cell(found));
     }
 
     /// Loads the link at which the reader stands. The answer is what the event was told. Takes no memory.
     #[inline(always)]
-    pub fn load_link(self, shared: &Shared, pass: &mut Pass, local: &Local) -> u64
-        requires { Follows shared.now pass.old (with_cursor Activity.ListFrom self local.now) }
-        ensures { ReadsWord shared.now pass.old (with_cursor Activity.ListFrom self local.now) result pass.new }
+    pub fn load_link(self, shared: &Shared, pass: &mut Pass) -> u64
+        requires { (l : Local) × Follows shared.now pass.old (with_cursor Activity.ListFrom self l) }
+        ensures { (l : Local) → Follows shared.now pass.old (with_cursor Activity.ListFrom self l) →
+            ReadsWord shared.now pass.old (with_cursor Activity.ListFrom self l) result pass.new }
     {
         let link = link_name(self.row, self.link);
         load_after(shared, pass, Choice::Go, link)
@@ -154,9 +175,10 @@ impl Cursor {
 
     /// Loads the key of the cell at hand. The answer is what the event was told. Takes no memory.
     #[inline(always)]
-    pub fn load_key(self, shared: &Shared, pass: &mut Pass, local: &Local) -> u64
-        requires { Follows shared.now pass.old (with_cursor Activity.ListKey self local.now) }
-        ensures { ReadsWord shared.now pass.old (with_cursor Activity.ListKey self local.now) result pass.new }
+    pub fn load_key(self, shared: &Shared, pass: &mut Pass) -> u64
+        requires { (l : Local) × Follows shared.now pass.old (with_cursor Activity.ListKey self l) }
+        ensures { (l : Local) → Follows shared.now pass.old (with_cursor Activity.ListKey self l) →
+            ReadsWord shared.now pass.old (with_cursor Activity.ListKey self l) result pass.new }
     {
         let key = Name::Key(self.row, self.place);
         load_key(shared, pass, Choice::Go, key)
@@ -164,9 +186,10 @@ impl Cursor {
 
     /// Loads the version of the cell at hand. The answer is what the event was told. Takes no memory.
     #[inline(always)]
-    pub fn load_version(self, shared: &Shared, pass: &mut Pass, local: &Local) -> u64
-        requires { Follows shared.now pass.old (with_cursor Activity.ListVer self local.now) }
-        ensures { ReadsWord shared.now pass.old (with_cursor Activity.ListVer self local.now) result pass.new }
+    pub fn load_version(self, shared: &Shared, pass: &mut Pass) -> u64
+        requires { (l : Local) × Follows shared.now pass.old (with_cursor Activity.ListVer self l) }
+        ensures { (l : Local) → Follows shared.now pass.old (with_cursor Activity.ListVer self l) →
+            ReadsWord shared.now pass.old (with_cursor Activity.ListVer self l) result pass.new }
     {
         let version = Name::Version(self.row, self.place);
         load_version(shared, pass, Choice::Go, version)
@@ -174,9 +197,10 @@ impl Cursor {
 
     /// Loads the value of the cell at hand. The answer is what the event was told. Takes no memory.
     #[inline(always)]
-    pub fn load_value(self, shared: &Shared, pass: &mut Pass, local: &Local) -> u64
-        requires { Follows shared.now pass.old (with_cursor Activity.ListVal self local.now) }
-        ensures { ReadsWord shared.now pass.old (with_cursor Activity.ListVal self local.now) result pass.new }
+    pub fn load_value(self, shared: &Shared, pass: &mut Pass) -> u64
+        requires { (l : Local) × Follows shared.now pass.old (with_cursor Activity.ListVal self l) }
+        ensures { (l : Local) → Follows shared.now pass.old (with_cursor Activity.ListVal self l) →
+            ReadsWord shared.now pass.old (with_cursor Activity.ListVal self l) result pass.new }
     {
         let value = Name::Value(self.row, self.place);
         load_value(shared, pass, Choice::Go, value)
@@ -184,8 +208,8 @@ impl Cursor {
 
     /// Loads the link at which a put stands. The answer is what the event was told. Takes no memory.
     #[inline(always)]
-    pub fn load_insert_link(self, shared: &Shared, pass: &mut Pass, local: &Local) -> u64
-        requires { Follows shared.now pass.old (with_cursor Activity.InsFrom self local.now) }
+    pub fn load_insert_link(self, shared: &Shared, pass: &mut Pass) -> u64
+        requires { (l : Local) × Follows shared.now pass.old (with_cursor Activity.InsFrom self l) }
         ensures { Makes shared.now pass.old Choice.Go result pass.new }
     {
         let link = link_name(self.row, self.link);
@@ -194,8 +218,8 @@ impl Cursor {
 
     /// Loads the key of the cell that a put has at hand. The answer is what the event was told. Takes no memory.
     #[inline(always)]
-    pub fn load_insert_key(self, shared: &Shared, pass: &mut Pass, local: &Local) -> u64
-        requires { Follows shared.now pass.old (with_cursor Activity.InsKey self local.now) }
+    pub fn load_insert_key(self, shared: &Shared, pass: &mut Pass) -> u64
+        requires { (l : Local) × Follows shared.now pass.old (with_cursor Activity.InsKey self l) }
         ensures { Makes shared.now pass.old Choice.Go result pass.new }
     {
         let key = Name::Key(self.row, self.place);

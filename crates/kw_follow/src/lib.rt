@@ -6,7 +6,8 @@
 //! those on the way to a row and at its entries, `go_guess` the first one of a way that begins at a guessed row, `go_draw` those by which a scan
 //! gets its version, `go_put` those of a put at its row, `Cursor` those of a reader along the list of its row and of a put that passes cells
 //! there, `go_remembered` those at the cells that a reader remembers and did not meet there, and `go_build` those of a rebalance, most of which
-//! gather the full row and write the new ones: each by its own step of the table.
+//! gather the full row and write the new ones: each by its own step of the table. A get that meets nothing on its way leaves its local at rest and goes by
+//! a `Way`, which `end_resting` ends.
 //!
 //! `specs/Following.antt` says what it is to follow a pass and what it is that a pass went on, `specs/Calling.antt` how the calls of
 //! a pass go on, and `specs/OwnEvents.antt` which events it made. The crates that put stages of a call together from single events
@@ -21,6 +22,7 @@ mod gathering;
 mod going;
 mod putting;
 mod reading;
+mod way;
 mod writing;
 
 pub use along::{
@@ -33,3 +35,4 @@ pub use drawing::go_draw;
 pub use going::{begin, clear, end, go};
 pub use putting::{go_put, meet_insert_key, meet_insert_link};
 pub use reading::{go_remembered, go_to_rest};
+pub use way::{Way, end_resting};

@@ -2,7 +2,9 @@
 use Rattle.std.proofs.Common.{arith, ◌≡◌, ℕ, ◌<◌, ◌≤◌, Some, unwrap_or, Bool, true, false, nat_lt, nat_le, if◌then◌else◌, Option, None, List, refl, sym, ◌∙◌, ap, subst}
 use Rattle.kw_model.specs.declared.call.Call.{Call}
 use Rattle.kw_words.specs.Plain.{key_of_word, value_of_word, version_of_word, cell_of_link_word}
+use Rattle.kw_words.specs.declared.sizes.TheConstants.{CELLS}
 use Rattle.kw_world.specs.declared.activity.Activity.TheVariants.{ListFrom, ListKey, ListVer, ListVal}
+use Rattle.kw_world.specs.declared.event.Choice.TheVariants.{Go}
 use Rattle.kw_world.specs.declared.local.Local.{Local}
 use Rattle.kw_world.specs.Calls.{first_key, last_key}
 use Rattle.kw_world.specs.ReadTransitions.{list_key, list_met, list_past, to_rest}
@@ -14,6 +16,9 @@ use Rattle.kw_follow.specs.declared.cursor.Cursor.{Cursor}
 use Rattle.kw_follow.specs.Calling.{KeepsCalls}
 use Rattle.kw_follow.specs.Cursors.{ReadsWord, forgetting, gathering_at, past, reached, with_cursor}
 use Rattle.kw_follow.specs.Following.{CarriesOn, Follows, GoesTo, carried, held}
+use Rattle.kw_table.specs.Passes.{view}
+use Rattle.kw_follow.specs.OwnEvents.{Met}
+use Rattle.kw_follow.proofs.Fronts.{local_at, met_laws, met_local, met_told}
 use Rattle.kw_follow.proofs.OwnEvents.{goes_trans}
 use Rattle.kw_follow.proofs.ReadEvents.{passed_on, read_follows}
 use Rattle.kw_live.specs.Reading.{ReadsOn, is_reading_list, reads_ahead}
@@ -38,6 +43,15 @@ module _ {s : Shared} {p q : Pass} {l m : Local} {told : ℕ} where
       }
 
 module _ {s : Shared} {p q : Pass} {told : ℕ} (l : Local) (w : Cursor) where
+  -- a walk that is led to a cell has met fewer cells than there are
+  pub cell_counts : (cell : ℕ) → cell_of_link_word told ≡ Some cell → ReadsWord s p (with_cursor ListFrom w l) told q → w.walked < CELLS
+  cell_counts cell leads word =
+      let x : Met p q ListFrom Go told = word.met.met in
+      let laws = met_laws s p q ListFrom Go told word.goes x in
+      let own = met_told p q ListFrom Go told x _ refl in
+      subst (λ n. n < CELLS) (ap (λ (k : Local). k.walked) word.met.knew)
+      (laws.reads_on (view p).number (local_at p x.front) (met_local p q ListFrom Go told x) x.activity cell (ap cell_of_link_word (sym own) ∙ leads))
+
   -- the link led to a cell
   pub link_led : (x : Cursor) (m : Local) (cell : ℕ) → x ≡ reached cell w → m ≡ forgetting cell l → cell_of_link_word told ≡ Some cell → Follows s p (with_cursor ListFrom w l) → ReadsWord s p (with_cursor ListFrom w l) told q → ReadsOn s p (with_cursor ListFrom w l) q (with_cursor ListKey x m)
   link_led x m cell is left leads f word =
@@ -132,9 +146,9 @@ module _ {s : Shared} {p q : Pass} {told : ℕ} (l : Local) (w : Cursor) where
 
 -- Both events of a reader that meets a cell.
 
-module _ {s : Shared} {p q r : Pass} {link word : ℕ} (l m : Local) (w x : Cursor) (cell : ℕ) (is : x ≡ reached cell w) (left : m ≡ forgetting cell l) (leads : cell_of_link_word link ≡ Some cell) (f : Follows s p (with_cursor ListFrom w l)) (first : ReadsWord s p (with_cursor ListFrom w l) link q) (second : ReadsWord s q (with_cursor ListKey x m) word r) where
+module _ {s : Shared} {p q r : Pass} {link word : ℕ} (l m : Local) (w x : Cursor) (cell : ℕ) (is : x ≡ reached cell w) (left : m ≡ forgetting cell l) (leads : cell_of_link_word link ≡ Some cell) (f : Follows s p (with_cursor ListFrom w l)) (first : Follows s p (with_cursor ListFrom w l) → ReadsWord s p (with_cursor ListFrom w l) link q) (second : Follows s q (with_cursor ListKey x m) → ReadsWord s q (with_cursor ListKey x m) word r) where
   led : ReadsOn s p (with_cursor ListFrom w l) q (with_cursor ListKey x m)
-  led = link_led l w x m cell is left leads f first
+  led = link_led l w x m cell is left leads f (first f)
 
   -- the bounds of the call stay
   bound_stays : (bound_of : Option Call → ℕ) (bound : ℕ) (call : Option Call) → bound ≡ bound_of call → l.call ≡ call → bound ≡ bound_of m.call
@@ -143,19 +157,19 @@ module _ {s : Shared} {p q r : Pass} {link word : ℕ} (l m : Local) (w x : Curs
   pub cell_passed : (y : Cursor) (key from : ℕ) (call : Option Call) → y ≡ past x → key ≡ key_of_word word → from ≡ first_key call → l.call ≡ call → key < from → ReadsOn s p (with_cursor ListFrom w l) r (with_cursor ListFrom y m)
   cell_passed y key from call passes keyed has same below =
       let under : key_of_word word < first_key m.call = subst (λ n. n < first_key m.call) keyed (subst (λ n. key < n) (bound_stays first_key from call has same) below) in
-      reads_trans s p q r _ _ _ refl led (key_below m x y passes under led.follows second)
+      reads_trans s p q r _ _ _ refl led (key_below m x y passes under led.follows (second led.follows))
 
   pub cell_within : (y : Cursor) (key from upto : ℕ) (call : Option Call) → y ≡ record x { key = key } → key ≡ key_of_word word → from ≡ first_key call → upto ≡ last_key call → l.call ≡ call → from ≤ key → key ≤ upto → ReadsOn s p (with_cursor ListFrom w l) r (with_cursor ListVer y m)
   cell_within y key from upto call holds keyed begins ends same above below =
       let over : first_key m.call ≤ key = subst (λ n. n ≤ key) (bound_stays first_key from call begins same) above in
       let under : key ≤ last_key m.call = subst (λ n. key ≤ n) (bound_stays last_key upto call ends same) below in
-      reads_trans s p q r _ _ _ refl led (key_within m x y key holds keyed over under led.follows second)
+      reads_trans s p q r _ _ _ refl led (key_within m x y key holds keyed over under led.follows (second led.follows))
 
   pub cell_above : (k n : Local) (key from upto : ℕ) (call : Option Call) → k ≡ with_cursor ListKey x m → key ≡ key_of_word word → from ≡ first_key call → upto ≡ last_key call → l.call ≡ call → from ≤ key → upto < key → CarriesOn to_rest k n → ReadsOn s p (with_cursor ListFrom w l) r n
   cell_above k n key from upto call written keyed begins ends same above beyond on =
       let over : first_key m.call ≤ key = subst (λ n. n ≤ key) (bound_stays first_key from call begins same) above in
       let under : last_key m.call < key = subst (λ n. n < key) (bound_stays last_key upto call ends same) beyond in
-      reads_trans s p q r _ _ _ refl led (key_above m x k n key written keyed over under on led.follows second)
+      reads_trans s p q r _ _ _ refl led (key_above m x k n key written keyed over under on led.follows (second led.follows))
 
 -- What stays while a cursor goes along the list.
 

@@ -3,6 +3,7 @@ use Rattle.std.proofs.Common.{◌≡◌, ℕ, ◌<◌, ◌≤◌, Bool, true, fa
 use Rattle.std.proofs.lemmas.Bool.{lt-ltb}
 use Rattle.kw_model.specs.declared.call.Call.{Call}
 use Rattle.kw_words.specs.Plain.{cell_of_link_word, key_of_word}
+use Rattle.kw_words.specs.declared.sizes.TheConstants.{CELLS}
 use Rattle.kw_world.specs.declared.activity.Activity.TheVariants.{InsFrom, InsKey, InsVer, InsSet}
 use Rattle.kw_world.specs.declared.event.Choice.TheVariants.{Go}
 use Rattle.kw_world.specs.declared.event.StepDone.{StepDone}
@@ -17,6 +18,7 @@ use Rattle.kw_core.specs.Stages.{IsInserting, is_putting}
 use Rattle.kw_table.specs.declared.pass.Pass.{Pass}
 use Rattle.kw_table.specs.declared.shared.Shared.{Shared}
 use Rattle.kw_table.specs.Passes.{view, Makes}
+use Rattle.kw_table.specs.Views.{local_in}
 use Rattle.kw_table.proofs.Prefixes.{prefix_self}
 use Rattle.kw_follow.specs.declared.cursor.Cursor.{Cursor}
 use Rattle.kw_follow.specs.Calling.{KeepsCalls}
@@ -29,8 +31,17 @@ use Rattle.kw_follow.proofs.OneEvent.{Went, goes_in, goes_stay, went, went_follo
 use Rattle.kw_follow.proofs.OwnEvents.{goes_trans}
 use Rattle.kw_follow.proofs.PutEvents.{next_at, put_within}
 use Rattle.kw_follow.proofs.ReadEvents.{goes_by}
+use Rattle.kw_follow.proofs.Resting.{stands}
 use Rattle.kw_live.specs.Putting.{InsertsFurther, put_ahead}
 use Rattle.kw_live.proofs.PutStages.{put_goes}
+use Rattle.kw_live.proofs.ReadEvent.{laws_in}
+
+-- a put that stands at a link has met fewer cells than there are
+pub put_counts : (s : Shared) (p : Pass) (l : Local) (w : Cursor) → Follows s p (with_cursor InsFrom w l) → w.walked < CELLS
+put_counts s p l w f =
+    let k : Local = local_in (view p) in
+    subst (λ (x : Local). x.walked < CELLS) (sym f.carries)
+    ((laws_in p).walked (view p).number k (stands p) (sym (ap (λ (x : Local). x.activity) f.carries)))
 
 -- One event of a pass, and of code that follows it.
 

@@ -9,3 +9,5 @@ pub mod Starting
 pub mod Anew
 pub mod CursorEvents
 pub mod AfterList
+pub mod NewestCell
+pub mod Gets

@@ -23,8 +23,7 @@ use Rattle.kw_table.specs.declared.pass.Pass.{Pass}
 use Rattle.kw_table.specs.declared.shared.Shared.{Shared}
 use Rattle.kw_table.specs.Passes.{view, Makes}
 use Rattle.kw_table.proofs.Prefixes.{prefix_self}
-use Rattle.kw_follow.specs.Calling.{KeepsCalls}
-use Rattle.kw_follow.specs.Following.{Follows, GoesTo, held}
+use Rattle.kw_follow.specs.Following.{Follows}
 use Rattle.kw_follow.specs.Within.{IsWithinCall, looking}
 use Rattle.kw_follow.proofs.Carrying.{IsGoingOn}
 use Rattle.kw_follow.proofs.Growing.{keeps}
@@ -32,7 +31,7 @@ use Rattle.kw_follow.proofs.OneEvent.{Went, goes_in, goes_stay, went, went_follo
 use Rattle.kw_follow.proofs.OwnEvents.{goes_trans}
 use Rattle.kw_follow.proofs.PutEvents.{next_at}
 use Rattle.kw_follow.proofs.ReadEvents.{goes_by}
-use Rattle.kw_live.specs.Reading.{LooksFurther, LooksOn, is_looking, look_ahead, looks_ahead}
+use Rattle.kw_live.specs.Reading.{IsLookingOn, LooksFurther, LooksOn, LooksUpTo, is_idle, is_looking, look_ahead}
 
 -- the event was a look, and there are fewer to make
 pub record Looked (z : Sizes) (l m : Local) (ahead : ℕ) : Type 0 where
@@ -134,14 +133,19 @@ module _ {s : Shared} {p q : Pass} {told : ℕ} (l : Local) (i : ℕ) (f : Follo
   pub meets_entry : (m : Local) (done : StepDone) → outcome m done ≡ look_met product i (pend_of told) (looking i l) → LooksFurther s p (looking i l) q m
   meets_entry m done line = looks_by (looking i l) m done f makes refl (line ∙ next_at _ (Look i) (looking i l) told refl)
 
--- What stays through all looks.
-pub record IsLookingOn (s : Shared) (o : Pass) (l : Local) (p : Pass) (m : Local) : Type 0 where
-  pub goes : GoesTo s o p
-  pub follows : Follows s p m
-  pub calls : KeepsCalls o p
-  pub held : held p ≡ held o
-  pub looks : LooksOn l m
-  pub fewer : looks_ahead m ≤ looks_ahead l
+-- All of them.
+
+-- an entry at which nothing is announced
+pub idle_is : (e : Option Pend) → is_idle e ≡ true → e ≡ Some Idle
+idle_is (Some Idle) u = refl
+idle_is (Some (Pending cell)) u = true_false u refl
+idle_is (Some (Stamped cell version)) u = true_false u refl
+idle_is (Some Frozen) u = true_false u refl
+idle_is None u = true_false u refl
+
+-- code that follows a reader at an entry looks at it next
+pub looks_here : (s : Shared) (p : Pass) (l : Local) (i : ℕ) → Follows s p l → l.activity ≡ Look i → Follows s p (looking i l)
+looks_here s p l i f is = subst (λ (a : Activity). Follows s p (record l { activity = a })) is f
 
 -- a reader begins to look at an entry
 pub begins_looking : (s : Shared) (p : Pass) (l : Local) (i : ℕ) → Follows s p l → l.activity ≡ Look i → IsLookingOn s p l p (looking i l)
@@ -176,3 +180,16 @@ module _ {s : Shared} {o p q : Pass} {l m n : Local} (before : IsLookingOn s o l
     looks = looks_trans l m n before.looks more.looks;
     fewer = omega (arith, before.fewer, more.fewer);
   }
+
+-- looks up to an entry, and what follows from it
+pub looked_from : {s : Shared} {p q : Pass} {l m : Local} {from entry told : ℕ} {done : StepDone} → l.activity ≡ Look from → LooksUpTo s p l from entry told q → outcome m done ≡ look_met product entry (pend_of told) (looking entry l) → LooksFurther s p l q m
+looked_from {s} {p} {q} {l} {m} {from} {entry} {told} {done} is up line =
+    subst (λ (a : Activity). LooksFurther s p (record l { activity = a }) q m) (sym is)
+    (looked_on up.on (meets_entry l entry up.on.follows up.makes m done line))
+
+-- after the last entry, at which nothing is announced, the list is gone along
+pub last_line : (l : Local) (i told : ℕ) → is_idle (pend_of told) ≡ true → product.seats ≤ i + 1 → outcome (record l { activity = ListFrom }) Moved ≡ look_met product i (pend_of told) (looking i l)
+last_line l i told idle last =
+    let over : nat_lt (i + 1) product.seats ≡ false = grind (arith, nat_tests) in
+    ap (λ (b : Bool). let o : Outcome = if b then to (Look (i + 1)) (looking i l) else to ListFrom (looking i l) in o) (sym over)
+    ∙ ap (λ (e : Option Pend). look_met product i e (looking i l)) (sym (idle_is (pend_of told) idle))

@@ -87,7 +87,7 @@ pub record Reads (l m : Local) (before after : List (ℕ × ℕ)) : Type 0 where
   pub fewer : reads_ahead m < reads_ahead l
 
 -- all laws hold of what a pass has seen
-laws_in : (p : Pass) → KeepsLaws product (history product (view p).opening (view p).seen)
+pub laws_in : (p : Pass) → KeepsLaws product (history product (view p).opening (view p).seen)
 laws_in p = laws_hold product (view p).opening p.known.opens (view p).seen p.known.valid
 
 -- a reader at its row wants a key below the next row

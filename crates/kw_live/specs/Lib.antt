@@ -3,3 +3,4 @@ pub mod Stages
 pub mod Walking
 pub mod Putting
 pub mod Reading
+pub mod Getting

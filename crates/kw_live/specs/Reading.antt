@@ -11,9 +11,14 @@ use Rattle.kw_world.specs.declared.limits.TheConstants.{NEWEST}
 use Rattle.kw_world.specs.declared.local.Local.{Local}
 use Rattle.kw_world.specs.Sizes.{Sizes, product}
 use Rattle.kw_table.specs.declared.pass.Pass.{Pass}
+use Rattle.kw_table.specs.Passes.{Makes}
+use Rattle.kw_world.specs.declared.event.Choice.TheVariants.{Go}
+use Rattle.kw_words.specs.declared.pend.Pend.{Pend}
+use Rattle.kw_words.specs.declared.pend.Pend.TheVariants.{Idle}
 use Rattle.kw_table.specs.declared.shared.Shared.{Shared}
 use Rattle.kw_follow.specs.Calling.{KeepsCalls}
 use Rattle.kw_follow.specs.Following.{Follows, GoesTo, held}
+use Rattle.kw_follow.specs.Within.{looking}
 
 -- the reader looks at the entries of the row
 abbrev pub is_looking : Activity → Bool
@@ -47,6 +52,11 @@ is_at_remembered RestKey = true
 is_at_remembered RestVal = true
 is_at_remembered _ = false
 
+-- nothing is announced in the entry
+abbrev pub is_idle : Option Pend → Bool
+is_idle (Some Idle) = true
+is_idle _ = false
+
 -- while a reader looks at entries, what the call wants is as it was
 pub record LooksOn (l m : Local) : Type 0 where
   pub call : m.call ≡ l.call
@@ -74,6 +84,22 @@ pub record LooksFurther (s : Shared) (p : Pass) (l : Local) (q : Pass) (m : Loca
   pub held : held q ≡ held p
   pub looks : LooksOn l m
   pub fewer : looks_ahead m < looks_ahead l
+
+-- what stays through all looks at the entries of a row
+pub record IsLookingOn (s : Shared) (o : Pass) (l : Local) (p : Pass) (m : Local) : Type 0 where
+  pub goes : GoesTo s o p
+  pub follows : Follows s p m
+  pub calls : KeepsCalls o p
+  pub held : held p ≡ held o
+  pub looks : LooksOn l m
+  pub fewer : looks_ahead m ≤ looks_ahead l
+
+-- a reader with this local, which stays as it is, has looked at the entries from the first of these seats on to that of the other; nothing was
+-- announced in those before that one, of which it was told this
+pub record LooksUpTo (s : Shared) (p : Pass) (l : Local) (from entry told : ℕ) (q : Pass) : Type 0 where
+  pub before : Pass
+  pub on : IsLookingOn s p (looking from l) before (looking entry l)
+  pub makes : Makes s before Go told q
 
 -- a scan that wanted this key goes on with the next row, whose least key it then wants: it is above the one that it wanted and not above
 -- the range, and the keys of all pairs of this row are below it

@@ -23,14 +23,14 @@ pub(crate) fn pass_lesser(shared: &Shared, pass: &mut Pass, local: &mut Local)
     let own = first_key(local.call);
     let mut cursor = Cursor::of(local);
     loop {
-        let link = cursor.load_insert_link(shared, pass, local);
+        let link = cursor.load_insert_link(shared, pass);
         let Some(cell) = unpack_cell_link(link) else {
             cursor.write(local, Activity::InsFrom);
             meet_insert_link(local, link);
             return;
         };
         let met = cursor.meet(local, cell);
-        let word = met.load_insert_key(shared, pass, local);
+        let word = met.load_insert_key(shared, pass);
         if unpack_key(word) < own {
             cursor = met.past();
         } else {

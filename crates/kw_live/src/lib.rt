@@ -5,25 +5,30 @@
 //! follows the pass's seat; no call takes memory.
 //!
 //! `entering` begins calls, begins a put anew after a rebalance, gives a scan its version, and ends both; `walking` finds the row of a key;
-//! `putting` puts a cell into it, and `reading` reads it. The loops that take most of a call's time stand by themselves: `inserting` passes the
-//! cells of lesser keys for a put, `looking` looks at the entries of a row, and `listing` goes along its list. Whoever stands above puts whole
+//! `putting` puts a cell into it, and `reading` reads it. `getting` makes a whole get, most of which it makes without a local. The loops that take most of a call's time stand by themselves: `inserting` passes the
+//! cells of lesser keys for a put, `looking` looks at the entries of a row, and `listing` and `newest` go along its list. Whoever stands above puts whole
 //! calls together from these, by their contracts, and knows no event.
 #![tactic(auto)]
 
 mod entering;
+mod getting;
 mod inserting;
 mod listing;
 mod looking;
+mod newest;
 mod putting;
 mod reading;
 mod walking;
 
 pub use entering::{end_scan, enter, enter_anew, leave, stop_scan};
+pub use getting::get;
 pub use putting::{TryPut, try_put};
 pub use reading::read_row;
 pub use walking::locate;
 
 #[cfg(test)]
 mod tests;
+#[cfg(test)]
+mod tests_get;
 #[cfg(test)]
 mod tests_guess;

@@ -27,14 +27,15 @@ pub(crate) fn read_listed(shared: &Shared, pass: &mut Pass, local: &mut Local)
     let last = last_key(local.call);
     let mut cursor = Cursor::of(local);
     loop {
-        let link = cursor.load_link(shared, pass, local);
+        let link = cursor.load_link(shared, pass);
         let Some(cell) = unpack_cell_link(link) else {
             cursor.write(local, Activity::ListFrom);
             go_to_rest(local);
             return;
         };
-        let met = cursor.reach(local, cell);
-        let word = met.load_key(shared, pass, local);
+        let met = cursor.reach(cell);
+        local.remembered.forget(cell);
+        let word = met.load_key(shared, pass);
         let key = unpack_key(word);
         if key < first {
             cursor = met.past();
@@ -56,9 +57,9 @@ fn gather_cell(shared: &Shared, pass: &mut Pass, local: &mut Local, cursor: Curs
     ensures { ReadsOn shared.now pass.old (with_cursor Activity.ListVer cursor local.old)
         pass.new (with_cursor Activity.ListFrom result local.new) }
 {
-    let version = cursor.load_version(shared, pass, local);
+    let version = cursor.load_version(shared, pass);
     let read = cursor.with_version(version);
-    let value = read.load_value(shared, pass, local);
+    let value = read.load_value(shared, pass);
     read.gather(local, value);
     read.past()
 }

@@ -3,12 +3,12 @@
 //! A put that is announced in an entry may not be listed yet, so a reader looks at the entry of each seat before it goes along the list. Mostly
 //! nothing is announced: such entries are looked at one after the other, and the reader's local is left as it is meanwhile. It is brought up at the
 //! first entry of another kind, or at the last one.
-ghost use Rattle.std.specs.Prelude.{◌≡◌, IsTrue, Some, true};
+ghost use Rattle.std.specs.Prelude.{◌≡◌, true, false};
 ghost use Rattle.kw_words.specs.Pend.{pend_of};
-ghost use Rattle.kw_words.specs.declared.pend.Pend.{Pend};
 ghost use Rattle.kw_follow.specs.Calling.{KeepsCalls};
 ghost use Rattle.kw_follow.specs.Following.{Follows, GoesTo, held};
-ghost use Rattle.kw_live.specs.Reading.{LooksFurther, LooksOn, is_looking};
+ghost use Rattle.kw_follow.specs.Within.{looking};
+ghost use Rattle.kw_live.specs.Reading.{LooksFurther, LooksOn, LooksUpTo, is_idle, is_looking};
 
 use kw_follow::{go_along, load_entry, meet_entry};
 use kw_table::{Pass, Shared};
@@ -17,10 +17,11 @@ use kw_words::sizes::SEAT_COUNT;
 use kw_world::activity::Activity;
 use kw_world::local::Local;
 
-/// Looks at all entries, and helps the puts that it meets there. The reader then stands at the first link of the row's list. Takes no memory.
+/// Looks at all entries that the reader has yet to look at, and helps the puts that it meets there. The reader then stands at the first link of the
+/// row's list. Takes no memory.
 pub(crate) fn look_at_entries(shared: &Shared, pass: &mut Pass, local: &mut Local)
     requires follows { Follows shared.now pass.old local.old }
-    requires activity { local.old.activity ≡ Activity.Look 0 }
+    requires stage { is_looking local.old.activity ≡ false → local.old.activity ≡ Activity.ListFrom }
     ensures goes { GoesTo shared.now pass.old pass.new }
     ensures follows { Follows shared.now pass.new local.new }
     ensures looks { LooksOn local.old local.new }
@@ -55,24 +56,44 @@ fn look_from(shared: &Shared, pass: &mut Pass, local: &mut Local, entry: u32)
     requires activity { local.old.activity ≡ Activity.Look entry }
     ensures { LooksFurther shared.now pass.old local.old pass.new local.new }
 {
+    let seen = look_along(shared, pass, local.row, entry);
+    local.activity = Activity::Look(seen.entry);
+    meet_entry(local, seen.entry, seen.found);
+}
+
+/// An entry at which a reader has looked, and what it was told there.
+#[derive(Clone, Copy, Debug, PartialEq, Eq)]
+pub(crate) struct Seen {
+    /// The seat whose entry it is.
+    pub(crate) entry: u32,
+    /// Its word.
+    pub(crate) found: u64,
+}
+
+/// Looks at the entries of this row from that of this seat on, to the first at which something is announced, or to the last one. What follows from
+/// that one is still to be said, by `meet_entry`. Takes no memory.
+#[inline(always)]
+pub(crate) fn look_along(shared: &Shared, pass: &mut Pass, row: u32, entry: u32) -> Seen
+    requires { (l : Local) × Follows shared.now pass.old (looking entry l) × (l.row ≡ row) }
+    ensures { (l : Local) → Follows shared.now pass.old (looking entry l) → l.row ≡ row →
+        LooksUpTo shared.now pass.old l entry result.entry result.found pass.new }
+{
     let mut at = entry;
     loop {
-        let found = load_entry(shared, pass, local, at);
+        let found = load_entry(shared, pass, row, at);
         let next = at + 1;
         if next < SEAT_COUNT && is_idle(found) {
             at = next;
         } else {
-            local.activity = Activity::Look(at);
-            meet_entry(local, at, found);
-            return;
+            return Seen { entry: at, found };
         }
     }
 }
 
-// Whether nothing is announced in the entry.
+/// Whether nothing is announced in the entry.
 #[inline(always)]
-fn is_idle(found: u64) -> bool
-    ensures { IsTrue result → pend_of found ≡ Some Pend.Idle }
+pub(crate) fn is_idle(found: u64) -> bool
+    ensures { result ≡ is_idle (pend_of found) }
 {
     matches!(Pend::unpack(found), Some(Pend::Idle))
 }

@@ -3,7 +3,7 @@ ghost use Rattle.std.specs.Prelude.{◌≡◌, All, false, true};
 ghost use Rattle.kw_words.specs.Plain.{IsValue};
 ghost use Rattle.kw_follow.specs.Calling.{KeepsCalls};
 ghost use Rattle.kw_follow.specs.Following.{Follows, GoesTo, held};
-ghost use Rattle.kw_live.specs.Reading.{HasRead, ReadsOn, is_at_remembered, is_listing};
+ghost use Rattle.kw_live.specs.Reading.{HasRead, ReadsOn, is_at_remembered, is_listing, is_looking};
 
 use crate::listing::read_listed;
 use crate::looking::look_at_entries;
@@ -15,14 +15,14 @@ use kw_world::local::Local;
 /// Reads the row that the call stands at: its entries first, helping the puts that it meets there, and then its list, and what it
 /// remembers of the entries and did not meet in the list.
 ///
-/// The call is a get or a scan that has arrived at its row. A get is then about to leave with what the newest cell of its key shows. A
+/// The call is a get or a scan that has arrived at its row, or has looked at some of the entries there. A get is then about to leave with what the newest cell of its key shows. A
 /// scan has the pairs of the row beside those that it had: those that the local's `gathered` cells show, from the key that it wanted on;
 /// it then walks on to the row after this one, with the least key of that row as the wanted one, or is at its end, where there is no such
 /// row or its keys are all above the range. Takes no memory: the pairs are for the caller to take from `gathered`, whose values are below
 /// `VALUE_END` and which stays as it is until the call looks at the entries of its next row.
 pub fn read_row(shared: &Shared, pass: &mut Pass, local: &mut Local)
     requires follows { Follows shared.now pass.old local.old }
-    requires activity { local.old.activity ≡ Activity.Look 0 }
+    requires stage { is_looking local.old.activity ≡ false → local.old.activity ≡ Activity.ListFrom }
     ensures goes { GoesTo shared.now pass.old pass.new }
     ensures follows { Follows shared.now pass.new local.new }
     ensures call { local.new.call ≡ local.old.call }

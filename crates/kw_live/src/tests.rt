@@ -1,6 +1,7 @@
 //! Whole calls put together from the functions of this crate, between the events of another pass's put.
-ghost use Rattle.std.specs.Prelude.{◌≡◌, true, IfOk, IfSome};
+ghost use Rattle.std.specs.Prelude.{◌≡◌, true, Some, IfOk, IfSome};
 ghost use Rattle.kw_core.specs.Events.{is_call_in_range};
+ghost use Rattle.kw_core.specs.Stages.{is_put};
 ghost use Rattle.kw_table.specs.Passes.{IsPassOf};
 ghost use Rattle.kw_follow.specs.Following.{Follows, activity_in};
 
@@ -57,7 +58,31 @@ fn begin_put(
     local
 }
 
-// The reply of a whole put, whose walk has this guess. None where its row is full; the pass is then in the middle of the put.
+// The reply of a whole put or delete, whose walk has this guess. None where its row is full; the pass is then in the middle of the call.
+pub(crate) fn update(
+    alloc: Global,
+    shared: &Shared,
+    pass: &mut Pass,
+    call: Call,
+    guess: Option<u32>,
+) -> Option<Reply>
+    requires table { IsPassOf shared.now pass.old }
+    requires idle { activity_in pass.old ≡ Activity.Idle }
+    requires range { is_call_in_range call ≡ true }
+    requires update { is_put (Some call) ≡ true }
+    ensures table { IsPassOf shared.now pass.new }
+    ensures idle { IfSome result (λ reply. activity_in pass.new ≡ Activity.Idle) }
+{
+    let mut local = Local::idle(alloc);
+    enter(shared, pass, &mut local, call);
+    locate(shared, pass, &mut local, guess);
+    if let TryPut::RowFull(_) = try_put(shared, pass, &mut local) {
+        return None;
+    }
+    Some(leave(shared, pass, &mut local))
+}
+
+// The same of a put.
 pub(crate) fn put(
     alloc: Global,
     shared: &Shared,
@@ -72,41 +97,35 @@ pub(crate) fn put(
     ensures table { IsPassOf shared.now pass.new }
     ensures idle { IfSome result (λ reply. activity_in pass.new ≡ Activity.Idle) }
 {
-    let mut local = Local::idle(alloc);
-    enter(shared, pass, &mut local, Call::Put(key, value));
-    locate(shared, pass, &mut local, guess);
-    if let TryPut::RowFull(_) = try_put(shared, pass, &mut local) {
-        return None;
-    }
-    Some(leave(shared, pass, &mut local))
+    update(alloc, shared, pass, Call::Put(key, value), guess)
 }
 
-// The reply of a whole get, whose walk has this guess.
-pub(crate) fn get(
+// The value that a whole get finds, whose walk has this guess. Its local is then at rest, as the next get of a pass has it.
+pub(crate) fn found(
     alloc: Global,
     shared: &Shared,
     pass: &mut Pass,
     key: u32,
     guess: Option<u32>,
-) -> Reply
+) -> Option<u64>
     requires table { IsPassOf shared.now pass.old }
     requires idle { activity_in pass.old ≡ Activity.Idle }
-    requires range { is_call_in_range (Call.Get key) ≡ true }
     ensures table { IsPassOf shared.now pass.new }
     ensures idle { activity_in pass.new ≡ Activity.Idle }
 {
     let mut local = Local::idle(alloc);
-    enter(shared, pass, &mut local, Call::Get(key));
-    locate(shared, pass, &mut local, guess);
-    read_row(shared, pass, &mut local);
-    leave(shared, pass, &mut local)
+    get(shared, pass, &mut local, key, guess)
 }
 
-// The get's reply, where the put of another pass has made this many events at its row.
-fn get_within_a_put(alloc: Global, events: u32) -> Result<Option<Reply>, Memory> {
+// What a get finds at this guess, where the put of another pass has made this many events at its row.
+fn found_within_a_put(
+    alloc: Global,
+    events: u32,
+    guess: Option<u32>,
+) -> Result<Option<u64>, Memory> {
     let (shared, mut putter, mut reader) = open_two(alloc)?;
     begin_put(alloc, &shared, &mut putter, 5, 50, events);
-    Ok(Some(get(alloc, &shared, &mut reader, 5, None)))
+    Ok(found(alloc, &shared, &mut reader, 5, guess))
 }
 
 // What a scan knows that has read its first row, to which it walked with this guess. None where it has none to read.
@@ -150,19 +169,19 @@ pub(crate) fn finish(shared: &Shared, pass: &mut Pass, local: Local) -> Option<R
 #[test]
 fn a_get_helps_a_put_that_has_announced_its_cell(rt: HostRuntime) -> Result<(), Fail> {
     for events in 0..12 {
-        let value = if events < 5 {
-            Reply::Absent
-        } else {
-            Reply::Value(50)
-        };
-        assert_eq!(rt; get_within_a_put(rt.alloc(), events)?, Some(value));
+        let value = if events < 5 { None } else { Some(50) };
+        assert_eq!(rt; found_within_a_put(rt.alloc(), events, None)?, value);
+        assert_eq!(rt; found_within_a_put(rt.alloc(), events, Some(0))?, value);
     }
     Ok(())
 }
 
 // A put of key 5 has made this many events at its row when another pass puts key 3, and then goes on. How many exchanges it lost, its reply,
 // and what a get of its key then finds.
-fn put_around_a_put(alloc: Global, events: u32) -> Result<Option<(u32, Reply, Reply)>, Memory> {
+fn put_around_a_put(
+    alloc: Global,
+    events: u32,
+) -> Result<Option<(u32, Reply, Option<u64>)>, Memory> {
     let (shared, mut first, mut second) = open_two(alloc)?;
     let mut local = begin_put(alloc, &shared, &mut first, 5, 50, events);
     let Some(Reply::Done) = put(alloc, &shared, &mut second, 3, 30, None) else {
@@ -178,7 +197,7 @@ fn put_around_a_put(alloc: Global, events: u32) -> Result<Option<(u32, Reply, Re
     };
     let lost = local.lost;
     let reply = leave(&shared, &mut first, &mut local);
-    Ok(Some((lost, reply, get(alloc, &shared, &mut second, 5, None))))
+    Ok(Some((lost, reply, found(alloc, &shared, &mut second, 5, None))))
 }
 
 // A put has loaded its link with the ninth event, and exchanges it with the eleventh: where another one was there in between it loses.
@@ -186,7 +205,7 @@ fn put_around_a_put(alloc: Global, events: u32) -> Result<Option<(u32, Reply, Re
 fn a_put_that_loses_its_insert_goes_again(rt: HostRuntime) -> Result<(), Fail> {
     for events in 0..13 {
         let lost = if events == 9 || events == 10 { 1 } else { 0 };
-        let wanted = (lost, Reply::Done, Reply::Value(50));
+        let wanted = (lost, Reply::Done, Some(50));
         assert_eq!(rt; put_around_a_put(rt.alloc(), events)?, Some(wanted));
     }
     Ok(())

@@ -8,7 +8,7 @@ ghost use Rattle.kw_follow.specs.Following.{Follows, activity_in};
 ghost use Rattle.kw_table.specs.Passes.{IsPassOf};
 
 use crate::entering::enter;
-use crate::tests::{finish, get, put, scan_row};
+use crate::tests::{finish, found, put, scan_row};
 use crate::walking::set_out;
 use kw_cells::cell::next_pair;
 use kw_core::stage::Stage;
@@ -143,14 +143,8 @@ fn replies_are_the_same_whatever_the_guess(rt: HostRuntime) -> Result<(), Fail> 
         let Some(Reply::Done) = put(rt.alloc(), &shared, &mut pass, 5, 51, guess) else {
             panic!(rt; "a second put");
         };
-        assert_eq!(rt;
-            get(rt.alloc(), &shared, &mut pass, 5, guess),
-            Reply::Value(51)
-        );
-        assert_eq!(rt;
-            get(rt.alloc(), &shared, &mut pass, 6, guess),
-            Reply::Absent
-        );
+        assert_eq!(rt; found(rt.alloc(), &shared, &mut pass, 5, guess), Some(51));
+        assert_eq!(rt; found(rt.alloc(), &shared, &mut pass, 6, guess), None);
         let Some(local) = scan_row(rt.alloc(), &shared, &mut pass, 0, 200, guess) else {
             panic!(rt; "a row to read");
         };

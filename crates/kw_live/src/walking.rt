@@ -111,14 +111,14 @@ fn pass_rows(shared: &Shared, pass: &mut Pass, local: &mut Local)
     ensures { WalksFurther shared.now pass.old local.old pass.new local.new }
 {
     loop {
-        let link = load_row_link(shared, pass, local);
+        let link = load_row_link(shared, pass, local.row);
         let Some(row) = linked(link) else {
             local.activity = Activity::Walk;
             meet_row_link(local, link);
             return;
         };
         local.candidate = row;
-        let least = load_row_least(shared, pass, local);
+        let least = load_row_least(shared, pass, row);
         let key = unpack_key(least);
         if key <= local.want {
             local.row = row;
@@ -131,9 +131,9 @@ fn pass_rows(shared: &Shared, pass: &mut Pass, local: &mut Local)
     }
 }
 
-// The row that a link leads to.
+/// The row that a link leads to.
 #[inline(always)]
-fn linked(found: u64) -> Option<u32>
+pub(crate) fn linked(found: u64) -> Option<u32>
     ensures { result ≡ row_linked (link_of found) }
 {
     match Link::unpack(found) {

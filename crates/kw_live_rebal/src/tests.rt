@@ -10,7 +10,7 @@ ghost use Rattle.kw_world.specs.Local.{resting};
 
 use crate::rebalancing::{Rebalanced, rebalance};
 use kw_index::index::Index;
-use kw_live::{TryPut, enter, enter_anew, leave, locate, read_row, try_put};
+use kw_live::{TryPut, enter, enter_anew, get, leave, locate, try_put};
 use kw_model::call::{Call, Reply};
 use kw_table::{Pass, Shared};
 use kw_words::sizes::{CELL_COUNT, SPENT};
@@ -158,21 +158,6 @@ fn refusal<R: Wait + Abort>(
     }
 }
 
-// The reply of a whole get.
-fn get(shared: &Shared, pass: &mut Pass, local: &mut Local, key: u32) -> Reply
-    requires table { IsPassOf shared.now pass.old }
-    requires idle { activity_in pass.old ≡ Activity.Idle }
-    requires rested { local.old ≡ resting 0 }
-    ensures table { IsPassOf shared.now pass.new }
-    ensures idle { activity_in pass.new ≡ Activity.Idle }
-    ensures rests { local.new ≡ resting 0 }
-{
-    enter(shared, pass, local, Call::Get(key));
-    locate(shared, pass, local, None);
-    read_row(shared, pass, local);
-    leave(shared, pass, local)
-}
-
 // Of the two rows one takes the place of the other. The 65th put is the second one in row 1, and 62 more fill that.
 #[test]
 fn a_put_replaces_its_row(rt: HostRuntime) -> Result<(), Fail> {
@@ -185,7 +170,7 @@ fn a_put_replaces_its_row(rt: HostRuntime) -> Result<(), Fail> {
     let first = put_until_replaced(&rt, &shared, &index, &mut pass, &mut local, 1);
     let second = put_until_replaced(&rt, &shared, &index, &mut pass, &mut local, 66);
     assert_eq!(rt; (first, second), (Some((65, (0, 1))), Some((128, (1, 0)))));
-    assert_eq!(rt; get(&shared, &mut pass, &mut local, 7), Reply::Value(128));
+    assert_eq!(rt; get(&shared, &mut pass, &mut local, 7, None), Some(128));
     Ok(())
 }
 
@@ -203,7 +188,7 @@ fn a_put_is_refused_for_want_of_rows(rt: HostRuntime) -> Result<(), Fail> {
     let second = refusal(&rt, &shared, &index, &mut pass, &mut local, 0);
     assert_eq!(rt; first, (Rebalanced::NoRows, Reply::NoRows));
     assert_eq!(rt; second, (Rebalanced::NoRows, Reply::NoRows));
-    assert_eq!(rt; get(&shared, &mut pass, &mut local, 0), Reply::Value(1));
+    assert_eq!(rt; get(&shared, &mut pass, &mut local, 0, None), Some(1));
     Ok(())
 }
 
@@ -238,7 +223,7 @@ fn a_row_of_many_keys_is_split(rt: HostRuntime) -> Result<(), Fail> {
         put(&rt, &shared, &index, &mut pass, &mut local, CELL_COUNT, 1),
         Some((0, 2))
     );
-    assert_eq!(rt; get(&shared, &mut pass, &mut local, 31), Reply::Value(1));
+    assert_eq!(rt; get(&shared, &mut pass, &mut local, 31, None), Some(1));
     Ok(())
 }
 

@@ -1,7 +1,7 @@
 //! The concurrent map, and its calls.
 //!
 //! A `Kiwi` is the shared table; a caller asks it with a pass, its seat. Each call here is put together from `kw_live`'s functions, by
-//! the local that the pass lends it: enter, find the row, put into it or read it, leave. A put or a delete that finds its row full has the
+//! the local that the pass lends it: enter, find the row, put into it or read it, leave; a get is whole there. A put or a delete that finds its row full has the
 //! row rebalanced (`kw_live_rebal`) and tries again. These two take the runtime, since they may come to wait for others; a get and a scan
 //! never do. So all events are the core's, and the clauses say what follows: the call is the pass's next one, it has ended, its answer is
 //! the recorded reply, and the order of all calls that the pass has seen is legal.
@@ -25,9 +25,9 @@ ghost use Rattle.kw_map.specs.Kiwi.{AnswersScan, HasCause, IsIdle, IsOrdered, pu
 use crate::gather::{Gather, Stop};
 use crate::scanning::gather_rows;
 use kw_index::index::Index;
-use kw_live::{TryPut, enter, enter_anew, leave, locate, read_row, try_put};
+use kw_live::{TryPut, enter, enter_anew, get, leave, locate, try_put};
 use kw_live_rebal::{Rebalanced, rebalance};
-use kw_model::call::{Call, Reply};
+use kw_model::call::Call;
 use kw_model::memory::Memory;
 use kw_table::{Hints, Pass, Shared};
 use kw_world::activity::Activity;
@@ -118,7 +118,7 @@ impl Kiwi {
     {
         let mut local = pass.lend();
         let guess = pass.guess(&self.shared, &self.index, key);
-        let found = self.get_by(pass, &mut local, key, guess);
+        let found = get(&self.shared, pass, &mut local, key, guess);
         pass.give(local);
         found
     }
@@ -284,31 +284,6 @@ impl Kiwi {
             }
             Rebalanced::NoRows => Some(PutEnd::NoRows),
             Rebalanced::Spent => Some(PutEnd::Spent),
-        }
-    }
-
-    // A get, whose walk begins at the guess, if there is one.
-    fn get_by(
-        &self,
-        pass: &mut Pass,
-        local: &mut Local,
-        key: u32,
-        guess: Option<u32>,
-    ) -> Option<u64>
-        requires table { IsPassOf self.now.shared pass.old }
-        requires idle { activity_in pass.old ≡ Activity.Idle }
-        requires rested { local.old ≡ resting 0 }
-        ensures idle { activity_in pass.new ≡ Activity.Idle }
-        ensures rests { local.new ≡ resting 0 }
-        ensures goes { GoesTo self.now.shared pass.old pass.new }
-        ensures calls { Calls pass.old pass.new (Call.Get key) (found result) }
-    {
-        enter(&self.shared, pass, local, Call::Get(key));
-        locate(&self.shared, pass, local, guess);
-        read_row(&self.shared, pass, local);
-        match leave(&self.shared, pass, local) {
-            Reply::Value(value) => Some(value),
-            _ => None,
         }
     }
 

@@ -1,4 +1,4 @@
-use Rattle.std.proofs.Common.{◌∙◌, subst}
+use Rattle.std.proofs.Common.{refl, ◌∙◌, subst}
 use Rattle.kw_world.specs.declared.activity.Activity.TheVariants.{Look}
 use Rattle.kw_follow.specs.Following.{Follows}
 use Rattle.kw_follow.proofs.PutEvents.{next_at}
@@ -6,7 +6,7 @@ use Rattle.kw_follow.proofs.WayEvents.{entry_below, entry_room}
 use Rattle.kw_follow.proofs.along.look_at_entry.Goals as goal
 
 pub load_entry-told-requires : goal.load_entry-told-requires
-load_entry-told-requires c = subst (λ a. Follows c.args.shared.now c.args.pass.now (record c.args.local.now { activity = a })) c.requires.activity c.requires.follows
+load_entry-told-requires c = (c.args.local.now, subst (λ a. Follows c.args.shared.now c.args.pass.now (record c.args.local.now { activity = a })) c.requires.activity c.requires.follows, refl)
 
 pub meet_entry-done-requires-clause-entry : goal.meet_entry-done-requires-clause-entry
 meet_entry-done-requires-clause-entry c = entry_below _ _ c.args.local.now _ c.requires.follows c.requires.activity

@@ -2,7 +2,7 @@ use Rattle.std.proofs.Common.{◌≤◌, ap, sym, ◌∙◌, subst}
 use Rattle.kw_words.specs.declared.sizes.TheConstants.{CELLS}
 use Rattle.kw_world.specs.declared.local.Local.{Local}
 use Rattle.kw_follow.proofs.OneEvent.{follows_ranges}
-use Rattle.kw_live.proofs.InsertStages.{cell_left, cell_passed, inserts_on, inserts_to, link_left, link_met}
+use Rattle.kw_live.proofs.InsertStages.{cell_left, cell_passed, inserts_on, inserts_to, link_left, link_met, put_counts}
 use Rattle.kw_live.proofs.inserting.pass_lesser.Goals as goal
 
 pub meet_insert_link-requires : goal.meet_insert_link-requires
@@ -11,11 +11,14 @@ meet_insert_link-requires c = subst (λ (k : Local). k.walked ≤ CELLS) (sym c.
 pub returns-in_default : goal.returns-in_default
 returns-in_default c = inserts_to c.loop-cell.invariant (link_left c.loop-cell.local c.loop-cell.cursor _ _ _ c.write.ensures c.meet_insert_link.ensures c.loop-cell.invariant.follows c.load_insert_link-link.ensures)
 
+pub load_insert_link-link-requires : goal.load_insert_link-link-requires
+load_insert_link-link-requires c = (c.loop-cell.local, c.loop-cell.invariant.follows)
+
 pub meet-met-requires : goal.meet-met-requires
-meet-met-requires c = (follows_ranges _ _ _ c.loop-cell.invariant.follows).walked
+meet-met-requires c = put_counts _ _ c.loop-cell.local c.loop-cell.cursor c.loop-cell.invariant.follows
 
 pub load_insert_key-word-requires : goal.load_insert_key-word-requires
-load_insert_key-word-requires c = (link_met c.loop-cell.local c.loop-cell.cursor _ _ _ c.meet-met.ensures.cursor c.meet-met.ensures.local (sym c.unpack_cell_link.ensures.value ∙ c.in-Some.is) c.loop-cell.invariant.follows c.load_insert_link-link.ensures).follows
+load_insert_key-word-requires c = (c.meet-met.new.local, (link_met c.loop-cell.local c.loop-cell.cursor _ _ _ c.meet-met.ensures.cursor c.meet-met.ensures.local (sym c.unpack_cell_link.ensures.value ∙ c.in-Some.is) c.loop-cell.invariant.follows c.load_insert_link-link.ensures).follows)
 
 pub loop-cell-smaller : goal.loop-cell-smaller
 loop-cell-smaller c = (cell_passed c.loop-cell.local c.meet-met.new.local c.loop-cell.cursor c.meet-met.result _ c.meet-met.ensures.cursor c.meet-met.ensures.local (sym c.unpack_cell_link.ensures.value ∙ c.in-Some.is) c.loop-cell.invariant.follows c.load_insert_link-link.ensures c.load_insert_key-word.ensures _ _ _ _ c.past-cursor.ensures c.unpack_key.ensures.value c.first_key-own.ensures c.loop-cell.invariant.call c.if-unpack_key-own.true).fewer

@@ -1,5 +1,5 @@
 use Rattle.kw_live.specs.Reading.{looks_ahead}
-use Rattle.kw_live.proofs.LookStages.{IsLookingOn}
+use Rattle.kw_live.specs.Reading.{IsLookingOn}
 use Rattle.kw_live.proofs.looking.look_at_entries.Given as goal
 
 abbrev pub invariant-loop-pass : goal.invariant-loop-pass

@@ -5,4 +5,4 @@ use Rattle.kw_follow.proofs.PutEvents.{asks_at}
 use Rattle.kw_follow.proofs.cursor.Cursor.load_insert_key.Goals as goal
 
 pub load_key-requires : goal.load_key-requires
-load_key-requires c = asks_at _ _ (with_cursor InsKey c.args.self c.args.local.now) InsKey c.requires refl tt
+load_key-requires c = asks_at _ _ (with_cursor InsKey c.args.self c.requires.0) InsKey c.requires.1 refl tt

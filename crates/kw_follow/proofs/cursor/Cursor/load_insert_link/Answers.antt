@@ -5,4 +5,4 @@ use Rattle.kw_follow.proofs.PutEvents.{asks_link}
 use Rattle.kw_follow.proofs.cursor.Cursor.load_insert_link.Goals as goal
 
 pub load_after-requires : goal.load_after-requires
-load_after-requires c = asks_link _ _ (with_cursor InsFrom c.args.self c.args.local.now) _ c.requires refl c.link_name-link.ensures
+load_after-requires c = asks_link _ _ (with_cursor InsFrom c.args.self c.requires.0) _ c.requires.1 refl c.link_name-link.ensures

@@ -6,7 +6,7 @@ use Rattle.kw_follow.proofs.ReadEvents.{reads_word}
 use Rattle.kw_follow.proofs.cursor.Cursor.load_key.Goals as goal
 
 pub load_key-requires : goal.load_key-requires
-load_key-requires c = asks_at _ _ (with_cursor ListKey c.args.self c.args.local.now) ListKey c.requires refl tt
+load_key-requires c = asks_at _ _ (with_cursor ListKey c.args.self c.requires.0) ListKey c.requires.1 refl tt
 
 pub returns : goal.returns
-returns c = reads_word _ _ _ _ _ c.requires c.load_key.ensures tt
+returns c = λ l f. reads_word _ _ _ (with_cursor ListKey c.args.self l) _ f c.load_key.ensures tt

@@ -5,7 +5,7 @@ use Rattle.kw_follow.proofs.ReadEvents.{asks_list_link, reads_word}
 use Rattle.kw_follow.proofs.cursor.Cursor.load_link.Goals as goal
 
 pub load_after-requires : goal.load_after-requires
-load_after-requires c = asks_list_link _ _ (with_cursor ListFrom c.args.self c.args.local.now) _ c.requires refl c.link_name-link.ensures
+load_after-requires c = asks_list_link _ _ (with_cursor ListFrom c.args.self c.requires.0) _ c.requires.1 refl c.link_name-link.ensures
 
 pub returns : goal.returns
-returns c = reads_word _ _ _ _ _ c.requires c.load_after.ensures tt
+returns c = λ l f. reads_word _ _ _ (with_cursor ListFrom c.args.self l) _ f c.load_after.ensures tt

@@ -6,7 +6,7 @@ use Rattle.kw_follow.proofs.ReadEvents.{reads_word}
 use Rattle.kw_follow.proofs.cursor.Cursor.load_value.Goals as goal
 
 pub load_value-requires : goal.load_value-requires
-load_value-requires c = asks_at _ _ (with_cursor ListVal c.args.self c.args.local.now) ListVal c.requires refl tt
+load_value-requires c = asks_at _ _ (with_cursor ListVal c.args.self c.requires.0) ListVal c.requires.1 refl tt
 
 pub returns : goal.returns
-returns c = reads_word _ _ _ _ _ c.requires c.load_value.ensures tt
+returns c = λ l f. reads_word _ _ _ (with_cursor ListVal c.args.self l) _ f c.load_value.ensures tt

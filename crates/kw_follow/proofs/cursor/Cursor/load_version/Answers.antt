@@ -6,7 +6,7 @@ use Rattle.kw_follow.proofs.ReadEvents.{reads_word}
 use Rattle.kw_follow.proofs.cursor.Cursor.load_version.Goals as goal
 
 pub load_version-requires : goal.load_version-requires
-load_version-requires c = asks_at _ _ (with_cursor ListVer c.args.self c.args.local.now) ListVer c.requires refl tt
+load_version-requires c = asks_at _ _ (with_cursor ListVer c.args.self c.requires.0) ListVer c.requires.1 refl tt
 
 pub returns : goal.returns
-returns c = reads_word _ _ _ _ _ c.requires c.load_version.ensures tt
+returns c = λ l f. reads_word _ _ _ (with_cursor ListVer c.args.self l) _ f c.load_version.ensures tt

@@ -8,7 +8,8 @@ use Rattle.kw_map.specs.Gather.{Takes}
 use Rattle.kw_map.specs.Scanning.{StoppedAt}
 use Rattle.kw_map.proofs.ScanEnds.{entered_between, entered_spent}
 use Rattle.kw_map.proofs.RowStages.{stopped_within}
-use Rattle.kw_map.proofs.WholeCalls.{clock_later, leaves_with, whole}
+use Rattle.kw_live.proofs.Gets.{leaves_with, whole}
+use Rattle.kw_map.proofs.WholeCalls.{clock_later}
 use Rattle.kw_map.proofs.kiwi.Kiwi.scan_by.Goals as goal
 
 pub gather_rows-gathered-requires-clause-between : goal.gather_rows-gathered-requires-clause-between

@@ -1,0 +1,219 @@
+-- How a get goes on that leaves its local at rest, event by event, and how it ends.
+use Rattle.std.proofs.Common.{◌≡◌, inl, inr, ℕ, ◌<◌, ◌≤◌, Bool, true, false, nat_le, if◌then◌else◌, Option, Some, None, List, [], arith, refl, sym, ◌∙◌, ap, subst}
+use Rattle.std.proofs.lemmas.Bool.Decides.{nat_tests}
+use Rattle.kw_words.specs.declared.state.State.{State}
+use Rattle.kw_words.specs.declared.state.State.TheVariants.{Free, Infant, Normal, Leader, Follower, Retired}
+use Rattle.kw_words.specs.Link.{link_of}
+use Rattle.kw_words.specs.Plain.{key_of_word}
+use Rattle.kw_words.specs.State.{state_of}
+use Rattle.kw_cells.specs.Cells.{shown_at}
+use Rattle.kw_model.specs.declared.call.Call.{Call}
+use Rattle.kw_model.specs.declared.call.Call.TheVariants.{Get}
+use Rattle.kw_model.specs.declared.call.Reply.{Reply}
+use Rattle.kw_model.specs.declared.call.Reply.TheVariants.{Value, Absent}
+use Rattle.kw_model.specs.Map.{found}
+use Rattle.kw_world.specs.declared.activity.Activity.{Activity}
+use Rattle.kw_world.specs.declared.activity.Activity.TheVariants.{Start, Head, GuessMin, Walk, WalkMin, Look, Leave}
+use Rattle.kw_world.specs.declared.event.Choice.{Choice}
+use Rattle.kw_world.specs.declared.event.Choice.TheVariants.{Go, Guess}
+use Rattle.kw_world.specs.declared.event.StepDone.{StepDone}
+use Rattle.kw_world.specs.declared.event.StepDone.TheVariants.{Moved}
+use Rattle.kw_world.specs.declared.limits.TheConstants.{NEWEST}
+use Rattle.kw_world.specs.declared.local.Local.{Local}
+use Rattle.kw_world.specs.declared.answer.Answer.{Answer}
+use Rattle.kw_world.specs.Answers.{answer_found, reply_of}
+use Rattle.kw_world.specs.Sizes.{product}
+use Rattle.kw_world.specs.Step.{next_of}
+use Rattle.kw_world.specs.Transition.{Outcome, outcome, row_linked, to}
+use Rattle.kw_world.specs.WalkTransitions.{arrive, guess_met, link_met, offered}
+use Rattle.kw_world.proofs.Replies.{reply_of-found}
+use Rattle.kw_core.specs.Stages.{is_walking}
+use Rattle.kw_laws.specs.SeatCalls.{begun_at}
+use Rattle.kw_puts.proofs.Owners.{true_false}
+use Rattle.kw_table.specs.declared.pass.Pass.{Pass}
+use Rattle.kw_table.specs.declared.shared.Shared.{Shared}
+use Rattle.kw_table.specs.Passes.{Makes}
+use Rattle.kw_table.proofs.Prefixes.{prefix_self}
+use Rattle.kw_follow.specs.declared.way.Way.{Way}
+use Rattle.kw_follow.specs.Calling.{Calls, Closes, KeepsCalls, Opens, calls_in}
+use Rattle.kw_follow.specs.Following.{Follows, activity_in}
+use Rattle.kw_follow.specs.Ways.{on_way}
+use Rattle.kw_follow.proofs.Carrying.{IsGoingOn}
+use Rattle.kw_follow.proofs.Growing.{keeps}
+use Rattle.kw_follow.proofs.OneEvent.{Went, goes_in, goes_stay, same_activity, went, went_follows}
+use Rattle.kw_follow.proofs.OwnEvents.{goes_trans}
+use Rattle.kw_follow.proofs.PutEvents.{next_at}
+use Rattle.kw_follow.proofs.ReadEvents.{goes_by}
+use Rattle.kw_follow.proofs.WayEvents.{next_guess}
+use Rattle.kw_live.specs.Getting.{GetsTo, HasGot, is_normal}
+use Rattle.kw_live.specs.Reading.{HasRead, HasReadAs, LooksFurther}
+use Rattle.kw_live.specs.Walking.{IsUnderWay}
+
+-- One event, and one part of the way after the other.
+
+-- nothing has happened yet
+pub gets_none : {s : Shared} {p : Pass} {l : Local} → Follows s p l → GetsTo s p p l
+gets_none f = record { goes = record { of_table = f.of_table; number = refl; opening = refl; seen = prefix_self _ }; follows = f; calls = refl }
+
+-- an event in the middle of a call
+pub gets_by : {s : Shared} {p q : Pass} {c : Choice} {l m : Local} {done : StepDone} {told : ℕ} → Went s p q c l m done told → IsGoingOn l.activity → GetsTo s p q m
+gets_by {s} {p} {q} {c} {l} {m} {done} {told} w going = record {
+  goes = goes_by s p q c told w.makes;
+  follows = went_follows w going;
+  calls = keeps w.makes (goes_stay _ (goes_in s p l w.follows going));
+}
+
+-- two parts of the way
+pub gets_trans : {s : Shared} {p q r : Pass} {l m : Local} → GetsTo s p q l → GetsTo s q r m → GetsTo s p r m
+gets_trans {s} {p} {q} {r} {l} {m} a b = record { goes = goes_trans s p q r a.goes b.goes; follows = b.follows; calls = b.calls ∙ a.calls }
+
+-- The walk to the row.
+
+-- a row that is not in use sends the walk to the first row
+refused : (r : ℕ) (state : Option State) (l : Local) → is_normal state ≡ false → to Head l ≡ guess_met r state l
+refused r (Some Free) l u = refl
+refused r (Some (Infant seat)) l u = refl
+refused r (Some Normal) l u = true_false refl u
+refused r (Some (Leader count)) l u = refl
+refused r (Some (Follower leader)) l u = refl
+refused r (Some (Retired number)) l u = refl
+refused r None l u = refl
+
+taken : (r : ℕ) (state : Option State) (l : Local) → is_normal state ≡ true → to GuessMin (record l { row = r }) ≡ guess_met r state l
+taken r (Some Normal) l u = refl
+taken r (Some Free) l u = true_false u refl
+taken r (Some (Infant seat)) l u = true_false u refl
+taken r (Some (Leader count)) l u = true_false u refl
+taken r (Some (Follower leader)) l u = true_false u refl
+taken r (Some (Retired number)) l u = true_false u refl
+taken r None l u = true_false u refl
+
+module _ {s : Shared} {p q : Pass} {told : ℕ} (w : Way) where
+  -- the state of the guessed row was told
+  module _ (r : ℕ) (inside : r < s.opening.rows) (f : Follows s p (on_way Start w)) (makes : Makes s p (Guess r) told q) where
+    guessed : (m : Local) → outcome m Moved ≡ guess_met r (state_of told) (on_way Start w) → GetsTo s p q m
+    guessed m line = gets_by (went s p q (Guess r) (on_way Start w) m Moved told s.opening.rows (offered s.opening.rows (Guess r)) f makes refl refl (line ∙ next_guess s.opening.rows r (on_way Start w) told refl inside)) tt
+
+    -- it is not in use
+    pub row_refused : is_normal (state_of told) ≡ false → GetsTo s p q (on_way Head w)
+    row_refused u = guessed (on_way Head w) (refused r (state_of told) (on_way Start w) u)
+
+    -- it is
+    pub row_taken : is_normal (state_of told) ≡ true → GetsTo s p q (on_way GuessMin (record w { row = r }))
+    row_taken u = guessed (on_way GuessMin (record w { row = r })) (taken r (state_of told) (on_way Start w) u)
+
+  -- any later event of the walk
+  walked : (a : Activity) (m : Local) (line : outcome m Moved ≡ next_of product s.opening.rows Go (on_way a w) told) → IsGoingOn a → Follows s p (on_way a w) → Makes s p Go told q → GetsTo s p q m
+  walked a m line going f makes = gets_by (went s p q Go (on_way a w) m Moved told s.opening.rows Go f makes refl refl line) going
+
+  -- the least key of the guessed row was told, and is above the key
+  pub least_above : (least : ℕ) → least ≡ key_of_word told → w.key < least → Follows s p (on_way GuessMin w) → Makes s p Go told q → GetsTo s p q (on_way Head w)
+  least_above least keyed above f makes =
+      let beyond : nat_le (key_of_word told) w.key ≡ false = grind (arith, nat_tests) in
+      walked GuessMin (on_way Head w)
+      (ap (λ (b : Bool). let o : Outcome = if b then to Walk (record (on_way GuessMin w) { lower = key_of_word told }) else to Head (on_way GuessMin w) in o) (sym beyond)
+      ∙ next_at s.opening.rows GuessMin (on_way GuessMin w) told refl)
+      tt f makes
+
+  -- or is not
+  pub least_below : (least : ℕ) → least ≡ key_of_word told → least ≤ w.key → Follows s p (on_way GuessMin w) → Makes s p Go told q → GetsTo s p q (on_way Walk (record w { lower = least }))
+  least_below least keyed below f makes =
+      let within : nat_le least w.key ≡ true = grind (arith, nat_tests) in
+      walked GuessMin (on_way Walk (record w { lower = least }))
+      (ap (λ (b : Bool). let o : Outcome = if b then to Walk (record (on_way GuessMin w) { lower = least }) else to Head (on_way GuessMin w) in o) (sym within)
+      ∙ (ap (λ n. let o : Outcome = if nat_le n w.key then to Walk (record (on_way GuessMin w) { lower = n }) else to Head (on_way GuessMin w) in o) keyed
+      ∙ next_at s.opening.rows GuessMin (on_way GuessMin w) told refl))
+      tt f makes
+
+  -- the link after the row was told, and leads to none: the get is at its row
+  pub links_none : row_linked (link_of told) ≡ None → Follows s p (on_way Walk w) → Makes s p Go told q → GetsTo s p q (on_way (Look 0) (record w { next = None; upper = 0 }))
+  links_none none f makes =
+      walked Walk (on_way (Look 0) (record w { next = None; upper = 0 }))
+      (ap (λ (o : Option ℕ). link_met o (on_way Walk w)) (sym none) ∙ next_at s.opening.rows Walk (on_way Walk w) told refl)
+      tt f makes
+
+  -- or leads to a row
+  pub links_row : (r : ℕ) → row_linked (link_of told) ≡ Some r → Follows s p (on_way Walk w) → Makes s p Go told q → GetsTo s p q (on_way WalkMin (record w { candidate = r }))
+  links_row r leads f makes =
+      walked Walk (on_way WalkMin (record w { candidate = r }))
+      (ap (λ (o : Option ℕ). link_met o (on_way Walk w)) (sym leads) ∙ next_at s.opening.rows Walk (on_way Walk w) told refl)
+      tt f makes
+
+  -- whose least key is not above the key: the walk goes on there
+  pub next_below : (least : ℕ) → least ≡ key_of_word told → least ≤ w.key → Follows s p (on_way WalkMin w) → Makes s p Go told q → GetsTo s p q (on_way Walk (record w { row = w.candidate; lower = least }))
+  next_below least keyed below f makes =
+      let l : Local = on_way WalkMin w in
+      let within : nat_le least w.key ≡ true = grind (arith, nat_tests) in
+      walked WalkMin (on_way Walk (record w { row = w.candidate; lower = least }))
+      (ap (λ (b : Bool). let o : Outcome = if b then to Walk (record l { row = w.candidate; lower = least }) else arrive l.call (record l { next = Some w.candidate; upper = least }) in o) (sym within)
+      ∙ (ap (λ n. let o : Outcome = if nat_le n w.key then to Walk (record l { row = w.candidate; lower = n }) else arrive l.call (record l { next = Some w.candidate; upper = n }) in o) keyed
+      ∙ next_at s.opening.rows WalkMin l told refl))
+      tt f makes
+
+  -- or is: the get is at its row
+  pub next_above : (least : ℕ) → least ≡ key_of_word told → w.key < least → Follows s p (on_way WalkMin w) → Makes s p Go told q → GetsTo s p q (on_way (Look 0) (record w { next = Some w.candidate; upper = least }))
+  next_above least keyed above f makes =
+      let l : Local = on_way WalkMin w in
+      let beyond : nat_le least w.key ≡ false = grind (arith, nat_tests) in
+      walked WalkMin (on_way (Look 0) (record w { next = Some w.candidate; upper = least }))
+      (ap (λ (b : Bool). let o : Outcome = if b then to Walk (record l { row = w.candidate; lower = least }) else arrive l.call (record l { next = Some w.candidate; upper = least }) in o) (sym beyond)
+      ∙ (ap (λ n. let o : Outcome = if nat_le n w.key then to Walk (record l { row = w.candidate; lower = n }) else arrive l.call (record l { next = Some w.candidate; upper = n }) in o) keyed
+      ∙ next_at s.opening.rows WalkMin l told refl))
+      tt f makes
+
+-- The whole call.
+
+-- a call that begins, goes on and ends is a whole call
+pub whole : {p q r t : Pass} {call : Call} {reply : Reply} → Opens p q call → KeepsCalls q r → Closes r t reply → Calls p t call reply
+whole {p} {q} {r} {t} {call} {reply} o k c = record {
+  first = o.first;
+  last = c.last;
+  number = o.number;
+  begins = o.begins;
+  ends = c.ends;
+  calls = c.calls (calls_in p) (begun_at o.first o.number call) (k ∙ o.calls);
+}
+
+-- code that is about to leave with an answer follows a seat that is about to leave with it
+pub leaves_with : {s : Shared} {p : Pass} {l : Local} (answer : Answer) → Follows s p l → l.activity ≡ Leave answer → activity_in p ≡ Leave answer
+leaves_with {s} {p} {l} answer f is = same_activity s p l f ∙ is
+
+-- the end of a get: code replies what the seat does, since neither has pairs
+pub get_closes : {p q : Pass} (x : Option ℕ) (pairs : List (ℕ × ℕ)) → Closes p q (reply_of (answer_found x) pairs) → Closes p q (found x)
+get_closes {p} {q} x pairs e = subst (Closes p q) (reply_of-found x pairs) e
+
+pub get_replies : {p q : Pass} (x : Option ℕ) (pairs : List (ℕ × ℕ)) (reply : Reply) → Closes p q (reply_of (answer_found x) pairs) × (reply ≡ reply_of (answer_found x) []) → Closes p q reply
+get_replies {p} {q} x pairs reply e = subst (Closes p q) (reply_of-found x pairs ∙ (sym (reply_of-found x []) ∙ sym e.1)) e.0
+
+-- a get that has read its row is about to leave with what the row shows
+pub get_reads : (key : ℕ) (l m : Local) (before after : List (ℕ × ℕ)) → l.call ≡ Some (Get key) → HasRead l m before after → m.activity ≡ Leave (answer_found (shown_at m.gathered NEWEST key))
+get_reads key l m before after is read = (subst (λ c. HasReadAs c l.want l.version m before after) is read).0
+
+-- and where that is no value, it is that there is none
+pub get_absent : (x : Option ℕ) (reply : Reply) → reply ≡ reply_of (answer_found x) [] → ((value : ℕ) → reply ≡ Value value → ⊥) → reply ≡ Absent
+get_absent (Some value) reply e none = absurd (none value e)
+get_absent None reply e none = e
+
+-- a get that is at its row looks at its first entry next, and one that is not is still on its way
+pub at_row : (key i : ℕ) (a : Activity) → IsUnderWay (Some (Get key)) a → a ≡ Look i → a ≡ Look 0
+at_row key i a (inl walks) is = true_false walks (ap is_walking is)
+at_row key i a (inr e) is = e
+
+pub walks_still : (key : ℕ) (a : Activity) → IsUnderWay (Some (Get key)) a → ((i : ℕ) → a ≡ Look i → ⊥) → is_walking a ≡ true
+walks_still key a (inl walks) none = walks
+walks_still key a (inr e) none = absurd (none 0 e)
+
+-- a get that goes on and then ends
+pub got_after : {s : Shared} {p q r : Pass} {m n : Local} {value : Option ℕ} → GetsTo s p q m → HasGot s q r value n → HasGot s p r value n
+got_after {s} {p} {q} {r} {m} {n} {value} gets got = record {
+  goes = goes_trans s p q r gets.goes got.goes;
+  idle = got.idle;
+  rests = got.rests;
+  before = got.before;
+  calls = got.calls ∙ gets.calls;
+  closes = got.closes;
+}
+
+-- a get that has looked at the entries of its row goes on
+pub looks_done : {s : Shared} {p q : Pass} {l m : Local} → LooksFurther s p l q m → GetsTo s p q m
+looks_done more = record { goes = more.goes; follows = more.follows; calls = more.calls }

@@ -1,0 +1,26 @@
+use Rattle.std.proofs.Common.{refl, sym, ◌∙◌}
+use Rattle.kw_world.specs.declared.activity.Activity.TheVariants.{Walk, WalkMin}
+use Rattle.kw_follow.specs.Ways.{on_way}
+use Rattle.kw_live.proofs.Gets.{gets_trans, links_none, links_row, next_above, next_below}
+use Rattle.kw_live.proofs.getting.step_on.Goals as goal
+
+pub load_row_link-requires : goal.load_row_link-requires
+load_row_link-requires c = (on_way Walk c.args.way, c.requires, refl)
+
+pub returns-in_default-clause-gets : goal.returns-in_default-clause-gets
+returns-in_default-clause-gets c = links_none c.args.way (sym c.linked.ensures ∙ c.in_default.is) c.requires c.load_row_link.ensures
+
+pub load_row_least-requires : goal.load_row_least-requires
+load_row_least-requires c =
+    let led = links_row c.args.way c.in-Some.row (sym c.linked.ensures ∙ c.in-Some.is) c.requires c.load_row_link.ensures in
+    (on_way WalkMin (record c.args.way { candidate = c.in-Some.row }), led.follows, refl)
+
+pub returns-then-least-way-clause-gets : goal.returns-then-least-way-clause-gets
+returns-then-least-way-clause-gets c =
+    let led = links_row c.args.way c.in-Some.row (sym c.linked.ensures ∙ c.in-Some.is) c.requires c.load_row_link.ensures in
+    gets_trans led (next_below (record c.args.way { candidate = c.in-Some.row }) _ c.unpack_key-least.ensures.value c.if-least-way.true led.follows c.load_row_least.ensures)
+
+pub returns-clause-gets : goal.returns-clause-gets
+returns-clause-gets c =
+    let led = links_row c.args.way c.in-Some.row (sym c.linked.ensures ∙ c.in-Some.is) c.requires c.load_row_link.ensures in
+    gets_trans led (next_above (record c.args.way { candidate = c.in-Some.row }) _ c.unpack_key-least.ensures.value c.if-least-way.false led.follows c.load_row_least.ensures)
