@@ -23,11 +23,10 @@ use Rattle.kw_work.specs.Dealing.{Dealt, part}
 use Rattle.kw_work.specs.Collecting.{answers_of, merge, no_answer, AnswersEach}
 use Rattle.kw_work.proofs.Merges.{answers_of_is}
 use Rattle.kw_work.proofs.Shares.{part-nil}
-use Rattle.kw_app.specs.declared.rounds.Job.{Job}
 use Rattle.kw_app.specs.declared.rounds.Done.{Done}
 use Rattle.kw_app.specs.Recorded.{AreReplies, IsWithin, asked, asks, seat_calls}
 use Rattle.kw_app.specs.Working.{Works}
-use Rattle.kw_app.specs.Rounds.{IsJob, IsDone, IsSeated, AreTogether, Worked, WorkedEach, Grew, more_calls}
+use Rattle.kw_app.specs.Rounds.{IsDone, IsSeated, AreTogether, Worked, WorkedEach, Grew, more_calls}
 use Rattle.kw_app.proofs.Each.{element_at}
 use Rattle.kw_app.proofs.Merging.{collected_is_printed, lines-answered_by}
 use Rattle.kw_app.proofs.Seats.{OneGrew, one_grew, seated_again}
@@ -37,25 +36,22 @@ use Rattle.kw_app.proofs.Works.{as_many}
 if_ok : {V E : Type 0} (r : Result V E) (P : V → Type 0) (v : V) → r ≡ Ok v → IfOk r P → P v
 if_ok r P v is h = subst (λ x. IfOk x P) is h
 
--- a pass whose job is done has worked
-worked_one : (m : Kiwi) (b : Dealt) (p q : Pass) (j : Job) (d : Done) (v : Vec Answered Global) → IsJob b p j → IsDone m j d → d.pass ≡ q → d.answers ≡ Ok v → Worked m b p q v.items
-worked_one m b p q j d v job done pass answers = record {
+-- a pass whose part is answered has worked
+worked_one : (m : Kiwi) (b : Dealt) (p q : Pass) (d : Done) (v : Vec Answered Global) → IsDone m b p d → d.pass ≡ q → d.answers ≡ Ok v → Worked m b p q v.items
+worked_one m b p q d v done pass answers = record {
   idle = subst (IsIdle m) pass done.idle;
-  goes = subst (λ (x : Pass). GoesTo m.shared x q) job.pass (subst (λ (x : Pass). GoesTo m.shared j.pass x) pass done.goes);
-  works = subst (λ (x : Pass). Works x q (part b.workers (view p).number b.lines) v.items) job.pass
-      (subst (λ (x : Pass). Works j.pass x (part b.workers (view p).number b.lines) v.items) pass
-      (subst (λ (ls : List Line). Works j.pass d.pass ls v.items) job.lines
-      (if_ok d.answers (λ x. Works j.pass d.pass j.lines.items x.items) v answers done.works)));
+  goes = subst (λ (x : Pass). GoesTo m.shared p x) pass done.goes;
+  works = subst (λ (x : Pass). Works p x (part b.workers (view p).number b.lines) v.items) pass
+      (if_ok d.answers (λ x. Works p d.pass (part b.workers (view p).number b.lines) x.items) v answers done.works);
 }
 
 -- so have all passes, where no worker wanted memory
-pub worked_each : (m : Kiwi) (b : Dealt) (ps : List Pass) (js : List Job) (ds : List Done) (made : Result (Vec Pass Global × Vec (Vec Answered Global) Global) Memory) (n : ℕ) → n ≡ length ds → length js ≡ length ps → length ds ≡ length js
-    → AtEach (IsJob b) ps js → AtEach (IsDone m) js ds → IfOk made (λ r. (vec_len r.0 ≡ n) × (vec_len r.1 ≡ n))
+pub worked_each : (m : Kiwi) (b : Dealt) (ps : List Pass) (ds : List Done) (made : Result (Vec Pass Global × Vec (Vec Answered Global) Global) Memory) (n : ℕ) → n ≡ length ds → length ds ≡ length ps
+    → AtEach (IsDone m b) ps ds → IfOk made (λ r. (vec_len r.0 ≡ n) × (vec_len r.1 ≡ n))
     → IfOk made (λ r. AtEach (λ (d : Done) (p : Pass). d.pass ≡ p) ds r.0.items) → IfOk made (λ r. AtEach (λ (d : Done) (v : Vec Answered Global). d.answers ≡ Ok v) ds r.1.items)
     → IfOk made (λ r. WorkedEach m b ps r.0.items r.1.items)
-worked_each m b ps js ds (Err x) n same a e jobs dones len passes parts = len
-worked_each m b ps js ds (Ok r) n same a e jobs dones len passes parts = λ i d f lt.
-    let j = element_at js i (omega arith) in
+worked_each m b ps ds (Err x) n same e dones len passes parts = len
+worked_each m b ps ds (Ok r) n same e dones len passes parts = λ i d f lt.
     let done = element_at ds i (omega arith) in
     let ok = r.1.ok in
     let inside : i < length r.1.items = omega (arith, len.1) in
@@ -63,11 +59,10 @@ worked_each m b ps js ds (Ok r) n same a e jobs dones len passes parts = λ i d 
     let p : Pass = slice_index_or ps i d in
     let q : Pass = slice_index_or r.0.items i f in
     let h : answers_of r.1.items i ≡ v.0.items = answers_of_is r.1.items i v.0 inside (sym (v.1 v.0)) in
-    let job : IsJob b p j.0 = subst (IsJob b p) (j.1 j.0) (jobs i d j.0 lt) in
-    let isdone : IsDone m j.0 done.0 = subst (λ (x : Done). IsDone m j.0 x) (done.1 done.0) (subst (λ (x : Job). IsDone m x (slice_index_or ds i done.0)) (j.1 j.0) (dones i j.0 done.0 (omega arith))) in
+    let isdone : IsDone m b p done.0 = subst (λ (x : Done). IsDone m b p x) (done.1 done.0) (dones i d done.0 lt) in
     let pass : done.0.pass ≡ q = ap (λ (x : Done). x.pass) (sym (done.1 done.0)) ∙ passes i done.0 f (omega arith) in
     let answers : done.0.answers ≡ Ok v.0 = ap (λ (x : Done). x.answers) (sym (done.1 done.0)) ∙ (parts i done.0 v.0 (omega arith) ∙ ap Ok (v.1 v.0)) in
-    subst (Worked m b p q) (sym h) (worked_one m b p q j.0 done.0 v.0 job isdone pass answers)
+    subst (Worked m b p q) (sym h) (worked_one m b p q done.0 v.0 isdone pass answers)
 
 -- the whole block: what all workers did, in the list that all passes then have seen
 pub grew : (m : Kiwi) (b : Dealt) (ps qs rs : List Pass) (parts : List (Vec Answered Global)) (E E' : List Event) (answers : List Answer) → AreTogether m b.workers E ps → length qs ≡ length ps

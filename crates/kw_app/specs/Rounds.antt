@@ -15,21 +15,15 @@ use Rattle.kw_work.specs.declared.line.Line.{Line}
 use Rattle.kw_work.specs.declared.line.Answered.{Answered}
 use Rattle.kw_work.specs.Dealing.{Dealt, part}
 use Rattle.kw_work.specs.Collecting.{answers_of}
-use Rattle.kw_app.specs.declared.rounds.Job.{Job}
 use Rattle.kw_app.specs.declared.rounds.Done.{Done}
 use Rattle.kw_app.specs.Recorded.{asked, asks, AreReplies, IsWithin, printed, seat_calls}
 use Rattle.kw_app.specs.Working.{Works}
 
--- the job of a pass: the lines of the block that are dealt to it
-pub record IsJob (b : Dealt) (p : Pass) (j : Job) : Type 0 where
-  pub pass : j.pass ≡ p
-  pub lines : j.lines.items ≡ part b.workers (view p).number b.lines
-
--- what becomes of a job
-pub record IsDone (m : Kiwi) (j : Job) (d : Done) : Type 0 where
+-- what a pass did in its thread: it answered the lines of the block that are dealt to it
+pub record IsDone (m : Kiwi) (b : Dealt) (p : Pass) (d : Done) : Type 0 where
   pub idle : IsIdle m d.pass
-  pub goes : GoesTo m.shared j.pass d.pass
-  pub works : IfOk d.answers (λ v. Works j.pass d.pass j.lines.items v.items)
+  pub goes : GoesTo m.shared p d.pass
+  pub works : IfOk d.answers (λ v. Works p d.pass (part b.workers (view p).number b.lines) v.items)
 
 -- p became q by the lines of the block that are dealt to it, and has these answers
 pub record Worked (m : Kiwi) (b : Dealt) (p q : Pass) (answers : List Answered) : Type 0 where

@@ -1,13 +1,15 @@
 //! One block, answered by all workers beside each other.
 //!
-//! Each pass gets a job, the lines of the block that are dealt to it, and a thread. When all have ended, the passes meet: all have then seen
-//! one list of events. Only after that are the answers collected, so a block's calls have all ended before anything of a later one.
+//! Each pass gets a thread, which takes the lines of the block that are dealt to it and answers them. When all have ended, the passes meet: all have
+//! then seen one list of events. Only after that are the answers collected, so a block's calls have all ended before anything of a later one.
 ghost use Rattle.std.specs.Prelude.{◌≡◌, All, IfOk, Ok, vec_len};
 ghost use Rattle.kw_table.specs.Meetings.{AtEach, MeetsAt, front_seen};
-ghost use Rattle.kw_table.specs.Passes.{IsPassOf};
+ghost use Rattle.kw_table.specs.Passes.{IsPassOf, view};
+ghost use Rattle.kw_follow.specs.Following.{GoesTo};
 ghost use Rattle.kw_map.specs.Kiwi.{IsIdle};
-ghost use Rattle.kw_work.specs.Dealing.{IsLine};
-ghost use Rattle.kw_app.specs.Rounds.{AreTogether, Grew, IsDone, IsJob, WorkedEach};
+ghost use Rattle.kw_work.specs.Dealing.{IsLine, part};
+ghost use Rattle.kw_app.specs.Rounds.{AreTogether, Grew, IsDone, WorkedEach};
+ghost use Rattle.kw_app.specs.Working.{Works};
 
 use crate::working::{Gate, work};
 use kw_line::answer::Answer;
@@ -16,18 +18,11 @@ use kw_model::memory::Memory;
 use kw_table::Pass;
 use kw_work::block::Block;
 use kw_work::collect::collect;
-use kw_work::line::{Answered, Line};
+use kw_work::line::Answered;
 use std::alloc::{AllocError, Global};
 use std::sync::Wait;
 use std::thread;
 use std::thread::Threads;
-
-/// What one worker is given.
-#[derive(Drop)]
-pub(crate) struct Job {
-    pub(crate) pass: Pass,
-    pub(crate) lines: Vec<Line>,
-}
 
 /// What one worker hands back.
 #[derive(Drop)]
@@ -36,54 +31,66 @@ pub(crate) struct Done {
     pub(crate) answers: Result<Vec<Answered>, Memory>,
 }
 
-/// Does one job.
-fn finish<R: Wait, G: Gate>(rt: &R, alloc: Global, kiwi: &Kiwi, job: Job, gate: &G) -> Done
-    requires idle { IsIdle kiwi.now job.pass }
-    requires lines { All IsLine job.lines.items }
-    ensures { IsDone kiwi.now job result }
+/// Answers the lines of the block that are dealt to a pass.
+fn answer_part<R: Wait, G: Gate>(
+    rt: &R,
+    alloc: Global,
+    kiwi: &Kiwi,
+    block: &Block,
+    pass: &mut Pass,
+    gate: &G,
+) -> Result<Vec<Answered>, Memory>
+    requires idle { IsIdle kiwi.now pass.old }
+    requires lines { All IsLine block.now.lines }
+    ensures idle { IsIdle kiwi.now pass.new }
+    ensures goes { GoesTo kiwi.now.shared pass.old pass.new }
+    ensures works { IfOk result (λ answers. Works pass.old pass.new
+        (part block.now.workers (view pass.old).number block.now.lines) answers.items) }
 {
-    let Job { mut pass, lines } = job;
     let worker = pass.number();
-    let answers = work(rt, alloc, kiwi, &mut pass, worker, lines.as_slice(), gate);
+    let lines = block.part(alloc, worker)?;
+    work(rt, alloc, kiwi, pass, worker, lines.as_slice(), gate)
+}
+
+/// What a pass does in its thread.
+fn finish<R: Wait, G: Gate>(
+    rt: &R,
+    alloc: Global,
+    kiwi: &Kiwi,
+    block: &Block,
+    pass: Pass,
+    gate: &G,
+) -> Done
+    requires idle { IsIdle kiwi.now pass }
+    requires lines { All IsLine block.now.lines }
+    ensures { IsDone kiwi.now block.now pass result }
+{
+    let mut pass = pass;
+    let answers = answer_part(rt, alloc, kiwi, block, &mut pass, gate);
     Done { pass, answers }
 }
 
-/// A job for each pass.
-fn jobs(alloc: Global, kiwi: &Kiwi, block: &Block, passes: Vec<Pass>) -> Result<Vec<Job>, Memory>
-    requires idle { All (IsIdle kiwi.now) passes.items }
-    requires lines { All IsLine block.now.lines }
-    ensures each { IfOk result (λ jobs. AtEach (IsJob block.now) passes.items jobs.items) }
-    ensures len { IfOk result (λ jobs. vec_len jobs ≡ vec_len passes) }
-    ensures ready { IfOk result (λ jobs. All (λ job. IsIdle kiwi.now job.pass
-        × All IsLine job.lines.items) jobs.items) }
-{
-    let mut jobs = Vec::new(alloc);
-    for pass in passes {
-        let lines = block.part(alloc, pass.number())?;
-        jobs.push(Job { pass, lines })?;
-    }
-    Ok(jobs)
-}
-
-/// Does all jobs, each in a thread of its own.
+/// What all passes do, each in a thread of its own.
 fn finish_all<R: Threads + Wait + Sync, G: Gate + Sync>(
     rt: &R,
     alloc: Global,
     kiwi: &Kiwi,
-    jobs: Vec<Job>,
+    block: &Block,
+    passes: Vec<Pass>,
     gate: &G,
 ) -> Result<Vec<Done>, AllocError>
-    requires { All (λ job. IsIdle kiwi.now job.pass × All IsLine job.lines.items) jobs.items }
-    ensures len { IfOk result (λ dones. vec_len dones ≡ vec_len jobs) }
-    ensures each { IfOk result (λ dones. AtEach (IsDone kiwi.now) jobs.items dones.items) }
+    requires idle { All (IsIdle kiwi.now) passes.items }
+    requires lines { All IsLine block.now.lines }
+    ensures len { IfOk result (λ dones. vec_len dones ≡ vec_len passes) }
+    ensures each { IfOk result (λ dones. AtEach (IsDone kiwi.now block.now) passes.items dones.items) }
 {
     thread::map_vec(
         rt,
-        jobs,
-        &|job: Job|
-            requires idle { IsIdle kiwi.now job.pass }
-            requires lines { All IsLine job.lines.items }
-        { finish(rt, alloc, kiwi, job, gate) },
+        passes,
+        &|pass: Pass|
+            requires idle { IsIdle kiwi.now pass }
+            requires lines { All IsLine block.now.lines }
+        { finish(rt, alloc, kiwi, block, pass, gate) },
     )
 }
 
@@ -123,8 +130,7 @@ fn hand_out<R: Threads + Wait + Sync, G: Gate + Sync>(
     ensures each { IfOk result (λ both. WorkedEach kiwi.now block.now passes.items both.0.items
         both.1.items) }
 {
-    let jobs = jobs(alloc, kiwi, block, passes)?;
-    let dones = finish_all(rt, alloc, kiwi, jobs, gate)?;
+    let dones = finish_all(rt, alloc, kiwi, block, passes, gate)?;
     parted(alloc, dones)
 }
 

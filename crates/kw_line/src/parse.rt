@@ -16,6 +16,9 @@ use std::alloc::Global;
 /// How many bytes an input may have.
 pub const MOST_BYTES: usize = 16_777_216;
 
+/// How many bytes the shortest line has, `wait`, with the byte that ends it.
+const FEWEST_BYTES: usize = 5;
+
 /// The items of an input's lines, one for each line.
 pub fn parse(alloc: Global, bytes: &[u8]) -> Result<Vec<Item>, LineError>
     requires { length bytes.now ≤ MOST_BYTES }
@@ -23,7 +26,8 @@ pub fn parse(alloc: Global, bytes: &[u8]) -> Result<Vec<Item>, LineError>
     ensures few { IfOk result (λ items. vec_len items ≤ length bytes.now) }
     ensures bad { IfBadLine bytes.now result }
 {
-    let mut items = Vec::new(alloc);
+    // room for as many as there can be: an input that has more lines than these is a bad one
+    let mut items = Vec::with_capacity(alloc, bytes.len() / FEWEST_BYTES + 1)?;
     for line in Lines::new(bytes) {
         let Some(item) = item(line) else {
             let line = items.len() as u32 + 1;

@@ -57,7 +57,8 @@ impl Block {
     pub fn part(&self, alloc: Global, worker: u32) -> Result<Vec<Line>, Memory>
         ensures { IfOk result (λ lines. lines.items ≡ part self.now.workers worker self.now.lines) }
     {
-        let mut lines = Vec::new(alloc);
+        let fair = self.lines.len().div_ceil(self.workers as usize);
+        let mut lines = Vec::with_capacity(alloc, fair)?;
         for line in &self.lines {
             if line.worker(self.workers) == worker {
                 lines.push(*line)?;

@@ -25,7 +25,8 @@ pub fn deal(alloc: Global, items: &[Item], workers: u32) -> Result<Vec<Block>, M
         (λ blocks. All (λ b. All IsLine b.lines) blocks.items) }
 {
     let mut blocks = Vec::new(alloc);
-    let mut lines = Vec::new(alloc);
+    // most inputs have one block, or a small one and then a large one
+    let mut lines = Vec::with_capacity(alloc, items.len())?;
     let mut number = 0;
     for item in items {
         number += 1;

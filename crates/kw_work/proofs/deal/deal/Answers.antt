@@ -10,8 +10,8 @@ use Rattle.kw_work.proofs.deal.deal.Goals as goal
 pub loop-item-init : goal.loop-item-init
 loop-item-init c = record {
   number = refl;
-  blocks = ap (λ (x : List Dealt). lists x ++ glue c.new-lines.result.items (blocks_of 1 c.args.items.now)) c.new-blocks.ensures.items
-      ∙ (ap (λ (x : List Line). glue x (blocks_of 1 c.args.items.now)) c.new-lines.ensures.items ∙ glue-nil 1 c.args.items.now);
+  blocks = ap (λ (x : List Dealt). lists x ++ glue c.in_ok-lines.lines.items (blocks_of 1 c.args.items.now)) c.new-blocks.ensures.items
+      ∙ (ap (λ (x : List Line). glue x (blocks_of 1 c.args.items.now)) c.in_ok-lines.ensures.items ∙ glue-nil 1 c.args.items.now);
   workers = All-same (λ (b : Dealt). b.workers ≡ c.args.workers) _ _ c.new-blocks.ensures.items (All-nil (λ (b : Dealt). b.workers ≡ c.args.workers));
 }
 

@@ -8,7 +8,7 @@ use Rattle.kw_work.proofs.block.Block.part.Goals.{then-worker+in_ok-push, else-w
 use Rattle.kw_work.proofs.block.Block.part.Goals as goal
 
 pub loop-line-init : goal.loop-line-init
-loop-line-init c = c.new-lines.ensures.items ∙ sym (part-nil _ _)
+loop-line-init c = c.in_ok-lines.ensures.items ∙ sym (part-nil _ _)
 
 pub loop-line-preserved : goal.loop-line-preserved
 loop-line-preserved c =
