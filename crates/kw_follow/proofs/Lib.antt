@@ -14,3 +14,4 @@ pub mod OwnEvents
 pub mod WayEvents
 pub mod BuildEvents
 pub mod RestingCall
+pub mod Reaching

@@ -4,3 +4,4 @@ pub mod OwnEvents
 pub mod Within
 pub mod Cursors
 pub mod Ways
+pub mod Reaching

@@ -14,9 +14,7 @@ use Rattle.kw_model.specs.declared.call.Reply.TheVariants.{Value, Absent}
 use Rattle.kw_model.specs.Map.{found}
 use Rattle.kw_world.specs.declared.activity.Activity.{Activity}
 use Rattle.kw_world.specs.declared.activity.Activity.TheVariants.{Start, Head, GuessMin, Walk, WalkMin, Look, Leave}
-use Rattle.kw_world.specs.declared.event.Choice.{Choice}
 use Rattle.kw_world.specs.declared.event.Choice.TheVariants.{Go, Guess}
-use Rattle.kw_world.specs.declared.event.StepDone.{StepDone}
 use Rattle.kw_world.specs.declared.event.StepDone.TheVariants.{Moved}
 use Rattle.kw_world.specs.declared.limits.TheConstants.{NEWEST}
 use Rattle.kw_world.specs.declared.local.Local.{Local}
@@ -33,39 +31,20 @@ use Rattle.kw_puts.proofs.Owners.{true_false}
 use Rattle.kw_table.specs.declared.pass.Pass.{Pass}
 use Rattle.kw_table.specs.declared.shared.Shared.{Shared}
 use Rattle.kw_table.specs.Passes.{Makes}
-use Rattle.kw_table.proofs.Prefixes.{prefix_self}
 use Rattle.kw_follow.specs.declared.way.Way.{Way}
 use Rattle.kw_follow.specs.Calling.{Calls, Closes, KeepsCalls, Opens, calls_in}
 use Rattle.kw_follow.specs.Following.{Follows, activity_in}
 use Rattle.kw_follow.specs.Ways.{on_way}
 use Rattle.kw_follow.proofs.Carrying.{IsGoingOn}
-use Rattle.kw_follow.proofs.Growing.{keeps}
-use Rattle.kw_follow.proofs.OneEvent.{Went, goes_in, goes_stay, same_activity, went, went_follows}
+use Rattle.kw_follow.proofs.OneEvent.{same_activity, went}
 use Rattle.kw_follow.proofs.OwnEvents.{goes_trans}
 use Rattle.kw_follow.proofs.PutEvents.{next_at}
-use Rattle.kw_follow.proofs.ReadEvents.{goes_by}
+use Rattle.kw_follow.proofs.Reaching.{reaches_by, went_by}
 use Rattle.kw_follow.proofs.WayEvents.{next_guess}
-use Rattle.kw_live.specs.Getting.{GetsTo, HasGot, is_normal}
+use Rattle.kw_follow.specs.Reaching.{Reaches}
+use Rattle.kw_live.specs.Getting.{HasGot, is_normal}
 use Rattle.kw_live.specs.Reading.{HasRead, HasReadAs, LooksFurther}
 use Rattle.kw_live.specs.Walking.{IsUnderWay}
-
--- One event, and one part of the way after the other.
-
--- nothing has happened yet
-pub gets_none : {s : Shared} {p : Pass} {l : Local} → Follows s p l → GetsTo s p p l
-gets_none f = record { goes = record { of_table = f.of_table; number = refl; opening = refl; seen = prefix_self _ }; follows = f; calls = refl }
-
--- an event in the middle of a call
-pub gets_by : {s : Shared} {p q : Pass} {c : Choice} {l m : Local} {done : StepDone} {told : ℕ} → Went s p q c l m done told → IsGoingOn l.activity → GetsTo s p q m
-gets_by {s} {p} {q} {c} {l} {m} {done} {told} w going = record {
-  goes = goes_by s p q c told w.makes;
-  follows = went_follows w going;
-  calls = keeps w.makes (goes_stay _ (goes_in s p l w.follows going));
-}
-
--- two parts of the way
-pub gets_trans : {s : Shared} {p q r : Pass} {l m : Local} → GetsTo s p q l → GetsTo s q r m → GetsTo s p r m
-gets_trans {s} {p} {q} {r} {l} {m} a b = record { goes = goes_trans s p q r a.goes b.goes; follows = b.follows; calls = b.calls ∙ a.calls }
 
 -- The walk to the row.
 
@@ -91,23 +70,23 @@ taken r None l u = true_false u refl
 module _ {s : Shared} {p q : Pass} {told : ℕ} (w : Way) where
   -- the state of the guessed row was told
   module _ (r : ℕ) (inside : r < s.opening.rows) (f : Follows s p (on_way Start w)) (makes : Makes s p (Guess r) told q) where
-    guessed : (m : Local) → outcome m Moved ≡ guess_met r (state_of told) (on_way Start w) → GetsTo s p q m
-    guessed m line = gets_by (went s p q (Guess r) (on_way Start w) m Moved told s.opening.rows (offered s.opening.rows (Guess r)) f makes refl refl (line ∙ next_guess s.opening.rows r (on_way Start w) told refl inside)) tt
+    guessed : (m : Local) → outcome m Moved ≡ guess_met r (state_of told) (on_way Start w) → Reaches s p q m
+    guessed m line = reaches_by (went s p q (Guess r) (on_way Start w) m Moved told s.opening.rows (offered s.opening.rows (Guess r)) f makes refl refl (line ∙ next_guess s.opening.rows r (on_way Start w) told refl inside)) tt
 
     -- it is not in use
-    pub row_refused : is_normal (state_of told) ≡ false → GetsTo s p q (on_way Head w)
+    pub row_refused : is_normal (state_of told) ≡ false → Reaches s p q (on_way Head w)
     row_refused u = guessed (on_way Head w) (refused r (state_of told) (on_way Start w) u)
 
     -- it is
-    pub row_taken : is_normal (state_of told) ≡ true → GetsTo s p q (on_way GuessMin (record w { row = r }))
+    pub row_taken : is_normal (state_of told) ≡ true → Reaches s p q (on_way GuessMin (record w { row = r }))
     row_taken u = guessed (on_way GuessMin (record w { row = r })) (taken r (state_of told) (on_way Start w) u)
 
   -- any later event of the walk
-  walked : (a : Activity) (m : Local) (line : outcome m Moved ≡ next_of product s.opening.rows Go (on_way a w) told) → IsGoingOn a → Follows s p (on_way a w) → Makes s p Go told q → GetsTo s p q m
-  walked a m line going f makes = gets_by (went s p q Go (on_way a w) m Moved told s.opening.rows Go f makes refl refl line) going
+  walked : (a : Activity) (m : Local) (line : outcome m Moved ≡ next_of product s.opening.rows Go (on_way a w) told) → IsGoingOn a → Follows s p (on_way a w) → Makes s p Go told q → Reaches s p q m
+  walked a m line going f makes = reaches_by (went_by (on_way a w) m Moved f makes line) going
 
   -- the least key of the guessed row was told, and is above the key
-  pub least_above : (least : ℕ) → least ≡ key_of_word told → w.key < least → Follows s p (on_way GuessMin w) → Makes s p Go told q → GetsTo s p q (on_way Head w)
+  pub least_above : (least : ℕ) → least ≡ key_of_word told → w.key < least → Follows s p (on_way GuessMin w) → Makes s p Go told q → Reaches s p q (on_way Head w)
   least_above least keyed above f makes =
       let beyond : nat_le (key_of_word told) w.key ≡ false = grind (arith, nat_tests) in
       walked GuessMin (on_way Head w)
@@ -116,7 +95,7 @@ module _ {s : Shared} {p q : Pass} {told : ℕ} (w : Way) where
       tt f makes
 
   -- or is not
-  pub least_below : (least : ℕ) → least ≡ key_of_word told → least ≤ w.key → Follows s p (on_way GuessMin w) → Makes s p Go told q → GetsTo s p q (on_way Walk (record w { lower = least }))
+  pub least_below : (least : ℕ) → least ≡ key_of_word told → least ≤ w.key → Follows s p (on_way GuessMin w) → Makes s p Go told q → Reaches s p q (on_way Walk (record w { lower = least }))
   least_below least keyed below f makes =
       let within : nat_le least w.key ≡ true = grind (arith, nat_tests) in
       walked GuessMin (on_way Walk (record w { lower = least }))
@@ -126,21 +105,21 @@ module _ {s : Shared} {p q : Pass} {told : ℕ} (w : Way) where
       tt f makes
 
   -- the link after the row was told, and leads to none: the get is at its row
-  pub links_none : row_linked (link_of told) ≡ None → Follows s p (on_way Walk w) → Makes s p Go told q → GetsTo s p q (on_way (Look 0) (record w { next = None; upper = 0 }))
+  pub links_none : row_linked (link_of told) ≡ None → Follows s p (on_way Walk w) → Makes s p Go told q → Reaches s p q (on_way (Look 0) (record w { next = None; upper = 0 }))
   links_none none f makes =
       walked Walk (on_way (Look 0) (record w { next = None; upper = 0 }))
       (ap (λ (o : Option ℕ). link_met o (on_way Walk w)) (sym none) ∙ next_at s.opening.rows Walk (on_way Walk w) told refl)
       tt f makes
 
   -- or leads to a row
-  pub links_row : (r : ℕ) → row_linked (link_of told) ≡ Some r → Follows s p (on_way Walk w) → Makes s p Go told q → GetsTo s p q (on_way WalkMin (record w { candidate = r }))
+  pub links_row : (r : ℕ) → row_linked (link_of told) ≡ Some r → Follows s p (on_way Walk w) → Makes s p Go told q → Reaches s p q (on_way WalkMin (record w { candidate = r }))
   links_row r leads f makes =
       walked Walk (on_way WalkMin (record w { candidate = r }))
       (ap (λ (o : Option ℕ). link_met o (on_way Walk w)) (sym leads) ∙ next_at s.opening.rows Walk (on_way Walk w) told refl)
       tt f makes
 
   -- whose least key is not above the key: the walk goes on there
-  pub next_below : (least : ℕ) → least ≡ key_of_word told → least ≤ w.key → Follows s p (on_way WalkMin w) → Makes s p Go told q → GetsTo s p q (on_way Walk (record w { row = w.candidate; lower = least }))
+  pub next_below : (least : ℕ) → least ≡ key_of_word told → least ≤ w.key → Follows s p (on_way WalkMin w) → Makes s p Go told q → Reaches s p q (on_way Walk (record w { row = w.candidate; lower = least }))
   next_below least keyed below f makes =
       let l : Local = on_way WalkMin w in
       let within : nat_le least w.key ≡ true = grind (arith, nat_tests) in
@@ -151,7 +130,7 @@ module _ {s : Shared} {p q : Pass} {told : ℕ} (w : Way) where
       tt f makes
 
   -- or is: the get is at its row
-  pub next_above : (least : ℕ) → least ≡ key_of_word told → w.key < least → Follows s p (on_way WalkMin w) → Makes s p Go told q → GetsTo s p q (on_way (Look 0) (record w { next = Some w.candidate; upper = least }))
+  pub next_above : (least : ℕ) → least ≡ key_of_word told → w.key < least → Follows s p (on_way WalkMin w) → Makes s p Go told q → Reaches s p q (on_way (Look 0) (record w { next = Some w.candidate; upper = least }))
   next_above least keyed above f makes =
       let l : Local = on_way WalkMin w in
       let beyond : nat_le least w.key ≡ false = grind (arith, nat_tests) in
@@ -204,7 +183,7 @@ walks_still key a (inl walks) none = walks
 walks_still key a (inr e) none = absurd (none 0 e)
 
 -- a get that goes on and then ends
-pub got_after : {s : Shared} {p q r : Pass} {m n : Local} {value : Option ℕ} → GetsTo s p q m → HasGot s q r value n → HasGot s p r value n
+pub got_after : {s : Shared} {p q r : Pass} {m n : Local} {value : Option ℕ} → Reaches s p q m → HasGot s q r value n → HasGot s p r value n
 got_after {s} {p} {q} {r} {m} {n} {value} gets got = record {
   goes = goes_trans s p q r gets.goes got.goes;
   idle = got.idle;
@@ -215,5 +194,5 @@ got_after {s} {p} {q} {r} {m} {n} {value} gets got = record {
 }
 
 -- a get that has looked at the entries of its row goes on
-pub looks_done : {s : Shared} {p q : Pass} {l m : Local} → LooksFurther s p l q m → GetsTo s p q m
+pub looks_done : {s : Shared} {p q : Pass} {l m : Local} → LooksFurther s p l q m → Reaches s p q m
 looks_done more = record { goes = more.goes; follows = more.follows; calls = more.calls }

@@ -19,18 +19,16 @@ use Rattle.kw_table.specs.declared.pass.Pass.{Pass}
 use Rattle.kw_table.specs.declared.shared.Shared.{Shared}
 use Rattle.kw_table.specs.Passes.{view, Makes}
 use Rattle.kw_table.specs.Views.{local_in}
-use Rattle.kw_table.proofs.Prefixes.{prefix_self}
 use Rattle.kw_follow.specs.declared.cursor.Cursor.{Cursor}
 use Rattle.kw_follow.specs.Calling.{KeepsCalls}
 use Rattle.kw_follow.specs.Cursors.{holding, past, reached, with_cursor}
 use Rattle.kw_follow.specs.Following.{Follows, GoesTo, held}
 use Rattle.kw_follow.specs.Within.{IsWithinCall}
 use Rattle.kw_follow.proofs.Carrying.{IsGoingOn}
-use Rattle.kw_follow.proofs.Growing.{keeps}
-use Rattle.kw_follow.proofs.OneEvent.{Went, goes_in, goes_stay, went, went_follows, went_held, went_line, went_met, within_goes}
+use Rattle.kw_follow.proofs.OneEvent.{Went, went_held, went_line, went_met, within_goes}
 use Rattle.kw_follow.proofs.OwnEvents.{goes_trans}
 use Rattle.kw_follow.proofs.PutEvents.{next_at, put_within}
-use Rattle.kw_follow.proofs.ReadEvents.{goes_by}
+use Rattle.kw_follow.proofs.Reaching.{reaches_by, reaches_none, went_by}
 use Rattle.kw_follow.proofs.Resting.{stands}
 use Rattle.kw_live.specs.Putting.{InsertsFurther, put_ahead}
 use Rattle.kw_live.proofs.PutStages.{put_goes}
@@ -45,14 +43,10 @@ put_counts s p l w f =
 
 -- One event of a pass, and of code that follows it.
 
--- a pass that makes no event
-stays : (s : Shared) (p : Pass) (l : Local) → Follows s p l → GoesTo s p p
-stays s p l f = record { of_table = f.of_table; number = refl; opening = refl; seen = prefix_self _ }
-
 module _ {s : Shared} {p q : Pass} {told : ℕ} (l m : Local) (done : StepDone) (f : Follows s p l) (makes : Makes s p Go told q) (put : is_putting l.activity ≡ true) (line : outcome m done ≡ next_of product s.opening.rows Go l told) where
   -- code goes on by the table
   went_on : Went s p q Go l m done told
-  went_on = went s p q Go l m done told s.opening.rows Go f makes refl refl line
+  went_on = went_by l m done f makes line
 
   -- it is in the middle of its call
   within : IsWithinCall l.activity
@@ -64,16 +58,9 @@ module _ {s : Shared} {p q : Pass} {told : ℕ} (l m : Local) (done : StepDone) 
   -- a put that still inserts its cell is further
   pub inserts_by : IsInserting m.activity → InsertsFurther s p l q m
   inserts_by inserting =
-      let goes = goes_by s p q Go told makes in
-      let on = put_goes s p p q l m (view p).opening.rows told (stays s p l f) goes (went_met went_on within) (went_line went_on going) put in
-      record {
-        goes = goes;
-        follows = went_follows went_on going;
-        calls = keeps makes (goes_stay _ (goes_in s p l f going));
-        held = went_held went_on going refl;
-        inserting = inserting;
-        fewer = on.fewer;
-      }
+      let on = reaches_by went_on going in
+      let put_on = put_goes s p p q l m (view p).opening.rows told (reaches_none f).goes on.goes (went_met went_on within) (went_line went_on going) put in
+      record { goes = on.goes; follows = on.follows; calls = on.calls; held = went_held went_on going refl; inserting = inserting; fewer = put_on.fewer }
 
 -- The put still inserts its cell.
 

@@ -26,11 +26,10 @@ use Rattle.kw_table.proofs.Prefixes.{prefix_self}
 use Rattle.kw_follow.specs.Following.{Follows}
 use Rattle.kw_follow.specs.Within.{IsWithinCall, looking}
 use Rattle.kw_follow.proofs.Carrying.{IsGoingOn}
-use Rattle.kw_follow.proofs.Growing.{keeps}
-use Rattle.kw_follow.proofs.OneEvent.{Went, goes_in, goes_stay, went, went_follows, went_held, went_line, within_goes}
+use Rattle.kw_follow.proofs.OneEvent.{Went, went_held, went_line, within_goes}
 use Rattle.kw_follow.proofs.OwnEvents.{goes_trans}
 use Rattle.kw_follow.proofs.PutEvents.{next_at}
-use Rattle.kw_follow.proofs.ReadEvents.{goes_by}
+use Rattle.kw_follow.proofs.Reaching.{reaches_by, went_by}
 use Rattle.kw_live.specs.Reading.{IsLookingOn, LooksFurther, LooksOn, LooksUpTo, is_idle, is_looking, look_ahead}
 
 -- the event was a look, and there are fewer to make
@@ -101,22 +100,16 @@ looking_within _ u = true_false u refl
 module _ {s : Shared} {p q : Pass} {told : ℕ} (l m : Local) (done : StepDone) (f : Follows s p l) (makes : Makes s p Go told q) (u : is_looking l.activity ≡ true) (line : outcome m done ≡ next_of product s.opening.rows Go l told) where
   -- code goes on by the table
   went_on : Went s p q Go l m done told
-  went_on = went s p q Go l m done told s.opening.rows Go f makes refl refl line
+  went_on = went_by l m done f makes line
 
   going : IsGoingOn l.activity
   going = within_goes l.activity (looking_within l.activity u)
 
   pub looks_by : LooksFurther s p l q m
   looks_by =
+      let on = reaches_by went_on going in
       let looked = look_goes l m (view p).opening.rows told (went_line went_on going) u in
-      record {
-        goes = goes_by s p q Go told makes;
-        follows = went_follows went_on going;
-        calls = keeps makes (goes_stay _ (goes_in s p l f going));
-        held = went_held went_on going refl;
-        looks = looked.looks;
-        fewer = looked.fewer;
-      }
+      record { goes = on.goes; follows = on.follows; calls = on.calls; held = went_held went_on going refl; looks = looked.looks; fewer = looked.fewer }
 
 -- The looks at entries at which nothing is announced.
 

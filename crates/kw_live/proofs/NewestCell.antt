@@ -23,10 +23,11 @@ use Rattle.kw_follow.specs.Cursors.{ReadsWord, cell_at, first_of, past, reached,
 use Rattle.kw_follow.specs.Following.{Follows}
 use Rattle.kw_follow.specs.Ways.{on_way}
 use Rattle.kw_follow.proofs.OneEvent.{follows_ranges}
-use Rattle.kw_live.specs.Getting.{GetsTo, HasFound, newer_of}
+use Rattle.kw_follow.specs.Reaching.{Reaches}
+use Rattle.kw_live.specs.Getting.{HasFound, newer_of}
 use Rattle.kw_live.specs.Reading.{ReadsOn, reads_ahead}
 use Rattle.kw_live.proofs.CursorEvents.{cell_above, cell_counts, cell_passed, cell_within, link_ended, link_led, value_told, version_told}
-use Rattle.kw_live.proofs.Gets.{gets_none, gets_trans}
+use Rattle.kw_follow.proofs.Reaching.{reaches_none, reaches_trans}
 use Rattle.kw_live.proofs.ReadEvent.{reads_trans}
 
 -- The newest cell.
@@ -78,7 +79,7 @@ reading w cells = record (on_way ListFrom w) { gathered = cells }
 -- what stays while a get goes along the list
 pub record KeepsNewest (s : Shared) (o : Pass) (way : Way) (p : Pass) (w : Cursor) (newest : Option Cell) : Type 0 where
   pub cells : List Cell
-  pub gets : GetsTo s o p (with_cursor ListFrom w (reading way cells))
+  pub gets : Reaches s o p (with_cursor ListFrom w (reading way cells))
   pub keeps : IsNewest way.key cells newest
   pub few : length cells ≤ w.walked
 
@@ -86,7 +87,7 @@ pub record KeepsNewest (s : Shared) (o : Pass) (way : Way) (p : Pass) (w : Curso
 pub newest_begins : {s : Shared} {p : Pass} (way : Way) (w : Cursor) → w ≡ first_of way.row → Follows s p (on_way ListFrom way) → KeepsNewest s p way p w None
 newest_begins {s} {p} way w is f = record {
   cells = [];
-  gets = gets_none (subst (λ (x : Cursor). Follows s p (with_cursor ListFrom x (reading way []))) (sym is) f);
+  gets = reaches_none (subst (λ (x : Cursor). Follows s p (with_cursor ListFrom x (reading way []))) (sym is) f);
   keeps = record { in_order = λ i j d u v. absurd (omega arith); of_key = λ k d u. absurd (omega arith); first = refl };
   few = omega arith;
 }
@@ -99,8 +100,8 @@ module _ {s : Shared} {o p q : Pass} {way : Way} {w : Cursor} {newest : Option C
   f = before.gets.follows
 
   -- what a reading adds
-  further : {r : Pass} {m : Local} → ReadsOn s p (with_cursor ListFrom w l) r m → GetsTo s o r m
-  further on = gets_trans before.gets (record { goes = on.goes; follows = on.follows; calls = on.calls })
+  further : {r : Pass} {m : Local} → ReadsOn s p (with_cursor ListFrom w l) r m → Reaches s o r m
+  further on = reaches_trans before.gets (record { goes = on.goes; follows = on.follows; calls = on.calls })
 
   -- it has found what the newest cell shows
   found_by : {r : Pass} {m : Local} (value : Option ℕ) → value ≡ value_in newest → m.activity ≡ Leave (answer_found (shown_at before.cells NEWEST way.key)) → ReadsOn s p (with_cursor ListFrom w l) r m → HasFound s o r value

@@ -33,11 +33,10 @@ use Rattle.kw_follow.specs.Following.{Follows, GoesTo, held}
 use Rattle.kw_follow.specs.OwnEvents.{Met, MetAs}
 use Rattle.kw_follow.specs.Within.{IsWithinCall, walking}
 use Rattle.kw_follow.proofs.Carrying.{IsGoingOn}
-use Rattle.kw_follow.proofs.Growing.{keeps}
-use Rattle.kw_follow.proofs.OneEvent.{Went, goes_in, goes_stay, went, went_follows, went_held, went_line, went_met, within_goes}
+use Rattle.kw_follow.proofs.OneEvent.{Went, went_held, went_line, went_met, within_goes}
 use Rattle.kw_follow.proofs.OwnEvents.{goes_trans}
 use Rattle.kw_follow.proofs.PutEvents.{next_at}
-use Rattle.kw_follow.proofs.ReadEvents.{goes_by}
+use Rattle.kw_follow.proofs.Reaching.{reaches_by, went_by}
 use Rattle.kw_live.specs.Meeting.{BeginsWith}
 use Rattle.kw_live.specs.Stages.{arrived, guessing}
 use Rattle.kw_live.specs.Walking.{IsUnderWay, WalksFurther, WalksOn, walk_ahead, walks_ahead}
@@ -153,7 +152,7 @@ walking_within _ u = true_false u refl
 module _ {s : Shared} {p q : Pass} {told : ℕ} (l m : Local) (done : StepDone) (f : Follows s p l) (makes : Makes s p Go told q) (u : is_walking l.activity ≡ true) (line : outcome m done ≡ next_of product s.opening.rows Go l told) where
   -- code goes on by the table
   went_on : Went s p q Go l m done told
-  went_on = went s p q Go l m done told s.opening.rows Go f makes refl refl line
+  went_on = went_by l m done f makes line
 
   within : IsWithinCall l.activity
   within = walking_within l.activity u
@@ -163,16 +162,9 @@ module _ {s : Shared} {p q : Pass} {told : ℕ} (l m : Local) (done : StepDone) 
 
   pub walks_by : WalksFurther s p l q m
   walks_by =
-      let goes = goes_by s p q Go told makes in
-      let climbed = walk_goes s p q l m (view p).opening.rows told goes (went_met went_on within) (went_line went_on going) u in
-      record {
-        goes = goes;
-        follows = went_follows went_on going;
-        calls = keeps makes (goes_stay _ (goes_in s p l f going));
-        held = went_held went_on going refl;
-        walks = climbed.walks;
-        fewer = climbed.fewer;
-      }
+      let on = reaches_by went_on going in
+      let climbed = walk_goes s p q l m (view p).opening.rows told on.goes (went_met went_on within) (went_line went_on going) u in
+      record { goes = on.goes; follows = on.follows; calls = on.calls; held = went_held went_on going refl; walks = climbed.walks; fewer = climbed.fewer }
 
 -- The events by which a walk goes from row to row.
 

@@ -12,7 +12,8 @@ use Rattle.kw_world.specs.Local.{resting}
 use Rattle.kw_table.specs.declared.pass.Pass.{Pass}
 use Rattle.kw_table.specs.declared.shared.Shared.{Shared}
 use Rattle.kw_follow.specs.Calling.{Closes, KeepsCalls}
-use Rattle.kw_follow.specs.Following.{Follows, GoesTo, activity_in}
+use Rattle.kw_follow.specs.Following.{GoesTo, activity_in}
+use Rattle.kw_follow.specs.Reaching.{Reaches}
 
 -- the row is in use
 abbrev pub is_normal : Option State → Bool
@@ -24,16 +25,10 @@ abbrev pub newer_of : Cell → Option Cell → Cell
 newer_of c None = c
 newer_of c (Some d) = if stands_before c d then c else d
 
--- the call went on, and its seat then knows this
-pub record GetsTo (s : Shared) (p q : Pass) (m : Local) : Type 0 where
-  pub goes : GoesTo s p q
-  pub follows : Follows s q m
-  pub calls : KeepsCalls p q
-
 -- a get has read its row: it is about to leave with this value, or with none
 pub record HasFound (s : Shared) (p q : Pass) (value : Option ℕ) : Type 0 where
   pub local : Local
-  pub gets : GetsTo s p q local
+  pub gets : Reaches s p q local
   pub leaves : local.activity ≡ Leave (answer_found value)
 
 -- the get has ended with this value, or with none: its pass is idle, and its local at rest

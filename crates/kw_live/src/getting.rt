@@ -12,7 +12,8 @@ ghost use Rattle.kw_table.specs.Passes.{IsPassOf};
 ghost use Rattle.kw_follow.specs.Calling.{Calls};
 ghost use Rattle.kw_follow.specs.Following.{Follows, GoesTo, activity_in};
 ghost use Rattle.kw_follow.specs.Ways.{on_way};
-ghost use Rattle.kw_live.specs.Getting.{GetsTo, HasGot, is_normal};
+ghost use Rattle.kw_follow.specs.Reaching.{Reaches};
+ghost use Rattle.kw_live.specs.Getting.{HasGot, is_normal};
 ghost use Rattle.kw_live.specs.Reading.{is_looking};
 ghost use Rattle.kw_live.specs.Walking.{IsUnderWay};
 
@@ -30,10 +31,10 @@ use kw_words::state::State;
 use kw_world::activity::Activity;
 use kw_world::local::Local;
 
-/// The value of a key, if it has one: a whole call of an idle pass, whose walk begins at the guessed row where there is a guess and that row serves, as
-/// `locate` says.
+/// The value of a key, if it has one: a whole call of an idle pass.
 ///
-/// The local is at rest before and afterwards. Takes no memory.
+/// The walk tries the guessed row first, where there is a guess; that is for speed alone, and no clause rests on it. The local is at rest before and
+/// afterwards. Takes no memory.
 pub fn get(
     shared: &Shared,
     pass: &mut Pass,
@@ -70,7 +71,7 @@ struct Place {
 #[inline(always)]
 fn set_out(shared: &Shared, pass: &mut Pass, way: Way, guess: Option<u32>) -> Place
     requires { Follows shared.now pass.old (on_way Activity.Start way) }
-    ensures gets { GetsTo shared.now pass.old pass.new (on_way result.activity result.way) }
+    ensures gets { Reaches shared.now pass.old pass.new (on_way result.activity result.way) }
     ensures key { result.way.key ≡ way.key }
     ensures under_way { IsUnderWay (Some (Call.Get way.key)) result.activity }
 {
@@ -88,7 +89,7 @@ fn set_out(shared: &Shared, pass: &mut Pass, way: Way, guess: Option<u32>) -> Pl
 fn try_row(shared: &Shared, pass: &mut Pass, way: Way, row: u32) -> Place
     requires follows { Follows shared.now pass.old (on_way Activity.Start way) }
     requires in_range { row < shared.now.opening.rows }
-    ensures gets { GetsTo shared.now pass.old pass.new (on_way result.activity result.way) }
+    ensures gets { Reaches shared.now pass.old pass.new (on_way result.activity result.way) }
     ensures key { result.way.key ≡ way.key }
     ensures under_way { IsUnderWay (Some (Call.Get way.key)) result.activity }
 {
@@ -117,7 +118,7 @@ fn try_row(shared: &Shared, pass: &mut Pass, way: Way, row: u32) -> Place
 #[inline(always)]
 fn step_on(shared: &Shared, pass: &mut Pass, way: Way) -> Place
     requires { Follows shared.now pass.old (on_way Activity.Walk way) }
-    ensures gets { GetsTo shared.now pass.old pass.new (on_way result.activity result.way) }
+    ensures gets { Reaches shared.now pass.old pass.new (on_way result.activity result.way) }
     ensures key { result.way.key ≡ way.key }
     ensures under_way { IsUnderWay (Some (Call.Get way.key)) result.activity }
 {

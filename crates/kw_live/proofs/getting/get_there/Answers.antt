@@ -8,7 +8,8 @@ use Rattle.kw_world.specs.Sizes.{product}
 use Rattle.kw_follow.specs.Ways.{on_way}
 use Rattle.kw_follow.specs.Within.{looking}
 use Rattle.kw_follow.proofs.WayEvents.{entry_below, entry_room}
-use Rattle.kw_live.proofs.Gets.{get_closes, gets_trans, got_after, leaves_with, looks_done}
+use Rattle.kw_follow.proofs.Reaching.{reaches_trans}
+use Rattle.kw_live.proofs.Gets.{get_closes, got_after, leaves_with, looks_done}
 use Rattle.kw_live.proofs.LookStages.{last_line, looked_from}
 use Rattle.kw_live.proofs.getting.get_there.Goals as goal
 
@@ -30,7 +31,7 @@ returns-then-is_idle c =
     let up = c.look_along-seen.ensures (on_way (Look 0) c.args.way) c.requires.follows refl in
     let looked = looked_from refl up (last_line (on_way (Look 0) c.args.way) _ _ (sym c.is_idle.ensures ∙ c.if-is_idle.true) c.if-seen-ge-SEAT_COUNT.true) in
     let read = c.read_newest-value.ensures in
-    got_after (gets_trans (looks_done looked) read.gets) (record {
+    got_after (reaches_trans (looks_done looked) read.gets) (record {
       goes = c.end_resting.ensures.goes;
       idle = c.end_resting.ensures.idle;
       rests = c.requires.rested;

@@ -1,7 +1,8 @@
 use Rattle.std.proofs.Common.{refl, sym, ◌∙◌}
 use Rattle.kw_world.specs.declared.activity.Activity.TheVariants.{Walk, WalkMin}
 use Rattle.kw_follow.specs.Ways.{on_way}
-use Rattle.kw_live.proofs.Gets.{gets_trans, links_none, links_row, next_above, next_below}
+use Rattle.kw_follow.proofs.Reaching.{reaches_trans}
+use Rattle.kw_live.proofs.Gets.{links_none, links_row, next_above, next_below}
 use Rattle.kw_live.proofs.getting.step_on.Goals as goal
 
 pub load_row_link-requires : goal.load_row_link-requires
@@ -18,9 +19,9 @@ load_row_least-requires c =
 pub returns-then-least-way-clause-gets : goal.returns-then-least-way-clause-gets
 returns-then-least-way-clause-gets c =
     let led = links_row c.args.way c.in-Some.row (sym c.linked.ensures ∙ c.in-Some.is) c.requires c.load_row_link.ensures in
-    gets_trans led (next_below (record c.args.way { candidate = c.in-Some.row }) _ c.unpack_key-least.ensures.value c.if-least-way.true led.follows c.load_row_least.ensures)
+    reaches_trans led (next_below (record c.args.way { candidate = c.in-Some.row }) _ c.unpack_key-least.ensures.value c.if-least-way.true led.follows c.load_row_least.ensures)
 
 pub returns-clause-gets : goal.returns-clause-gets
 returns-clause-gets c =
     let led = links_row c.args.way c.in-Some.row (sym c.linked.ensures ∙ c.in-Some.is) c.requires c.load_row_link.ensures in
-    gets_trans led (next_above (record c.args.way { candidate = c.in-Some.row }) _ c.unpack_key-least.ensures.value c.if-least-way.false led.follows c.load_row_least.ensures)
+    reaches_trans led (next_above (record c.args.way { candidate = c.in-Some.row }) _ c.unpack_key-least.ensures.value c.if-least-way.false led.follows c.load_row_least.ensures)

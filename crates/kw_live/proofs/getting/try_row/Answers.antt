@@ -1,5 +1,6 @@
 use Rattle.std.proofs.Common.{sym, ◌∙◌}
-use Rattle.kw_live.proofs.Gets.{gets_trans, least_above, least_below, row_refused, row_taken}
+use Rattle.kw_follow.proofs.Reaching.{reaches_trans}
+use Rattle.kw_live.proofs.Gets.{least_above, least_below, row_refused, row_taken}
 use Rattle.kw_live.proofs.getting.try_row.Goals as goal
 
 pub returns-then-not-is_normal-clause-gets : goal.returns-then-not-is_normal-clause-gets
@@ -11,7 +12,7 @@ load_least-requires c = (row_taken c.args.way c.args.row c.requires.in_range c.r
 pub returns-then-least-way-clause-gets : goal.returns-then-least-way-clause-gets
 returns-then-least-way-clause-gets c =
     let taken = row_taken c.args.way c.args.row c.requires.in_range c.requires.follows c.load_state-state.ensures (sym c.is_normal.ensures ∙ c.if-not-is_normal.false) in
-    gets_trans taken (least_above (record c.args.way { row = c.args.row }) _ c.unpack_key-least.ensures.value c.if-least-way.true taken.follows c.load_least.ensures)
+    reaches_trans taken (least_above (record c.args.way { row = c.args.row }) _ c.unpack_key-least.ensures.value c.if-least-way.true taken.follows c.load_least.ensures)
 
 pub step_on-requires : goal.step_on-requires
 step_on-requires c =
@@ -21,4 +22,4 @@ step_on-requires c =
 pub returns-clause-gets : goal.returns-clause-gets
 returns-clause-gets c =
     let taken = row_taken c.args.way c.args.row c.requires.in_range c.requires.follows c.load_state-state.ensures (sym c.is_normal.ensures ∙ c.if-not-is_normal.false) in
-    gets_trans (gets_trans taken (least_below (record c.args.way { row = c.args.row }) _ c.unpack_key-least.ensures.value c.if-least-way.false taken.follows c.load_least.ensures)) c.step_on.ensures.gets
+    reaches_trans (reaches_trans taken (least_below (record c.args.way { row = c.args.row }) _ c.unpack_key-least.ensures.value c.if-least-way.false taken.follows c.load_least.ensures)) c.step_on.ensures.gets
