@@ -12,10 +12,7 @@ use Rattle.kw_line.specs.declared.answer.Answer.{Answer}
 use Rattle.kw_line.specs.declared.item.Form.{Form}
 use Rattle.kw_line.specs.Answered.{IsReplyOf, answer_for, answers_for}
 use Rattle.kw_table.specs.declared.pass.Pass.{Pass}
-use Rattle.kw_table.specs.declared.shared.Shared.{Shared}
 use Rattle.kw_table.specs.Passes.{view}
-use Rattle.kw_table.proofs.Prefixes.{prefix_trans}
-use Rattle.kw_follow.specs.Following.{GoesTo}
 use Rattle.kw_follow.specs.Calling.{calls_in, now_in, Calls}
 use Rattle.kw_work.specs.declared.line.Line.{Line}
 use Rattle.kw_work.specs.declared.line.Answered.{Answered}
@@ -100,12 +97,3 @@ works_step p q r lines i d done more a lt before later w c push =
     subst (λ x. Works p r x more) (sym (take_more lines i d lt))
     (subst (λ x. Works p r (take i lines ++ l ∷ []) x) (sym (push ∙ ap (λ (y : Answer). done ++ record { line = l.number; answer = y } ∷ []) c.answer_is))
     (works_more p q r (take i lines) l done c.reply before later w c.calls c.is_reply))
-
--- a pass that went on twice went on
-pub goes_trans : (s : Shared) (p q r : Pass) → GoesTo s p q → GoesTo s q r → GoesTo s p r
-goes_trans s p q r a b = record {
-  of_table = b.of_table;
-  number = b.number ∙ a.number;
-  opening = b.opening ∙ a.opening;
-  seen = prefix_trans (view p).seen (view q).seen (view r).seen a.seen b.seen;
-}

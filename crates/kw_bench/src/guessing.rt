@@ -1,12 +1,14 @@
 //! Guesses of an index, by one thread and by four beside one that publishes, and searches in a plain slice.
 //!
-//! Each thread asks for keys from a fixed generator, so the index and the slice are asked for the same ones, and should tell the same rows.
+//! Each thread asks for keys from a fixed generator, so the index and the slice are asked for the same ones, and should tell the same rows. A guess of the
+//! index is one that is made anew, by own entries that were brought up to the last change.
 ghost use Rattle.std.specs.Prelude.{◌≡◌, ◌≤◌, IfOk};
-ghost use Rattle.kw_index.specs.Turns.{handed_back};
 
+use kw_index::change::Change;
 use kw_index::entries::{Entries, Entry};
-use kw_index::index::{Index, Published};
+use kw_index::index::Index;
 use kw_index::memory::Memory;
+use kw_index::own::OwnEntries;
 use std::alloc::Global;
 use std::sync::atomic::{AtomicBool, Ordering};
 use std::thread::{Threads, join};
@@ -49,21 +51,45 @@ pub fn entries_of_all(alloc: Global, rows: u32) -> Result<Entries, Memory>
     Ok(entries)
 }
 
+/// An index with an entry for each of so many rows, those of `entries_of_all`.
+pub fn index_of_all(alloc: Global, rows: u32) -> Result<Index, Memory>
+    requires { 1 ≤ rows }
+    ensures { IfOk result (λ index. index ≡ rows) }
+{
+    let index = Index::new(alloc, rows)?;
+    let entries = entries_of_all(alloc, rows)?;
+    let mut own = OwnEntries::new(alloc, rows)?;
+    for entry in entries.list() {
+        publish_entry(&mut own, &index, *entry);
+    }
+    Ok(index)
+}
+
+// Publishes that this row begins at this key, in place of no other.
+fn publish_entry(own: &mut OwnEntries, index: &Index, entry: Entry) -> bool {
+    let mut change = Change::without(index.rows());
+    change.place(entry);
+    own.publish(index, change)
+}
+
 /// What is asked for the row of a key.
 #[derive(Clone, Copy)]
 pub enum Asked<'a> {
     /// A plain slice of entries, by std's own search.
     Slice(&'a [Entry]),
-    /// An index.
+    /// An index, by own entries of the thread that asks.
     Index(&'a Index),
 }
 
 impl Asked<'_> {
-    /// Asks for so many keys, which follow this one.
-    pub fn for_keys(&self, first: u32, calls: u32) -> Told {
+    /// Asks for so many keys, which follow this one. The only error is the want of memory for own entries.
+    pub fn for_keys(&self, alloc: Global, first: u32, calls: u32) -> Result<Told, Memory> {
         match *self {
-            Asked::Slice(list) => search(list, first, calls),
-            Asked::Index(index) => guess(index, first, calls),
+            Asked::Slice(list) => Ok(search(list, first, calls)),
+            Asked::Index(index) => {
+                let mut own = OwnEntries::new(alloc, index.rows())?;
+                Ok(guess(index, &mut own, first, calls))
+            }
         }
     }
 }
@@ -81,12 +107,12 @@ fn search(list: &[Entry], first: u32, calls: u32) -> Told {
     told
 }
 
-fn guess(index: &Index, first: u32, calls: u32) -> Told {
+fn guess(index: &Index, own: &mut OwnEntries, first: u32, calls: u32) -> Told {
     let mut key = first;
     let mut told = Told { rows: 0, sum: 0 };
     for _ in 0..calls {
         key = next_key(key);
-        if let Some(row) = index.guess(key) {
+        if let Some(row) = own.guess_anew(index, key) {
             told = counted(told, row);
         }
     }
@@ -100,72 +126,69 @@ fn counted(told: Told, row: u32) -> Told {
     }
 }
 
-/// Lets four threads ask an index for so many keys each, while a fifth copies what is published and publishes it again.
+/// Lets four threads ask an index for so many keys each, while a fifth publishes again and again that the first row begins at the least key.
 pub fn ask_in_a_crowd<T: Threads + Sync>(
     threads: &T,
+    alloc: Global,
     index: &Index,
-    spare: Entries,
     calls: u32,
-) -> Crowd
-    requires { spare.rows ≡ index.now }
-{
+) -> Result<Crowd, Memory> {
+    let mut own = OwnEntries::new(alloc, index.rows())?;
     let over = AtomicBool::new(false);
     let (rows, published) = join(
         threads,
         || {
-            let rows = ask_by_four(threads, Asked::Index(index), calls);
+            let rows = ask_by_four(threads, alloc, Asked::Index(index), calls);
             over.store(true, Ordering::SeqCst);
             rows
         },
-        || publish_until(index, spare, &over),
+        || publish_until(index, &mut own, &over),
     );
-    Crowd { rows, published }
+    Ok(Crowd {
+        rows: rows?,
+        published,
+    })
 }
 
 /// Lets four threads ask for so many keys each, and counts the rows that they were told.
-pub fn ask_by_four<T: Threads + Sync>(threads: &T, asked: Asked<'_>, calls: u32) -> u64 {
+pub fn ask_by_four<T: Threads + Sync>(
+    threads: &T,
+    alloc: Global,
+    asked: Asked<'_>,
+    calls: u32,
+) -> Result<u64, Memory> {
     let (left, right) = join(
         threads,
-        || ask_by_two(threads, asked, 1, calls),
-        || ask_by_two(threads, asked, 3, calls),
+        || ask_by_two(threads, alloc, asked, 1, calls),
+        || ask_by_two(threads, alloc, asked, 3, calls),
     );
-    left.wrapping_add(right)
+    Ok(left?.wrapping_add(right?))
 }
 
-fn ask_by_two<T: Threads + Sync>(threads: &T, asked: Asked<'_>, first: u32, calls: u32) -> u64 {
+fn ask_by_two<T: Threads + Sync>(
+    threads: &T,
+    alloc: Global,
+    asked: Asked<'_>,
+    first: u32,
+    calls: u32,
+) -> Result<u64, Memory> {
     let (one, other) = join(
         threads,
-        || asked.for_keys(first, calls),
-        || asked.for_keys(first.wrapping_add(1), calls),
+        || asked.for_keys(alloc, first, calls),
+        || asked.for_keys(alloc, first.wrapping_add(1), calls),
     );
-    one.rows.wrapping_add(other.rows)
+    Ok(one?.rows.wrapping_add(other?.rows))
 }
 
-/// Publishes what is published until the others are done, and counts how often.
-fn publish_until(index: &Index, spare: Entries, over: &AtomicBool) -> u64
-    requires { spare.rows ≡ index.now }
-{
-    let mut spare = spare;
+/// Publishes until the others are done, and counts how often.
+fn publish_until(index: &Index, own: &mut OwnEntries, over: &AtomicBool) -> u64 {
     let mut published: u64 = 0;
     for _ in 0..u64::MAX {
         if over.load(Ordering::SeqCst) {
             break;
         }
-        let number = index.number();
-        index.copy(&mut spare);
-        let (done, back) = parts(index.publish(spare, number));
-        spare = back;
-        published = published.wrapping_add(u64::from(done));
+        let is_published = publish_entry(own, index, Entry { min: 0, row: 0 });
+        published = published.wrapping_add(u64::from(is_published));
     }
     published
-}
-
-/// Whether entries were published, and the entries that came back.
-fn parts(published: Published) -> (bool, Entries)
-    ensures { result.1 ≡ handed_back published }
-{
-    match published {
-        Published::Done(back) => (true, back),
-        Published::Busy(back) => (false, back),
-    }
 }

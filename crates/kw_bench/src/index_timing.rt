@@ -1,12 +1,8 @@
 //! What guesses of an index take, beside searches in a plain slice.
-ghost use Rattle.std.specs.Prelude.{◌≡◌, ◌≤◌, IfOk};
+ghost use Rattle.std.specs.Prelude.{◌≤◌};
 
-use crate::guessing::{Asked, Crowd, ask_by_four, ask_in_a_crowd, entries_of_all};
+use crate::guessing::{Asked, Crowd, ask_by_four, ask_in_a_crowd, entries_of_all, index_of_all};
 use crate::timing::no_memory;
-use kw_index::entries::Entries;
-use kw_index::index::Index;
-use kw_index::memory::Memory;
-use std::alloc::Global;
 use std::io;
 use std::thread::Threads;
 use std::time::Instant;
@@ -32,18 +28,6 @@ pub struct GuessFigure {
     pub agree: bool,
 }
 
-/// An index with an entry for each of so many rows, and entries of as many rows.
-fn open(alloc: Global, rows: u32) -> Result<(Index, Entries), Memory>
-    requires { 1 ≤ rows }
-    ensures { IfOk result (λ made. made.1.rows ≡ made.0) }
-{
-    let index = Index::new(alloc, rows)?;
-    let entries = entries_of_all(alloc, rows)?;
-    index.publish(entries, index.number());
-    let spare = entries_of_all(alloc, rows)?;
-    Ok((index, spare))
-}
-
 /// Times guesses of an index with an entry for each of so many rows.
 pub fn time_guesses<T: Threads + Sync>(
     rt: &HostRuntime,
@@ -53,19 +37,21 @@ pub fn time_guesses<T: Threads + Sync>(
 ) -> io::Result<GuessFigure>
     requires { 1 ≤ rows }
 {
-    let (index, spare) = open(rt.alloc(), rows).map_err(no_memory)?;
-    let plain = Asked::Slice(spare.list());
+    let index = index_of_all(rt.alloc(), rows).map_err(no_memory)?;
+    let entries = entries_of_all(rt.alloc(), rows).map_err(no_memory)?;
+    let plain = Asked::Slice(entries.list());
     let start = Instant::now(rt)?;
-    let searched = plain.for_keys(1, calls);
+    let searched = plain.for_keys(rt.alloc(), 1, calls).map_err(no_memory)?;
     let slice = start.elapsed(rt)?.as_nanos();
     let start = Instant::now(rt)?;
-    ask_by_four(threads, plain, calls);
+    ask_by_four(threads, rt.alloc(), plain, calls).map_err(no_memory)?;
     let slice_by_four = start.elapsed(rt)?.as_nanos();
+    let asked = Asked::Index(&index);
     let start = Instant::now(rt)?;
-    let guessed = Asked::Index(&index).for_keys(1, calls);
+    let guessed = asked.for_keys(rt.alloc(), 1, calls).map_err(no_memory)?;
     let one = start.elapsed(rt)?.as_nanos();
     let start = Instant::now(rt)?;
-    let crowd = ask_in_a_crowd(threads, &index, spare, calls);
+    let crowd = ask_in_a_crowd(threads, rt.alloc(), &index, calls).map_err(no_memory)?;
     let four = start.elapsed(rt)?.as_nanos();
     Ok(GuessFigure {
         entries: rows,

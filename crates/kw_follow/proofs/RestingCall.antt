@@ -1,5 +1,6 @@
 -- A get that leaves its local at rest: how it begins, how it announces its epoch, and how it ends.
 use Rattle.std.proofs.Common.{ℕ, ◌≡◌, ◌∙◌, refl}
+use Rattle.kw_model.specs.declared.call.Call.{Call}
 use Rattle.kw_model.specs.declared.call.Call.TheVariants.{Get}
 use Rattle.kw_world.specs.declared.activity.Activity.TheVariants.{Enter}
 use Rattle.kw_world.specs.declared.event.Choice.TheVariants.{Begin, Go}
@@ -32,5 +33,5 @@ pub leaves : {s : Shared} {p q : Pass} {told : ℕ} (l : Local) → Follows s p 
 leaves {s} {p} {q} {told} l f makes = went s p q Go l _ _ told s.opening.rows Go f makes refl refl refl
 
 -- a call that has begun has begun still when more was seen
-pub opens_on : {p q r : Pass} (key : ℕ) → Opens p q (Get key) → KeepsCalls q r → Opens p r (Get key)
-opens_on key o k = record { first = o.first; number = o.number; begins = o.begins; calls = k ∙ o.calls }
+pub opens_on : {p q r : Pass} {call : Call} → Opens p q call → KeepsCalls q r → Opens p r call
+opens_on o k = record { first = o.first; number = o.number; begins = o.begins; calls = k ∙ o.calls }

@@ -1,5 +1,5 @@
 -- What a change of entries is, and which entries it leaves.
-use Rattle.std.specs.Prelude.{ℕ, ◌+◌, ◌-◌, ◌^◌, ◌%◌, List, fold}
+use Rattle.std.specs.Prelude.{ℕ, List, fold}
 use Rattle.kw_index.specs.declared.entries.Entry.{Entry}
 use Rattle.kw_index.specs.Entries.{Listing, without, with_own}
 
@@ -15,10 +15,3 @@ placed_all rows entries list = fold (λ list e. with_own rows e list) list entri
 -- the entries after a change: those of the rows that come are placed, and then that of the row that goes is dropped
 abbrev pub with_change : Replacement → Listing → Listing
 with_change change old = record { rows = old.rows; list = without change.gone (placed_all old.rows change.placed old.list) }
-
--- the number of the publication before that of this number, and of the one after it
-abbrev pub number_before : ℕ → ℕ
-number_before number = (number + (2 ^ 32 - 1)) % 2 ^ 32
-
-abbrev pub number_after : ℕ → ℕ
-number_after number = (number + 1) % 2 ^ 32

@@ -1,3 +1,4 @@
 pub mod Changes
 pub mod Entries
+pub mod Ledgers
 pub mod Turns

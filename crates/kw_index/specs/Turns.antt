@@ -1,23 +1,18 @@
 -- What a turn at the slot of an index shows, and what a call that takes one answers.
--- A turn that gained its right shows the entries that stood in the slot at that moment, and one that gained none shows nothing.
-use Rattle.std.specs.Prelude.{ℕ, ◌≡◌, Option, None, MatchOption}
-use Rattle.kw_index.specs.Entries.{Listing, IsOf, IsGuess}
-use Rattle.kw_index.specs.declared.index.Copied.{Copied}
-use Rattle.kw_index.specs.declared.index.Published.{Published}
+-- A turn that gained its right shows the ledger that stood in the slot at that moment, and one that gained none shows nothing.
+use Rattle.std.specs.Prelude.{ℕ, ◌≡◌, Option, Some, None, MatchOption, IsSomeAnd}
+use Rattle.kw_index.specs.Entries.{Listing}
+use Rattle.kw_index.specs.Ledgers.{Account, brought_up}
+use Rattle.kw_index.specs.declared.index.Shown.{Shown}
 
--- the guess of the entries that a turn showed, or none where it gained no right
-abbrev pub IsShownGuess : ℕ → ℕ → Option ℕ → Type 0
-IsShownGuess rows key result = (turn : Option Listing) × MatchOption turn (result ≡ None) (λ shown. IsOf rows shown × IsGuess shown.list key result)
+-- a ledger whose base is of a map of this many rows
+abbrev pub IsLedgerOf : ℕ → Account → Type 0
+IsLedgerOf rows account = account.base.rows ≡ rows
 
--- the entries that a turn showed took the place of the old ones, or these stayed where it gained no right
-abbrev pub IsShownCopy : ℕ → Listing → Listing → Copied → Type 0
-IsShownCopy rows old new result = (turn : Option Listing) × MatchOption turn ((result ≡ Copied.Busy) × (new ≡ old)) (λ shown. IsOf rows shown × (result ≡ Copied.Done) × (new ≡ shown))
+-- the entries have all changes of the ledger that a turn showed, whose last number is told, or stayed as they were where it gained no right
+abbrev pub IsBroughtUp : ℕ → Option ℕ → Listing → Listing → Option Shown → Type 0
+IsBroughtUp rows seen old new told = (turn : Option Account) × MatchOption turn ((told ≡ None) × (new ≡ old)) (λ account. IsLedgerOf rows account × (new ≡ brought_up account seen old) × IsSomeAnd told (λ shown. shown.number ≡ account.number))
 
--- the entries that a turn took out of the slot come back, or the given ones where it gained no right
-abbrev pub IsExchanged : ℕ → Listing → Published → Type 0
-IsExchanged rows given result = (turn : Option Listing) × MatchOption turn (result ≡ Published.Busy given) (λ shown. IsOf rows shown × (result ≡ Published.Done shown))
-
--- the entries that a publication handed back
-abbrev pub handed_back : Published → Listing
-handed_back (Published.Done entries) = entries
-handed_back (Published.Busy entries) = entries
+-- own entries were brought up to the last change that a turn showed, and know its number, or they stayed as they were
+abbrev pub IsFollowed : ℕ → Option ℕ → Listing → Option ℕ → Listing → Type 0
+IsFollowed rows old_seen old new_seen new = (turn : Option Account) × MatchOption turn ((new_seen ≡ old_seen) × (new ≡ old)) (λ account. IsLedgerOf rows account × (new_seen ≡ Some account.number) × (new ≡ brought_up account old_seen old))

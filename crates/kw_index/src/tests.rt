@@ -1,11 +1,12 @@
-//! What edits leave of entries, what an index shows, and two threads on one index.
+//! What edits leave of entries, what a ledger makes of entries that lag behind, what an index shows, and two threads on one index.
 ghost use Rattle.std.specs.Prelude.{◌≡◌, IfOk};
 
 use crate::change::Change;
 use crate::entries::{Entries, Entry};
-use crate::index::{Copied, Index, Published, TRIES, WRITE_TRIES};
+use crate::index::Index;
+use crate::ledger::{CHANGES_BEFORE_RENEWAL, CHANGES_KEPT, Ledger};
 use crate::memory::Memory;
-use crate::own::{GUESSES_BEFORE_COPY, OwnEntries};
+use crate::own::OwnEntries;
 use std::alloc::Global;
 use std::sync::atomic::{AtomicBool, Ordering};
 use std::test::Fail;
@@ -31,53 +32,23 @@ fn two_rows(alloc: Global, rows: u32, second: u32) -> Result<Entries, Memory>
     Ok(entries)
 }
 
-/// Whether the entries were published, and the entries that came back.
-fn exchange(index: &Index, entries: Entries, number: u32) -> (bool, Entries)
-    requires { entries.rows ≡ index.now }
-    ensures { result.1.rows ≡ index.now }
-{
-    match index.publish(entries, number) {
-        Published::Done(back) => (true, back),
-        Published::Busy(back) => (false, back),
+/// A change by which these rows, each with its least key, come in the place of one.
+fn change(gone: u32, placed: &[Entry]) -> Change {
+    let mut change = Change::without(gone);
+    for entry in placed {
+        change.place(*entry);
     }
+    change
 }
 
-/// Publishes row 0 from key 0 on, and this one from key 100 on, and tells whether it did.
-fn publish_two_rows(index: &Index, alloc: Global, second: u32) -> Result<bool, Memory> {
-    let entries = two_rows(alloc, index.rows(), second)?;
-    let (done, _) = exchange(index, entries, index.number());
-    Ok(done)
+/// Publishes such a change by own entries, and tells whether it did.
+fn publish(own: &mut OwnEntries, index: &Index, gone: u32, placed: &[Entry]) -> bool {
+    own.publish(index, change(gone, placed))
 }
 
-/// Makes these entries the published ones, where these could be copied.
-fn renew(index: &Index, entries: &mut Entries)
-    requires { entries.old.rows ≡ index.now }
-    ensures { entries.new.rows ≡ entries.old.rows }
-{
-    let _ = index.copy(entries);
-}
-
-/// The published entries, or none where they could not be copied.
-fn copy_of(index: &Index, alloc: Global) -> Result<Entries, Memory>
-    ensures { IfOk result (λ copy. copy.rows ≡ index.now) }
-{
-    let mut copy = Entries::new(alloc, index.rows())?;
-    renew(index, &mut copy);
-    Ok(copy)
-}
-
-/// The published entries, in which this one is placed too.
-fn copy_with(index: &Index, alloc: Global, placed: Entry) -> Result<Entries, Memory>
-    ensures { IfOk result (λ copy. copy.rows ≡ index.now) }
-{
-    let mut copy = copy_of(index, alloc)?;
-    copy.place(placed);
-    Ok(copy)
-}
-
-/// The rows that the index names for three keys.
-fn guesses(index: &Index, low: u32, middle: u32, high: u32) -> [Option<u32>; 3] {
-    [index.guess(low), index.guess(middle), index.guess(high)]
+/// The rows that own entries name for two keys.
+fn own_guesses(own: &OwnEntries, index: &Index, low: u32, high: u32) -> [Option<u32>; 2] {
+    [own.guess(index, low), own.guess(index, high)]
 }
 
 #[test]
@@ -104,131 +75,6 @@ fn a_guess_is_the_nearest_row_to_the_left(rt: HostRuntime) -> Result<(), Fail> {
     Ok(())
 }
 
-#[test]
-fn the_tries_of_a_turn(rt: HostRuntime) {
-    assert_eq!(rt; (TRIES, WRITE_TRIES), (64, 4_096));
-}
-
-#[test]
-fn a_new_index_shows_the_first_row(rt: HostRuntime) -> Result<(), Fail> {
-    let index = Index::new(rt.alloc(), 4)?;
-    let mut entries = Entries::new(rt.alloc(), 4)?;
-    assert_eq!(rt; index.copy(&mut entries), Copied::Done);
-    assert_eq!(rt; entries.list(), [entry(0, 0)].as_slice());
-    assert_eq!(rt; (index.rows(), index.guess(7)), (4, Some(0)));
-    Ok(())
-}
-
-#[test]
-fn what_is_published_is_guessed_and_copied(rt: HostRuntime) -> Result<(), Fail> {
-    let index = Index::new(rt.alloc(), 4)?;
-    let entries = two_rows(rt.alloc(), 4, 3)?;
-    let (done, back) = exchange(&index, entries, index.number());
-    assert_eq!(rt; (done, back.list()), (true, [entry(0, 0)].as_slice()));
-    assert_eq!(rt; guesses(&index, 0, 99, 100), [Some(0), Some(0), Some(3)]);
-    let copy = copy_of(&index, rt.alloc())?;
-    assert_eq!(rt; copy.list(), [entry(0, 0), entry(100, 3)].as_slice());
-    Ok(())
-}
-
-#[test]
-fn where_nothing_is_published_nothing_is_guessed(rt: HostRuntime) -> Result<(), Fail> {
-    let index = Index::new(rt.alloc(), 4)?;
-    let none = Entries::new(rt.alloc(), 4)?;
-    let (done, _) = exchange(&index, none, index.number());
-    assert_eq!(rt; (done, index.guess(LAST_KEY)), (true, None));
-    Ok(())
-}
-
-// Of two that copy before either publishes, the later one does not undo what the other did, and does its own once it has copied again.
-#[test]
-fn a_publication_between_copy_and_publish_is_kept(rt: HostRuntime) -> Result<(), Fail> {
-    let index = Index::new(rt.alloc(), 4)?;
-    let number = index.number();
-    let mine = copy_with(&index, rt.alloc(), entry(50, 1))?;
-    let other = copy_with(&index, rt.alloc(), entry(100, 2))?;
-    let (others_done, _) = exchange(&index, other, number);
-    let (mine_done, back) = exchange(&index, mine, number);
-    assert_eq!(rt;
-        (others_done, mine_done, number, index.number()),
-        (true, false, 1, 2)
-    );
-    assert_eq!(rt; back.list(), [entry(0, 0), entry(50, 1)].as_slice());
-    assert_eq!(rt; guesses(&index, 0, 50, 100), [Some(0), Some(0), Some(2)]);
-    let again = copy_with(&index, rt.alloc(), entry(50, 1))?;
-    let (again_done, _) = exchange(&index, again, index.number());
-    assert_eq!(rt; (again_done, index.number()), (true, 3));
-    assert_eq!(rt; guesses(&index, 0, 50, 100), [Some(0), Some(1), Some(2)]);
-    Ok(())
-}
-
-/// Guesses the row of key 100 anew, so many times.
-fn guess_again(own: &mut OwnEntries, index: &Index, times: u32) -> Option<u32> {
-    let mut row = None;
-    for _ in 0..times {
-        row = own.guess_anew(index, 100);
-    }
-    row
-}
-
-/// The rows that own entries name for two keys.
-fn own_guesses(own: &OwnEntries, index: &Index, low: u32, high: u32) -> [Option<u32>; 2] {
-    [own.guess(index, low), own.guess(index, high)]
-}
-
-// What is published is copied once so many guesses were made anew, and not before.
-#[test]
-fn own_entries_are_copied_where_they_often_do_not_serve(rt: HostRuntime) -> Result<(), Fail> {
-    let index = Index::new(rt.alloc(), 4)?;
-    let mut own = OwnEntries::new(rt.alloc(), 4)?;
-    let opened = publish_two_rows(&index, rt.alloc(), 3)?;
-    let met = guess_again(&mut own, &index, GUESSES_BEFORE_COPY - 1);
-    assert_eq!(rt; (opened, met), (true, Some(3)));
-    assert_eq!(rt; own_guesses(&own, &index, 0, 100), [None, None]);
-    let copied = guess_again(&mut own, &index, 1);
-    assert_eq!(rt; copied, Some(3));
-    assert_eq!(rt; own_guesses(&own, &index, 99, 100), [Some(0), Some(3)]);
-    Ok(())
-}
-
-// Own entries are guessed from whatever others have published since.
-#[test]
-fn own_entries_stay_where_others_publish(rt: HostRuntime) -> Result<(), Fail> {
-    let index = Index::new(rt.alloc(), 4)?;
-    let mut own = OwnEntries::new(rt.alloc(), 4)?;
-    let copied = guess_again(&mut own, &index, GUESSES_BEFORE_COPY);
-    let done = publish_two_rows(&index, rt.alloc(), 1)?;
-    let met = guess_again(&mut own, &index, 1);
-    assert_eq!(rt; (copied, done, met), (Some(0), true, Some(1)));
-    assert_eq!(rt; own_guesses(&own, &index, 99, 100), [Some(0), Some(0)]);
-    Ok(())
-}
-
-// Entries with room for those of another map are not taken for this one's.
-#[test]
-fn own_entries_of_another_map_are_not_asked(rt: HostRuntime) -> Result<(), Fail> {
-    let index = Index::new(rt.alloc(), 4)?;
-    let other = Index::new(rt.alloc(), 5)?;
-    let mut own = OwnEntries::new(rt.alloc(), 5)?;
-    let row = guess_again(&mut own, &index, 2 * GUESSES_BEFORE_COPY);
-    assert_eq!(rt; (row, own.guess(&other, 100)), (Some(0), None));
-    guess_again(&mut own, &other, GUESSES_BEFORE_COPY);
-    assert_eq!(rt;
-        (own.guess(&other, 100), own.guess(&index, 100)),
-        (Some(0), None)
-    );
-    Ok(())
-}
-
-/// A change by which these rows, each with its least key, come in the place of one.
-fn change(gone: u32, placed: &[Entry]) -> Change {
-    let mut change = Change::without(gone);
-    for entry in placed {
-        change.place(*entry);
-    }
-    change
-}
-
 // The ninth row of a change is left out.
 #[test]
 fn a_change_brings_eight_rows_at_most(rt: HostRuntime) -> Result<(), Fail> {
@@ -244,43 +90,173 @@ fn a_change_brings_eight_rows_at_most(rt: HostRuntime) -> Result<(), Fail> {
     Ok(())
 }
 
-/// Publishes such a change by own entries, and tells whether it did.
-fn publish_change(own: &mut OwnEntries, index: &Index, gone: u32, placed: &[Entry]) -> bool {
-    own.publish(index, change(gone, placed))
+// A renewal is begun while there is room for a change of each of eight callers.
+#[test]
+fn the_base_is_renewed_before_the_changes_behind_it_are_lost(rt: HostRuntime) {
+    assert!(rt; CHANGES_BEFORE_RENEWAL + 8 <= CHANGES_KEPT);
 }
 
-// Each of two callers publishes twice, the first one in a row, so that it goes on from its own change, and then over the other's. What each
-// publishes has all that was published before, as a third list, which is copied, shows.
+/// Adds a change for each number from one to another, by which row 1 begins at that key, and tells how many the ledger took.
+fn add_numbered(ledger: &mut Ledger, from: u32, to: u32) -> u32
+    ensures { ledger.new.base ≡ ledger.old.base }
+{
+    let mut added: u32 = 0;
+    for min in from..=to {
+        if ledger.add(change(2, &[entry(min, 1)])) {
+            added = added.saturating_add(1);
+        }
+    }
+    added
+}
+
+/// A ledger of a map of four rows with so many such changes.
+fn numbered(alloc: Global, changes: u32) -> Result<Ledger, Memory>
+    ensures { IfOk result (λ ledger. ledger.base.rows ≡ 4) }
+{
+    let mut ledger = Ledger::new(alloc, 4)?;
+    add_numbered(&mut ledger, 1, changes);
+    Ok(ledger)
+}
+
 #[test]
-fn own_publications_are_made_over_those_of_others(rt: HostRuntime) -> Result<(), Fail> {
-    let index = Index::new(rt.alloc(), 9)?;
-    let mut first = OwnEntries::new(rt.alloc(), 9)?;
-    let mut other = OwnEntries::new(rt.alloc(), 9)?;
-    guess_again(&mut first, &index, GUESSES_BEFORE_COPY);
-    publish_change(&mut first, &index, 0, &[entry(0, 1), entry(50, 2)]);
-    publish_change(&mut first, &index, 2, &[entry(50, 3), entry(70, 4)]);
-    publish_change(&mut other, &index, 1, &[entry(0, 5), entry(20, 6)]);
-    publish_change(&mut first, &index, 4, &[entry(70, 7)]);
-    publish_change(&mut other, &index, 6, &[entry(20, 8)]);
-    let shown = copy_of(&index, rt.alloc())?;
-    let all = [entry(0, 5), entry(20, 8), entry(50, 3), entry(70, 7)];
-    assert_eq!(rt; (index.number(), shown.list()), (6, all.as_slice()));
+fn a_new_ledger_has_the_first_row_alone(rt: HostRuntime) -> Result<(), Fail> {
+    let ledger = Ledger::new(rt.alloc(), 4)?;
+    let mut entries = two_rows(rt.alloc(), 4, 3)?;
+    ledger.bring_up(&mut entries, None);
+    assert_eq!(rt; entries.list(), [entry(0, 0)].as_slice());
+    assert_eq!(rt; (ledger.number(), ledger.since_base()), (0, 0));
     Ok(())
 }
 
-// The caller's own publications change its own entries too, also where others publish in between, and what those changed is not there.
+// Whoever has the changes up to a number gets those behind it, and keeps what else it has: here an entry of row 3.
 #[test]
-fn own_entries_follow_the_callers_publications(rt: HostRuntime) -> Result<(), Fail> {
-    let index = Index::new(rt.alloc(), 9)?;
-    let mut own = OwnEntries::new(rt.alloc(), 9)?;
-    let mut other = OwnEntries::new(rt.alloc(), 9)?;
-    guess_again(&mut own, &index, GUESSES_BEFORE_COPY);
-    publish_change(&mut own, &index, 0, &[entry(0, 1), entry(50, 2)]);
-    publish_change(&mut other, &index, 1, &[entry(0, 3)]);
-    publish_change(&mut own, &index, 2, &[entry(50, 4), entry(80, 5)]);
-    assert_eq!(rt; own_guesses(&own, &index, 49, 50), [Some(1), Some(4)]);
-    assert_eq!(rt; own.guess(&index, 80), Some(5));
-    assert_eq!(rt; guesses(&index, 49, 50, 80), [Some(3), Some(4), Some(5)]);
+fn the_changes_behind_a_number_are_made_and_no_others(rt: HostRuntime) -> Result<(), Fail> {
+    let mut ledger = Ledger::new(rt.alloc(), 4)?;
+    ledger.add(change(0, &[entry(0, 1), entry(50, 2)]));
+    ledger.add(change(2, &[entry(50, 0)]));
+    let mut all = two_rows(rt.alloc(), 4, 3)?;
+    ledger.bring_up(&mut all, Some(0));
+    assert_eq!(rt;
+        all.list(),
+        [entry(0, 1), entry(50, 0), entry(100, 3)].as_slice()
+    );
+    let mut last = two_rows(rt.alloc(), 4, 3)?;
+    ledger.bring_up(&mut last, Some(1));
+    assert_eq!(rt; last.list(), [entry(50, 0), entry(100, 3)].as_slice());
+    let mut none = two_rows(rt.alloc(), 4, 3)?;
+    ledger.bring_up(&mut none, Some(2));
+    assert_eq!(rt; none.list(), [entry(0, 0), entry(100, 3)].as_slice());
+    Ok(())
+}
+
+// One change more than is kept is refused, and leaves all as it was; a base renewed by hand makes room for it.
+#[test]
+fn a_ledger_keeps_the_changes_since_its_base(rt: HostRuntime) -> Result<(), Fail> {
+    let mut ledger = Ledger::new(rt.alloc(), 4)?;
+    let added = add_numbered(&mut ledger, 1, CHANGES_KEPT + 1);
+    assert_eq!(rt;
+        (added, ledger.number(), ledger.since_base()),
+        (128, 128, 128)
+    );
+    let mut base = Entries::new(rt.alloc(), 4)?;
+    ledger.bring_up(&mut base, None);
+    assert_eq!(rt; base.list(), [entry(0, 0), entry(128, 1)].as_slice());
+    assert!(rt; ledger.renew(&mut base, 128));
+    assert_eq!(rt; base.list(), [entry(0, 0)].as_slice());
+    assert_eq!(rt;
+        (add_numbered(&mut ledger, 129, 130), ledger.since_base()),
+        (2, 2)
+    );
+    Ok(())
+}
+
+/// Entries of a map of four rows that lag behind: row 0 from key 0 on, and row 3, which no numbered change names, from key 1000 on.
+fn lagging(alloc: Global) -> Result<Entries, Memory>
+    ensures { IfOk result (λ entries. entries.rows ≡ 4) }
+{
+    let mut entries = Entries::new(alloc, 4)?;
+    entries.place(entry(0, 0));
+    entries.place(entry(1_000, 3));
+    Ok(entries)
+}
+
+// Whoever lags behind by as many changes as are kept gets these, and keeps an entry of its own; one further behind gets the base.
+#[test]
+fn who_lags_behind_the_kept_changes_begins_with_the_base(rt: HostRuntime) -> Result<(), Fail> {
+    let mut ledger = numbered(rt.alloc(), 64)?;
+    let mut base = Entries::new(rt.alloc(), 4)?;
+    ledger.bring_up(&mut base, None);
+    ledger.renew(&mut base, 64);
+    add_numbered(&mut ledger, 65, 140);
+    let mut near = lagging(rt.alloc())?;
+    ledger.bring_up(&mut near, Some(12));
+    let kept = [entry(0, 0), entry(140, 1), entry(1_000, 3)];
+    assert_eq!(rt; near.list(), kept.as_slice());
+    let mut far = lagging(rt.alloc())?;
+    ledger.bring_up(&mut far, Some(11));
+    assert_eq!(rt; far.list(), [entry(0, 0), entry(140, 1)].as_slice());
+    Ok(())
+}
+
+// A base that is not behind the ledger's own is not taken.
+#[test]
+fn an_older_base_is_not_taken(rt: HostRuntime) -> Result<(), Fail> {
+    let mut ledger = numbered(rt.alloc(), 9)?;
+    let mut base = two_rows(rt.alloc(), 4, 3)?;
+    let older = ledger.renew(&mut base, 0);
+    let beyond = ledger.renew(&mut base, 10);
+    assert_eq!(rt; (older, beyond, ledger.since_base()), (false, false, 9));
+    assert_eq!(rt; base.list(), [entry(0, 0), entry(100, 3)].as_slice());
+    let newer = ledger.renew(&mut base, 7);
+    assert_eq!(rt; (newer, ledger.since_base()), (true, 2));
+    Ok(())
+}
+
+#[test]
+fn a_new_index_shows_the_first_row(rt: HostRuntime) -> Result<(), Fail> {
+    let index = Index::new(rt.alloc(), 4)?;
+    let mut own = OwnEntries::new(rt.alloc(), 4)?;
+    assert_eq!(rt; own_guesses(&own, &index, 0, LAST_KEY), [None, None]);
+    assert_eq!(rt; (index.rows(), own.guess_anew(&index, 7)), (4, Some(0)));
+    assert_eq!(rt; own.entries.list(), [entry(0, 0)].as_slice());
+    Ok(())
+}
+
+#[test]
+fn what_is_published_is_guessed_anew(rt: HostRuntime) -> Result<(), Fail> {
+    let index = Index::new(rt.alloc(), 4)?;
+    let mut own = OwnEntries::new(rt.alloc(), 4)?;
+    let mut other = OwnEntries::new(rt.alloc(), 4)?;
+    assert!(rt; publish(&mut own, &index, 0, &[entry(0, 1), entry(100, 3)]));
+    assert_eq!(rt; own_guesses(&own, &index, 99, 100), [Some(1), Some(3)]);
+    assert_eq!(rt; own_guesses(&other, &index, 99, 100), [None, None]);
+    assert_eq!(rt; other.guess_anew(&index, 100), Some(3));
+    assert_eq!(rt; own_guesses(&other, &index, 99, 100), [Some(1), Some(3)]);
+    Ok(())
+}
+
+// Own entries are guessed from whatever others have published since.
+#[test]
+fn own_entries_stay_where_others_publish(rt: HostRuntime) -> Result<(), Fail> {
+    let index = Index::new(rt.alloc(), 4)?;
+    let mut own = OwnEntries::new(rt.alloc(), 4)?;
+    let mut other = OwnEntries::new(rt.alloc(), 4)?;
+    let first = own.guess_anew(&index, 100);
+    publish(&mut other, &index, 2, &[entry(100, 1)]);
+    assert_eq!(rt; (first, own.guess(&index, 100)), (Some(0), Some(0)));
+    assert_eq!(rt; own.guess_anew(&index, 100), Some(1));
+    Ok(())
+}
+
+// Entries with room for those of another map are not taken for this one's.
+#[test]
+fn own_entries_of_another_map_are_not_asked(rt: HostRuntime) -> Result<(), Fail> {
+    let index = Index::new(rt.alloc(), 4)?;
+    let other = Index::new(rt.alloc(), 5)?;
+    let mut own = OwnEntries::new(rt.alloc(), 5)?;
+    let none = own.guess_anew(&index, 100);
+    let some = own.guess_anew(&other, 100);
+    assert_eq!(rt; (none, some, own.guess(&index, 100)), (None, Some(0), None));
     Ok(())
 }
 
@@ -289,12 +265,91 @@ fn own_entries_follow_the_callers_publications(rt: HostRuntime) -> Result<(), Fa
 fn own_entries_of_another_map_are_not_published(rt: HostRuntime) -> Result<(), Fail> {
     let index = Index::new(rt.alloc(), 4)?;
     let mut own = OwnEntries::new(rt.alloc(), 5)?;
-    let done = publish_change(&mut own, &index, 0, &[entry(0, 4)]);
-    assert_eq!(rt; (done, index.number()), (false, 1));
+    let mut other = OwnEntries::new(rt.alloc(), 4)?;
+    let done = publish(&mut own, &index, 0, &[entry(0, 4)]);
+    assert_eq!(rt; (done, other.guess_anew(&index, 100)), (false, Some(0)));
     Ok(())
 }
 
-/// Which rows a thread was told.
+// Each of two callers publishes twice, the first one in a row, and then over the other's. What each publishes is made over all that was published before,
+// as a third caller, and at last each of the two, shows.
+#[test]
+fn own_publications_are_made_over_those_of_others(rt: HostRuntime) -> Result<(), Fail> {
+    let index = Index::new(rt.alloc(), 9)?;
+    let mut first = OwnEntries::new(rt.alloc(), 9)?;
+    let mut other = OwnEntries::new(rt.alloc(), 9)?;
+    publish(&mut first, &index, 0, &[entry(0, 1), entry(50, 2)]);
+    publish(&mut first, &index, 2, &[entry(50, 3), entry(70, 4)]);
+    publish(&mut other, &index, 1, &[entry(0, 5), entry(20, 6)]);
+    publish(&mut first, &index, 4, &[entry(70, 7)]);
+    publish(&mut other, &index, 6, &[entry(20, 8)]);
+    let mut third = OwnEntries::new(rt.alloc(), 9)?;
+    third.guess_anew(&index, 0);
+    first.guess_anew(&index, 0);
+    let all = [entry(0, 5), entry(20, 8), entry(50, 3), entry(70, 7)];
+    assert_eq!(rt; third.entries.list(), all.as_slice());
+    assert_eq!(rt; first.entries.list(), all.as_slice());
+    assert_eq!(rt; other.entries.list(), all.as_slice());
+    Ok(())
+}
+
+// While the ledger is out, a change has to wait, and the own entries stay. It is published with the caller's next one, and before that.
+#[test]
+fn a_change_that_has_to_wait_is_published_with_the_next_one(rt: HostRuntime) -> Result<(), Fail> {
+    let index = Index::new(rt.alloc(), 4)?;
+    let mut own = OwnEntries::new(rt.alloc(), 4)?;
+    let held = index.take();
+    let done = publish(&mut own, &index, 0, &[entry(0, 1), entry(100, 3)]);
+    let none = own.guess_anew(&index, 100);
+    if let Some(ledger) = held {
+        index.give(ledger);
+    }
+    assert_eq!(rt;
+        (done, none, own.guess_anew(&index, 100)),
+        (false, None, Some(0))
+    );
+    let both = publish(&mut own, &index, 3, &[entry(100, 2)]);
+    assert_eq!(rt; (both, own.guess(&index, 99)), (true, Some(1)));
+    assert_eq!(rt; own.entries.list(), [entry(0, 1), entry(100, 2)].as_slice());
+    Ok(())
+}
+
+/// Publishes so many changes, by each of which one of two rows gives its place to the other, and tells how many were published.
+fn publish_many(own: &mut OwnEntries, index: &Index, min: u32, rows: [u32; 2], times: u32) -> u32 {
+    let [one, other] = rows;
+    let mut published: u32 = 0;
+    for time in 0..times {
+        let (gone, placed) = if time % 2 == 0 {
+            (one, other)
+        } else {
+            (other, one)
+        };
+        if publish(own, index, gone, &[entry(min, placed)]) {
+            published = published.saturating_add(1);
+        }
+    }
+    published
+}
+
+// Many times as many changes as are kept: the base is renewed on the way, so that none is refused.
+#[test]
+fn publications_do_not_run_out(rt: HostRuntime) -> Result<(), Fail> {
+    let index = Index::new(rt.alloc(), 4)?;
+    let mut own = OwnEntries::new(rt.alloc(), 4)?;
+    let published = publish_many(&mut own, &index, 100, [1, 2], 1_001);
+    let mut other = OwnEntries::new(rt.alloc(), 4)?;
+    assert_eq!(rt;
+        (published, other.guess_anew(&index, 100)),
+        (1_001, Some(2))
+    );
+    assert_eq!(rt;
+        other.entries.list(),
+        [entry(0, 0), entry(100, 2)].as_slice()
+    );
+    Ok(())
+}
+
+/// What a thread was told.
 #[derive(Clone, Copy, Debug, Default, PartialEq, Eq)]
 struct Sightings {
     first: bool,
@@ -302,15 +357,15 @@ struct Sightings {
     other: bool,
 }
 
-/// Guesses the row of key 100 until both rows came, and then sets the flag.
-fn guess_until_both(index: &Index, flag: &AtomicBool) -> Sightings {
+/// Guesses the row of key 100 anew until both rows came, and then sets the flag.
+fn guess_until_both(own: &mut OwnEntries, index: &Index, flag: &AtomicBool) -> Sightings {
     let mut seen = Sightings::default();
     for _ in 0..MOST_TRIES {
-        match index.guess(100) {
+        match own.guess_anew(index, 100) {
             Some(1) => seen.first = true,
             Some(2) => seen.second = true,
+            Some(0) | None => {}
             Some(_) => seen.other = true,
-            None => {}
         }
         if seen.first && seen.second {
             break;
@@ -321,19 +376,15 @@ fn guess_until_both(index: &Index, flag: &AtomicBool) -> Sightings {
     seen
 }
 
-/// Publishes two lists in turn until the flag is set, and tells whether it ever did.
-fn publish_in_turn(index: &Index, entries: Entries, flag: &AtomicBool) -> bool
-    requires { entries.rows ≡ index.now }
-{
-    let mut spare = entries;
+/// Publishes that one row takes the other's place, and back, until the flag is set, and tells whether it ever did.
+fn publish_in_turn(own: &mut OwnEntries, index: &Index, flag: &AtomicBool) -> bool {
     let mut ever = false;
     for _ in 0..MOST_TRIES {
         if flag.load(Ordering::SeqCst) {
             break;
         }
-        let (done, back) = exchange(index, spare, index.number());
-        spare = back;
-        ever = ever || done;
+        let published = publish_many(own, index, 100, [2, 1], 2);
+        ever = ever || published > 0;
         thread::yield_now();
     }
     ever
@@ -342,15 +393,51 @@ fn publish_in_turn(index: &Index, entries: Entries, flag: &AtomicBool) -> bool
 #[test]
 fn one_thread_guesses_what_another_publishes(rt: HostRuntime) -> Result<(), Fail> {
     let index = Index::new(rt.alloc(), 4)?;
-    let opened = publish_two_rows(&index, rt.alloc(), 1)?;
-    let second = two_rows(rt.alloc(), 4, 2)?;
+    let mut own = OwnEntries::new(rt.alloc(), 4)?;
+    let mut other = OwnEntries::new(rt.alloc(), 4)?;
     let flag = AtomicBool::new(false);
     let (published, seen) = thread::join(
         &rt,
-        || publish_in_turn(&index, second, &flag),
-        || guess_until_both(&index, &flag),
+        || publish_in_turn(&mut own, &index, &flag),
+        || guess_until_both(&mut other, &index, &flag),
     );
-    assert_eq!(rt; (opened, published), (true, true));
+    assert!(rt; published);
     assert_eq!(rt; (seen.first, seen.second, seen.other), (true, true, false));
+    Ok(())
+}
+
+/// Publishes by turns that one of two rows takes the other's place, so many times, each once the one before it was published.
+fn publish_all(own: &mut OwnEntries, index: &Index, min: u32, rows: [u32; 2], times: u32) {
+    let mut left = times;
+    for _ in 0..MOST_TRIES {
+        if left == 0 {
+            break;
+        }
+        let [one, other] = rows;
+        let (gone, placed) = if left % 2 == 0 {
+            (one, other)
+        } else {
+            (other, one)
+        };
+        let published = publish(own, index, gone, &[entry(min, placed)]);
+        left = left.saturating_sub(u32::from(published));
+    }
+}
+
+// Two threads publish beside each other, each for keys of its own. What is shown in the end has the last change of each.
+#[test]
+fn of_two_threads_that_publish_no_change_is_lost(rt: HostRuntime) -> Result<(), Fail> {
+    let index = Index::new(rt.alloc(), 5)?;
+    let mut low = OwnEntries::new(rt.alloc(), 5)?;
+    let mut high = OwnEntries::new(rt.alloc(), 5)?;
+    thread::join(
+        &rt,
+        || publish_all(&mut low, &index, 100, [1, 2], 300),
+        || publish_all(&mut high, &index, 200, [3, 4], 300),
+    );
+    let mut shown = OwnEntries::new(rt.alloc(), 5)?;
+    shown.guess_anew(&index, 0);
+    let list = [entry(0, 0), entry(100, 1), entry(200, 3)];
+    assert_eq!(rt; shown.entries.list(), list.as_slice());
     Ok(())
 }

@@ -47,7 +47,7 @@ pub enum Rebalanced {
 /// table; `Spent` only where a load of this call found the clock or the epoch at `SPENT` or above. The row is the one that the call works on at
 /// that event: its own, or one before it.
 ///
-/// The search for free rows begins at the row that the hints name, and the walk to the row before the full one where the index guesses;
+/// The search for free rows begins at the row that the hints name, and so does the walk to the row before the full one;
 /// where the exchange is won the index is told of the new rows. No clause rests on any of it. Takes no memory. It may wait for others: all that
 /// is said here is said for a call that returns.
 pub fn rebalance<R: Wait>(
@@ -78,7 +78,7 @@ pub fn rebalance<R: Wait>(
             }
             _ => {
                 warm_new_row(shared, local);
-                let choice = choice_at(local, index, hints);
+                let choice = choice_at(shared, local, index, hints);
                 go_on(shared, pass, local, choice);
             }
         }
@@ -154,12 +154,17 @@ fn finish<R: Wait>(
 }
 
 // The choice with which the next event is made.
-fn choice_at(local: &Local, index: &Index, hints: &Option<Box<Hints>>) -> Choice
+fn choice_at(
+    shared: &Shared,
+    local: &Local,
+    index: &Index,
+    hints: &mut Option<Box<Hints>>,
+) -> Choice
     ensures { is_stop result ≡ false }
 {
     match local.activity {
         Activity::SeekFirst => Choice::Guess(search_start(hints, local)),
-        Activity::Before => match guess_before(local, index) {
+        Activity::Before => match guess_before(shared, local, index, hints) {
             Some(row) => Choice::Guess(row),
             None => Choice::Go,
         },
@@ -168,9 +173,12 @@ fn choice_at(local: &Local, index: &Index, hints: &Option<Box<Hints>>) -> Choice
 }
 
 // A row to begin at for the key below the least key of the full row.
-fn guess_before(local: &Local, index: &Index) -> Option<u32> {
-    match local.lower.checked_sub(1) {
-        Some(key) => index.guess(key),
-        None => None,
-    }
+fn guess_before(
+    shared: &Shared,
+    local: &Local,
+    index: &Index,
+    hints: &mut Option<Box<Hints>>,
+) -> Option<u32> {
+    let key = local.lower.checked_sub(1)?;
+    shared.guess(hints, index, key)
 }

@@ -16,7 +16,6 @@ use Rattle.kw_map.specs.declared.kiwi.Kiwi.{Kiwi}
 use Rattle.kw_map.specs.declared.kiwi.PutEnd.{PutEnd}
 use Rattle.kw_map.specs.declared.kiwi.PutEnd.TheVariants.{NoRows, Spent}
 use Rattle.kw_map.specs.Kiwi.{IsIdle, put_reply, stands_after}
-use Rattle.kw_follow.specs.Calling.{Opens, KeepsCalls}
 use Rattle.kw_follow.specs.Following.{GoesTo}
 use Rattle.kw_live.specs.declared.putting.TryPut.{TryPut}
 use Rattle.kw_live.specs.declared.putting.TryPut.TheVariants as try_put
@@ -41,10 +40,6 @@ put_starts (Del key) Start is entered = refl
 put_starts (Del key) _ is entered = absurd entered
 put_starts (Get key) a is entered = let x : false ≡ true = is in absurd (cc)
 put_starts (Scan from upto) a is entered = let x : false ≡ true = is in absurd (cc)
-
--- a call that has begun has begun still when more was seen
-pub opens_on : {p q r : Pass} {call : Call} → Opens p q call → KeepsCalls q r → Opens p r call
-opens_on o k = record { first = o.first; number = o.number; begins = o.begins; calls = k ∙ o.calls }
 
 -- where a put or a delete is not done at its row, it is about to rebalance that
 pub is_full : (tried : TryPut) (a : Activity) → (tried ≡ try_put.Done → ⊥) → a ≡ put_stands tried → a ≡ BalClock

@@ -1,7 +1,7 @@
 //! What a pass has with it for an index of the rows.
 //!
 //! An index says at which row to begin for a key. A pass guesses from entries of its own, and sees at the row that they name whether it is still in use;
-//! where it is not, the index is asked. A rebalance that won has replaced rows, and publishes an index that knows the new ones. What all that needs
+//! where it is not, it asks the index what has changed. A rebalance that won has replaced rows, and publishes that change. What all that needs
 //! is made with the table, so that a call takes no memory for it. It is for speed alone: no clause says what hints hold, and whoever finds none with
 //! a pass goes on without.
 ghost use Rattle.std.specs.Prelude.{◌≡◌, ◌<◌, IfSome};
@@ -36,7 +36,7 @@ impl Hints {
         }
     }
 
-    // A row to begin at for the key: by the own entries, where the row that they name serves, and else by a turn.
+    // A row to begin at for the key: by the own entries, where the row that they name serves, and else by them once they were brought up to the last change.
     fn guess(&mut self, shared: &Shared, index: &Index, key: u32) -> Option<u32>
         ensures { IfSome result (λ row. row < index.now) }
     {
@@ -46,8 +46,8 @@ impl Hints {
         }
     }
 
-    // The same by a turn. A row that is being replaced just then does not serve, and no others are published yet: the walk begins at the row on its
-    // left, since it would begin at the first row of the map else.
+    // The same by what is published. A row that is being replaced just then does not serve, and no others are published yet: the walk begins at the row on
+    // its left, since it would begin at the first row of the map else.
     fn guess_anew(&mut self, shared: &Shared, index: &Index, key: u32) -> Option<u32>
         ensures { IfSome result (λ row. row < index.now) }
     {
@@ -61,16 +61,14 @@ impl Hints {
 }
 
 impl Shared {
-    /// A row to begin at for the key: by the hints' own entries where there are hints and the row is in use, and else by a turn at the index.
+    /// A row to begin at for the key, by the hints' own entries: as they are where the row that they name is in use, and else brought up to what the index
+    /// has published. None without hints.
     ///
     /// The row is below the index's number of rows. Takes no memory.
     pub fn guess(&self, hints: &mut Option<Box<Hints>>, index: &Index, key: u32) -> Option<u32>
         ensures { IfSome result (λ row. row < index.now) }
     {
-        match hints {
-            Some(hints) => hints.guess(self, index, key),
-            None => index.guess(key),
-        }
+        hints.as_mut()?.guess(self, index, key)
     }
 }
 

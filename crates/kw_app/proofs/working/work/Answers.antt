@@ -1,7 +1,8 @@
 use Rattle.std.proofs.Common.{◌<◌, refl, sym, subst, arith, length, []}
 use Rattle.kw_table.proofs.Prefixes.{prefix_self}
 use Rattle.kw_app.specs.Working.{Works}
-use Rattle.kw_app.proofs.Works.{works_none, works_step, prefix_length, goes_trans}
+use Rattle.kw_follow.proofs.OwnEvents.{goes_trans}
+use Rattle.kw_app.proofs.Works.{works_none, works_step, prefix_length}
 use Rattle.kw_app.proofs.working.work.Goals as goal
 
 pub loop-line-init : goal.loop-line-init

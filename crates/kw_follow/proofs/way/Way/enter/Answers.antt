@@ -9,4 +9,4 @@ pub returns-clause-follows : goal.returns-clause-follows
 returns-clause-follows c = c.store_call_epoch.ensures.follows
 
 pub returns-clause-opens : goal.returns-clause-opens
-returns-clause-opens c = opens_on c.args.key c.load_call_epoch-epoch.ensures.opens c.store_call_epoch.ensures.calls
+returns-clause-opens c = opens_on c.load_call_epoch-epoch.ensures.opens c.store_call_epoch.ensures.calls

@@ -5,7 +5,8 @@ use Rattle.kw_follow.specs.Calling.{Closes}
 use Rattle.kw_follow.specs.Following.{held}
 use Rattle.kw_follow.proofs.OwnEvents.{goes_trans}
 use Rattle.kw_live.proofs.Gets.{leaves_with, whole}
-use Rattle.kw_map.proofs.WholeCalls.{begins_anew, ends_with, is_full, opens_on}
+use Rattle.kw_follow.proofs.RestingCall.{opens_on}
+use Rattle.kw_map.proofs.WholeCalls.{begins_anew, ends_with, is_full}
 use Rattle.kw_map.proofs.kiwi.Kiwi.update_by.Goals as goal
 
 pub returns-in-Done-clause-goes : goal.returns-in-Done-clause-goes
