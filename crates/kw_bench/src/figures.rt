@@ -80,7 +80,7 @@ pub fn print_guesses(rt: &HostRuntime, figure: GuessFigure) -> io::Result<()> {
         figure.one / calls
     )?;
     println!(rt;
-        "  {} ns by each of four threads, {by_four} in 100; {} of {} keys were told a row, beside {} publications",
+        "  {} ns by each of four threads, {by_four} in 100; {} of {} keys were told a row, beside {} changes",
         figure.four / calls,
         figure.crowd.rows,
         u64::from(figure.calls).saturating_mul(4),

@@ -2,12 +2,12 @@
 //!
 //! The slot is a value with a word that counts its readers. Who reads takes a turn that counts one reader more, and leaves. Who edits takes the ledger
 //! out, and only while nobody reads; nobody else comes until it is back: a slot whose ledger is out has a word of its own, `FREE`, from which
-//! nobody but the one who has it takes a turn. Edits are short: one change is written, or one base exchanged for another. A turn that
+//! nobody but the one who has it takes a turn. Edits are short: a few changes are written, or one base exchanged for another. A turn that
 //! meets another word than the one it loaded is tried again, `TRIES` times at most; then the call goes on without the index. So nothing here waits for
 //! another thread.
 //!
 //! The rule of the slot is that the base of what stands in it has room for as many rows as the map has.
-ghost use Rattle.std.specs.Prelude.{ℕ, ◌≡◌, ◌<◌, ◌≤◌, ◌%◌, IfOk, IfSome};
+ghost use Rattle.std.specs.Prelude.{ℕ, ◌≡◌, ◌<◌, ◌≤◌, ◌%◌, drop, IfOk, IfSome};
 ghost use Rattle.counted_slot.specs.Counting.{readers, IsTurn, Gains};
 ghost use Rattle.kw_index.specs.Turns.{IsLedgerOf, IsBroughtUp};
 
@@ -107,7 +107,9 @@ impl Index {
     ///
     /// None where the turn gained no right to write, and as many as the ledger has room for: it keeps no more than `CHANGES_KEPT` since its base. Takes no
     /// memory.
-    pub fn add(&self, changes: &mut Vec<Change>) {
+    pub fn add(&self, changes: &mut Vec<Change>)
+        ensures { (count : ℕ) × (changes.new.items ≡ drop count changes.old.items) }
+    {
         let Some(mut ledger) = self.take() else {
             return;
         };

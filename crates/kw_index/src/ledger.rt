@@ -139,6 +139,7 @@ impl Ledger {
         requires { base.old.rows ≡ self.old.base.rows }
         ensures exchanged { MatchBool result ((self.new ≡ with_base base.old number self.old) × (base.new ≡ self.old.base))
             ((self.new ≡ self.old) × (base.new ≡ base.old)) }
+        ensures newer { result ≡ nat_lt (behind self.old number) (behind self.old self.old.base_number) }
         ensures rows { (self.new.base.rows ≡ self.old.base.rows) × (base.new.rows ≡ base.old.rows) }
     {
         let is_newer = self.number.wrapping_sub(number) < self.since_base();

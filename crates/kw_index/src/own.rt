@@ -4,7 +4,7 @@
 //! own guesses from these, and touches nothing that others write. Others may have published since: then the row that is guessed may be in use no more,
 //! which whoever knows the rows sees at the row, and asks for a guess anew: the own entries are brought up to the last change, and guessed from. So they
 //! are after each publication of the caller's own.
-ghost use Rattle.std.specs.Prelude.{◌≡◌, ◌≢◌, ◌<◌, [], IfOk, IfSome, None};
+ghost use Rattle.std.specs.Prelude.{◌≡◌, ◌≢◌, ◌<◌, [], IfOk, IfSome, IsTrue, None};
 ghost use Rattle.kw_index.specs.Entries.{IsOf, IsGuess};
 ghost use Rattle.kw_index.specs.Turns.{IsFollowed};
 
@@ -82,7 +82,8 @@ impl OwnEntries {
     /// Where others keep the slot just then, the change is kept and published with the caller's next one, `MOST_UNTOLD` at most. Nothing is published
     /// where the index is of a map of another size. Takes no memory.
     pub fn publish(&mut self, index: &Index, change: Change) -> bool
-        ensures { IsFollowed index.now self.old.seen self.old.entries self.new.seen self.new.entries }
+        ensures followed { IsFollowed index.now self.old.seen self.old.entries self.new.seen self.new.entries }
+        ensures told { IsTrue result → self.new.untold.items ≡ [] }
     {
         if self.entries.rows() != index.rows() {
             return false;

@@ -33,7 +33,7 @@ pub fn read_row(shared: &Shared, pass: &mut Pass, local: &mut Local)
 {
     if local.has_read {
         // a scan's next row, which no guess was made for
-        shared.warm(local.row);
+        shared.warm_next(local.row);
     }
     look_at_entries(shared, pass, local);
     read_list(shared, pass, local);

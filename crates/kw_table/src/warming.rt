@@ -3,7 +3,7 @@
 //! A walk along a row's list is told by each cell where the next one is. So where a row lies far from the processor, each cell costs the wait for
 //! memory, while loads that depend on nothing are under way several at once. The loads here have no seat and make no event: they tell nothing, and
 //! no clause rests on what they find. They are for speed alone. A small table stays in the caches, and there nothing is loaded.
-ghost use Rattle.std.specs.Prelude.{◌<◌, ◌≤◌, IsTrue};
+ghost use Rattle.std.specs.Prelude.{◌<◌, ◌≤◌, IfSome, IsTrue};
 ghost use Rattle.kw_words.specs.Layout.{IsWithin};
 ghost use Rattle.kw_words.specs.declared.sizes.TheConstants.{SEATS, CELLS, CELL_COUNT};
 
@@ -26,6 +26,18 @@ impl Shared {
         if self.is_cold(row) {
             let given = given_in(self.peek(Name::Count(row)));
             self.peek_least(self.peek(Name::Next(row)));
+            self.peek_cells(row, given);
+        }
+    }
+
+    /// The same for a row that a scan comes to from another one. When it steps on to the next row, it asks for the least key of the row behind that
+    /// one, to know where the next row ends. So the least key two rows on is loaded too.
+    pub fn warm_next(&self, row: u32) {
+        if self.is_cold(row) {
+            let given = given_in(self.peek(Name::Count(row)));
+            if let Some(next) = self.row_at(self.peek(Name::Next(row))) {
+                self.peek_least(self.peek(Name::Next(next)));
+            }
             self.peek_cells(row, given);
         }
     }
@@ -71,10 +83,20 @@ impl Shared {
 
     // Loads the least key of the row to which a link leads, if it leads to one.
     fn peek_least(&self, link: u64) {
-        if let Some(Link { row: Some(row), .. }) = Link::unpack(link) {
-            if row < self.opening.rows {
-                let _least = self.peek(Name::Min(row));
-            }
+        if let Some(row) = self.row_at(link) {
+            let _least = self.peek(Name::Min(row));
+        }
+    }
+
+    // The row of the table to which a link leads, if it leads to one.
+    fn row_at(&self, link: u64) -> Option<u32>
+        ensures { IfSome result (λ row. row < self.now.opening.rows) }
+    {
+        let row = Link::unpack(link)?.row?;
+        if row < self.opening.rows {
+            Some(row)
+        } else {
+            None
         }
     }
 
