@@ -1,7 +1,8 @@
 -- The lines of one worker: how a part grows with the lines.
-use Rattle.std.proofs.Common.{◌≡◌, ◌≢◌, ℕ, ◌+◌, ◌<◌, ◌==◌, cond, List, [], ◌∷◌, ◌++◌, length, take, drop, get_or, refl, ap, sym, ◌∙◌, arith, append-nil, length-append, eq-eqb, ne_eqb}
+use Rattle.std.proofs.Common.{◌≡◌, ◌≢◌, ℕ, ◌+◌, ◌<◌, ◌==◌, cond, List, [], ◌∷◌, ◌++◌, length, take, drop, get_or, Some, slice_get, refl, ap, sym, ◌∙◌, arith, append-nil, length-append, eq-eqb, ne_eqb}
 use Rattle.std.proofs.lemmas.List.{take-append-drop, length_push}
 use Rattle.std.proofs.lemmas.List.Elements.{filter-append, filter_more}
+use Rattle.std.proofs.lemmas.Option.{get_or_from_slice_get, slice_get_within}
 use Rattle.kw_work.specs.declared.line.Line.{Line}
 use Rattle.kw_work.specs.Dealing.{worker_of, part}
 
@@ -32,6 +33,16 @@ pub part_out : (n w : ℕ) (xs ls : List Line) (i : ℕ) (d : Line) → i < leng
 part_out n w xs ls i d lt ne old =
     old ∙ (sym (append-nil (part n w (take i xs)))
     ∙ (ap (λ b. part n w (take i xs) ++ cond b (get_or xs i d ∷ []) []) (sym (ne_eqb (worker_of n (get_or xs i d)) w ne)) ∙ sym (part_more n w xs i d lt)))
+
+-- a line of the worker, read at its place, is one more in its part
+pub line_in : (n w : ℕ) (xs ls : List Line) (i : ℕ) (l : Line) → slice_get xs i ≡ Some l → worker_of n l ≡ w → ls ≡ part n w (take i xs) → ls ++ l ∷ [] ≡ part n w (take (i + 1) xs)
+line_in n w xs ls i l at is old =
+    let e : get_or xs i l ≡ l = get_or_from_slice_get xs i l l at in
+    ap (λ x. ls ++ x ∷ []) (sym e) ∙ part_in n w xs ls i l (slice_get_within xs i l at) (ap (worker_of n) e ∙ is) old
+
+-- and one of another worker is none
+pub line_out : (n w : ℕ) (xs ls : List Line) (i : ℕ) (l : Line) → slice_get xs i ≡ Some l → worker_of n l ≢ w → ls ≡ part n w (take i xs) → ls ≡ part n w (take (i + 1) xs)
+line_out n w xs ls i l at ne old = part_out n w xs ls i l (slice_get_within xs i l at) (λ is. ne (ap (worker_of n) (sym (get_or_from_slice_get xs i l l at)) ∙ is)) old
 
 -- a worker's line has its place in the worker's part
 pub in_part : (n w : ℕ) (lines : List Line) (i : ℕ) (d : Line) → i < length lines → worker_of n (get_or lines i d) ≡ w → length (part n w (take i lines)) < length (part n w lines)

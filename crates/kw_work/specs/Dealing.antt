@@ -1,5 +1,5 @@
 -- How the lines of an input are cut into blocks and dealt to workers.
-use Rattle.std.specs.Prelude.{ℕ, ◌+◌, ◌%◌, ◌==◌, List, [], ◌∷◌, filter}
+use Rattle.std.specs.Prelude.{ℕ, ◌+◌, ◌%◌, ◌^◌, ◌<◌, ◌==◌, List, [], ◌∷◌, filter, length, All}
 use Rattle.std.specs.List.{onto_first}
 use Rattle.kw_model.specs.declared.call.Call.{Call}
 use Rattle.kw_model.specs.declared.call.Call.TheVariants as call
@@ -48,3 +48,15 @@ blocks_of n (item.Wait ∷ items) = [] ∷ blocks_of (n + 1) items
 -- the line makes a call of its form whose numbers are in range
 abbrev pub IsLine : Line → Type 0
 IsLine line = IsItem (item.Call line.call line.form)
+
+-- the item makes a call: it is no wait
+abbrev pub IsCall : Item → Type 0
+IsCall (item.Call c f) = Unit {0}
+IsCall item.Wait = ⊥
+
+-- what a block is made of: items that all make calls, so many items before them, and how many workers answer them. There is a
+-- worker, and the number of each line has 32 bits
+pub record IsBlock (items : List Item) (before workers : ℕ) : Type 0 where
+  pub some : 0 < workers
+  pub calls : All IsCall items
+  pub few : before + length items < 2 ^ 32

@@ -15,7 +15,7 @@ use std::mem;
 /// The answers of a block's lines, in line order. Part w has the answers of worker w to just its lines, in their order.
 pub fn collect(
     alloc: Global,
-    block: &Block,
+    block: &Block<'_>,
     parts: Vec<Vec<Answered>>,
 ) -> Result<Vec<Answer>, Memory>
     requires len { vec_len parts ≡ block.now.workers }
@@ -26,9 +26,9 @@ pub fn collect(
     let mut parts = parts;
     let workers = block.workers();
     let mut next = vec![in alloc; 0usize; workers as usize]?;
-    let mut answers = Vec::with_capacity(alloc, block.lines().len())?;
-    for line in block.lines() {
-        let worker = line.worker(workers) as usize;
+    let mut answers = Vec::with_capacity(alloc, block.len())?;
+    for at in 0..block.len() {
+        let worker = block.line(at).worker(workers) as usize;
         let answer = take_answer(&mut parts, worker, next[worker]);
         answers.push(answer)?;
         next[worker] += 1;

@@ -1,7 +1,7 @@
 //! What follows of dealing and collecting.
 //!
 //! Nothing runs here: the functions' clauses are the statements. Whoever runs the workers needs them to speak of an
-//! input's lines where the contracts of `deal`, `part` and `collect` speak of blocks and parts.
+//! input's lines where the contracts of `deal` and `collect` speak of blocks and parts.
 ghost use Rattle.std.specs.Prelude.{ℕ, ◌≡◌, ◌<◌, false, List, [], length, map, All, IsPermutation, Vec};
 ghost use Rattle.std.specs.List.{flat_map, range_with_len, AllByRecursion};
 ghost use Rattle.std.specs.declared.alloc.Global.{Global};

@@ -1,5 +1,6 @@
 //! What a worker gets of an input, and what is collected, by hand.
 ghost use Rattle.std.specs.Prelude.{◌≡◌, ◌<◌, ◌^◌, length, map, vec_len, IfOk};
+ghost use Rattle.kw_work.specs.Dealing.{part};
 ghost use Rattle.kw_work.specs.Collecting.{AnswersEach};
 
 use crate::block::Block;
@@ -28,24 +29,39 @@ fn answer_lines(alloc: Global, lines: &[Line]) -> Result<Vec<Answered>, Fail>
     Ok(answers)
 }
 
+// the lines of one worker of a block
+fn part_of(alloc: Global, block: &Block<'_>, worker: u32) -> Result<Vec<Line>, Fail>
+    ensures { IfOk result (λ lines. lines.items ≡ part block.now.workers worker block.now.lines) }
+{
+    let workers = block.workers();
+    let mut lines = Vec::new(alloc);
+    for at in 0..block.len() {
+        let line = block.line(at);
+        if line.worker(workers) == worker {
+            lines.push(line)?;
+        }
+    }
+    Ok(lines)
+}
+
 // the answers of all workers of a block
-fn answer_parts(alloc: Global, block: &Block) -> Result<Vec<Vec<Answered>>, Fail>
+fn answer_parts(alloc: Global, block: &Block<'_>) -> Result<Vec<Vec<Answered>>, Fail>
     ensures len { IfOk result (λ parts. vec_len parts ≡ block.now.workers) }
     ensures each { IfOk result (λ parts. AnswersEach block.now.workers block.now.lines
         parts.items) }
 {
     let mut parts = Vec::new(alloc);
     for worker in 0..block.workers() {
-        let lines = block.part(alloc, worker)?;
+        let lines = part_of(alloc, block, worker)?;
         parts.push(answer_lines(alloc, &lines)?)?;
     }
     Ok(parts)
 }
 
 // adds the numbers of each worker's lines, and then those that are collected
-fn push_block(alloc: Global, text: &mut String, block: &Block) -> Result<(), Fail> {
+fn push_block(alloc: Global, text: &mut String, block: &Block<'_>) -> Result<(), Fail> {
     for worker in 0..block.workers() {
-        for line in &block.part(alloc, worker)? {
+        for line in &part_of(alloc, block, worker)? {
             text.push_str(format!(in alloc; "{} ", line.number)?.as_str())?;
         }
         text.push_str("| ")?;
@@ -127,6 +143,9 @@ fn waits_make_empty_blocks(rt: HostRuntime) -> Result<(), Fail> {
     for (items, want) in cases {
         assert!(rt; items.len() < 5);
         assert_eq!(rt; dealt_text(rt.alloc(), items, 1)?.as_str(), want);
+    }
+    for block in &deal(rt.alloc(), &[Item::Wait], 1)? {
+        assert!(rt; block.is_empty());
     }
     Ok(())
 }

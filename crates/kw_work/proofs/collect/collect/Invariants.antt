@@ -4,12 +4,12 @@ use Rattle.kw_work.specs.Dealing.{part}
 use Rattle.kw_work.specs.Collecting.{answers_of, no_answer, merge, SameLengths}
 use Rattle.kw_work.proofs.collect.collect.Given as goal
 
-abbrev pub invariant-loop-line : goal.invariant-loop-line
-invariant-loop-line l = record {
+abbrev pub invariant-loop-at : goal.invariant-loop-at
+invariant-loop-at l = record {
   len : vec_len l.next ≡ l.workers;
   parts_len : vec_len l.parts ≡ l.workers;
   lengths : SameLengths l.fn.parts.items l.parts.items;
   rest : (w k : ℕ) → w < l.workers → get_or l.next.items w 0 ≤ k → get_or (answers_of l.parts.items w) k no_answer ≡ get_or (answers_of l.fn.parts.items w) k no_answer;
-  next : (w : ℕ) → w < l.workers → get_or l.next.items w 0 ≡ length (part l.workers w (take l.line-index l.line-items));
-  answers : l.answers.items ≡ map (λ (a : Answered). a.answer) (merge l.workers (answers_of l.fn.parts.items) no_answer [] (take l.line-index l.line-items));
+  next : (w : ℕ) → w < l.workers → get_or l.next.items w 0 ≡ length (part l.workers w (take l.at l.block.lines));
+  answers : l.answers.items ≡ map (λ (a : Answered). a.answer) (merge l.workers (answers_of l.fn.parts.items) no_answer [] (take l.at l.block.lines));
 }

@@ -1,42 +1,39 @@
-use Rattle.std.proofs.Common.{◌≡◌, ◌<◌, ◌+◌, ◌++◌, length, ap, refl, ◌∙◌, List, Vec}
+use Rattle.std.proofs.Common.{◌≡◌, ◌<◌, ◌+◌, ◌++◌, drop, length, ap, refl, sym, ◌∙◌, Vec, arith, subst}
 use Rattle.std.specs.declared.alloc.Global.{Global}
-use Rattle.kw_work.specs.declared.line.Line.{Line}
-use Rattle.kw_work.specs.Dealing.{Dealt, blocks_of}
-use Rattle.std.proofs.lemmas.List.Elements.{All-nil, All-same, All-push}
-use Rattle.kw_work.proofs.Cuts.{lists, lists-push, glue, glue-nil, deal_call, deal_wait, deal_end, AreLines-dealt}
-use Rattle.kw_work.proofs.deal.deal.Goals.{in-Call+in_ok-push-in-Call, in-Wait+in_ok-push-in-Wait}
+use Rattle.std.specs.List.{AllWithin}
+use Rattle.std.proofs.lemmas.List.Elements.{All-same, All-push, AllWithin-none, AllWithin-upto}
+use Rattle.kw_work.specs.Dealing.{Dealt, IsCall, blocks_of}
+use Rattle.kw_work.proofs.Cuts.{lists, lists-push, all_between, more_calls, deal_wait, deal_end, AreLines-dealt}
+use Rattle.kw_work.proofs.deal.deal.Goals.{in-Wait+in_ok-push, in_default}
 use Rattle.kw_work.proofs.deal.deal.Goals as goal
 
-pub loop-item-init : goal.loop-item-init
-loop-item-init c = record {
-  number = refl;
-  blocks = ap (λ (x : List Dealt). lists x ++ glue c.in_ok-lines.lines.items (blocks_of 1 c.args.items.now)) c.new-blocks.ensures.items
-      ∙ (ap (λ (x : List Line). glue x (blocks_of 1 c.args.items.now)) c.in_ok-lines.ensures.items ∙ glue-nil 1 c.args.items.now);
-  workers = All-same (λ (b : Dealt). b.workers ≡ c.args.workers) _ _ c.new-blocks.ensures.items (All-nil (λ (b : Dealt). b.workers ≡ c.args.workers));
-}
-
-pub loop-item-preserved : goal.loop-item-preserved
-loop-item-preserved c =
-    let inv = c.loop-item.invariant in
-    let lt : c.loop-item.item-index < length c.args.items.now = c.loop-item-test.true in
+pub loop-at-preserved : goal.loop-at-preserved
+loop-at-preserved c =
+    let inv = c.loop-at.invariant in
+    let lt : c.loop-at.at < length c.args.items.now = omega arith in
     elim c.match-item.branch [
-      | in-Call+in_ok-push-in-Call w ↦ record {
-        number = ap (λ n. n + 1) inv.number;
-        blocks = deal_call _ _ _ _ _ _ _ _ _ _ _ lt inv.number w.in-Call.is (ap (λ (x : Vec Line Global). x.items) w.lines-is ∙ w.in_ok-push-in-Call.ensures.items)
-            (ap (λ (x : Vec Dealt Global). lists x.items) w.blocks-is) inv.blocks;
+      | in-Wait+in_ok-push w ↦
+          let pushed = ap (λ (x : Vec Dealt Global). x.items) w.blocks-is ∙ w.in_ok-push.ensures.items in
+          record {
+            begun = omega (arith, w.start-is);
+            calls = subst (λ k. AllWithin IsCall c.args.items.now k (c.loop-at.at + 1)) (sym w.start-is) (AllWithin-none IsCall c.args.items.now (c.loop-at.at + 1));
+            blocks = subst (λ k. lists c.match-item.blocks.items ++ blocks_of (k + 1) (drop k c.args.items.now) ≡ blocks_of 1 c.args.items.now) (sym w.start-is)
+                (deal_wait _ _ _ _ _ _ _ _ lt inv.begun (all_between IsCall c.args.items.now c.loop-at.start c.loop-at.at inv.calls (omega arith)) w.in-Wait.is (ap lists pushed ∙ lists-push _ _ _ refl) w.new.ensures.lines inv.blocks);
+            workers = All-same (λ (b : Dealt). b.workers ≡ c.args.workers) _ _ pushed (All-push (λ (b : Dealt). b.workers ≡ c.args.workers) _ _ inv.workers w.new.ensures.workers);
+          }
+      | in_default w ↦ record {
+        begun = omega (arith, w.start-is, inv.begun);
+        calls = subst (λ k. AllWithin IsCall c.args.items.now k (c.loop-at.at + 1)) (sym w.start-is) (more_calls _ _ _ _ lt w.in_default.not-Wait inv.calls);
+        blocks = subst (λ k. lists c.match-item.blocks.items ++ blocks_of (k + 1) (drop k c.args.items.now) ≡ blocks_of 1 c.args.items.now) (sym w.start-is)
+            (ap (λ (x : Vec Dealt Global). lists x.items ++ blocks_of (c.loop-at.start + 1) (drop c.loop-at.start c.args.items.now)) w.blocks-is ∙ inv.blocks);
         workers = All-same (λ (b : Dealt). b.workers ≡ c.args.workers) _ _ (ap (λ (x : Vec Dealt Global). x.items) w.blocks-is) inv.workers;
-      }
-      | in-Wait+in_ok-push-in-Wait w ↦ record {
-        number = ap (λ n. n + 1) inv.number;
-        blocks = deal_wait _ _ _ _ _ _ _ _ lt w.in-Wait.is (ap (λ (x : Vec Line Global). x.items) (w.lines-is ∙ w.replace-lines.ensures.after) ∙ w.new.ensures.items)
-            (ap (λ (x : Vec Dealt Global). lists x.items) w.blocks-is ∙ (ap lists w.in_ok-push-in-Wait.ensures.items ∙ lists-push _ _ _ (w.new-in-Wait.ensures.lines ∙ ap (λ (x : Vec Line Global). x.items) w.replace-lines.ensures.value))) inv.blocks;
-        workers = All-same (λ (b : Dealt). b.workers ≡ c.args.workers) _ _ (ap (λ (x : Vec Dealt Global). x.items) w.blocks-is ∙ w.in_ok-push-in-Wait.ensures.items)
-            (All-push (λ (b : Dealt). b.workers ≡ c.args.workers) _ _ inv.workers w.new-in-Wait.ensures.workers);
       }
     ]
 
 pub returns-clause-blocks : goal.returns-clause-blocks
-returns-clause-blocks c = deal_end _ _ _ _ _ _ c.loop-item-test.false (ap lists c.in_ok-push.ensures.items ∙ lists-push _ _ _ c.new-2.ensures.lines) c.loop-item.invariant.blocks
+returns-clause-blocks c =
+    let calls = AllWithin-upto IsCall c.args.items.now c.loop-at.start c.loop-at.at (length c.args.items.now) c.loop-at-test.false c.loop-at.invariant.calls in
+    deal_end _ _ _ _ _ _ (all_between IsCall c.args.items.now c.loop-at.start (length c.args.items.now) calls (omega arith)) (ap lists c.in_ok-push-2.ensures.items ∙ lists-push _ _ _ refl) c.new-2.ensures.lines c.loop-at.invariant.blocks
 
 pub returns-clause-lines : goal.returns-clause-lines
 returns-clause-lines c = λ all. AreLines-dealt _ 1 c.args.items.now (returns-clause-blocks c) all
