@@ -1,6 +1,6 @@
 -- What a worker has done, line by line.
-use Rattle.std.proofs.Common.{◌≡◌, ℕ, zero, suc, ◌+◌, ◌<◌, ◌≤◌, take, get_or, subst, List, [], ◌∷◌, ◌++◌, length, map, refl, ap, sym, ◌∙◌, arith, append-nil, append_assoc, length-append, Option, Some, None}
-use Rattle.std.proofs.lemmas.List.{map-append, length-map, take_more}
+use Rattle.std.proofs.Common.{◌≡◌, ◌≢◌, ℕ, zero, suc, ◌+◌, ◌≤◌, take, slice_get, subst, List, [], ◌∷◌, ◌++◌, length, map, refl, ap, sym, ◌∙◌, arith, append-nil, append_assoc, length-append, Option, Some, None}
+use Rattle.std.proofs.lemmas.List.{map-append, length-map}
 use Rattle.std.proofs.lemmas.Option.{same_Some}
 use mathlib.Core.List.{IsPrefix}
 use Rattle.std.proofs.lemmas.List.Elements.{All-nil, All-cons, All-append, All-weaker}
@@ -12,10 +12,11 @@ use Rattle.kw_line.specs.declared.answer.Answer.{Answer}
 use Rattle.kw_line.specs.declared.item.Form.{Form}
 use Rattle.kw_line.specs.Answered.{IsReplyOf, answer_for, answers_for}
 use Rattle.kw_table.specs.declared.pass.Pass.{Pass}
-use Rattle.kw_table.specs.Passes.{view}
 use Rattle.kw_follow.specs.Calling.{calls_in, now_in, Calls}
 use Rattle.kw_work.specs.declared.line.Line.{Line}
 use Rattle.kw_work.specs.declared.line.Answered.{Answered}
+use Rattle.kw_work.specs.Dealing.{part, worker_of}
+use Rattle.kw_work.proofs.Shares.{part-nil, line_in, line_out}
 use Rattle.kw_app.specs.Recorded.{asked, asks, line_forms, reply_of, AreReplies, EndsBefore, IsWithin}
 use Rattle.kw_app.specs.Working.{LineAnswered, Works, answered, answered_by}
 
@@ -88,12 +89,22 @@ works_more p q r ls l done reply before later w c is_reply =
       answers_are = ap (λ x. x ++ record { line = l.number; answer = answer_for l.form reply } ∷ []) w.answers_are ∙ sym (answered_by-push ls w.made l one (sym (as_many w.made ls w.asks_are)));
     }
 
--- so goes the loop over the lines
-pub works_step : (p q r : Pass) (lines : List Line) (i : ℕ) (d : Line) (done more : List Answered) (a : Answer) → i < length lines → now_in p ≤ now_in q → now_in q ≤ now_in r
-    → Works p q (take i lines) done → LineAnswered q r (get_or lines i d).call (get_or lines i d).form a → more ≡ done ++ record { line = (get_or lines i d).number; answer = a } ∷ []
-    → Works p r (take (i + 1) lines) more
-works_step p q r lines i d done more a lt before later w c push =
-    let l : Line = get_or lines i d in
-    subst (λ x. Works p r x more) (sym (take_more lines i d lt))
-    (subst (λ x. Works p r (take i lines ++ l ∷ []) x) (sym (push ∙ ap (λ (y : Answer). done ++ record { line = l.number; answer = y } ∷ []) c.answer_is))
-    (works_more p q r (take i lines) l done c.reply before later w c.calls c.is_reply))
+-- so goes the loop over the lines of a block: one of the worker's own is answered
+pub works_taken : (p q r : Pass) (n w : ℕ) (lines : List Line) (i : ℕ) (l : Line) (done more : List Answered) (a : Answer) → slice_get lines i ≡ Some l → worker_of n l ≡ w → now_in p ≤ now_in q → now_in q ≤ now_in r
+    → Works p q (part n w (take i lines)) done → LineAnswered q r l.call l.form a → more ≡ done ++ record { line = l.number; answer = a } ∷ []
+    → Works p r (part n w (take (i + 1) lines)) more
+works_taken p q r n w lines i l done more a at own before later works c push =
+    let ls : List Line = part n w (take i lines) in
+    subst (λ x. Works p r x more) (line_in n w lines ls i l at own refl)
+    (subst (λ x. Works p r (ls ++ l ∷ []) x) (sym (push ∙ ap (λ (y : Answer). done ++ record { line = l.number; answer = y } ∷ []) c.answer_is))
+    (works_more p q r ls l done c.reply before later works c.calls c.is_reply))
+
+-- and one of another worker is passed
+pub works_passed : (p q : Pass) (n w : ℕ) (lines : List Line) (i : ℕ) (l : Line) (done : List Answered) → slice_get lines i ≡ Some l → worker_of n l ≢ w
+    → Works p q (part n w (take i lines)) done → Works p q (part n w (take (i + 1) lines)) done
+works_passed p q n w lines i l done at other works =
+    subst (λ x. Works p q x done) (line_out n w lines (part n w (take i lines)) i l at other refl) works
+
+-- before the first line nothing is done
+pub works_at_first : (p : Pass) (n w : ℕ) → Works p p (part n w []) []
+works_at_first p n w = subst (λ x. Works p p x []) (sym (part-nil n w)) (works_none p)

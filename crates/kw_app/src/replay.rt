@@ -1,7 +1,7 @@
 //! The command `replay`: the replies to the lines of an input.
-ghost use Rattle.std.specs.Prelude.{◌≤◌, ◌<◌, ◌^◌, length, IfOk};
+ghost use Rattle.std.specs.Prelude.{◌≤◌, ◌<◌, ◌^◌, length, vec_len, IfOk};
 ghost use Rattle.std.specs.List.{AllByRecursion};
-ghost use Rattle.kw_line.specs.Line.{IfBadLine, IsItem};
+ghost use Rattle.kw_line.specs.Line.{AreLinesOf, IfBadLine, IsItem};
 ghost use Rattle.kw_app.specs.Replay.{IsPrintedOf, IsReplayed};
 
 use crate::crew::Crew;
@@ -21,18 +21,28 @@ pub fn replay<R: Threads + Wait + Sync, G: Gate + Sync>(
     rt: &R,
     alloc: Global,
     crew: &Crew<'_, G>,
-    bytes: &[u8],
+    bytes: Vec<u8>,
 ) -> Result<Printed, LineError>
-    requires { length bytes.now ≤ MOST_BYTES }
+    requires { length bytes.items ≤ MOST_BYTES }
     ensures text { IfOk result (λ printed. IsReplayed crew.now.workers crew.now.rows
-        bytes.now printed.text.items printed.front printed.ending) }
-    ensures bad { IfBadLine bytes.now result }
+        bytes.items printed.text.items printed.front printed.ending) }
+    ensures bad { IfBadLine bytes.items result }
 {
-    let items = parse(alloc, bytes)?;
+    let items = items_of(alloc, bytes)?;
     match printed(rt, alloc, crew, &items) {
         Ok(printed) => Ok(printed),
         Err(_) => Err(LineError::Memory),
     }
+}
+
+/// The items of these bytes, whose room is free again before the answers take any.
+fn items_of(alloc: Global, bytes: Vec<u8>) -> Result<Vec<Item>, LineError>
+    requires { length bytes.items ≤ MOST_BYTES }
+    ensures items { IfOk result (λ items. AreLinesOf bytes.items items.items) }
+    ensures few { IfOk result (λ items. vec_len items ≤ length bytes.items) }
+    ensures bad { IfBadLine bytes.items result }
+{
+    parse(alloc, &bytes)
 }
 
 /// The text of the crew's replies to these items.

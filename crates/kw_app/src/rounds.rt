@@ -4,12 +4,11 @@
 //! then seen one list of events. Only after that are the answers collected, so a block's calls have all ended before anything of a later one.
 ghost use Rattle.std.specs.Prelude.{◌≡◌, All, IfOk, Ok, vec_len};
 ghost use Rattle.kw_table.specs.Meetings.{AtEach, MeetsAt, front_seen};
-ghost use Rattle.kw_table.specs.Passes.{IsPassOf, view};
+ghost use Rattle.kw_table.specs.Passes.{IsPassOf};
 ghost use Rattle.kw_follow.specs.Following.{GoesTo};
 ghost use Rattle.kw_map.specs.Kiwi.{IsIdle};
-ghost use Rattle.kw_work.specs.Dealing.{IsLine, part};
+ghost use Rattle.kw_work.specs.Dealing.{IsLine};
 ghost use Rattle.kw_app.specs.Rounds.{AreTogether, Grew, IsDone, WorkedEach};
-ghost use Rattle.kw_app.specs.Working.{Works};
 
 use crate::working::{Gate, work};
 use kw_line::answer::Answer;
@@ -31,33 +30,12 @@ pub(crate) struct Done {
     pub(crate) answers: Result<Vec<Answered>, Memory>,
 }
 
-/// Answers the lines of the block that are dealt to a pass.
-fn answer_part<R: Wait, G: Gate>(
-    rt: &R,
-    alloc: Global,
-    kiwi: &Kiwi,
-    block: &Block,
-    pass: &mut Pass,
-    gate: &G,
-) -> Result<Vec<Answered>, Memory>
-    requires idle { IsIdle kiwi.now pass.old }
-    requires lines { All IsLine block.now.lines }
-    ensures idle { IsIdle kiwi.now pass.new }
-    ensures goes { GoesTo kiwi.now.shared pass.old pass.new }
-    ensures works { IfOk result (λ answers. Works pass.old pass.new
-        (part block.now.workers (view pass.old).number block.now.lines) answers.items) }
-{
-    let worker = pass.number();
-    let lines = block.part(alloc, worker)?;
-    work(rt, alloc, kiwi, pass, worker, lines.as_slice(), gate)
-}
-
 /// What a pass does in its thread.
 fn finish<R: Wait, G: Gate>(
     rt: &R,
     alloc: Global,
     kiwi: &Kiwi,
-    block: &Block,
+    block: &Block<'_>,
     pass: Pass,
     gate: &G,
 ) -> Done
@@ -66,7 +44,7 @@ fn finish<R: Wait, G: Gate>(
     ensures { IsDone kiwi.now block.now pass result }
 {
     let mut pass = pass;
-    let answers = answer_part(rt, alloc, kiwi, block, &mut pass, gate);
+    let answers = work(rt, alloc, kiwi, &mut pass, block, gate);
     Done { pass, answers }
 }
 
@@ -75,7 +53,7 @@ fn finish_all<R: Threads + Wait + Sync, G: Gate + Sync>(
     rt: &R,
     alloc: Global,
     kiwi: &Kiwi,
-    block: &Block,
+    block: &Block<'_>,
     passes: Vec<Pass>,
     gate: &G,
 ) -> Result<Vec<Done>, AllocError>
@@ -119,7 +97,7 @@ fn hand_out<R: Threads + Wait + Sync, G: Gate + Sync>(
     rt: &R,
     alloc: Global,
     kiwi: &Kiwi,
-    block: &Block,
+    block: &Block<'_>,
     passes: Vec<Pass>,
     gate: &G,
 ) -> Result<(Vec<Pass>, Vec<Vec<Answered>>), Memory>
@@ -155,7 +133,7 @@ pub(crate) fn play<R: Threads + Wait + Sync, G: Gate + Sync>(
     rt: &R,
     alloc: Global,
     kiwi: &Kiwi,
-    block: &Block,
+    block: &Block<'_>,
     passes: Vec<Pass>,
     gate: &G,
 ) -> Result<(Vec<Pass>, Vec<Answer>), Memory>
@@ -167,7 +145,7 @@ pub(crate) fn play<R: Threads + Wait + Sync, G: Gate + Sync>(
     ensures grew { IfOk result (λ both. Grew kiwi.now.shared.opening block.now.workers
         block.now.lines (front_seen passes.items) (front_seen both.0.items) both.1.items) }
 {
-    if block.lines().is_empty() {
+    if block.is_empty() {
         return Ok((passes, Vec::new(alloc)));
     }
     let (passes, parts) = hand_out(rt, alloc, kiwi, block, passes, gate)?;

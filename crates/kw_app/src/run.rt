@@ -121,7 +121,7 @@ fn read_and_answer<R: Threads + Wait + Sync, S: Source, K: Sink, G: Gate + Sync>
         result source.old source.new }
 {
     match read_all(alloc, source, READ_LIMIT) {
-        Ok(bytes) => answer(rt, alloc, command, &bytes, sink, gate),
+        Ok(bytes) => answer(rt, alloc, command, bytes, sink, gate),
         Err(ReadError::Fault) => Outcome::of(Status::ReadFault),
         Err(ReadError::Long) => Outcome::bad_input(0),
         Err(ReadError::Memory) => Outcome::of(Status::OutOfMemory),
@@ -133,18 +133,18 @@ fn answer<R: Threads + Wait + Sync, K: Sink, G: Gate + Sync>(
     rt: &R,
     alloc: Global,
     command: Command,
-    bytes: &[u8],
+    bytes: Vec<u8>,
     sink: &mut K,
     gate: &G,
 ) -> Outcome
     requires reads { Reads command }
     requires range { AreInRange command }
-    requires short { length bytes.now ≤ MOST_BYTES }
+    requires short { length bytes.items ≤ MOST_BYTES }
     ensures words { result.status ≢ Status.BadWords }
-    ensures writes { WritesText K.written K.faults (λ asked. asked ≡ command) (Some bytes.now)
+    ensures writes { WritesText K.written K.faults (λ asked. asked ≡ command) (Some bytes.items)
         result sink.old sink.new }
     ensures reads { ReadsInput (λ all. Some all) (λ all. 0) (λ asked. asked ≡ command)
-        result bytes.now bytes.now }
+        result bytes.items bytes.items }
 {
     match text_of(rt, alloc, command, bytes, gate) {
         Ok(printed) => written(printed, sink),

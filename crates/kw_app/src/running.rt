@@ -43,7 +43,7 @@ fn play_all<R: Threads + Wait + Sync, G: Gate + Sync>(
     alloc: Global,
     crew: &Crew<'_, G>,
     kiwi: &Kiwi,
-    blocks: &[Block],
+    blocks: &[Block<'_>],
     passes: Vec<Pass>,
 ) -> Result<(Vec<Pass>, Vec<Answer>), Memory>
     requires together { AreTogether kiwi.now crew.now.workers [] passes.items }

@@ -35,15 +35,15 @@ pub fn text_of<R: Threads + Wait + Sync, G: Gate + Sync>(
     rt: &R,
     alloc: Global,
     command: Command,
-    bytes: &[u8],
+    bytes: Vec<u8>,
     gate: &G,
 ) -> Result<Printed, InputError>
     requires reads { Reads command }
     requires range { AreInRange command }
-    requires short { length bytes.now ≤ MOST_BYTES }
+    requires short { length bytes.items ≤ MOST_BYTES }
     ensures printed { IfOk result (λ printed. IsPrinted command printed.front printed.ending
-        bytes.now printed.text.items) }
-    ensures bad { IfOutside command bytes.now result }
+        bytes.items printed.text.items) }
+    ensures bad { IfOutside command bytes.items result }
 {
     match command {
         Command::Replay { workers, rows } => {
@@ -58,12 +58,12 @@ pub fn text_of<R: Threads + Wait + Sync, G: Gate + Sync>(
                 Err(LineError::Memory) => Err(InputError::Memory),
             }
         }
-        Command::Simulate { rows, recorded } => match simulated(alloc, rows, recorded, bytes) {
+        Command::Simulate { rows, recorded } => match simulated(alloc, rows, recorded, &bytes) {
             Ok(text) => Ok(Printed::of(text)),
             Err(ScriptError::Bad { line }) => Err(InputError::Bad { line }),
             Err(ScriptError::Memory) => Err(InputError::Memory),
         },
-        Command::Judge => match judged(alloc, bytes) {
+        Command::Judge => match judged(alloc, &bytes) {
             Ok(printed) => Ok(printed),
             Err(RecordError::Bad { line }) => Err(InputError::Bad { line }),
             Err(RecordError::Memory) => Err(InputError::Memory),

@@ -3,16 +3,18 @@
 //! A worker answers its lines one after the other, with one pass. The gate is told of each line before and after; it has no answers, so
 //! it changes nothing of what a worker does.
 ghost use Rattle.std.specs.Prelude.{All, IfOk};
+ghost use Rattle.kw_table.specs.Passes.{view};
 ghost use Rattle.kw_follow.specs.Following.{GoesTo};
 ghost use Rattle.kw_map.specs.Kiwi.{IsIdle};
-ghost use Rattle.kw_work.specs.Dealing.{IsLine};
+ghost use Rattle.kw_work.specs.Dealing.{IsLine, part};
 ghost use Rattle.kw_app.specs.Working.{Works};
 
 use crate::asking::ask;
 use kw_map::kiwi::Kiwi;
 use kw_model::memory::Memory;
 use kw_table::Pass;
-use kw_work::line::{Answered, Line};
+use kw_work::block::Block;
+use kw_work::line::Answered;
 use std::alloc::Global;
 use std::sync::Wait;
 
@@ -35,34 +37,39 @@ impl Gate for NoGate {
     fn after(&self, _worker: u32, _line: u32) {}
 }
 
-/// Makes the calls of one worker's lines, in order, and gives their answers.
+/// Makes the calls of the block's lines that are dealt to the pass, in order, and gives their answers.
 ///
-/// The pass is one of this map and idle, as it is afterwards. The only error is the want of memory; the pass has then made the calls
-/// of the first lines.
+/// The worker is the number of the pass, which is one of this map and idle, as it is afterwards. The lines are picked from the block one by one, so
+/// that none are copied. The only error is the want of memory; the pass has then made the calls of the first lines.
 pub fn work<R: Wait, G: Gate>(
     rt: &R,
     alloc: Global,
     kiwi: &Kiwi,
     pass: &mut Pass,
-    worker: u32,
-    lines: &[Line],
+    block: &Block<'_>,
     gate: &G,
 ) -> Result<Vec<Answered>, Memory>
     requires idle { IsIdle kiwi.now pass.old }
-    requires lines { All IsLine lines.now }
+    requires lines { All IsLine block.now.lines }
     ensures idle { IsIdle kiwi.now pass.new }
     ensures goes { GoesTo kiwi.now.shared pass.old pass.new }
-    ensures works { IfOk result (λ answers. Works pass.old pass.new lines.now answers.items) }
+    ensures works { IfOk result (λ answers. Works pass.old pass.new
+        (part block.now.workers (view pass.old).number block.now.lines) answers.items) }
 {
-    let mut answers = Vec::with_capacity(alloc, lines.len())?;
-    for line in lines {
-        gate.before(worker, line.number);
-        let answer = ask(rt, alloc, kiwi, pass, *line)?;
-        answers.push(Answered {
-            line: line.number,
-            answer,
-        })?;
-        gate.after(worker, line.number);
+    let worker = pass.number();
+    let workers = block.workers();
+    let mut answers = Vec::with_capacity(alloc, block.len().div_ceil(workers as usize))?;
+    for at in 0..block.len() {
+        let line = block.line(at);
+        if line.worker(workers) == worker {
+            gate.before(worker, line.number);
+            let answer = ask(rt, alloc, kiwi, pass, line)?;
+            answers.push(Answered {
+                line: line.number,
+                answer,
+            })?;
+            gate.after(worker, line.number);
+        }
     }
     Ok(answers)
 }

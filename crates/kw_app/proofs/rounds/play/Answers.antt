@@ -1,5 +1,4 @@
-use Rattle.std.proofs.Common.{sym, ◌∙◌, arith, rules}
-use Rattle.std.proofs.lemmas.List.{nil_from_length}
+use Rattle.std.proofs.Common.{arith}
 use Rattle.kw_table.specs.Meetings.{front_seen}
 use Rattle.kw_app.proofs.Blocks.{grew, grew_by_none, together_again, answers_each}
 use Rattle.kw_app.proofs.Each.{element_at}
@@ -8,7 +7,7 @@ use Rattle.kw_app.proofs.rounds.play.Goals as goal
 pub returns-then-is_empty-clause-grew : goal.returns-then-is_empty-clause-grew
 returns-then-is_empty-clause-grew g c =
     grew_by_none c.args.kiwi.now.shared.opening c.args.block.now.workers c.args.block.now.lines (front_seen c.args.passes.items) c.new.result.items
-    (sym c.lines.ensures ∙ nil_from_length c.lines.result.now (search rules)) c.new.ensures.items
+    (c.is_empty.ensures.0 c.if-is_empty.true) c.new.ensures.items
 
 pub met-passes-requires : goal.met-passes-requires
 met-passes-requires g c = λ k d lt.

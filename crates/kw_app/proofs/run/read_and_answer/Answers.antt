@@ -1,19 +1,16 @@
 -- What is printed and told of the bytes that were read is printed and told of all that was left to read.
-use Rattle.std.proofs.Common.{◌≡◌, ℕ, List, sym, subst}
-use Rattle.std.specs.Prelude.{IfSome, IsErrOf}
+use Rattle.std.specs.Prelude.{IsErrOf}
 use Rattle.kw_io.specs.declared.errors.ReadError.{ReadError}
 use Rattle.kw_app.proofs.RunEnds.{fault_reads, long_reads, reads_of_left, silent_at_bad_input, silent_at_fault, silent_at_want, silent_writes, want_reads, writes_of_left}
 use Rattle.kw_app.proofs.run.read_and_answer.Goals as goal
 
 pub returns-in-Ok-clause-writes : goal.returns-in-Ok-clause-writes
 returns-in-Ok-clause-writes g c =
-    let all = subst (λ (bytes : List ℕ). IfSome (g.S.Source.left c.args.source.now) (λ left. bytes ≡ left)) (sym c.deref.ensures.value) c.in-Ok.ensures.all in
-    writes_of_left _ _ c.args.command _ c.deref.result.now _ _ _ c.requires.reads all c.answer.ensures.writes
+    writes_of_left _ _ c.args.command _ c.in-Ok.bytes.items _ _ _ c.requires.reads c.in-Ok.ensures.all c.answer.ensures.writes
 
 pub returns-in-Ok-clause-reads : goal.returns-in-Ok-clause-reads
 returns-in-Ok-clause-reads g c =
-    let all = subst (λ (bytes : List ℕ). IfSome (g.S.Source.left c.args.source.now) (λ left. bytes ≡ left)) (sym c.deref.ensures.value) c.in-Ok.ensures.all in
-    reads_of_left _ _ c.args.command c.deref.result.now _ _ _ c.requires.reads all c.read_all.ensures.never_falls c.answer.ensures.reads
+    reads_of_left _ _ c.args.command c.in-Ok.bytes.items _ _ _ c.requires.reads c.in-Ok.ensures.all c.read_all.ensures.never_falls c.answer.ensures.reads
 
 pub returns-in-Err-Fault-clause-writes : goal.returns-in-Err-Fault-clause-writes
 returns-in-Err-Fault-clause-writes g c = silent_writes _ _ _ _ _ _ (silent_at_fault c.of.result c.of.ensures.status) c.of.ensures.front
