@@ -1,5 +1,5 @@
 -- One block: from the workers' jobs to what the list of events then shows.
-use Rattle.std.proofs.Common.{◌≡◌, ℕ, ◌<◌, List, [], ◌∷◌, ◌++◌, length, map, drop, take, slice_index_or, IfOk, Ok, Err, Vec, refl, sym, ap, ◌∙◌, subst, arith, vec_len}
+use Rattle.std.proofs.Common.{◌≡◌, ℕ, ◌<◌, List, [], ◌∷◌, ◌++◌, length, drop, take, slice_index_or, IfOk, Ok, Err, Vec, refl, sym, ap, ◌∙◌, subst, arith, vec_len}
 use Rattle.std.specs.declared.alloc.Global.{Global}
 use Rattle.std.specs.declared.result.Result.{Result}
 use Rattle.std.proofs.Math.Seq.{drop-length}
@@ -18,7 +18,6 @@ use Rattle.kw_follow.specs.Following.{GoesTo}
 use Rattle.kw_map.specs.declared.kiwi.Kiwi.{Kiwi}
 use Rattle.kw_map.specs.Kiwi.{IsIdle}
 use Rattle.kw_work.specs.declared.line.Line.{Line}
-use Rattle.kw_work.specs.declared.line.Answered.{Answered}
 use Rattle.kw_work.specs.Dealing.{Dealt, part}
 use Rattle.kw_work.specs.Collecting.{answers_of, merge, no_answer, AnswersEach}
 use Rattle.kw_work.proofs.Merges.{answers_of_is}
@@ -28,7 +27,7 @@ use Rattle.kw_app.specs.Recorded.{AreReplies, IsWithin, asked, asks, seat_calls}
 use Rattle.kw_app.specs.Working.{Works}
 use Rattle.kw_app.specs.Rounds.{IsDone, IsSeated, AreTogether, Worked, WorkedEach, Grew, more_calls}
 use Rattle.kw_app.proofs.Each.{element_at}
-use Rattle.kw_app.proofs.Merging.{collected_is_printed, lines-answered_by}
+use Rattle.kw_app.proofs.Merging.{collected_is_printed, length-answered_by}
 use Rattle.kw_app.proofs.Seats.{OneGrew, one_grew, seated_again}
 use Rattle.kw_app.proofs.Works.{as_many}
 
@@ -37,7 +36,7 @@ if_ok : {V E : Type 0} (r : Result V E) (P : V → Type 0) (v : V) → r ≡ Ok 
 if_ok r P v is h = subst (λ x. IfOk x P) is h
 
 -- a pass whose part is answered has worked
-worked_one : (m : Kiwi) (b : Dealt) (p q : Pass) (d : Done) (v : Vec Answered Global) → IsDone m b p d → d.pass ≡ q → d.answers ≡ Ok v → Worked m b p q v.items
+worked_one : (m : Kiwi) (b : Dealt) (p q : Pass) (d : Done) (v : Vec Answer Global) → IsDone m b p d → d.pass ≡ q → d.answers ≡ Ok v → Worked m b p q v.items
 worked_one m b p q d v done pass answers = record {
   idle = subst (IsIdle m) pass done.idle;
   goes = subst (λ (x : Pass). GoesTo m.shared p x) pass done.goes;
@@ -46,9 +45,9 @@ worked_one m b p q d v done pass answers = record {
 }
 
 -- so have all passes, where no worker wanted memory
-pub worked_each : (m : Kiwi) (b : Dealt) (ps : List Pass) (ds : List Done) (made : Result (Vec Pass Global × Vec (Vec Answered Global) Global) Memory) (n : ℕ) → n ≡ length ds → length ds ≡ length ps
+pub worked_each : (m : Kiwi) (b : Dealt) (ps : List Pass) (ds : List Done) (made : Result (Vec Pass Global × Vec (Vec Answer Global) Global) Memory) (n : ℕ) → n ≡ length ds → length ds ≡ length ps
     → AtEach (IsDone m b) ps ds → IfOk made (λ r. (vec_len r.0 ≡ n) × (vec_len r.1 ≡ n))
-    → IfOk made (λ r. AtEach (λ (d : Done) (p : Pass). d.pass ≡ p) ds r.0.items) → IfOk made (λ r. AtEach (λ (d : Done) (v : Vec Answered Global). d.answers ≡ Ok v) ds r.1.items)
+    → IfOk made (λ r. AtEach (λ (d : Done) (p : Pass). d.pass ≡ p) ds r.0.items) → IfOk made (λ r. AtEach (λ (d : Done) (v : Vec Answer Global). d.answers ≡ Ok v) ds r.1.items)
     → IfOk made (λ r. WorkedEach m b ps r.0.items r.1.items)
 worked_each m b ps ds (Err x) n same e dones len passes parts = len
 worked_each m b ps ds (Ok r) n same e dones len passes parts = λ i d f lt.
@@ -65,8 +64,8 @@ worked_each m b ps ds (Ok r) n same e dones len passes parts = λ i d f lt.
     subst (Worked m b p q) (sym h) (worked_one m b p q done.0 v.0 isdone pass answers)
 
 -- the whole block: what all workers did, in the list that all passes then have seen
-pub grew : (m : Kiwi) (b : Dealt) (ps qs rs : List Pass) (parts : List (Vec Answered Global)) (E E' : List Event) (answers : List Answer) → AreTogether m b.workers E ps → length qs ≡ length ps
-    → WorkedEach m b ps qs parts → AtEach (MeetsAt m.shared E') qs rs → answers ≡ map (λ (a : Answered). a.answer) (merge b.workers (answers_of parts) no_answer [] b.lines)
+pub grew : (m : Kiwi) (b : Dealt) (ps qs rs : List Pass) (parts : List (Vec Answer Global)) (E E' : List Event) (answers : List Answer) → AreTogether m b.workers E ps → length qs ≡ length ps
+    → WorkedEach m b ps qs parts → AtEach (MeetsAt m.shared E') qs rs → answers ≡ merge b.workers (answers_of parts) no_answer [] b.lines
     → Grew m.shared.opening b.workers b.lines E E' answers
 grew m b ps qs rs parts E E' answers together same worked met is = record {
   longer = (one 0 together.some).longer;
@@ -85,7 +84,7 @@ grew m b ps qs rs parts E E' answers together same worked met is = record {
         one_grew m b E E' w (slice_index_or ps w p.0) (slice_index_or qs w q.0) (slice_index_or rs w q.0) (answers_of parts w) (together.each w p.0 lt) (worked w p.0 q.0 (omega arith)) (met w q.0 q.0 (omega arith))
 
 -- the passes are together again
-pub together_again : (m : Kiwi) (b : Dealt) (ps qs rs : List Pass) (parts : List (Vec Answered Global)) (E E' : List Event) → AreTogether m b.workers E ps → length qs ≡ length ps → length rs ≡ length qs
+pub together_again : (m : Kiwi) (b : Dealt) (ps qs rs : List Pass) (parts : List (Vec Answer Global)) (E E' : List Event) → AreTogether m b.workers E ps → length qs ≡ length ps → length rs ≡ length qs
     → WorkedEach m b ps qs parts → AtEach (MeetsAt m.shared E') qs rs → AreTogether m b.workers E' rs
 together_again m b ps qs rs parts E E' together same again worked met = record {
   some = together.some;
@@ -98,15 +97,15 @@ together_again m b ps qs rs parts E E' together same again worked met = record {
 }
 
 -- the workers answer just the lines of the block
-pub answers_each : (m : Kiwi) (b : Dealt) (ps qs : List Pass) (parts : List (Vec Answered Global)) (E : List Event) → AreTogether m b.workers E ps → length qs ≡ length ps → WorkedEach m b ps qs parts → AnswersEach b.workers b.lines parts
+pub answers_each : (m : Kiwi) (b : Dealt) (ps qs : List Pass) (parts : List (Vec Answer Global)) (E : List Event) → AreTogether m b.workers E ps → length qs ≡ length ps → WorkedEach m b ps qs parts → AnswersEach b.workers b.lines parts
 answers_each m b ps qs parts E together same worked = λ w lt.
     let len = together.len in
     let p = element_at ps w (omega arith) in
     let q = element_at qs w (omega arith) in
     let at : IsSeated m E w (slice_index_or ps w p.0) = together.each w p.0 lt in
     let works = (worked w p.0 q.0 (omega arith)).works in
-    ap (map (λ (a : Answered). a.line)) works.answers_are ∙ (lines-answered_by (part b.workers (view (slice_index_or ps w p.0)).number b.lines) works.made (as_many works.made _ works.asks_are)
-    ∙ ap (λ n. map (λ (l : Line). l.number) (part b.workers n b.lines)) at.number)
+    ap length works.answers_are ∙ (length-answered_by (part b.workers (view (slice_index_or ps w p.0)).number b.lines) works.made (as_many works.made _ works.asks_are)
+    ∙ ap (λ n. length (part b.workers n b.lines)) at.number)
 
 -- passes that are together have seen what the first of them has
 pub front_is : (m : Kiwi) (n : ℕ) (E : List Event) (ps : List Pass) → AreTogether m n E ps → front_seen ps ≡ E

@@ -1,19 +1,18 @@
 -- What the workers have for lines, put into line order: where the workers have more than these lines take, and where they have the answers to calls.
-use Rattle.std.proofs.Common.{◌≡◌, ℕ, zero, suc, ◌+◌, ◌<◌, ◌==◌, List, [], ◌∷◌, ◌++◌, length, map, get_or, All, refl, sym, ap, ◌∙◌, arith, length-append, append_assoc}
+use Rattle.std.proofs.Common.{◌≡◌, ℕ, zero, suc, ◌+◌, ◌<◌, ◌==◌, List, [], ◌∷◌, ◌++◌, length, get_or, All, refl, sym, ap, ◌∙◌, arith, length-append, append_assoc}
 use Rattle.std.proofs.lemmas.List.{get_or_at, get_or_append_left, get_or-append-add}
 use Rattle.std.proofs.lemmas.List.Elements.{All-filter}
 use Rattle.kw_laws.specs.SeatCalls.{CallSeen}
-use Rattle.kw_line.specs.Answered.{answer_for, answers_for}
+use Rattle.kw_line.specs.Answered.{answer_for}
 use Rattle.kw_work.specs.declared.line.Line.{Line}
-use Rattle.kw_work.specs.declared.line.Answered.{Answered}
+use Rattle.kw_line.specs.declared.answer.Answer.{Answer}
 use Rattle.kw_work.specs.Dealing.{worker_of, part}
 use Rattle.kw_work.specs.Collecting.{merge, no_answer}
 use Rattle.kw_work.proofs.Merges.{merge-nil}
 use Rattle.kw_work.proofs.Shares.{part-append}
 use Rattle.kw_work.proofs.Onces.{part-cons_in}
-use Rattle.kw_app.specs.Recorded.{no_call, printed, reply_of, line_forms}
-use Rattle.kw_app.specs.Working.{answered, answered_by}
-use Rattle.kw_app.proofs.Works.{answers-answered_by}
+use Rattle.kw_app.specs.Recorded.{no_call, printed, reply_of}
+use Rattle.kw_app.specs.Working.{answered_by}
 
 -- what holds of each line holds of each line of a worker
 pub part_all : (P : Line → Type 0) (n w : ℕ) (xs : List Line) → All P xs → All P (part n w xs)
@@ -76,61 +75,40 @@ merge_rest n q a c none pre before (l ∷ ls) some is len =
     merge-cons n q none (pre ++ before) l ls ∙ (ap (λ x. x ∷ merge n q none ((pre ++ before) ++ l ∷ []) ls) here
     ∙ (ap (λ x. get_or (c w) (length (part n w before)) none ∷ x) (ap (λ x. merge n q none x ls) (append_assoc pre before (l ∷ [])) ∙ merge_rest n q a c none pre (before ++ l ∷ []) ls some is len) ∙ sym (merge-cons n c none before l ls)))
 
--- the answers to no lines
-answered_by-nil : answered_by [] [] ≡ []
-unfolding answered_by
-answered_by-nil = refl
-
--- the answer to one line before the others
-answered_by-cons : (l : Line) (ls : List Line) (c : CallSeen) (cs : List CallSeen) → answered_by (l ∷ ls) (c ∷ cs) ≡ answered l c ∷ answered_by ls cs
-unfolding answered_by
-answered_by-cons l ls c cs = refl
-
--- answers name their lines
-pub lines-answered_by : (ls : List Line) (cs : List CallSeen) → length cs ≡ length ls → map (λ (a : Answered). a.line) (answered_by ls cs) ≡ map (λ (l : Line). l.number) ls
-unfolding answered_by
-lines-answered_by [] cs same = refl
-lines-answered_by (l ∷ ls) [] same = absurd (omega arith)
-lines-answered_by (l ∷ ls) (c ∷ cs) same = ap (λ x. l.number ∷ x) (lines-answered_by ls cs (omega arith))
+-- there are as many answers as lines
+pub length-answered_by : (ls : List Line) (cs : List CallSeen) → length cs ≡ length ls → length (answered_by ls cs) ≡ length ls
+length-answered_by [] cs same = refl
+length-answered_by (l ∷ ls) [] same = absurd (omega arith)
+length-answered_by (l ∷ ls) (c ∷ cs) same = ap suc (length-answered_by ls cs (omega arith))
 
 -- the answer at a place is that to the line and the call there
-answered_at : (ls : List Line) (cs : List CallSeen) (k : ℕ) (dl : Line) (dc : CallSeen) (da : Answered) → k < length ls → length cs ≡ length ls
-    → get_or (answered_by ls cs) k da ≡ answered (get_or ls k dl) (get_or cs k dc)
-unfolding answered_by
+answered_at : (ls : List Line) (cs : List CallSeen) (k : ℕ) (dl : Line) (dc : CallSeen) (da : Answer) → k < length ls → length cs ≡ length ls
+    → get_or (answered_by ls cs) k da ≡ answer_for (get_or ls k dl).form (reply_of (get_or cs k dc))
 answered_at [] cs k dl dc da lt same = absurd (omega arith)
 answered_at (l ∷ ls) [] k dl dc da lt same = absurd (omega arith)
 answered_at (l ∷ ls) (c ∷ cs) zero dl dc da lt same = refl
 answered_at (l ∷ ls) (c ∷ cs) (suc k) dl dc da lt same = answered_at ls cs k dl dc da (omega arith) (omega arith)
 
 -- the workers' answers, put together, are the answers to the calls, put together
-merge-answered_by : (n : ℕ) (q : ℕ → List Answered) (made : ℕ → List CallSeen) (before lines : List Line) → 0 < n
+merge-answered_by : (n : ℕ) (q : ℕ → List Answer) (made : ℕ → List CallSeen) (before lines : List Line) → 0 < n
     → ((w : ℕ) → w < n → q w ≡ answered_by (part n w (before ++ lines)) (made w)) → ((w : ℕ) → w < n → length (made w) ≡ length (part n w (before ++ lines)))
     → merge n q no_answer before lines ≡ answered_by lines (merge n made no_call before lines)
-merge-answered_by n q made before [] some is len = merge-nil n q no_answer before ∙ (sym answered_by-nil ∙ ap (answered_by []) (sym (merge-nil n made no_call before)))
+merge-answered_by n q made before [] some is len = merge-nil n q no_answer before ∙ ap (answered_by []) (sym (merge-nil n made no_call before))
 merge-answered_by n q made before (l ∷ ls) some is len =
     let w : ℕ = worker_of n l in
     let k : ℕ = length (part n w before) in
     let below : w < n = worker_below n l some in
-    let here : get_or (q w) k no_answer ≡ answered l (get_or (made w) k no_call) =
+    let here : get_or (q w) k no_answer ≡ answer_for l.form (reply_of (get_or (made w) k no_call)) =
     ap (λ x. get_or x k no_answer) (is w below) ∙ (answered_at (part n w (before ++ l ∷ ls)) (made w) k l no_call no_answer (place_inside n before l ls) (len w below)
-    ∙ ap (λ x. answered x (get_or (made w) k no_call)) (ap (λ x. get_or x k l) (own_place n before l ls) ∙ get_or_at (part n w before) l (part n w ls) l k refl)) in
+    ∙ ap (λ (x : Line). answer_for x.form (reply_of (get_or (made w) k no_call))) (ap (λ x. get_or x k l) (own_place n before l ls) ∙ get_or_at (part n w before) l (part n w ls) l k refl)) in
     let more : before ++ l ∷ ls ≡ (before ++ l ∷ []) ++ ls = sym (append_assoc before (l ∷ []) ls) in
     let rest = merge-answered_by n q made (before ++ l ∷ []) ls some (λ u h. is u h ∙ ap (λ x. answered_by (part n u x) (made u)) more) (λ u h. len u h ∙ ap (λ x. length (part n u x)) more) in
     merge-cons n q no_answer before l ls
-    ∙ (ap (λ x. x ∷ merge n q no_answer (before ++ l ∷ []) ls) here ∙ (ap (λ x. answered l (get_or (made w) k no_call) ∷ x) rest
-    ∙ (sym (answered_by-cons l ls (get_or (made w) k no_call) (merge n made no_call (before ++ l ∷ []) ls)) ∙ ap (answered_by (l ∷ ls)) (sym (merge-cons n made no_call before l ls)))))
+    ∙ (ap (λ x. x ∷ merge n q no_answer (before ++ l ∷ []) ls) here ∙ (ap (λ x. answer_for l.form (reply_of (get_or (made w) k no_call)) ∷ x) rest
+    ∙ ap (answered_by (l ∷ ls)) (sym (merge-cons n made no_call before l ls))))
 
 -- so what is collected is what is printed for the calls
-pub collected_is_printed : (n : ℕ) (q : ℕ → List Answered) (made : ℕ → List CallSeen) (lines : List Line) → 0 < n
+pub collected_is_printed : (n : ℕ) (q : ℕ → List Answer) (made : ℕ → List CallSeen) (lines : List Line) → 0 < n
     → ((w : ℕ) → w < n → q w ≡ answered_by (part n w lines) (made w)) → ((w : ℕ) → w < n → length (made w) ≡ length (part n w lines))
-    → map (λ (a : Answered). a.answer) (merge n q no_answer [] lines) ≡ printed n made lines
-collected_is_printed n q made lines some is len =
-    ap (map (λ (a : Answered). a.answer)) (merge-answered_by n q made [] lines some is len) ∙ answers-answered_by lines (merge n made no_call [] lines)
-
--- the answers to more lines
-pub answers_for-append : (ls ms : List Line) (cs ds : List CallSeen) → length cs ≡ length ls
-    → answers_for (line_forms (ls ++ ms)) (map reply_of (cs ++ ds)) ≡ answers_for (line_forms ls) (map reply_of cs) ++ answers_for (line_forms ms) (map reply_of ds)
-answers_for-append [] ms [] ds same = refl
-answers_for-append [] ms (c ∷ cs) ds same = absurd (omega arith)
-answers_for-append (l ∷ ls) ms [] ds same = absurd (omega arith)
-answers_for-append (l ∷ ls) ms (c ∷ cs) ds same = ap (λ x. answer_for l.form (reply_of c) ∷ x) (answers_for-append ls ms cs ds (omega arith))
+    → merge n q no_answer [] lines ≡ printed n made lines
+collected_is_printed n q made lines some is len = merge-answered_by n q made [] lines some is len

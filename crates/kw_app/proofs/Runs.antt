@@ -22,8 +22,8 @@ use Rattle.kw_app.specs.Recorded.{AreReplies, IsWithin, asked, asks, line_forms,
 use Rattle.kw_app.specs.Rounds.{Grew, more_calls}
 use Rattle.kw_app.specs.Running.{joined, IsCut, Ran, AreInBlocks}
 use Rattle.kw_app.proofs.CutPlaces.{no_calls, cut_none, cut_longer, cut_end, cut_parts}
-use Rattle.kw_app.proofs.Merging.{answers_for-append, length-merge, merge_front, merge_rest}
-use Rattle.kw_app.proofs.Works.{as_many, within_wider, prefix_length, replies_append}
+use Rattle.kw_app.proofs.Merging.{length-merge, merge_front, merge_rest}
+use Rattle.kw_app.proofs.Works.{answers_for-append, as_many, within_wider, prefix_length, replies_append}
 
 -- the lines of one block more
 joined-push : (bs : List (List Line)) (b : List Line) → joined (bs ++ b ∷ []) ≡ joined bs ++ b

@@ -19,7 +19,7 @@ use Rattle.kw_table.proofs.Stepping.{rest_is_others}
 use Rattle.kw_follow.specs.Calling.{calls_in, now_in}
 use Rattle.kw_map.specs.declared.kiwi.Kiwi.{Kiwi}
 use Rattle.kw_work.specs.declared.line.Line.{Line}
-use Rattle.kw_work.specs.declared.line.Answered.{Answered}
+use Rattle.kw_line.specs.declared.answer.Answer.{Answer}
 use Rattle.kw_work.specs.Dealing.{Dealt, part}
 use Rattle.kw_app.specs.Recorded.{asked, asks, seat_calls, AreReplies, IsWithin}
 use Rattle.kw_app.specs.Working.{Works, answered_by}
@@ -45,7 +45,7 @@ calls_seated m E i p at =
     ∙ (ap (λ n. calls_seen product m.shared.opening n (view p).seen) at.number ∙ ap (λ es. calls_seen product m.shared.opening i es) at.seen)
 
 -- the pass that met is seated again
-pub seated_again : (m : Kiwi) (b : Dealt) (E E' : List Event) (i : ℕ) (p q r : Pass) (answers : List Answered) → IsSeated m E i p → Worked m b p q answers → MeetsAt m.shared E' q r → IsSeated m E' i r
+pub seated_again : (m : Kiwi) (b : Dealt) (E E' : List Event) (i : ℕ) (p q r : Pass) (answers : List Answer) → IsSeated m E i p → Worked m b p q answers → MeetsAt m.shared E' q r → IsSeated m E' i r
 seated_again m b E E' i p q r answers at worked met = record {
   idle = record { of_map = met.of_table; idle = ap (λ (l : Local). l.activity) met.meets.local ∙ worked.idle.idle; holds = (worked.idle.holds.0, met.keeps ∙ worked.idle.holds.1, worked.idle.holds.2) };
   number = met.meets.number ∙ (worked.goes.number ∙ at.number);
@@ -53,7 +53,7 @@ seated_again m b E E' i p q r answers at worked met = record {
 }
 
 -- what one worker's calls are in the list that all passes then have seen
-pub record OneGrew (o : Opening) (n : ℕ) (lines : List Line) (E E' : List Event) (w : ℕ) (answers : List Answered) : Type 0 where
+pub record OneGrew (o : Opening) (n : ℕ) (lines : List Line) (E E' : List Event) (w : ℕ) (answers : List Answer) : Type 0 where
   pub longer : IsPrefix E E'
   pub calls : seat_calls o E' w ≡ seat_calls o E w ++ more_calls o E E' w
   pub asks_are : asked (more_calls o E E' w) ≡ asks (part n w lines)
@@ -62,7 +62,7 @@ pub record OneGrew (o : Opening) (n : ℕ) (lines : List Line) (E E' : List Even
   pub answers_are : answers ≡ answered_by (part n w lines) (more_calls o E E' w)
 
 -- it is what the worker's pass knew when it had answered its lines
-pub one_grew : (m : Kiwi) (b : Dealt) (E E' : List Event) (w : ℕ) (p q r : Pass) (answers : List Answered) → IsSeated m E w p → Worked m b p q answers → MeetsAt m.shared E' q r
+pub one_grew : (m : Kiwi) (b : Dealt) (E E' : List Event) (w : ℕ) (p q r : Pass) (answers : List Answer) → IsSeated m E w p → Worked m b p q answers → MeetsAt m.shared E' q r
     → OneGrew m.shared.opening b.workers b.lines E E' w answers
 one_grew m b E E' w p q r answers at worked met =
     let o : Opening = m.shared.opening in

@@ -14,26 +14,18 @@ use Rattle.kw_line.specs.Answered.{IsReplyOf, answer_for, answers_for}
 use Rattle.kw_table.specs.declared.pass.Pass.{Pass}
 use Rattle.kw_follow.specs.Calling.{calls_in, now_in, Calls}
 use Rattle.kw_work.specs.declared.line.Line.{Line}
-use Rattle.kw_work.specs.declared.line.Answered.{Answered}
 use Rattle.kw_work.specs.Dealing.{part, worker_of}
 use Rattle.kw_work.proofs.Shares.{part-nil, line_in, line_out}
 use Rattle.kw_app.specs.Recorded.{asked, asks, line_forms, reply_of, AreReplies, EndsBefore, IsWithin}
-use Rattle.kw_app.specs.Working.{LineAnswered, Works, answered, answered_by}
+use Rattle.kw_app.specs.Working.{LineAnswered, Works}
 
--- one line more, and its call
-pub answered_by-push : (ls : List Line) (cs : List CallSeen) (l : Line) (c : CallSeen) → length ls ≡ length cs → answered_by (ls ++ l ∷ []) (cs ++ c ∷ []) ≡ answered_by ls cs ++ answered l c ∷ []
-unfolding answered_by
-answered_by-push [] [] l c same = refl
-answered_by-push [] (d ∷ cs) l c same = absurd (omega arith)
-answered_by-push (k ∷ ls) [] l c same = absurd (omega arith)
-answered_by-push (k ∷ ls) (d ∷ cs) l c same = ap (λ x. answered k d ∷ x) (answered_by-push ls cs l c (omega arith))
-
--- what is printed is what the replies give
-pub answers-answered_by : (ls : List Line) (cs : List CallSeen) → map (λ (a : Answered). a.answer) (answered_by ls cs) ≡ answers_for (line_forms ls) (map reply_of cs)
-unfolding answered_by
-answers-answered_by [] cs = refl
-answers-answered_by (l ∷ ls) [] = refl
-answers-answered_by (l ∷ ls) (c ∷ cs) = ap (λ x. answer_for l.form (reply_of c) ∷ x) (answers-answered_by ls cs)
+-- the answers to more lines
+pub answers_for-append : (ls ms : List Line) (cs ds : List CallSeen) → length cs ≡ length ls
+    → answers_for (line_forms (ls ++ ms)) (map reply_of (cs ++ ds)) ≡ answers_for (line_forms ls) (map reply_of cs) ++ answers_for (line_forms ms) (map reply_of ds)
+answers_for-append [] ms [] ds same = refl
+answers_for-append [] ms (c ∷ cs) ds same = absurd (omega arith)
+answers_for-append (l ∷ ls) ms [] ds same = absurd (omega arith)
+answers_for-append (l ∷ ls) ms (c ∷ cs) ds same = ap (λ x. answer_for l.form (reply_of c) ∷ x) (answers_for-append ls ms cs ds (omega arith))
 
 -- calls that ask what lines ask are as many
 pub as_many : (cs : List CallSeen) (ls : List Line) → asked cs ≡ asks ls → length cs ≡ length ls
@@ -70,12 +62,11 @@ prefix_length xs ys p = let e : length xs + length p.0 ≡ length ys = sym (leng
 
 -- no line is answered yet
 pub works_none : (p : Pass) → Works p p [] []
-unfolding answered_by
 works_none p = record { made = []; calls = sym (append-nil (calls_in p)); asks_are = refl; within = All-nil (IsWithin (now_in p) (now_in p)); are_replies = λ i l c e f. absurd (cc); answers_are = refl }
 
 -- one line more is answered
-pub works_more : (p q r : Pass) (ls : List Line) (l : Line) (done : List Answered) (reply : Reply) → now_in p ≤ now_in q → now_in q ≤ now_in r → Works p q ls done → Calls q r l.call reply → IsReplyOf l.form reply
-    → Works p r (ls ++ l ∷ []) (done ++ record { line = l.number; answer = answer_for l.form reply } ∷ [])
+pub works_more : (p q r : Pass) (ls : List Line) (l : Line) (done : List Answer) (reply : Reply) → now_in p ≤ now_in q → now_in q ≤ now_in r → Works p q ls done → Calls q r l.call reply → IsReplyOf l.form reply
+    → Works p r (ls ++ l ∷ []) (done ++ answer_for l.form reply ∷ [])
 works_more p q r ls l done reply before later w c is_reply =
     let one : CallSeen = ended_at c.last reply (begun_at c.first c.number l.call) in
     record {
@@ -86,21 +77,21 @@ works_more p q r ls l done reply before later w c is_reply =
           (All-weaker (IsWithin (now_in p) (now_in q)) (IsWithin (now_in p) (now_in r)) (λ x h. within_wider (now_in p) (now_in q) (now_in p) (now_in r) (omega arith) later x h) w.made w.within)
           (All-cons (IsWithin (now_in p) (now_in r)) one [] record { begins = let k = c.begins in omega arith; ends = c.ends; unstopped = reply_unstopped l.form reply is_reply } (All-nil (IsWithin (now_in p) (now_in r))));
       are_replies = replies_append ls (l ∷ []) w.made (one ∷ []) (as_many w.made ls w.asks_are) w.are_replies (replies_cons l one [] [] is_reply (λ i x y e f. absurd (cc)));
-      answers_are = ap (λ x. x ++ record { line = l.number; answer = answer_for l.form reply } ∷ []) w.answers_are ∙ sym (answered_by-push ls w.made l one (sym (as_many w.made ls w.asks_are)));
+      answers_are = ap (λ x. x ++ answer_for l.form reply ∷ []) w.answers_are ∙ sym (answers_for-append ls (l ∷ []) w.made (one ∷ []) (as_many w.made ls w.asks_are));
     }
 
 -- so goes the loop over the lines of a block: one of the worker's own is answered
-pub works_taken : (p q r : Pass) (n w : ℕ) (lines : List Line) (i : ℕ) (l : Line) (done more : List Answered) (a : Answer) → slice_get lines i ≡ Some l → worker_of n l ≡ w → now_in p ≤ now_in q → now_in q ≤ now_in r
-    → Works p q (part n w (take i lines)) done → LineAnswered q r l.call l.form a → more ≡ done ++ record { line = l.number; answer = a } ∷ []
+pub works_taken : (p q r : Pass) (n w : ℕ) (lines : List Line) (i : ℕ) (l : Line) (done more : List Answer) (a : Answer) → slice_get lines i ≡ Some l → worker_of n l ≡ w → now_in p ≤ now_in q → now_in q ≤ now_in r
+    → Works p q (part n w (take i lines)) done → LineAnswered q r l.call l.form a → more ≡ done ++ a ∷ []
     → Works p r (part n w (take (i + 1) lines)) more
 works_taken p q r n w lines i l done more a at own before later works c push =
     let ls : List Line = part n w (take i lines) in
     subst (λ x. Works p r x more) (line_in n w lines ls i l at own refl)
-    (subst (λ x. Works p r (ls ++ l ∷ []) x) (sym (push ∙ ap (λ (y : Answer). done ++ record { line = l.number; answer = y } ∷ []) c.answer_is))
+    (subst (λ x. Works p r (ls ++ l ∷ []) x) (sym (push ∙ ap (λ (y : Answer). done ++ y ∷ []) c.answer_is))
     (works_more p q r ls l done c.reply before later works c.calls c.is_reply))
 
 -- and one of another worker is passed
-pub works_passed : (p q : Pass) (n w : ℕ) (lines : List Line) (i : ℕ) (l : Line) (done : List Answered) → slice_get lines i ≡ Some l → worker_of n l ≢ w
+pub works_passed : (p q : Pass) (n w : ℕ) (lines : List Line) (i : ℕ) (l : Line) (done : List Answer) → slice_get lines i ≡ Some l → worker_of n l ≢ w
     → Works p q (part n w (take i lines)) done → Works p q (part n w (take (i + 1) lines)) done
 works_passed p q n w lines i l done at other works =
     subst (λ x. Works p q x done) (line_out n w lines (part n w (take i lines)) i l at other refl) works

@@ -12,7 +12,6 @@ use Rattle.kw_follow.specs.Following.{GoesTo}
 use Rattle.kw_map.specs.declared.kiwi.Kiwi.{Kiwi}
 use Rattle.kw_map.specs.Kiwi.{IsIdle}
 use Rattle.kw_work.specs.declared.line.Line.{Line}
-use Rattle.kw_work.specs.declared.line.Answered.{Answered}
 use Rattle.kw_work.specs.Dealing.{Dealt, part}
 use Rattle.kw_work.specs.Collecting.{answers_of}
 use Rattle.kw_app.specs.declared.rounds.Done.{Done}
@@ -26,13 +25,13 @@ pub record IsDone (m : Kiwi) (b : Dealt) (p : Pass) (d : Done) : Type 0 where
   pub works : IfOk d.answers (λ v. Works p d.pass (part b.workers (view p).number b.lines) v.items)
 
 -- p became q by the lines of the block that are dealt to it, and has these answers
-pub record Worked (m : Kiwi) (b : Dealt) (p q : Pass) (answers : List Answered) : Type 0 where
+pub record Worked (m : Kiwi) (b : Dealt) (p q : Pass) (answers : List Answer) : Type 0 where
   pub idle : IsIdle m q
   pub goes : GoesTo m.shared p q
   pub works : Works p q (part b.workers (view p).number b.lines) answers
 
 -- so did each of the passes
-abbrev pub WorkedEach : Kiwi → Dealt → List Pass → List Pass → List (Vec Answered Global) → Type 0
+abbrev pub WorkedEach : Kiwi → Dealt → List Pass → List Pass → List (Vec Answer Global) → Type 0
 WorkedEach m b ps qs parts = (i : ℕ) (d e : Pass) → i < length ps → Worked m b (slice_index_or ps i d) (slice_index_or qs i e) (answers_of parts i)
 
 -- the idle pass numbered i, which has seen E

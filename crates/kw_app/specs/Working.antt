@@ -1,16 +1,15 @@
 -- What a worker does with its lines.
-use Rattle.std.specs.Prelude.{◌≡◌, List, [], ◌∷◌, ◌++◌, All}
+use Rattle.std.specs.Prelude.{◌≡◌, List, ◌++◌, map, All}
 use Rattle.kw_model.specs.declared.call.Call.{Call}
 use Rattle.kw_model.specs.declared.call.Reply.{Reply}
 use Rattle.kw_laws.specs.SeatCalls.{CallSeen}
 use Rattle.kw_line.specs.declared.answer.Answer.{Answer}
 use Rattle.kw_line.specs.declared.item.Form.{Form}
-use Rattle.kw_line.specs.Answered.{IsReplyOf, answer_for}
+use Rattle.kw_line.specs.Answered.{IsReplyOf, answer_for, answers_for}
 use Rattle.kw_table.specs.declared.pass.Pass.{Pass}
 use Rattle.kw_follow.specs.Calling.{Calls, calls_in, now_in}
 use Rattle.kw_work.specs.declared.line.Line.{Line}
-use Rattle.kw_work.specs.declared.line.Answered.{Answered}
-use Rattle.kw_app.specs.Recorded.{asked, asks, reply_of, AreReplies, IsWithin}
+use Rattle.kw_app.specs.Recorded.{asked, asks, line_forms, reply_of, AreReplies, IsWithin}
 
 -- the pass made this call, which was its next one, and had a reply that a line of this form may have; the answer is what such a line prints for it
 pub record LineAnswered (p q : Pass) (call : Call) (form : Form) (answer : Answer) : Type 0 where
@@ -19,19 +18,13 @@ pub record LineAnswered (p q : Pass) (call : Call) (form : Form) (answer : Answe
   pub is_reply : IsReplyOf form reply
   pub answer_is : answer ≡ answer_for form reply
 
--- the answer to a line whose call this is
-abbrev pub answered : Line → CallSeen → Answered
-answered l c = record { line = l.number; answer = answer_for l.form (reply_of c) }
-
 -- the answers to lines that made these calls
-unfoldable pub answered_by : List Line → List CallSeen → List Answered
-answered_by [] cs = []
-answered_by (l ∷ ls) [] = []
-answered_by (l ∷ ls) (c ∷ cs) = answered l c ∷ answered_by ls cs
+abbrev pub answered_by : List Line → List CallSeen → List Answer
+answered_by lines made = answers_for (line_forms lines) (map reply_of made)
 
 -- the new calls of the pass are just those of the lines, in their order, and all have ended, each by a reply that its line may have, so none was
 -- stopped; the answers are those of the recorded replies
-pub record Works (p q : Pass) (lines : List Line) (answers : List Answered) : Type 0 where
+pub record Works (p q : Pass) (lines : List Line) (answers : List Answer) : Type 0 where
   pub made : List CallSeen
   pub calls : calls_in q ≡ calls_in p ++ made
   pub asks_are : asked made ≡ asks lines

@@ -17,7 +17,6 @@ use kw_model::memory::Memory;
 use kw_table::Pass;
 use kw_work::block::Block;
 use kw_work::collect::collect;
-use kw_work::line::Answered;
 use std::alloc::{AllocError, Global};
 use std::sync::Wait;
 use std::thread;
@@ -27,7 +26,7 @@ use std::thread::Threads;
 #[derive(Drop)]
 pub(crate) struct Done {
     pub(crate) pass: Pass,
-    pub(crate) answers: Result<Vec<Answered>, Memory>,
+    pub(crate) answers: Result<Vec<Answer>, Memory>,
 }
 
 /// What a pass does in its thread.
@@ -73,7 +72,7 @@ fn finish_all<R: Threads + Wait + Sync, G: Gate + Sync>(
 }
 
 /// The passes and the answers, where no worker wanted memory.
-fn parted(alloc: Global, dones: Vec<Done>) -> Result<(Vec<Pass>, Vec<Vec<Answered>>), Memory>
+fn parted(alloc: Global, dones: Vec<Done>) -> Result<(Vec<Pass>, Vec<Vec<Answer>>), Memory>
     ensures len { IfOk result (λ both. (vec_len both.0 ≡ vec_len dones)
         × (vec_len both.1 ≡ vec_len dones)) }
     ensures passes { IfOk result (λ both. AtEach (λ done pass. done.pass
@@ -100,7 +99,7 @@ fn hand_out<R: Threads + Wait + Sync, G: Gate + Sync>(
     block: &Block<'_>,
     passes: Vec<Pass>,
     gate: &G,
-) -> Result<(Vec<Pass>, Vec<Vec<Answered>>), Memory>
+) -> Result<(Vec<Pass>, Vec<Vec<Answer>>), Memory>
     requires idle { All (IsIdle kiwi.now) passes.items }
     requires lines { All IsLine block.now.lines }
     ensures len { IfOk result (λ both. (vec_len both.0 ≡ vec_len passes)

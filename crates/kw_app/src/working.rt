@@ -10,11 +10,11 @@ ghost use Rattle.kw_work.specs.Dealing.{IsLine, part};
 ghost use Rattle.kw_app.specs.Working.{Works};
 
 use crate::asking::ask;
+use kw_line::answer::Answer;
 use kw_map::kiwi::Kiwi;
 use kw_model::memory::Memory;
 use kw_table::Pass;
 use kw_work::block::Block;
-use kw_work::line::Answered;
 use std::alloc::Global;
 use std::sync::Wait;
 
@@ -48,7 +48,7 @@ pub fn work<R: Wait, G: Gate>(
     pass: &mut Pass,
     block: &Block<'_>,
     gate: &G,
-) -> Result<Vec<Answered>, Memory>
+) -> Result<Vec<Answer>, Memory>
     requires idle { IsIdle kiwi.now pass.old }
     requires lines { All IsLine block.now.lines }
     ensures idle { IsIdle kiwi.now pass.new }
@@ -64,10 +64,7 @@ pub fn work<R: Wait, G: Gate>(
         if line.worker(workers) == worker {
             gate.before(worker, line.number);
             let answer = ask(rt, alloc, kiwi, pass, line)?;
-            answers.push(Answered {
-                line: line.number,
-                answer,
-            })?;
+            answers.push(answer)?;
             gate.after(worker, line.number);
         }
     }

@@ -1,13 +1,12 @@
 -- What is collected stands in the order of the lines.
-use Rattle.std.proofs.Common.{◌≡◌, ℕ, ◌+◌, ◌<◌, List, [], ◌∷◌, ◌++◌, length, map, drop, get_or, refl, ap, sym, ◌∙◌, arith, append_assoc, Vec}
+use Rattle.std.proofs.Common.{◌≡◌, ℕ, ◌+◌, ◌<◌, List, [], ◌∷◌, ◌++◌, length, map, drop, get_or, refl, ap, sym, ◌∙◌, arith, append_assoc}
 use Rattle.std.proofs.lemmas.List.{map-append, map-id, length-map, length_push, drop_more, drop_all}
 use Rattle.std.proofs.Math.ListN.{get_or-map}
 use Rattle.std.proofs.Math.Seq.{get_or-append_seam}
-use Rattle.std.specs.declared.alloc.Global.{Global}
 use Rattle.kw_work.specs.declared.line.Line.{Line}
-use Rattle.kw_work.specs.declared.line.Answered.{Answered}
+use Rattle.kw_line.specs.declared.answer.Answer.{Answer}
 use Rattle.kw_work.specs.Dealing.{worker_of, part}
-use Rattle.kw_work.specs.Collecting.{merge, answers_of, no_answer, AnswersEach}
+use Rattle.kw_work.specs.Collecting.{merge, no_answer}
 use Rattle.kw_work.proofs.Shares.{part-append, part-nil}
 use Rattle.kw_work.proofs.Onces.{part-cons_in}
 
@@ -31,10 +30,10 @@ map-merge f g n has none before (l ∷ ls) some each =
     ap (λ x. x ∷ map f (merge n has none (before ++ l ∷ []) ls)) read
     ∙ ap (λ x. g l ∷ x) (map-merge f g n has none (before ++ l ∷ []) ls some (λ v lt. each v lt ∙ ap (λ x. map g (part n v x)) (sym (append_assoc before (l ∷ []) ls))))
 
--- answers that are collected stand in the order of their lines
-pub collected_in_order : (n : ℕ) (ls : List Line) (parts : List (Vec Answered Global)) → 0 < n → AnswersEach n ls parts
-    → map (λ (a : Answered). a.line) (merge n (answers_of parts) no_answer [] ls) ≡ map (λ (l : Line). l.number) ls
-collected_in_order n ls parts some each = map-merge (λ (a : Answered). a.line) (λ (l : Line). l.number) n (answers_of parts) no_answer [] ls some each
+-- where each worker has for its lines what a function gives of them, so has what is collected for all lines
+pub collected_in_order : (n : ℕ) (ls : List Line) (given : ℕ → List Answer) (answer : Line → Answer) → 0 < n → ((w : ℕ) → w < n → given w ≡ map answer (part n w ls)) → merge n given no_answer [] ls ≡ map answer ls
+collected_in_order n ls given answer some each =
+    sym (map-id (merge n given no_answer [] ls)) ∙ map-merge (λ (a : Answer). a) answer n given no_answer [] ls some (λ w lt. map-id (given w) ∙ each w lt)
 
 -- what is dealt and then collected is as before
 pub merge-part : (n : ℕ) (ls : List Line) (none : Line) → 0 < n → merge n (λ w. part n w ls) none [] ls ≡ ls

@@ -2,9 +2,8 @@
 //!
 //! Nothing runs here: the functions' clauses are the statements. Whoever runs the workers needs them to speak of an
 //! input's lines where the contracts of `deal` and `collect` speak of blocks and parts.
-ghost use Rattle.std.specs.Prelude.{ℕ, ◌≡◌, ◌<◌, false, List, [], length, map, All, IsPermutation, Vec};
+ghost use Rattle.std.specs.Prelude.{ℕ, ◌≡◌, ◌<◌, false, List, [], length, map, All, IsPermutation};
 ghost use Rattle.std.specs.List.{flat_map, range_with_len, AllByRecursion};
-ghost use Rattle.std.specs.declared.alloc.Global.{Global};
 ghost use Rattle.kw_model.specs.declared.call.Call.{Call};
 ghost use Rattle.kw_model.specs.declared.call.Reply.{Reply};
 ghost use Rattle.kw_model.specs.Map.{answers};
@@ -13,9 +12,9 @@ ghost use Rattle.kw_line.specs.declared.item.Item.{Item};
 ghost use Rattle.kw_line.specs.Line.{calls, forms, IsItem};
 ghost use Rattle.kw_line.specs.Quiet.{blocks, quiet};
 ghost use Rattle.kw_work.specs.declared.line.Line.{Line};
-ghost use Rattle.kw_work.specs.declared.line.Answered.{Answered};
+ghost use Rattle.kw_line.specs.declared.answer.Answer.{Answer};
 ghost use Rattle.kw_work.specs.Dealing.{blocks_of, lines_of, part};
-ghost use Rattle.kw_work.specs.Collecting.{answers_of, merge, no_answer, AnswersEach};
+ghost use Rattle.kw_work.specs.Collecting.{merge, no_answer};
 ghost use Rattle.kw_work.specs.Lines.{all_parts, quiet_lines, IsItemOf, AreRising};
 ghost use Rattle.kw_work.specs.LineOrder.{IsOrderOf, StandsBefore, IsLegalIn, joined, calls_of, KeepsKeys, KeepsWorkers, HaveForms, NoneRefused, QuietServed, NoItemRefused, QuietItemsAnswered, AreOfLines, StandsBeforeBy};
 
@@ -40,16 +39,18 @@ pub fn dealing_laws()
         IsPermutation lines (all_parts workers lines) }
 {}
 
-/// Answers that are collected stand in the order of their lines, and what is dealt and then collected is as it was before.
+/// Answers that are collected stand in the order of their lines: where each worker has for its lines what a function gives of
+/// them, what is collected is what it gives of all lines. What is dealt and then collected is as it was before.
 /// One worker has all lines of a block, and what it answers is what is collected.
 pub fn collecting_laws()
-    ensures order { (workers : ℕ) (lines : List Line) (parts : List (Vec Answered Global)) →
-        0 < workers → AnswersEach workers lines parts → map (λ a. a.line)
-        (merge workers (answers_of parts) no_answer [] lines) ≡ map (λ l. l.number) lines }
+    ensures order { (workers : ℕ) (lines : List Line) (given : ℕ → List Answer) (answer : Line →
+        Answer) → 0 < workers → ((worker : ℕ) → worker < workers → given worker
+        ≡ map answer (part workers worker lines)) → merge workers given no_answer [] lines
+        ≡ map answer lines }
     ensures back { (workers : ℕ) (lines : List Line) (none : Line) → 0 < workers →
         merge workers (λ worker. part workers worker lines) none [] lines ≡ lines }
     ensures one_part { (lines : List Line) → part 1 0 lines ≡ lines }
-    ensures one { (lines : List Line) (given : ℕ → List Answered) →
+    ensures one { (lines : List Line) (given : ℕ → List Answer) →
         length (given 0) ≡ length lines → merge 1 given no_answer [] lines ≡ given 0 }
 {}
 

@@ -1,11 +1,10 @@
-//! A line that is dealt, and its answer.
+//! A line that is dealt.
 //!
-//! The plain data that go to a worker and come back from it. The rule which worker takes a line stands here and nowhere
-//! else: dealing and collecting both ask [`Line::worker`], and it is proved to be `worker_of` of `specs/Dealing.antt`.
+//! The rule which worker takes a line stands here and nowhere else: who answers lines and who collects answers both ask
+//! [`Line::worker`], and it is proved to be `worker_of` of `specs/Dealing.antt`.
 ghost use Rattle.std.specs.Prelude.{◌≡◌, ◌<◌};
 ghost use Rattle.kw_work.specs.Dealing.{worker_of};
 
-use kw_line::answer::Answer;
 use kw_line::item::Form;
 use kw_model::call::Call;
 
@@ -18,13 +17,6 @@ pub struct Line {
     pub call: Call,
     /// The form in which the call's answer is printed.
     pub form: Form,
-}
-
-/// A line's answer, with the line's number.
-#[derive(Debug, Drop, PartialEq, Eq)]
-pub struct Answered {
-    pub line: u32,
-    pub answer: Answer,
 }
 
 impl Line {

@@ -1,12 +1,12 @@
 //! What a worker gets of an input, and what is collected, by hand.
-ghost use Rattle.std.specs.Prelude.{◌≡◌, ◌<◌, ◌^◌, length, map, vec_len, IfOk};
+ghost use Rattle.std.specs.Prelude.{◌≡◌, ◌<◌, ◌^◌, length, vec_len, IfOk};
 ghost use Rattle.kw_work.specs.Dealing.{part};
 ghost use Rattle.kw_work.specs.Collecting.{AnswersEach};
 
 use crate::block::Block;
 use crate::collect::collect;
 use crate::deal::deal;
-use crate::line::{Answered, Line};
+use crate::line::Line;
 use kw_line::answer::Answer;
 use kw_line::item::{Form, Item};
 use kw_model::call::Call;
@@ -14,17 +14,12 @@ use std::alloc::Global;
 use std::test::Fail;
 
 // for each line, its own number as its answer
-fn answer_lines(alloc: Global, lines: &[Line]) -> Result<Vec<Answered>, Fail>
-    ensures { IfOk result (λ answers. map (λ a. a.line) answers.items
-        ≡ map (λ l. l.number) lines.now) }
+fn answer_lines(alloc: Global, lines: &[Line]) -> Result<Vec<Answer>, Fail>
+    ensures { IfOk result (λ answers. length answers.items ≡ length lines.now) }
 {
     let mut answers = Vec::new(alloc);
     for line in lines {
-        let answer = Answer::Number(u128::from(line.number));
-        answers.push(Answered {
-            line: line.number,
-            answer,
-        })?;
+        answers.push(Answer::Number(u128::from(line.number)))?;
     }
     Ok(answers)
 }
@@ -45,7 +40,7 @@ fn part_of(alloc: Global, block: &Block<'_>, worker: u32) -> Result<Vec<Line>, F
 }
 
 // the answers of all workers of a block
-fn answer_parts(alloc: Global, block: &Block<'_>) -> Result<Vec<Vec<Answered>>, Fail>
+fn answer_parts(alloc: Global, block: &Block<'_>) -> Result<Vec<Vec<Answer>>, Fail>
     ensures len { IfOk result (λ parts. vec_len parts ≡ block.now.workers) }
     ensures each { IfOk result (λ parts. AnswersEach block.now.workers block.now.lines
         parts.items) }

@@ -3,7 +3,7 @@ use Rattle.std.specs.declared.alloc.Global.{Global}
 use Rattle.std.proofs.lemmas.List.{length_push}
 use Rattle.kw_table.specs.declared.pass.Pass.{Pass}
 use Rattle.kw_table.specs.Meetings.{AtEach}
-use Rattle.kw_work.specs.declared.line.Answered.{Answered}
+use Rattle.kw_line.specs.declared.answer.Answer.{Answer}
 use Rattle.kw_app.specs.declared.rounds.Done.{Done}
 use Rattle.kw_app.proofs.Each.{each_push}
 use Rattle.kw_app.proofs.rounds.parted.Goals as goal
@@ -13,7 +13,7 @@ loop-done-preserved c =
     let inv = c.loop-done.invariant in
     let d : Done = c.in-Some.done in
     let has_pass = λ (d : Done) (p : Pass). d.pass ≡ p in
-    let has_part = λ (d : Done) (v : Vec Answered Global). d.answers ≡ Ok v in
+    let has_part = λ (d : Done) (v : Vec Answer Global). d.answers ≡ Ok v in
     record {
       passes_len = ap length c.in_ok-push.ensures.items ∙ (length_push c.loop-done.passes.items d.pass ∙ (ap (λ n. n + 1) inv.passes_len ∙ sym (length_push c.loop-done.yielded d)));
       parts_len = ap length c.in_ok-push-2.ensures.items ∙ (length_push c.loop-done.parts.items c.in_ok-part.part ∙ (ap (λ n. n + 1) inv.parts_len ∙ sym (length_push c.loop-done.yielded d)));

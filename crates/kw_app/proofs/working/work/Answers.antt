@@ -7,7 +7,7 @@ use Rattle.kw_follow.proofs.OwnEvents.{goes_trans}
 use Rattle.kw_map.specs.Kiwi.{IsIdle}
 use Rattle.kw_table.proofs.Prefixes.{prefix_self}
 use Rattle.kw_work.specs.declared.line.Line.{Line}
-use Rattle.kw_work.specs.declared.line.Answered.{Answered}
+use Rattle.kw_line.specs.declared.answer.Answer.{Answer}
 use Rattle.kw_work.specs.Dealing.{IsLine, part}
 use Rattle.kw_app.specs.Working.{Works}
 use Rattle.kw_app.proofs.Works.{works_at_first, works_passed, works_taken, prefix_length}
@@ -39,7 +39,7 @@ loop-at-preserved g c =
       | then-worker+in_ok-answer+in_ok-push w ↦
           let own = sym c.worker.ensures.worker ∙ w.if-worker.true in
           let works : Works c.args.pass.now w.ask.new.pass ls c.if-worker.answers.items =
-          works_taken _ _ _ _ _ lines _ _ _ _ _ c.line-line.ensures own (prefix_length _ _ inv.goes.seen) (prefix_length _ _ w.ask.ensures.goes.seen) inv.works w.in_ok-answer.ensures.answers (ap (λ (v : Vec Answered Global). v.items) w.answers-is ∙ w.in_ok-push.ensures.items) in
+          works_taken _ _ _ _ _ lines _ _ _ _ _ c.line-line.ensures own (prefix_length _ _ inv.goes.seen) (prefix_length _ _ w.ask.ensures.goes.seen) inv.works w.in_ok-answer.ensures.answers (ap (λ (v : Vec Answer Global). v.items) w.answers-is ∙ w.in_ok-push.ensures.items) in
           record {
             idle = subst (λ q. IsIdle c.args.kiwi.now q) (sym w.pass-is) w.ask.ensures.idle;
             goes = subst (λ q. GoesTo c.args.kiwi.now.shared c.args.pass.now q) (sym w.pass-is) (goes_trans _ _ _ _ inv.goes w.ask.ensures.goes);
@@ -47,7 +47,7 @@ loop-at-preserved g c =
           }
       | else-worker w ↦
           let works : Works c.args.pass.now c.loop-at.pass ls c.if-worker.answers.items =
-          subst (λ x. Works c.args.pass.now c.loop-at.pass ls x) (sym (ap (λ (v : Vec Answered Global). v.items) w.answers-is)) (works_passed _ _ _ _ lines _ _ _ c.line-line.ensures (λ is. w.if-worker.false (c.worker.ensures.worker ∙ is)) inv.works) in
+          subst (λ x. Works c.args.pass.now c.loop-at.pass ls x) (sym (ap (λ (v : Vec Answer Global). v.items) w.answers-is)) (works_passed _ _ _ _ lines _ _ _ c.line-line.ensures (λ is. w.if-worker.false (c.worker.ensures.worker ∙ is)) inv.works) in
           record {
             idle = subst (λ q. IsIdle c.args.kiwi.now q) (sym w.pass-is) inv.idle;
             goes = subst (λ q. GoesTo c.args.kiwi.now.shared c.args.pass.now q) (sym w.pass-is) inv.goes;

@@ -1,8 +1,7 @@
-use Rattle.std.proofs.Common.{◌≡◌, ℕ, ◌<◌, ◌≤◌, [], take, map, length, get_or, vec_len}
-use Rattle.kw_work.specs.declared.line.Answered.{Answered}
+use Rattle.std.proofs.Common.{◌≡◌, ℕ, ◌<◌, ◌≤◌, [], take, length, get_or, vec_len}
 use Rattle.kw_work.specs.Dealing.{part}
 use Rattle.kw_work.specs.Collecting.{answers_of, no_answer, merge, SameLengths}
-use Rattle.kw_work.proofs.collect.collect.Given as goal
+use Rattle.kw_work.proofs.collect.merged.Given as goal
 
 abbrev pub invariant-loop-at : goal.invariant-loop-at
 invariant-loop-at l = record {
@@ -11,5 +10,5 @@ invariant-loop-at l = record {
   lengths : SameLengths l.fn.parts.items l.parts.items;
   rest : (w k : ℕ) → w < l.workers → get_or l.next.items w 0 ≤ k → get_or (answers_of l.parts.items w) k no_answer ≡ get_or (answers_of l.fn.parts.items w) k no_answer;
   next : (w : ℕ) → w < l.workers → get_or l.next.items w 0 ≡ length (part l.workers w (take l.at l.block.lines));
-  answers : l.answers.items ≡ map (λ (a : Answered). a.answer) (merge l.workers (answers_of l.fn.parts.items) no_answer [] (take l.at l.block.lines));
+  answers : l.answers.items ≡ merge l.workers (answers_of l.fn.parts.items) no_answer [] (take l.at l.block.lines);
 }
