@@ -1,3 +1,4 @@
 pub mod Meets
 pub mod Stages
 pub mod Finishing
+pub mod Building

@@ -29,36 +29,7 @@ use Rattle.kw_follow.proofs.OneEvent.{same_activity}
 use Rattle.kw_live_rebal.specs.declared.rebalancing.Rebalanced.{Rebalanced}
 use Rattle.kw_live_rebal.specs.declared.rebalancing.Rebalanced.TheVariants.{NoRows, Spent}
 use Rattle.kw_live_rebal.specs.Rebalancing.{HasEnded, MetNoRows, MetReplaced, MetSpent, MetWon, stands_after}
-
--- it began a search for rows
-pub record MetSearch (p q : Pass) : Type 0 where
-  pub choice : Choice
-  pub told : ℕ
-  pub met : Met p q SeekFirst choice told
-
--- what it has met where it stands. It stands at no activity but these, and those of a rebalance: whoever makes its events sees to it that it does not
--- come to the end of one that won
-abbrev pub HasMet : Pass → Pass → Activity → Local → Type 0
-HasMet o p (Leave answer.Spent) l = MetSpent o p
-HasMet o p (Leave answer.NoRows) l = MetSearch o p
-HasMet o p Again l = MetReplaced o p
-HasMet o p Seek l = MetSearch o p
-HasMet o p (SeekPass i) l = MetSearch o p
-HasMet o p Reclaim l = MetSearch o p
-HasMet o p TakeRow l = MetSearch o p
-HasMet o p GiveBack l = (l.rebalance.afterwards ≡ Refuse → MetSearch o p) × (l.rebalance.afterwards ≡ TryAgain → MetReplaced o p)
-HasMet o p Normalise l = MetWon o p
-HasMet o p Number l = ⊥
-HasMet o p Retire l = ⊥
-HasMet o p a l = IsBalancing a
-
--- what stays through all events of a rebalance
-pub record Rebalances (s : Shared) (o p : Pass) (l : Local) : Type 0 where
-  pub goes : GoesTo s o p
-  pub follows : Follows s p l
-  pub calls : KeepsCalls o p
-  pub held : held p ≡ held o
-  pub met : HasMet o p l.activity l
+use Rattle.kw_live_rebal.specs.Standing.{HasMet, MetSearch}
 
 -- an event of a rebalance that is not over is one in the middle of a call
 pub within : (o p : Pass) (l : Local) (a : Activity) → HasMet o p a l → ((x : Answer) → a ≡ Leave x → ⊥) → IsWithinCall a

@@ -58,7 +58,8 @@ use Rattle.kw_follow.specs.Following.{GoesTo}
 use Rattle.kw_follow.specs.OwnEvents.{Met, MetAs, knew, transition_after}
 use Rattle.kw_follow.proofs.Fronts.{local_at, met_laws, met_local, met_told}
 use Rattle.kw_live_rebal.specs.Rebalancing.{IsRetired, IsWalkEnd, MetReplaced, MetSpent, MetWon, TellsReplaced}
-use Rattle.kw_live_rebal.proofs.Meets.{HasMet, MetSearch, replaced_on, search_on}
+use Rattle.kw_live_rebal.specs.Standing.{HasMet, MetSearch}
+use Rattle.kw_live_rebal.proofs.Meets.{replaced_on, search_on}
 
 -- what an event is told by the line of this table, for this seat and this choice, after these events
 abbrev tells : Opening → ℕ → List Event → Choice → ℕ

@@ -1,1 +1,2 @@
 pub mod Rebalancing
+pub mod Standing

@@ -7,6 +7,7 @@
 
 mod publishing;
 mod rebalancing;
+mod stretches;
 
 pub use rebalancing::{Rebalanced, rebalance};
 

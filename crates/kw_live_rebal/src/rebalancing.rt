@@ -17,6 +17,7 @@ ghost use Rattle.kw_follow.specs.Within.{IsWithinCall};
 ghost use Rattle.kw_live_rebal.specs.Rebalancing.{HasEnded, stands_after};
 
 use crate::publishing::{search_start, tell_index};
+use crate::stretches::{gather_row, write_row};
 use kw_follow::{go, go_build};
 use kw_index::index::Index;
 use kw_table::{Hints, Pass, Shared};
@@ -76,8 +77,12 @@ pub fn rebalance<R: Wait>(
                 finish(rt, shared, index, hints, pass, local);
                 return Rebalanced::Done;
             }
-            _ => {
+            Activity::TakeFrom => gather_row(rt, shared, pass, local),
+            Activity::WriteCount => {
                 warm_new_row(shared, local);
+                write_row(rt, shared, pass, local);
+            }
+            _ => {
                 let choice = choice_at(shared, local, index, hints);
                 go_on(shared, pass, local, choice);
             }
@@ -105,13 +110,11 @@ fn go_on(shared: &Shared, pass: &mut Pass, local: &mut Local, choice: Choice) ->
     }
 }
 
-// A new row whose words are written next is loaded first: it may lie far away, and each word is written by one step.
+// The new row whose words are written next is loaded first: it may lie far away, and each word is written by one step.
 #[inline(always)]
 fn warm_new_row(shared: &Shared, local: &Local) {
-    if let Activity::WriteCount = local.activity {
-        if let Some(row) = local.rebalance.taken.as_slice().get(local.rebalance.at) {
-            shared.warm_whole(*row);
-        }
+    if let Some(row) = local.rebalance.taken.as_slice().get(local.rebalance.at) {
+        shared.warm_whole(*row);
     }
 }
 

@@ -3,7 +3,8 @@ use Rattle.kw_world.specs.declared.activity.Activity.{Activity}
 use Rattle.kw_core.specs.Stages.{IsBusy}
 use Rattle.kw_follow.proofs.CallStays.{call_stays}
 use Rattle.kw_follow.proofs.OwnEvents.{goes_trans}
-use Rattle.kw_live_rebal.proofs.Meets.{HasMet, ends_refused, within, won_on}
+use Rattle.kw_live_rebal.specs.Standing.{HasMet}
+use Rattle.kw_live_rebal.proofs.Meets.{ends_refused, within, won_on}
 use Rattle.kw_live_rebal.proofs.Stages.{keeps_met}
 use Rattle.kw_live_rebal.proofs.rebalancing.rebalance.Goals as goal
 

@@ -1,4 +1,4 @@
-use Rattle.kw_live_rebal.proofs.Meets.{Rebalances}
+use Rattle.kw_live_rebal.specs.Standing.{Rebalances}
 use Rattle.kw_live_rebal.proofs.rebalancing.rebalance.Given as goal
 
 abbrev pub invariant-loop : goal.invariant-loop

@@ -1,0 +1,18 @@
+use Rattle.std.proofs.Common.{rules}
+use Rattle.kw_live_rebal.proofs.Building.{building_within, event_goes_on}
+use Rattle.kw_live_rebal.proofs.stretches.write_row.Goals as goal
+
+pub go_build-requires-clause-within : goal.go_build-requires-clause-within
+go_build-requires-clause-within g c = building_within _ c.loop.invariant.building
+
+pub returns-then-not-is_in_row-clause-on : goal.returns-then-not-is_in_row-clause-on
+returns-then-not-is_in_row-clause-on g c o r = event_goes_on _ c.loop.pass _ c.loop.local c.go_build.new.local _ _ c.go_build.ensures.goes c.go_build.ensures.follows c.go_build.ensures.calls c.go_build.ensures.held c.go_build.ensures.met c.go_build.ensures.line c.loop.invariant.building o (c.loop.invariant.on o r)
+
+pub loop-preserved : goal.loop-preserved
+loop-preserved g c = record {
+  can_next = search rules;
+  is_finite = search rules;
+  follows = c.go_build.ensures.follows;
+  building = c.is_in_row.ensures (search rules);
+  on = λ o r. event_goes_on _ c.loop.pass _ c.loop.local c.go_build.new.local _ _ c.go_build.ensures.goes c.go_build.ensures.follows c.go_build.ensures.calls c.go_build.ensures.held c.go_build.ensures.met c.go_build.ensures.line c.loop.invariant.building o (c.loop.invariant.on o r);
+}

@@ -1,0 +1,68 @@
+-- What a rebalance has met where it stands, and what stays while it goes on.
+use Rattle.std.specs.Prelude.{◌≡◌, ℕ}
+use Rattle.kw_world.specs.declared.answer.Answer.TheVariants as answer
+use Rattle.kw_world.specs.declared.activity.Activity.{Activity}
+use Rattle.kw_world.specs.declared.activity.Activity.TheVariants.{Leave, Again, SeekFirst, Seek, SeekPass, Reclaim, TakeRow, GiveBack, Normalise, Number, Retire, TakeFrom, TakeKey, TakeVersion, TakeValue, TakeRestKey, TakeRestValue, WriteCount, WriteMin, WriteNext, WriteFirst, WritePend, WriteKey, WriteValue, WriteVersion, WriteAfter}
+use Rattle.kw_world.specs.declared.event.Choice.{Choice}
+use Rattle.kw_world.specs.declared.local.Local.{Local}
+use Rattle.kw_world.specs.declared.rebalance.Afterwards.TheVariants.{Refuse, TryAgain}
+use Rattle.kw_core.specs.Stages.{IsBalancing}
+use Rattle.kw_table.specs.declared.pass.Pass.{Pass}
+use Rattle.kw_table.specs.declared.shared.Shared.{Shared}
+use Rattle.kw_follow.specs.Calling.{KeepsCalls}
+use Rattle.kw_follow.specs.Following.{Follows, GoesTo, held}
+use Rattle.kw_follow.specs.OwnEvents.{Met}
+use Rattle.kw_live_rebal.specs.Rebalancing.{MetReplaced, MetSpent, MetWon}
+
+-- it began a search for rows
+pub record MetSearch (p q : Pass) : Type 0 where
+  pub choice : Choice
+  pub told : ℕ
+  pub met : Met p q SeekFirst choice told
+
+-- what it has met where it stands. It stands at no activity but these, and those of a rebalance: whoever makes its events sees to it that it does not
+-- come to the end of one that won
+abbrev pub HasMet : Pass → Pass → Activity → Local → Type 0
+HasMet o p (Leave answer.Spent) l = MetSpent o p
+HasMet o p (Leave answer.NoRows) l = MetSearch o p
+HasMet o p Again l = MetReplaced o p
+HasMet o p Seek l = MetSearch o p
+HasMet o p (SeekPass i) l = MetSearch o p
+HasMet o p Reclaim l = MetSearch o p
+HasMet o p TakeRow l = MetSearch o p
+HasMet o p GiveBack l = (l.rebalance.afterwards ≡ Refuse → MetSearch o p) × (l.rebalance.afterwards ≡ TryAgain → MetReplaced o p)
+HasMet o p Normalise l = MetWon o p
+HasMet o p Number l = ⊥
+HasMet o p Retire l = ⊥
+HasMet o p a l = IsBalancing a
+
+-- what stays through all events of a rebalance
+pub record Rebalances (s : Shared) (o p : Pass) (l : Local) : Type 0 where
+  pub goes : GoesTo s o p
+  pub follows : Follows s p l
+  pub calls : KeepsCalls o p
+  pub held : held p ≡ held o
+  pub met : HasMet o p l.activity l
+
+-- since whatever event it is told of, what stayed up to the one pass and local stays up to the other
+abbrev pub GoesOn : Shared → Pass → Local → Pass → Local → Type 0
+GoesOn s p l q m = (o : Pass) → Rebalances s o p l → Rebalances s o q m
+
+-- it gathers the cells of the full row, or writes a new one
+abbrev pub IsBuilding : Activity → Type 0
+IsBuilding TakeFrom = Unit {0}
+IsBuilding TakeKey = Unit {0}
+IsBuilding TakeVersion = Unit {0}
+IsBuilding TakeValue = Unit {0}
+IsBuilding TakeRestKey = Unit {0}
+IsBuilding TakeRestValue = Unit {0}
+IsBuilding WriteCount = Unit {0}
+IsBuilding WriteMin = Unit {0}
+IsBuilding WriteNext = Unit {0}
+IsBuilding WriteFirst = Unit {0}
+IsBuilding (WritePend i) = Unit {0}
+IsBuilding (WriteKey j) = Unit {0}
+IsBuilding (WriteValue j) = Unit {0}
+IsBuilding (WriteVersion j) = Unit {0}
+IsBuilding (WriteAfter j) = Unit {0}
+IsBuilding _ = ⊥
