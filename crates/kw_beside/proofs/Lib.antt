@@ -1,0 +1,5 @@
+pub mod Chunks
+pub mod LineCuts
+pub mod ReadParts
+pub mod Readers
+pub mod TwoParts
