@@ -71,6 +71,8 @@ LATER_PRINTED = b"none\nok\n5\nno rows\nno rows\n2048\n2048\n"
 
 # Many keys, which split rows, and few of them, of which rows are rebuilt: what is asked after all puts is the same for any workers.
 KEYS = b"".join(b"put %d %d\n" % (key * 7919 % 20011, key) for key in range(1, 20001)) + b"wait\nsum 0 20010\ncount 0 20010\nleast 0 20010\n"
+TWO_BAD = KEYS.splitlines(keepends=True)
+TWO_BAD[14999] = TWO_BAD[18999] = b"put\n"
 FEW = b"".join(b"put %d %d\n" % (number % 16, number) for number in range(8000)) + b"wait\nlist 0 15\nsum 0 15\n"
 FEW_LIST = b" ".join(b"%d=%d" % (key, 7984 + key) for key in range(16))
 
@@ -130,6 +132,7 @@ CASES = (
     Case("a judge with rows", "judge --rows 64", said=b"bad words\n", status=2),
     Case("a judge twice", "judge judge", said=b"bad words\n", status=2),
     Case("a bad line", "replay", b"get 1\nget\n", said=b"bad line 2\n", status=3),
+    Case("the first of two bad lines of an input that several threads read", "replay --workers 4", b"".join(TWO_BAD), said=b"bad line 15000\n", status=3),
     Case("a bad line of a script", "simulate", b"call 9 get 1\n", said=b"bad line 1\n", status=3),
     Case("a bad line of a recorded script", "simulate --record", b"call 9 get 1\n", said=b"bad line 1\n", status=3),
     Case("a bad line of a recorded script of more rows", "simulate --rows 70 --record", b"call 0 put 5 10\ngo 0 0\n", said=b"bad line 2\n", status=3),
