@@ -1,17 +1,14 @@
 -- What a rebalance has met where it stands.
-use Rattle.std.proofs.Common.{◌≡◌, ◌≢◌, ℕ, ◌<◌, ◌≤◌, ◌++◌, [], ◌∷◌, arith, refl, sym, ◌∙◌, ap, subst, length, length-append}
+use Rattle.std.proofs.Common.{◌≡◌, ◌≢◌, ◌<◌, ◌≤◌, ◌++◌, [], ◌∷◌, arith, refl, sym, ◌∙◌, ap, subst, length, length-append}
 use Rattle.std.proofs.lemmas.Bool.{cases_lt}
 use mathlib.Core.Logic.{⊎_elim}
 use Rattle.kw_world.specs.declared.answer.Answer.{Answer}
 use Rattle.kw_world.specs.declared.answer.Answer.TheVariants as answer
 use Rattle.kw_world.specs.declared.activity.Activity.{Activity}
-use Rattle.kw_world.specs.declared.activity.Activity.TheVariants.{Idle, ListFrom, ListKey, ListVer, ListVal, RestKey, RestVal, ClearScan, Leave, Again, SeekFirst, Seek, SeekPass, Reclaim, TakeRow, GiveBack, Normalise, Number, Retire}
-use Rattle.kw_world.specs.declared.event.Choice.{Choice}
+use Rattle.kw_world.specs.declared.activity.Activity.TheVariants.{Idle, ListFrom, ListKey, ListVer, ListVal, RestKey, RestVal, ClearScan, Leave, SeekFirst}
 use Rattle.kw_world.specs.declared.local.Local.{Local}
-use Rattle.kw_world.specs.declared.rebalance.Afterwards.TheVariants.{Refuse, TryAgain}
 use Rattle.kw_world.specs.Sizes.{product}
 use Rattle.kw_core.specs.Events.{event}
-use Rattle.kw_core.specs.Stages.{IsBalancing}
 use Rattle.kw_laws.specs.Causes.{AskedAll}
 use Rattle.kw_laws.proofs.CausesHold.{standing_holds}
 use Rattle.kw_laws.proofs.Worlds.{world-local}
@@ -20,9 +17,8 @@ use Rattle.kw_table.specs.declared.shared.Shared.{Shared}
 use Rattle.kw_table.specs.Passes.{view}
 use Rattle.kw_table.specs.Views.{local_in}
 use Rattle.kw_table.proofs.Prefixes.{prefix_trans}
-use Rattle.kw_follow.specs.Calling.{KeepsCalls, now_in}
-use Rattle.kw_follow.specs.Following.{Follows, GoesTo, held}
-use Rattle.kw_follow.specs.OwnEvents.{Met}
+use Rattle.kw_follow.specs.Calling.{now_in}
+use Rattle.kw_follow.specs.Following.{Follows, GoesTo}
 use Rattle.kw_follow.specs.Within.{IsWithinCall}
 use Rattle.kw_follow.proofs.Fronts.{acts_of_met, seat_within}
 use Rattle.kw_follow.proofs.OneEvent.{same_activity}
