@@ -11,3 +11,5 @@ pub mod CursorEvents
 pub mod AfterList
 pub mod NewestCell
 pub mod Gets
+pub mod GatheredBefore
+pub mod CellStream

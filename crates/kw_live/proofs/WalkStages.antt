@@ -1,15 +1,16 @@
 -- How a walk goes from row to row: each of its events takes it on, and the least keys that it knows rise.
-use Rattle.std.proofs.Common.{◌≡◌, ℕ, ◌+◌, ◌*◌, ◌-◌, ◌<◌, ◌≤◌, Bool, true, false, nat_le, nat_lt, if◌then◌else◌, Option, Some, None, arith, refl, sym, ◌∙◌, ap, subst, inl, inr}
+use Rattle.std.proofs.Common.{◌≡◌, ◌⊎◌, List, ℕ, ◌+◌, ◌*◌, ◌-◌, ◌<◌, ◌≤◌, Bool, true, false, nat_le, nat_lt, if◌then◌else◌, Option, Some, None, arith, refl, sym, ◌∙◌, ap, subst, inl, inr}
 use Rattle.kw_words.specs.declared.layout.Name.TheVariants as name
 use Rattle.kw_words.specs.Link.{link_of}
 use Rattle.kw_words.specs.Plain.{key_of_word}
 use Rattle.kw_words.specs.State.{state_of}
 use Rattle.kw_words.specs.declared.state.State.{State}
 use Rattle.kw_words.specs.declared.state.State.TheVariants.{Free, Infant, Normal, Leader, Follower, Retired}
+use Rattle.kw_cells.specs.declared.cell.Cell.{Cell}
 use Rattle.kw_model.specs.declared.call.Call.{Call}
 use Rattle.kw_model.specs.declared.call.Call.TheVariants.{Put, Del, Get, Scan}
 use Rattle.kw_world.specs.declared.activity.Activity.{Activity}
-use Rattle.kw_world.specs.declared.activity.Activity.TheVariants.{Start, Head, GuessMin, Walk, WalkMin}
+use Rattle.kw_world.specs.declared.activity.Activity.TheVariants.{Start, Head, GuessMin, Walk, WalkMin, Look}
 use Rattle.kw_world.specs.declared.event.Choice.{Choice}
 use Rattle.kw_world.specs.declared.event.Choice.TheVariants.{Go, Guess}
 use Rattle.kw_world.specs.declared.event.StepDone.{StepDone}
@@ -38,6 +39,7 @@ use Rattle.kw_follow.proofs.OwnEvents.{goes_trans}
 use Rattle.kw_follow.proofs.PutEvents.{next_at}
 use Rattle.kw_follow.proofs.Reaching.{reaches_by, went_by}
 use Rattle.kw_live.specs.Meeting.{BeginsWith}
+use Rattle.kw_live.specs.Reading.{is_looking}
 use Rattle.kw_live.specs.Stages.{arrived, guessing}
 use Rattle.kw_live.specs.Walking.{IsUnderWay, WalksFurther, WalksOn, walk_ahead, walks_ahead}
 use Rattle.kw_follow.proofs.Fronts.{met_laws, met_local, met_told, local_at}
@@ -250,3 +252,95 @@ module _ {s : Shared} {o p q : Pass} {l m n : Local} (before : IsWalkingOn s o l
 -- what a pass began with it has begun with later too
 pub begins_on : (s : Shared) (p q r : Pass) (c : Choice) → GoesTo s q r → BeginsWith p q c → BeginsWith p r c
 begins_on s p q r c goes b = record { front = b.front; later = b.later; first = b.first; here = prefix_trans _ _ _ b.here goes.seen }
+
+-- Rows that are passed while code may lack what the seat gathered in the row before, which the walk forgets.
+
+-- so far the walk went, and the seat has gathered these cells: code has them too, or the walk is to forget them
+pub record IsPassing (s : Shared) (o : Pass) (l : Local) (p : Pass) (m : Local) : Type 0 where
+  pub cells : List Cell
+  pub on : IsWalkingOn s o l p (walking Walk (record m { gathered = cells }))
+  pub forgets : (arrived m.call ≡ Look 0) ⊎ (cells ≡ m.gathered)
+
+-- it begins
+pub begins_passing : (s : Shared) (p : Pass) (l : Local) → (cells : List Cell) × Follows s p (record l { gathered = cells }) → (arrived l.call ≡ Look 0) ⊎ Follows s p l → l.activity ≡ Walk → IsPassing s p l p l
+begins_passing s p l beside (inl look) is =
+    let on = begins_walking s p (record l { gathered = beside.0 }) beside.1 is in
+    record {
+      cells = beside.0;
+      on = record {
+        goes = on.goes;
+        follows = on.follows;
+        calls = on.calls;
+        held = on.held;
+        walks = record { call = refl; want = refl; version = refl; has_read = refl; stage = inl refl };
+        fewer = on.fewer;
+      };
+      forgets = inl look;
+    }
+begins_passing s p l beside (inr f) is = record { cells = l.gathered; on = begins_walking s p l f is; forgets = inr refl }
+
+-- the arrival is the same whatever was gathered, where the walk forgets it
+arrive_over : (call : Option Call) (l : Local) (cells : List Cell) → (arrived call ≡ Look 0) ⊎ (cells ≡ l.gathered) → arrive call (record l { gathered = cells }) ≡ arrive call l
+arrive_over call l cells (inr e) = ap (λ (kept : List Cell). arrive call (record l { gathered = kept })) e
+arrive_over (Some (Put key value)) l cells (inl e) = true_false (ap is_looking e) refl
+arrive_over (Some (Del key)) l cells (inl e) = true_false (ap is_looking e) refl
+arrive_over (Some (Get key)) l cells (inl e) = refl
+arrive_over (Some (Scan from upto)) l cells (inl e) = refl
+arrive_over None l cells (inl e) = refl
+
+-- where a call stands after the arrival
+arrive_at : (call : Option Call) (l : Local) → (arrive call l).local.activity ≡ arrived call
+arrive_at (Some (Put key value)) l = refl
+arrive_at (Some (Del key)) l = refl
+arrive_at (Some (Get key)) l = refl
+arrive_at (Some (Scan from upto)) l = refl
+arrive_at None l = refl
+
+-- a row whose least key is above the wanted one ends the walk
+stops_before : (least : ℕ) (l : Local) → nat_le least l.want ≡ false → walk_min least l ≡ arrive l.call (record l { next = Some l.candidate; upper = least })
+stops_before least l h = ap (λ (b : Bool). let o : Outcome = if b then to Walk (record l { row = l.candidate; lower = least }) else arrive l.call (record l { next = Some l.candidate; upper = least }) in o) h
+
+-- all of the walk, which has arrived
+pub record HasArrived (s : Shared) (o : Pass) (l : Local) (p : Pass) (m : Local) : Type 0 where
+  pub walks : WalksFurther s o l p m
+  pub arrived : m.activity ≡ arrived l.call
+
+module _ {s : Shared} {o p q : Pass} {told : ℕ} {first : Local} (l : Local) (x : IsPassing s o first p l) (makes : Makes s p Go told q) where
+  -- the link led to a row
+  pub passing_led : (r : ℕ) → row_linked (link_of told) ≡ Some r → WalksFurther s p (walking Walk (record l { gathered = x.cells })) q (walking WalkMin (record l { gathered = x.cells; candidate = r }))
+  passing_led r leads = link_led (record l { gathered = x.cells }) r leads x.on.follows makes
+
+  -- there is no row after this one
+  pub arrives_last : (m : Local) (done : StepDone) → row_linked (link_of told) ≡ None → outcome m done ≡ link_met (row_linked (link_of told)) (walking Walk l) → HasArrived s o first q m
+  arrives_last m done leads line =
+      let there : Local = record (walking Walk l) { next = None; upper = 0 } in
+      let met : outcome m done ≡ arrive l.call there = line ∙ ap (λ n. link_met n (walking Walk l)) leads in
+      record {
+        walks = walked_on x.on (link_told (record l { gathered = x.cells }) m done (met ∙ sym (arrive_over l.call there x.cells x.forgets) ∙ ap (λ n. link_met n (walking Walk (record l { gathered = x.cells }))) (sym leads)) x.on.follows makes);
+        arrived = ap (λ (y : Outcome). y.local.activity) met ∙ arrive_at l.call there ∙ ap arrived x.on.walks.call;
+      }
+
+module _ {s : Shared} {o p q r : Pass} {link told : ℕ} {first : Local} (l : Local) (x : IsPassing s o first p l) (row : ℕ) (leads : row_linked (link_of link) ≡ Some row) (makes : Makes s p Go link q) (makes_next : Makes s q Go told r) where
+  -- the row after is taken
+  pub passing_taken : (key : ℕ) → key ≡ key_of_word told → key ≤ l.want → WalksFurther s p (walking Walk (record l { gathered = x.cells })) r (walking Walk (record l { gathered = x.cells; candidate = row; row = row; lower = key }))
+  passing_taken key keyed serves =
+      let led = passing_led l x makes row leads in
+      further_trans _ _ _ _ _ _ _ led (row_taken (record l { gathered = x.cells; candidate = row }) key keyed serves led.follows makes_next)
+
+  -- and the walk goes on from it
+  pub passing_on : (key : ℕ) → key ≡ key_of_word told → key ≤ l.want → IsPassing s o first r (record l { candidate = row; row = row; lower = key })
+  passing_on key keyed serves = record { cells = x.cells; on = walking_on x.on (passing_taken key keyed serves); forgets = x.forgets }
+
+  -- the row after begins above the wanted key
+  pub arrives_before : (key : ℕ) → key ≡ key_of_word told → l.want < key → (m : Local) (done : StepDone) → outcome m done ≡ walk_min (key_of_word told) (walking WalkMin (record l { candidate = row })) → HasArrived s o first r m
+  arrives_before key keyed over m done line =
+      let beyond : l.want < key_of_word told = subst (λ n. l.want < n) keyed over in
+      let above : nat_le (key_of_word told) l.want ≡ false = grind (arith) in
+      let here : Local = walking WalkMin (record l { candidate = row }) in
+      let there : Local = record here { next = Some row; upper = key_of_word told } in
+      let met : outcome m done ≡ arrive l.call there = line ∙ stops_before (key_of_word told) here above in
+      let led = passing_led l x makes row leads in
+      record {
+        walks = walked_on x.on (further_trans _ _ _ _ _ _ _ led (least_told (record l { gathered = x.cells; candidate = row }) m done (met ∙ sym (arrive_over l.call there x.cells x.forgets) ∙ sym (stops_before (key_of_word told) (walking WalkMin (record l { gathered = x.cells; candidate = row })) above)) led.follows makes_next));
+        arrived = ap (λ (y : Outcome). y.local.activity) met ∙ arrive_at l.call there ∙ ap arrived x.on.walks.call;
+      }

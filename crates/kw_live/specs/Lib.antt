@@ -3,4 +3,5 @@ pub mod Stages
 pub mod Walking
 pub mod Putting
 pub mod Reading
+pub mod Streaming
 pub mod Getting

@@ -6,7 +6,8 @@
 //!
 //! `entering` begins calls, begins a put anew after a rebalance, gives a scan its version, and ends both; `walking` finds the row of a key;
 //! `putting` puts a cell into it, and `reading` reads it. `getting` makes a whole get, most of which it makes without a local. The loops that take most of a call's time stand by themselves: `inserting` passes the
-//! cells of lesser keys for a put, `looking` looks at the entries of a row, and `listing` and `newest` go along its list. Whoever stands above puts whole
+//! cells of lesser keys for a put, `looking` looks at the entries of a row, and `listing`, `newest` and `streaming` go along its list: for all cells of a
+//! range at once, for the newest of one key, and for one cell after the other. Whoever stands above puts whole
 //! calls together from these, by their contracts, and knows no event.
 #![tactic(auto)]
 
@@ -18,13 +19,15 @@ mod looking;
 mod newest;
 mod putting;
 mod reading;
+mod streaming;
 mod walking;
 
 pub use entering::{end_scan, enter, enter_anew, leave, stop_scan};
 pub use getting::get;
 pub use putting::{TryPut, try_put};
-pub use reading::read_row;
-pub use walking::locate;
+pub use reading::{look_at_row, read_list, read_row};
+pub use streaming::{leads_on, next_cell};
+pub use walking::{locate, pass_rows};
 
 #[cfg(test)]
 mod tests;

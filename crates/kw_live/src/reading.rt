@@ -3,7 +3,7 @@ ghost use Rattle.std.specs.Prelude.{◌≡◌, All, false, true};
 ghost use Rattle.kw_words.specs.Plain.{IsValue};
 ghost use Rattle.kw_follow.specs.Calling.{KeepsCalls};
 ghost use Rattle.kw_follow.specs.Following.{Follows, GoesTo, held};
-ghost use Rattle.kw_live.specs.Reading.{HasRead, ReadsOn, is_at_remembered, is_listing, is_looking};
+ghost use Rattle.kw_live.specs.Reading.{HasRead, LooksOn, ReadsOn, is_at_remembered, is_listing, is_looking};
 
 use crate::listing::read_listed;
 use crate::looking::look_at_entries;
@@ -31,16 +31,31 @@ pub fn read_row(shared: &Shared, pass: &mut Pass, local: &mut Local)
     ensures cells { All (λ cell. IsValue cell.value) local.new.gathered }
     ensures calls { KeepsCalls pass.old pass.new }
 {
+    look_at_row(shared, pass, local);
+    read_list(shared, pass, local);
+}
+
+/// Looks at the entries of the row at which the call stands, as `read_row` does. The call is then about to go along the row's list. Takes no memory.
+pub fn look_at_row(shared: &Shared, pass: &mut Pass, local: &mut Local)
+    requires follows { Follows shared.now pass.old local.old }
+    requires stage { is_looking local.old.activity ≡ false → local.old.activity ≡ Activity.ListFrom }
+    ensures goes { GoesTo shared.now pass.old pass.new }
+    ensures follows { Follows shared.now pass.new local.new }
+    ensures looks { LooksOn local.old local.new }
+    ensures activity { local.new.activity ≡ Activity.ListFrom }
+    ensures calls { KeepsCalls pass.old pass.new }
+    ensures held { held pass.new ≡ held pass.old }
+{
     if local.has_read {
         // a scan's next row, which no guess was made for
         shared.warm_next(local.row);
     }
     look_at_entries(shared, pass, local);
-    read_list(shared, pass, local);
 }
 
-// The walk along the row's list, and what is left after it, to the end of the row.
-fn read_list(shared: &Shared, pass: &mut Pass, local: &mut Local)
+/// Goes along the list of a row whose entries the call has looked at, and reads what it remembers of them, to the end of the row, as `read_row` does.
+/// Takes no memory.
+pub fn read_list(shared: &Shared, pass: &mut Pass, local: &mut Local)
     requires follows { Follows shared.now pass.old local.old }
     requires activity { local.old.activity ≡ Activity.ListFrom }
     ensures goes { GoesTo shared.now pass.old pass.new }
@@ -48,6 +63,7 @@ fn read_list(shared: &Shared, pass: &mut Pass, local: &mut Local)
     ensures call { local.new.call ≡ local.old.call }
     ensures version { local.new.version ≡ local.old.version }
     ensures read { HasRead local.old local.new (held pass.old) (held pass.new) }
+    ensures cells { All (λ cell. IsValue cell.value) local.new.gathered }
     ensures calls { KeepsCalls pass.old pass.new }
 {
     read_listed(shared, pass, local);

@@ -1,5 +1,6 @@
 //! The walk along the rows to the one whose range holds a key.
-ghost use Rattle.std.specs.Prelude.{◌≡◌, true, Some};
+ghost use Rattle.std.specs.Prelude.{◌≡◌, ◌⊎◌, true, Some, List};
+ghost use Rattle.kw_cells.specs.declared.cell.Cell.{Cell};
 ghost use Rattle.kw_words.specs.Link.{link_of};
 ghost use Rattle.kw_world.specs.Transition.{row_linked};
 ghost use Rattle.kw_core.specs.Stages.{is_walking};
@@ -102,13 +103,19 @@ fn walk_on(shared: &Shared, pass: &mut Pass, local: &mut Local)
     }
 }
 
-// Goes from row to row, up to the one whose range holds the wanted key. Of the local the row and its least key are brought up alone, where the walk
-// passes a row.
+/// Goes from row to row, up to the one whose range holds the wanted key. Of the local the row and its least key are brought up alone, where the walk
+/// passes a row.
+///
+/// What a get or a scan gathered in the row before, which the walk forgets, need not stand in the local. Takes no memory.
 #[inline(always)]
-fn pass_rows(shared: &Shared, pass: &mut Pass, local: &mut Local)
-    requires follows { Follows shared.now pass.old local.old }
+pub fn pass_rows(shared: &Shared, pass: &mut Pass, local: &mut Local)
+    requires follows { (cells : List Cell)
+        × Follows shared.now pass.old (record local.old { gathered = cells }) }
+    requires forgets { (arrived local.old.call ≡ Activity.Look 0)
+        ⊎ Follows shared.now pass.old local.old }
     requires activity { local.old.activity ≡ Activity.Walk }
-    ensures { WalksFurther shared.now pass.old local.old pass.new local.new }
+    ensures walks { WalksFurther shared.now pass.old local.old pass.new local.new }
+    ensures arrived { local.new.activity ≡ arrived local.old.call }
 {
     loop {
         let link = load_row_link(shared, pass, local.row);

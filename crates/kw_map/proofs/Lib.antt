@@ -4,6 +4,9 @@ pub mod TallyLemmas
 pub mod Ordering
 pub mod WholeCalls
 pub mod RowStages
+pub mod ReadRows
 pub mod ScanEnds
 pub mod Lending
 pub mod Refusals
+pub mod HandedCells
+pub mod HandedRows

@@ -39,7 +39,7 @@ use Rattle.kw_map.proofs.TakeLemmas.{IsBelow-le, Takes-append}
 -- What the gatherer took.
 
 -- a key above the last one and above those of some pairs is above the last one of them
-last_below : (before : Option ℕ) (pairs : Pairs) (next : ℕ) → IsBelow before next → All (λ pair. pair.0 < next) pairs → IsBelow (last_key before pairs) next
+pub last_below : (before : Option ℕ) (pairs : Pairs) (next : ℕ) → IsBelow before next → All (λ pair. pair.0 < next) pairs → IsBelow (last_key before pairs) next
 last_below before [] next below all = below
 last_below before (p ∷ ps) next below all =
     let here : p.0 < next = all 0 p (omega arith) in
@@ -78,11 +78,6 @@ abbrev pub rows_ahead : Bool → ℕ → ℕ → ℕ
 rows_ahead true want upto = suc (upto - want)
 rows_ahead false want upto = 0
 
--- while a scan walks, the gatherer took no key from the wanted one on
-pub wanted_above : {S : Type 0} (last : S → Option ℕ) (into : S) (l : Local) → is_walking l.activity ≡ true → IsBetween last into l → IsBelow (last into) l.want
-wanted_above last into l walks (inl b) = b.1
-wanted_above last into l walks (inr e) = let x : false ≡ true = sym (ap is_walking e) ∙ walks in absurd (cc)
-
 -- after a row the scan is between rows again
 pub between_rows : {S : Type 0} (last : S → Option ℕ) (stands : S → Pairs → Type 0) (old new : S) (want upto version : ℕ) (m : Local) → IsBelow (last old) want → GoesOn want upto version m ⊎ (m.activity ≡ ClearScan answer.Pairs) →
     Takes last stands old (pairs_of m.gathered want upto version) new → IsBetween last new m
@@ -90,6 +85,17 @@ between_rows last stands old new want upto version m above (inl g) t =
     let earlier : want ≤ m.want = omega (arith, g.rises) in
     inl (ap is_walking g.activity, subst (λ o. IsBelow o m.want) (sym t.last_is) (last_below (last old) (pairs_of m.gathered want upto version) m.want (IsBelow-le (last old) want m.want earlier above) g.above))
 between_rows last stands old new want upto version m above (inr e) t = inr e
+
+-- after a row fewer rows are ahead
+pub fewer_rows : (low upto version : ℕ) (l m : Local) → is_walking l.activity ≡ true → l.want ≤ low → GoesOn low upto version m ⊎ (m.activity ≡ ClearScan answer.Pairs) → rows_ahead (is_walking m.activity) m.want upto < rows_ahead (is_walking l.activity) l.want upto
+fewer_rows low upto version l m walks rises (inl g) =
+    let before : rows_ahead (is_walking l.activity) l.want upto ≡ suc (upto - l.want) = ap (λ b. rows_ahead b l.want upto) walks in
+    let after : rows_ahead (is_walking m.activity) m.want upto ≡ suc (upto - m.want) = ap (λ b. rows_ahead b m.want upto) (ap is_walking g.activity) in
+    omega (arith, before, after, rises, g.rises, g.within)
+fewer_rows low upto version l m walks rises (inr e) =
+    let before : rows_ahead (is_walking l.activity) l.want upto ≡ suc (upto - l.want) = ap (λ b. rows_ahead b l.want upto) walks in
+    let after : rows_ahead (is_walking m.activity) m.want upto ≡ 0 = ap (λ b. rows_ahead b m.want upto) (ap is_walking e) in
+    omega (arith, before, after)
 
 -- Where the gatherer stopped.
 

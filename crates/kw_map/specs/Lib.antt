@@ -1,4 +1,5 @@
 pub mod Gather
+pub mod Handing
 pub mod GatherNumbers
 pub mod GatherList
 pub mod Scanning

@@ -1,8 +1,8 @@
 -- Where a scan stands between its rows, and what it took when it stopped.
-use Rattle.std.specs.Prelude.{◌≡◌, ◌⊎◌, ℕ, true, Option, List, take}
+use Rattle.std.specs.Prelude.{◌≡◌, ◌⊎◌, ◌≤◌, ◌++◌, ℕ, true, Option, List, Result, OnOk, OnErr, take}
 use mathlib.Core.List.{IsPrefix}
 use Rattle.kw_model.specs.declared.call.Call.{Call}
-use Rattle.kw_world.specs.declared.answer.Answer.TheVariants.{Pairs}
+use Rattle.kw_world.specs.declared.answer.Answer.TheVariants as answer
 use Rattle.kw_world.specs.declared.activity.Activity.TheVariants.{ClearScan}
 use Rattle.kw_world.specs.declared.event.Event.{Event}
 use Rattle.kw_world.specs.declared.local.Local.{Local}
@@ -13,11 +13,16 @@ use Rattle.kw_core.specs.Stages.{is_walking}
 use Rattle.kw_table.specs.declared.pass.Pass.{Pass}
 use Rattle.kw_table.specs.Passes.{view}
 use Rattle.kw_follow.specs.OwnEvents.{knew}
-use Rattle.kw_map.specs.Gather.{IsBelow}
+use Rattle.kw_follow.specs.Following.{held}
+use Rattle.kw_live.specs.Reading.{GoesOn}
+use Rattle.kw_model.specs.Counts.{CountRose}
+use Rattle.kw_model.specs.Map.{Pairs}
+use Rattle.kw_map.specs.Gather.{IsBelow, Takes, TakesPrefix}
+use Rattle.kw_map.specs.declared.gather.Stop.{Stop}
 
 -- the scan is on its way to the row of the key that it wants, and the gatherer took no key from there on; or it has all its pairs
 abbrev pub IsBetween : {S : Type 0} → (S → Option ℕ) → S → Local → Type 0
-IsBetween last s l = ((is_walking l.activity ≡ true) × IsBelow (last s) l.want) ⊎ (l.activity ≡ ClearScan Pairs)
+IsBetween last s l = ((is_walking l.activity ≡ true) × IsBelow (last s) l.want) ⊎ (l.activity ≡ ClearScan answer.Pairs)
 
 -- the pairs that it had then
 abbrev pub had : Pass → List Event → List (ℕ × ℕ)
@@ -33,3 +38,17 @@ pub record StoppedAt (Took : List (ℕ × ℕ) → Type 0) (p q : Pass) (call : 
   pub bound : ℕ
   pub covers : IsDrawnCover (history product (view p).opening front) (view p).number (knew p front) bound (had p front)
   pub took : (n : ℕ) × Took (take n (had p front))
+
+-- a scan read some rows, the last of them for the keys from `low` on, and has these pairs of them: the gatherer took them all, or the first of them, and
+-- stopped
+pub record ReadsRows {S : Type 0} (last : S → Option ℕ) (stands : S → Pairs → Type 0) (stops : S → ℕ) (upto : ℕ) (p : Pass) (l : Local) (old : S) (q : Pass) (m : Local) (new : S) (ended : Result Unit Stop) : Type 0 where
+  pub low : ℕ
+  pub rises : l.want ≤ low
+  pub stage : GoesOn low upto l.version m ⊎ (m.activity ≡ ClearScan answer.Pairs)
+  pub pairs : Pairs
+  pub held : held q ≡ held p ++ pairs
+  pub all : OnOk ended (Takes last stands old pairs new)
+  pub between : OnOk ended (IsBetween last new m)
+  pub prefix : OnErr ended (TakesPrefix last stands old pairs new)
+  pub stopped : OnErr ended (CountRose (stops old) (stops new))
+  pub never_falls : stops old ≤ stops new

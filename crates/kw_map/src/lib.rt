@@ -1,6 +1,7 @@
 //! The concurrent map, and what its scans hand their pairs to.
 //!
-//! `kiwi` has the map and its calls, and `scanning` the rows of a scan, one after the other: both are put together from the functions
+//! `kiwi` has the map and its calls, and `scanning` the rows of a scan, one after the other; `handing` hands on the pairs of a row while it is read,
+//! where a next row is known to follow. All are put together from the functions
 //! of `kw_live` and `kw_live_rebal`, by their contracts. `gather` has the trait of whatever takes the pairs of a scan, and the walk that
 //! hands it the pairs that some cells show; `gather_numbers` has the gatherers that keep one number, and `gather_list` the one that keeps
 //! all pairs.
@@ -37,6 +38,7 @@
 pub mod gather;
 pub mod gather_list;
 pub mod gather_numbers;
+mod handing;
 pub mod kiwi;
 mod scanning;
 

@@ -2,19 +2,18 @@
 //!
 //! A scan that has entered reads row after row, and hands on the pairs of each as soon as it has them. The functions here take it
 //! from its entry to the point where it is about to leave, with all its pairs or because the gatherer stopped.
-ghost use Rattle.std.specs.Prelude.{◌≡◌, ◌⊎◌, ◌≤◌, ◌++◌, ℕ, true, Some, [], OnOk, OnErr, MatchResult};
-ghost use Rattle.kw_cells.specs.Cells.{pairs_of};
+ghost use Rattle.std.specs.Prelude.{◌≡◌, ℕ, true, Some, [], OnOk, OnErr, MatchResult};
 ghost use Rattle.kw_core.specs.Stages.{is_walking};
 ghost use Rattle.kw_model.specs.Counts.{CountRose};
 ghost use Rattle.kw_follow.specs.Calling.{KeepsCalls};
 ghost use Rattle.kw_follow.specs.Following.{Follows, GoesTo, held};
-ghost use Rattle.kw_live.specs.Reading.{GoesOn};
-ghost use Rattle.kw_map.specs.Gather.{IsBelow, Takes, TakesPrefix};
-ghost use Rattle.kw_map.specs.Scanning.{IsBetween, StoppedAt};
+ghost use Rattle.kw_map.specs.Gather.{IsBelow, Takes};
+ghost use Rattle.kw_map.specs.Scanning.{IsBetween, ReadsRows, StoppedAt};
 
 use crate::gather::{Gather, Stop, take_pairs};
+use crate::handing::hand_rows;
 use kw_core::stage::Stage;
-use kw_live::{end_scan, locate, read_row, stop_scan};
+use kw_live::{end_scan, locate, read_list, stop_scan};
 use kw_model::call::Call;
 use kw_table::{Pass, Shared};
 use kw_world::activity::Activity;
@@ -58,7 +57,7 @@ pub(crate) fn gather_rows<G: Gather>(
     Ok(())
 }
 
-/// Reads the row of the key that a scan wants, and hands its pairs on.
+/// Reads the row of the key that a scan wants, and those behind it that can be read cell by cell, and hands their pairs on.
 ///
 /// The gatherer took no key from there on. The scan then walks on to the next row, with the least key of that row as the wanted one, or
 /// is at its end.
@@ -78,19 +77,12 @@ fn gather_row<G: Gather>(
     ensures follows { Follows shared.now pass.new local.new }
     ensures call { local.new.call ≡ local.old.call }
     ensures calls { KeepsCalls pass.old pass.new }
-    ensures held { held pass.new ≡ held pass.old
-        ++ pairs_of local.new.gathered local.old.want upto local.old.version }
-    ensures stage { GoesOn local.old.want upto local.old.version local.new
-        ⊎ (local.new.activity ≡ Activity.ClearScan Answer.Pairs) }
-    ensures all { OnOk result (Takes G.last G.stands into.old
-        (pairs_of local.new.gathered local.old.want upto local.old.version) into.new) }
-    ensures prefix { OnErr result (TakesPrefix G.last G.stands into.old
-        (pairs_of local.new.gathered local.old.want upto local.old.version) into.new) }
-    ensures stopped { OnErr result (CountRose (G.stops into.old) (G.stops into.new)) }
-    ensures never_falls { G.stops into.old ≤ G.stops into.new }
+    ensures reads { ReadsRows G.last G.stands G.stops upto pass.old local.old into.old pass.new local.new into.new result }
 {
     locate(shared, pass, local, guess);
+    let ended = hand_rows(shared, pass, local, upto, into);
     let low = local.want;
-    read_row(shared, pass, local);
+    read_list(shared, pass, local);
+    ended?;
     take_pairs(into, &local.gathered, low, upto, local.version)
 }

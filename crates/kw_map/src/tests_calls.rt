@@ -139,6 +139,37 @@ fn a_scan_stops_where_the_gatherer_stops(rt: HostRuntime) -> Result<(), Fail> {
     Ok(())
 }
 
+// 200 keys in several rows, of which 40 have a second value, 3, and one of these was deleted. Of the 171 keys of the range 131 have 1 and 39 have 3.
+#[test]
+fn a_scan_over_rows_takes_each_key_as_it_is_last(rt: HostRuntime) -> Result<(), Fail> {
+    let (kiwi, mut pass) = open_one(rt.alloc(), 64, 1)?;
+    assert_eq!(rt; put_each(&rt, &kiwi, &mut pass, 0, 200, 1), Ok(()));
+    assert_eq!(rt; put_each(&rt, &kiwi, &mut pass, 50, 90, 3), Ok(()));
+    assert_eq!(rt; kiwi.delete(&rt, &mut pass, 60), Ok(()));
+    let mut sum = SumGather::new();
+    let ended = kiwi.scan(&mut pass, 10, 180, &mut sum);
+    assert_eq!(rt; (ended, sum.total()), (Ok(()), 248));
+    let mut count = CountGather::new();
+    let ended = kiwi.scan(&mut pass, 10, 180, &mut count);
+    assert_eq!(rt; (ended, count.total()), (Ok(()), 170));
+    Ok(())
+}
+
+// A new row has at most 32 keys, so the 41st pair, which there is no room for, stands in a later row than the first one, and others come after it.
+#[test]
+fn a_scan_stops_in_a_row_that_another_follows(rt: HostRuntime) -> Result<(), Fail> {
+    let (kiwi, mut pass) = open_one(rt.alloc(), 64, 1)?;
+    assert_eq!(rt; put_each(&rt, &kiwi, &mut pass, 0, 200, 1), Ok(()));
+    let mut roomy = Roomy::new(40);
+    let ended = kiwi.scan(&mut pass, 0, 199, &mut roomy);
+    assert_eq!(rt;
+        (ended, roomy.room, roomy.last, roomy.stops),
+        (Err(ScanEnd::Stopped), 0, Some(39), 1)
+    );
+    assert_eq!(rt; kiwi.get(&mut pass, 199), Some(1));
+    Ok(())
+}
+
 // No scan begins, and no full row is replaced; the puts that its row has room for are made.
 #[test]
 fn only_what_needs_a_version_is_refused_where_they_are_spent(rt: HostRuntime) -> Result<(), Fail> {

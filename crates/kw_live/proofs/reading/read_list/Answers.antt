@@ -1,4 +1,9 @@
 use Rattle.std.proofs.Common.{◌∙◌, sym}
+use Rattle.std.proofs.lemmas.List.Elements.{All-weaker}
+use Rattle.kw_words.specs.Plain.{IsValue}
+use Rattle.kw_cells.specs.declared.cell.Cell.{Cell}
+use Rattle.kw_world.specs.Sane.{IsCopy}
+use Rattle.kw_follow.proofs.OneEvent.{follows_ranges}
 use Rattle.kw_live.proofs.AfterList.{neither_reads, remembered_reads}
 use Rattle.kw_live.proofs.ReadEvent.{reads_trans}
 use Rattle.kw_live.proofs.reading.read_list.Goals as goal
@@ -17,3 +22,6 @@ loop-pass-preserved c = record {
 
 pub returns-clause-read : goal.returns-clause-read
 returns-clause-read c = c.loop-pass.invariant.reads.ends (neither_reads _ c.loop-pass.invariant.over (sym c.is_at_remembered.ensures ∙ c.loop-pass-test.false))
+
+pub returns-clause-cells : goal.returns-clause-cells
+returns-clause-cells c = All-weaker IsCopy (λ (cell : Cell). IsValue cell.value) (λ cell copy. copy.2) c.loop-pass.local.gathered (follows_ranges _ _ _ c.loop-pass.invariant.reads.follows).copies

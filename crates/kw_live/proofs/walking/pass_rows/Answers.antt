@@ -1,26 +1,30 @@
 use Rattle.std.proofs.Common.{◌∙◌, refl, sym}
-use Rattle.kw_live.proofs.WalkStages.{begins_walking, further_trans, least_told, link_led, link_told, row_taken, walked_on, walking_on}
+use Rattle.kw_live.proofs.WalkStages.{arrives_before, arrives_last, begins_passing, passing_led, passing_on, passing_taken}
 use Rattle.kw_live.proofs.walking.pass_rows.Goals as goal
 
 pub loop-row-init : goal.loop-row-init
-loop-row-init c = begins_walking _ _ c.args.local.now c.requires.follows c.requires.activity
+loop-row-init c = begins_passing _ _ c.args.local.now c.requires.follows c.requires.forgets c.requires.activity
 
 pub load_row_link-link-requires : goal.load_row_link-link-requires
-load_row_link-link-requires c = (c.loop-row.local, c.loop-row.invariant.follows, refl)
+load_row_link-link-requires c = (record c.loop-row.local { gathered = c.loop-row.invariant.cells }, c.loop-row.invariant.on.follows, refl)
 
-pub returns-in_default : goal.returns-in_default
-returns-in_default c = walked_on c.loop-row.invariant (link_told c.loop-row.local _ _ c.meet_row_link.ensures c.loop-row.invariant.follows c.load_row_link-link.ensures)
+pub returns-in_default-clause-walks : goal.returns-in_default-clause-walks
+returns-in_default-clause-walks c = (arrives_last c.loop-row.local c.loop-row.invariant c.load_row_link-link.ensures _ _ (sym c.linked.ensures ∙ c.in_default.is) c.meet_row_link.ensures).walks
+
+pub returns-in_default-clause-arrived : goal.returns-in_default-clause-arrived
+returns-in_default-clause-arrived c = (arrives_last c.loop-row.local c.loop-row.invariant c.load_row_link-link.ensures _ _ (sym c.linked.ensures ∙ c.in_default.is) c.meet_row_link.ensures).arrived
 
 pub load_row_least-least-requires : goal.load_row_least-least-requires
-load_row_least-least-requires c = (record c.loop-row.local { candidate = c.in-Some.row }, (link_led c.loop-row.local c.in-Some.row (sym c.linked.ensures ∙ c.in-Some.is) c.loop-row.invariant.follows c.load_row_link-link.ensures).follows, refl)
+load_row_least-least-requires c = (record c.loop-row.local { gathered = c.loop-row.invariant.cells; candidate = c.in-Some.row }, (passing_led c.loop-row.local c.loop-row.invariant c.load_row_link-link.ensures c.in-Some.row (sym c.linked.ensures ∙ c.in-Some.is)).follows, refl)
 
 pub loop-row-smaller : goal.loop-row-smaller
-loop-row-smaller c = (further_trans _ _ _ _ _ _ _ (link_led c.loop-row.local c.in-Some.row (sym c.linked.ensures ∙ c.in-Some.is) c.loop-row.invariant.follows c.load_row_link-link.ensures) (row_taken (record c.loop-row.local { candidate = c.in-Some.row }) _ c.unpack_key-key.ensures.value c.if-key-local.true (link_led c.loop-row.local c.in-Some.row (sym c.linked.ensures ∙ c.in-Some.is) c.loop-row.invariant.follows c.load_row_link-link.ensures).follows c.load_row_least-least.ensures)).fewer
+loop-row-smaller c = (passing_taken c.loop-row.local c.loop-row.invariant c.in-Some.row (sym c.linked.ensures ∙ c.in-Some.is) c.load_row_link-link.ensures c.load_row_least-least.ensures _ c.unpack_key-key.ensures.value c.if-key-local.true).fewer
 
 pub loop-row-preserved : goal.loop-row-preserved
-loop-row-preserved c = walking_on c.loop-row.invariant (further_trans _ _ _ _ _ _ _ (link_led c.loop-row.local c.in-Some.row (sym c.linked.ensures ∙ c.in-Some.is) c.loop-row.invariant.follows c.load_row_link-link.ensures) (row_taken (record c.loop-row.local { candidate = c.in-Some.row }) _ c.unpack_key-key.ensures.value c.if-key-local.true (link_led c.loop-row.local c.in-Some.row (sym c.linked.ensures ∙ c.in-Some.is) c.loop-row.invariant.follows c.load_row_link-link.ensures).follows c.load_row_least-least.ensures))
+loop-row-preserved c = passing_on c.loop-row.local c.loop-row.invariant c.in-Some.row (sym c.linked.ensures ∙ c.in-Some.is) c.load_row_link-link.ensures c.load_row_least-least.ensures _ c.unpack_key-key.ensures.value c.if-key-local.true
 
-pub returns-else-key-local : goal.returns-else-key-local
-returns-else-key-local c =
-    let led = (link_led c.loop-row.local c.in-Some.row (sym c.linked.ensures ∙ c.in-Some.is) c.loop-row.invariant.follows c.load_row_link-link.ensures) in
-    walked_on c.loop-row.invariant (further_trans _ _ _ _ _ _ _ led (least_told (record c.loop-row.local { candidate = c.in-Some.row }) _ _ c.meet_row_least.ensures led.follows c.load_row_least-least.ensures))
+pub returns-else-key-local-clause-walks : goal.returns-else-key-local-clause-walks
+returns-else-key-local-clause-walks c = (arrives_before c.loop-row.local c.loop-row.invariant c.in-Some.row (sym c.linked.ensures ∙ c.in-Some.is) c.load_row_link-link.ensures c.load_row_least-least.ensures _ c.unpack_key-key.ensures.value c.if-key-local.false _ _ c.meet_row_least.ensures).walks
+
+pub returns-else-key-local-clause-arrived : goal.returns-else-key-local-clause-arrived
+returns-else-key-local-clause-arrived c = (arrives_before c.loop-row.local c.loop-row.invariant c.in-Some.row (sym c.linked.ensures ∙ c.in-Some.is) c.load_row_link-link.ensures c.load_row_least-least.ensures _ c.unpack_key-key.ensures.value c.if-key-local.false _ _ c.meet_row_least.ensures).arrived

@@ -1,11 +1,11 @@
 use Rattle.kw_world.specs.declared.activity.Activity.TheVariants.{Walk}
 use Rattle.kw_follow.specs.Within.{walking}
 use Rattle.kw_live.specs.Walking.{walks_ahead}
-use Rattle.kw_live.proofs.WalkStages.{IsWalkingOn}
+use Rattle.kw_live.proofs.WalkStages.{IsPassing}
 use Rattle.kw_live.proofs.walking.pass_rows.Given as goal
 
 abbrev pub invariant-loop-row : goal.invariant-loop-row
-invariant-loop-row l = IsWalkingOn l.shared l.initial.pass l.initial.local l.pass (walking Walk l.local)
+invariant-loop-row l = IsPassing l.shared l.initial.pass l.initial.local l.pass l.local
 
 abbrev pub decreases-loop-row : goal.decreases-loop-row
 decreases-loop-row l = walks_ahead (walking Walk l.local)

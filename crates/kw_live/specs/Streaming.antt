@@ -1,0 +1,56 @@
+-- A scan that hands on the cells of its row one by one, and of which code gathers none.
+use Rattle.std.specs.Prelude.{◌≡◌, ℕ, ◌<◌, ◌≤◌, ◌++◌, ◌∷◌, [], true, Some, List, All, length}
+use Rattle.kw_words.specs.Plain.{IsValue}
+use Rattle.kw_words.specs.declared.sizes.TheConstants.{CELLS}
+use Rattle.kw_cells.specs.Cells.{pairs_of}
+use Rattle.kw_cells.specs.InOrder.{AreInOrder, stands_before}
+use Rattle.kw_cells.specs.declared.cell.Cell.{Cell}
+use Rattle.kw_world.specs.declared.activity.Activity.TheVariants.{ListFrom}
+use Rattle.kw_world.specs.declared.local.Local.{Local}
+use Rattle.kw_table.specs.declared.pass.Pass.{Pass}
+use Rattle.kw_table.specs.declared.shared.Shared.{Shared}
+use Rattle.kw_follow.specs.Calling.{KeepsCalls}
+use Rattle.kw_follow.specs.Cursors.{with_cursor}
+use Rattle.kw_follow.specs.Following.{Follows, GoesTo, held}
+use Rattle.kw_follow.specs.declared.cursor.Cursor.{Cursor}
+use Rattle.kw_live.specs.Reading.{GoesOn}
+
+-- the local of a scan whose cursor is here and that has gathered these cells, of which code holds none
+abbrev pub streaming : Cursor → List Cell → Local → Local
+streaming w cells l = with_cursor ListFrom w (record l { gathered = cells })
+
+-- nothing is remembered of the row's entries, and another row comes after it, which begins in the range up to this key
+pub record LeadsOn (upto : ℕ) (l : Local) : Type 0 where
+  pub unmarked : l.remembered ≡ []
+  pub next : ℕ
+  pub after : l.next ≡ Some next
+  pub within : l.upper ≤ upto
+
+-- the scan has come so far in the list, and has gathered these cells
+pub record Streams (s : Shared) (p : Pass) (l : Local) (w : Cursor) (cells : List Cell) : Type 0 where
+  pub follows : Follows s p (streaming w cells l)
+  pub in_order : AreInOrder cells
+  -- no more than it has met, which are no more than there are
+  pub few : length cells ≤ w.walked
+  pub within : w.walked ≤ CELLS
+
+-- it went on to this cell, which stands behind all of these, and its cursor is now there
+pub record ReadsCell (s : Shared) (p : Pass) (l : Local) (last : ℕ) (w : Cursor) (cells : List Cell) (q : Pass) (c : Cell) (x : Cursor) : Type 0 where
+  pub goes : GoesTo s p q
+  pub calls : KeepsCalls p q
+  pub held : held q ≡ held p
+  pub streams : Streams s q l x (cells ++ c ∷ [])
+  pub behind : All (λ d. stands_before d c ≡ true) cells
+  pub upto : c.key ≤ last
+  pub value : IsValue c.value
+  pub further : w.walked < x.walked
+
+-- it has read the row: it has the pairs that these cells show beside those that it had, and goes on with the next row
+pub record EndsRow (s : Shared) (p : Pass) (l : Local) (upto : ℕ) (cells : List Cell) (q : Pass) (m : Local) : Type 0 where
+  pub goes : GoesTo s p q
+  pub calls : KeepsCalls p q
+  pub follows : Follows s q (record m { gathered = cells })
+  pub call : m.call ≡ l.call
+  pub version : m.version ≡ l.version
+  pub held : held q ≡ held p ++ pairs_of cells l.want upto l.version
+  pub goes_on : GoesOn l.want upto l.version (record m { gathered = cells })

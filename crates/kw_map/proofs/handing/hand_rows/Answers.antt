@@ -1,0 +1,55 @@
+use Rattle.std.proofs.Common.{◌≡◌, false, true, refl, sym, ap, ◌∙◌, subst, arith}
+use Rattle.kw_follow.proofs.OwnEvents.{goes_trans}
+use Rattle.kw_table.proofs.Prefixes.{prefix_self}
+use Rattle.kw_live.specs.Reading.{is_looking}
+use Rattle.kw_map.specs.Gather.{IsBelow}
+use Rattle.kw_map.proofs.ReadRows.{hands_behind, hands_nothing, hands_still, unless_err}
+use Rattle.kw_map.proofs.handing.hand_rows.Goals as goal
+
+pub loop-local-init : goal.loop-local-init
+loop-local-init g c = record {
+  goes = record { of_table = c.requires.follows.of_table; number = refl; opening = refl; seen = prefix_self _ };
+  follows = c.requires.follows;
+  stage = c.requires.stage;
+  hands = hands_nothing _ c.args.pass.now c.args.local.now c.args.into.now c.requires.above;
+}
+
+pub look_at_row-requires-clause-follows : goal.look_at_row-requires-clause-follows
+look_at_row-requires-clause-follows g c = c.loop-local.invariant.follows
+
+pub look_at_row-requires-clause-stage : goal.look_at_row-requires-clause-stage
+look_at_row-requires-clause-stage g c = λ not.
+    let x : true ≡ false = sym (ap is_looking c.loop-local.invariant.stage) ∙ not in
+    absurd (cc)
+
+pub returns-then-is_err-clause-goes : goal.returns-then-is_err-clause-goes
+returns-then-is_err-clause-goes g c = goes_trans _ _ _ _ c.loop-local.invariant.goes c.look_at_row.ensures.goes
+
+pub returns-then-is_err-clause-hands : goal.returns-then-is_err-clause-hands
+returns-then-is_err-clause-hands g c =
+    let i = c.loop-local.invariant in
+    let r = c.look_at_row.ensures in
+    hands_still _ _ _ _ _ _ _ _ _ _ i.hands r.calls r.held r.looks
+
+pub hand_row-ended-requires-clause-scan : goal.hand_row-ended-requires-clause-scan
+hand_row-ended-requires-clause-scan g c = (c.requires.scan.0, c.look_at_row.ensures.looks.call ∙ c.loop-local.invariant.hands.call ∙ c.requires.scan.1)
+
+pub hand_row-ended-requires-clause-above : goal.hand_row-ended-requires-clause-above
+hand_row-ended-requires-clause-above g c =
+    subst (IsBelow (g.G.Gather.last c.loop-local.into)) (sym c.look_at_row.ensures.looks.want)
+    (unless_err c.loop-local.ended (sym c.is_err.ensures.value ∙ c.if-is_err.false) c.loop-local.invariant.hands.below)
+
+pub loop-local-smaller : goal.loop-local-smaller
+loop-local-smaller g c = omega (arith, c.look_at_row.ensures.looks.want, c.hand_row-ended.ensures.rises, c.hand_row-ended.ensures.within)
+
+pub loop-local-preserved : goal.loop-local-preserved
+loop-local-preserved g c =
+    let i = c.loop-local.invariant in
+    let r = c.look_at_row.ensures in
+    let h = c.hand_row-ended.ensures in
+    record {
+      goes = goes_trans _ _ _ _ i.goes (goes_trans _ _ _ _ r.goes h.goes);
+      follows = h.follows;
+      stage = h.activity;
+      hands = hands_behind _ _ _ _ _ _ _ _ _ _ _ _ (sym c.is_err.ensures.value ∙ c.if-is_err.false) (hands_still _ _ _ _ _ _ _ _ _ _ i.hands r.calls r.held r.looks) h.hands;
+    }
