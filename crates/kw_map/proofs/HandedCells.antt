@@ -4,7 +4,7 @@ use Rattle.std.proofs.lemmas.Bool.{cases_lt}
 use Rattle.std.proofs.lemmas.Bool.Decides.{nat_tests}
 use Rattle.kw_cells.specs.declared.cell.Cell.{Cell}
 use Rattle.kw_cells.specs.Cells.{is_later, fits, best_of, value_in, shown_at, pairs_of}
-use Rattle.kw_cells.specs.InOrder.{stands_before, AreInOrder, with_cell}
+use Rattle.kw_cells.specs.InOrder.{stands_before}
 use Rattle.kw_cells.specs.Pairs.{Pairs, with_shown, pairs_along, pairs_between}
 use Rattle.kw_cells.proofs.Best.{pick, offered, best_of-cons, best_of-append, best_is}
 use Rattle.kw_cells.proofs.Ranges.{pairs_between-none}
@@ -19,11 +19,6 @@ settled_begins from upto version = record { begun = omega arith; rest = λ key l
 pub none_shown : (from upto version : ℕ) → pairs_of [] from upto version ≡ []
 unfolding best_of
 none_shown from upto version = pairs_between-none (shown_at [] version) from upto (λ key l h. refl)
-
--- a cell behind all the others is put at the end
-pub with_cell_behind : (c : Cell) (cells : List Cell) → All (λ d. stands_before d c ≡ true) cells → with_cell c cells ≡ cells ++ c ∷ []
-with_cell_behind c [] a = refl
-with_cell_behind c (d ∷ cells) a = rw (a 0 d (omega arith)) (ap (λ xs. d ∷ xs) (with_cell_behind c cells (λ k x u. a (suc k) x (omega arith))))
 
 -- The best cell of a key, with one cell more at the end.
 
@@ -89,8 +84,8 @@ unchanged c cells from version low a s n key l = which (fits key version c) refl
         best_stays c cells key version b a at_key ∙ sym at_key
 
 -- a cell more leaves all settled up to the next key
-pub settled_on : (c : Cell) (cells : List Cell) (from version low : ℕ) → AreInOrder cells → All (λ d. stands_before d c ≡ true) cells → IsSettled cells from version low → IsSettled (cells ++ c ∷ []) from version (next_low low version c)
-settled_on c cells from version low o a s = which (nat_le low c.key && nat_le c.version version) refl
+pub settled_on : (c : Cell) (cells : List Cell) (from version low : ℕ) → All (λ d. stands_before d c ≡ true) cells → IsSettled cells from version low → IsSettled (cells ++ c ∷ []) from version (next_low low version c)
+settled_on c cells from version low a s = which (nat_le low c.key && nat_le c.version version) refl
   where
     begun : from ≤ low
     begun = s.begun
@@ -146,9 +141,9 @@ one_more_along shown before last low (suc n) l h same none = which (cases_lt low
         rw (none_along before low (suc n) (λ key v. none key (omega arith)), none_along shown (suc low) n nothing, e) (here (shown last))
 
 -- a cell more adds its pair at the end, if it is one that shows
-pub pairs_on : (c : Cell) (cells : List Cell) (from upto version low : ℕ) → AreInOrder cells → All (λ d. stands_before d c ≡ true) cells → c.key ≤ upto → IsSettled cells from version low → pairs_of (cells ++ c ∷ []) from upto version ≡ pairs_of cells from upto version ++ more_of low version c
+pub pairs_on : (c : Cell) (cells : List Cell) (from upto version low : ℕ) → All (λ d. stands_before d c ≡ true) cells → c.key ≤ upto → IsSettled cells from version low → pairs_of (cells ++ c ∷ []) from upto version ≡ pairs_of cells from upto version ++ more_of low version c
 unfolding pairs_between
-pairs_on c cells from upto version low o a h s = which (nat_le low c.key && nat_le c.version version) refl
+pairs_on c cells from upto version low a h s = which (nat_le low c.key && nat_le c.version version) refl
   where
     begun : from ≤ low
     begun = s.begun

@@ -155,7 +155,7 @@ module _ {S : Type 0} (g : GathererWords S) {s : Shared} {o p q : Pass} {l k n :
       → IsHandingOn g s o l upto old q n x next result new
   handed_on new c x next version result (stays, read) drawn lower all kept ends stopped still never =
       let at : next ≡ next_low low l.version c = lower ∙ ap (λ v. next_low low v c) drawn in
-      let longer : pairs_of (i.cells ++ c ∷ []) l.want upto l.version ≡ pairs_of i.cells l.want upto l.version ++ more_of low l.version c = pairs_on c i.cells l.want upto l.version low i.streams.in_order read.behind read.upto i.settled in
+      let longer : pairs_of (i.cells ++ c ∷ []) l.want upto l.version ≡ pairs_of i.cells l.want upto l.version ++ more_of low l.version c = pairs_on c i.cells l.want upto l.version low read.behind read.upto i.settled in
       record {
         cells = i.cells ++ c ∷ [];
         same = stays ∙ i.same;
@@ -163,7 +163,7 @@ module _ {S : Type 0} (g : GathererWords S) {s : Shared} {o p q : Pass} {l k n :
         calls = read.calls ∙ i.calls;
         held = read.held ∙ i.held;
         streams = subst (λ (m : Local). Streams s q m x (i.cells ++ c ∷ [])) (sym stays) read.streams;
-        settled = subst (λ m. IsSettled (i.cells ++ c ∷ []) l.want l.version m) (sym at) (settled_on c i.cells l.want l.version low i.streams.in_order read.behind i.settled);
+        settled = subst (λ m. IsSettled (i.cells ++ c ∷ []) l.want l.version m) (sym at) (settled_on c i.cells l.want l.version low read.behind i.settled);
         took = subst (λ m. HasTaken g old (pairs_of (i.cells ++ c ∷ []) l.want upto l.version) m result new) (sym at)
             (subst (λ (ps : Pairs). HasTaken g old ps (next_low low l.version c) result new) (sym longer)
             (taken_on g old mid new (pairs_of i.cells l.want upto l.version) low l.version c ended result i.took (subst (λ v. OnOk result (Takes g.last g.stands mid (more_of low v c) new)) drawn all) kept ends stopped still never));
