@@ -12,5 +12,3 @@ pub mod history;
 pub mod seat_log;
 pub mod stage;
 pub mod step;
-#[cfg(test)]
-mod tests;

@@ -28,10 +28,3 @@ pub use putting::{TryPut, try_put};
 pub use reading::{look_at_row, read_list, read_row};
 pub use streaming::{leads_on, next_cell};
 pub use walking::{locate, pass_rows};
-
-#[cfg(test)]
-mod tests;
-#[cfg(test)]
-mod tests_get;
-#[cfg(test)]
-mod tests_guess;

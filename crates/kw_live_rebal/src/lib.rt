@@ -10,6 +10,3 @@ mod rebalancing;
 mod stretches;
 
 pub use rebalancing::{Rebalanced, rebalance};
-
-#[cfg(test)]
-mod tests;

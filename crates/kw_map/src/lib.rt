@@ -47,12 +47,3 @@ pub use crate::gather_list::ListGather;
 pub use crate::gather_numbers::{CountGather, GreatestGather, LeastGather, SumGather};
 pub use crate::kiwi::{Kiwi, PutEnd, ScanEnd};
 pub use kw_table::Pass;
-
-#[cfg(test)]
-mod tests;
-#[cfg(test)]
-mod tests_calls;
-#[cfg(test)]
-mod tests_index;
-#[cfg(test)]
-mod tests_threads;

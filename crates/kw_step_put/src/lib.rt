@@ -16,5 +16,3 @@ pub mod resume_insert;
 pub mod resume_put;
 pub mod resume_scan;
 pub mod step;
-#[cfg(test)]
-mod tests;

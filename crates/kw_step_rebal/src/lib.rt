@@ -22,5 +22,3 @@ mod resume_seek;
 pub mod resume_take;
 pub mod resume_write;
 pub mod step;
-#[cfg(test)]
-mod tests;

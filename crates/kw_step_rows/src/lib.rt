@@ -9,5 +9,3 @@
 pub mod operation;
 pub mod resume;
 pub mod step;
-#[cfg(test)]
-mod tests;

@@ -16,5 +16,3 @@ pub mod plain;
 pub mod scan;
 pub mod sizes;
 pub mod state;
-#[cfg(test)]
-mod tests;

@@ -26,6 +26,4 @@ pub mod operation;
 pub mod part;
 pub mod rebalance;
 pub mod rebuilt;
-#[cfg(test)]
-mod tests;
 pub mod world;

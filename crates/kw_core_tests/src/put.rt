@@ -1,0 +1,100 @@
+//! One event of each sort on a call's own row: a call begins, an idle seat is skipped, and a scan ends with the pairs of a row.
+ghost use Rattle.std.specs.Prelude.{◌≡◌, ◌<◌, length, IfOk, Some};
+ghost use Rattle.kw_model.specs.declared.call.Call.{Call};
+ghost use Rattle.kw_world.specs.Local.{resting};
+ghost use Rattle.kw_world.specs.Sizes.{product};
+ghost use Rattle.kw_world.specs.Sane.{IsSane, IsOfPart, IsCall, CanStep, IsLocal, HasRoom};
+ghost use Rattle.kw_world.specs.declared.event.Choice.{Choice};
+ghost use Rattle.kw_world.specs.declared.part.Part.{Part};
+
+use kw_model::call::Call;
+use kw_model::memory::Memory;
+use kw_step_put::resume::put_resume;
+use kw_step_put::step::put_step;
+use kw_words::plain::pack_value;
+use kw_world::activity::Activity;
+use kw_world::answer::Answer;
+use kw_world::event::{Choice, Event, StepDone};
+use kw_world::local::Local;
+use kw_world::world::World;
+use std::alloc::Global;
+use std::test::Fail;
+
+// Three rows and two seats, all of them idle; the epoch is 9.
+fn idle(alloc: Global) -> Result<World, Memory>
+    ensures sane { IfOk result (λ world. IsSane product world) }
+    ensures seat { IfOk result (λ world. 1 < length world.locals) }
+    ensures begin { IfOk result (λ world. (call : Call) → IsCall (Some call) →
+        CanStep world (record { seat = 1; choice = Choice.Begin call })) }
+    ensures go { IfOk result (λ world. CanStep world (record { seat = 1; choice = Choice.Go })) }
+    ensures part { IfOk result (λ world. (choice : Choice) →
+        IsOfPart Part.Put world (record { seat = 1; choice = choice })) }
+{
+    World::open(alloc, 3, 2, 7, 9)
+}
+
+// A scan of the keys 2 to 9 at version 5 has one cell left of its row, which it remembers: of key 4 and version 3, whose value it is to load.
+fn at_a_value(alloc: Global) -> Local
+    ensures ranges { IsLocal product result }
+    ensures room { HasRoom product result }
+    ensures at { result.activity ≡ Activity.RestVal }
+{
+    let mut local = Local::idle(alloc);
+    local.activity = Activity::RestVal;
+    local.call = Some(Call::Scan(2, 9));
+    local.want = 2;
+    local.version = 5;
+    local.place_version = 3;
+    local.place_key = 4;
+    local
+}
+
+// Seat 1 makes an event on its row, with this choice.
+fn act(world: &mut World, choice: Choice) -> Result<StepDone, Memory>
+    requires sane { IsSane product world.old }
+    requires seat { 1 < length world.old.locals }
+    requires begin { CanStep world.old (record { seat = 1; choice = choice }) }
+    requires part { IsOfPart Part.Put world.old (record { seat = 1; choice = choice }) }
+    ensures { IfOk result (λ _. 1 < length world.new.locals) }
+{
+    let done = put_step(world, Event { seat: 1, choice })?;
+    Ok(done)
+}
+
+#[test]
+fn an_idle_seat_begins_a_put(rt: HostRuntime) -> Result<(), Fail> {
+    let mut world = idle(rt.alloc())?;
+    let call = Call::Put(5, 10);
+    let done = act(&mut world, Choice::Begin(call))?;
+    let seat = world.local(1);
+    assert_eq!(rt;
+        (done, seat.activity, world.local(0).activity),
+        (StepDone::Moved, Activity::Enter, Activity::Idle)
+    );
+    assert_eq!(rt; (seat.call, seat.number, seat.epoch), (Some(call), 1, 9));
+    Ok(())
+}
+
+#[test]
+fn an_idle_seat_that_begins_nothing_is_skipped(rt: HostRuntime) -> Result<(), Fail> {
+    let mut world = idle(rt.alloc())?;
+    let done = act(&mut world, Choice::Go)?;
+    let seat = world.local(1);
+    assert_eq!(rt;
+        (done, seat.activity, seat.number),
+        (StepDone::Skipped, Activity::Idle, 0)
+    );
+    Ok(())
+}
+
+#[test]
+fn a_scan_has_the_pairs_of_a_row_at_its_last_cell(rt: HostRuntime) -> Result<(), Fail> {
+    let mut local = at_a_value(rt.alloc());
+    let done = put_resume(&mut local, Choice::Go, pack_value(Some(42)))?;
+    assert_eq!(rt;
+        (done, local.activity),
+        (StepDone::Moved, Activity::ClearScan(Answer::Pairs))
+    );
+    assert_eq!(rt; local.pairs.pairs(), [(4, 42)].as_slice());
+    Ok(())
+}

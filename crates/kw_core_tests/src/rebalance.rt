@@ -1,0 +1,399 @@
+//! One event of each topic of a rebalance: what a seat knows after it, or what it stores.
+ghost use Rattle.std.specs.Prelude.{◌≡◌, ◌<◌, ◌≤◌, length, IfOk, None};
+ghost use Rattle.kw_world.specs.Sane.{HasRoom, IsActivity, IsLocal, IsOfPart, IsSane, IsTakingRows};
+ghost use Rattle.kw_world.specs.Parts.{part_of};
+ghost use Rattle.kw_world.specs.Sizes.{product};
+ghost use Rattle.kw_world.specs.declared.activity.Activity.{Activity};
+ghost use Rattle.kw_world.specs.declared.event.Choice.{Choice};
+ghost use Rattle.kw_world.specs.declared.part.Part.{Part};
+
+use kw_cells::cell::Cell;
+use kw_cells::keep::Kept;
+use kw_cells::pack::RowCuts;
+use kw_model::memory::Memory;
+use kw_step_rebal::operation::rebalance_operation;
+use kw_step_rebal::resume::rebalance_resume;
+use kw_step_rebal::step::rebalance_step;
+use kw_words::kind::Kind;
+use kw_words::layout::Name;
+use kw_world::activity::Activity;
+use kw_world::event::{Choice, Event, StepDone};
+use kw_world::local::Local;
+use kw_world::marks::Mark;
+use kw_world::operation::{Action, Operation};
+use kw_world::rebalance::Afterwards;
+use kw_world::rebuilt::{KeptCells, Starts};
+use kw_world::world::World;
+use std::alloc::Global;
+use std::test::Fail;
+
+// Three rows and two seats; seat 1 is about to begin a rebalance, and the clock is 7.
+fn before_a_rebalance(alloc: Global) -> Result<World, Memory>
+    ensures sane { IfOk result (λ world. IsSane product world) }
+    ensures seat { IfOk result (λ world. 1 < length world.locals) }
+    ensures part { IfOk result (λ world. (choice : Choice) →
+        IsOfPart Part.Rebalance world (record { seat = 1; choice = choice })) }
+{
+    let mut world = World::open(alloc, 3, 2, 7, 9)?;
+    world.local_mut(1).activity = Activity::BalClock;
+    Ok(world)
+}
+
+// Seat 1 makes an event of its rebalance.
+fn go_on(world: &mut World) -> Result<StepDone, Memory>
+    requires sane { IsSane product world.old }
+    requires seat { 1 < length world.old.locals }
+    requires part { IsOfPart Part.Rebalance world.old (record { seat = 1; choice = Choice.Go }) }
+    ensures { IfOk result (λ _. 1 < length world.new.locals) }
+{
+    let choice = Choice::Go;
+    let done = rebalance_step(world, Event { seat: 1, choice })?;
+    Ok(done)
+}
+
+#[test]
+fn a_rebalance_begins_with_the_clock(rt: HostRuntime) -> Result<(), Fail> {
+    let mut world = before_a_rebalance(rt.alloc())?;
+    let done = go_on(&mut world)?;
+    assert_eq!(rt;
+        (done, world.local(1).activity, world.local(0).activity),
+        (StepDone::Moved, Activity::BalEpoch, Activity::Idle)
+    );
+    Ok(())
+}
+
+// What a seat knows once its event has told it this word, in a table of three rows.
+fn told(before: Local, word: u64) -> Local
+    requires ranges { IsLocal product before }
+    requires room { HasRoom product before }
+    requires part { part_of Choice.Go before ≡ Part.Rebalance }
+{
+    let mut local = before;
+    rebalance_resume(&mut local, 3, Choice::Go, word);
+    local
+}
+
+// A seat looks at the state of row 2, the full one, whose least key is 40.
+fn at_a_state(alloc: Global) -> Local
+    ensures ranges { IsLocal product result }
+    ensures room { HasRoom product result }
+    ensures at { result.activity ≡ Activity.BalState }
+{
+    let mut local = Local::idle(alloc);
+    local.activity = Activity::BalState;
+    local.row = 2;
+    local.lower = 40;
+    local
+}
+
+// a leader of one row has the word 3 + 8, and one of two rows 3 + 16
+#[test]
+fn a_leader_of_one_row_is_helped(rt: HostRuntime) {
+    let helping = told(at_a_state(rt.alloc()), 11);
+    assert_eq!(rt; helping.activity, Activity::MarkLink(1));
+    let anew = told(at_a_state(rt.alloc()), 19);
+    assert_eq!(rt;
+        (anew.activity, anew.row, anew.lower),
+        (Activity::Again, 0, 0)
+    );
+}
+
+// A seat looks at the entry of seat 3 in row 2.
+fn at_an_entry(alloc: Global) -> Local
+    ensures ranges { IsLocal product result }
+    ensures room { HasRoom product result }
+    ensures at { result.activity ≡ Activity.FreezeLook 3 }
+{
+    let mut local = Local::idle(alloc);
+    local.activity = Activity::FreezeLook(3);
+    local.row = 2;
+    local
+}
+
+// the cell 5 stamped with the version 3 has the word 2 + 4 * 5 + 2^15 * 3
+#[test]
+fn a_stamped_cell_is_remembered(rt: HostRuntime) {
+    let local = told(at_an_entry(rt.alloc()), 98_326);
+    assert_eq!(rt; local.activity, Activity::FreezeLook(4));
+    let mark = Mark {
+        cell: 5,
+        version: 3,
+    };
+    assert_eq!(rt; local.rebalance.marks.as_slice(), [mark].as_slice());
+}
+
+// A seat has tried to give the version 6 to the scan of the last seat, which waited with the clock 4.
+fn at_a_scan(alloc: Global) -> Local
+    ensures ranges { IsLocal product result }
+    ensures room { HasRoom product result }
+    ensures at { result.activity ≡ Activity.HelpSettle 7 }
+{
+    let mut local = Local::idle(alloc);
+    local.activity = Activity::HelpSettle(7);
+    local.rebalance.waiting = 4;
+    local.rebalance.drawn = 6;
+    local
+}
+
+// a scan that waits with the clock 4 has the word 1 + 4 * 4
+#[test]
+fn the_version_of_a_helped_scan_is_needed(rt: HostRuntime) {
+    let local = told(at_a_scan(rt.alloc()), 17);
+    assert_eq!(rt; local.activity, Activity::TakeFrom);
+    assert_eq!(rt; local.rebalance.needed.as_slice(), [6].as_slice());
+}
+
+// A seat is about to read the value of the last cell of the full row, of key 45 and version 3, at the place 9.
+fn at_the_last_cell(alloc: Global) -> Local
+    ensures ranges { IsLocal product result }
+    ensures room { HasRoom product result }
+    ensures at { result.activity ≡ Activity.TakeRestValue }
+{
+    let mut local = Local::idle(alloc);
+    local.activity = Activity::TakeRestValue;
+    local.place = 9;
+    local.place_key = 45;
+    local.place_version = 3;
+    local
+}
+
+// the value 8 has the word 2^63 + 8
+#[test]
+fn the_last_cell_is_kept_in_one_new_row(rt: HostRuntime) {
+    let local = told(at_the_last_cell(rt.alloc()), 9_223_372_036_854_775_816);
+    assert_eq!(rt;
+        (
+            local.activity,
+            local.rebalance.sought,
+            local.rebalance.asked
+        ),
+        (Activity::SeekFirst, 0, 1)
+    );
+    let kept = Cell {
+        key: 45,
+        place: 9,
+        version: 3,
+        value: Some(8),
+    };
+    assert_eq!(rt; local.rebalance.kept.as_slice(), [kept].as_slice());
+    assert_eq!(rt; local.rebalance.starts.as_slice(), [0].as_slice());
+}
+
+// A seat needs one row, has asked two, of which row 1 was the last, knows the number 6, and does this next.
+fn asking(alloc: Global, activity: Activity) -> Local
+    requires activity { IsActivity product activity }
+    ensures ranges { IsLocal product result }
+    ensures room { HasRoom product result }
+    ensures at { result.activity ≡ activity }
+{
+    let mut starts = RowCuts::new();
+    starts.push(0);
+    let mut local = Local::idle(alloc);
+    local.activity = activity;
+    local.rebalance.starts = Starts::of(starts);
+    local.rebalance.sought = 1;
+    local.rebalance.asked = 2;
+    local.rebalance.number = 6;
+    local
+}
+
+// a free row has the word 0, and a normal one the word 2
+#[test]
+fn a_row_is_taken_where_it_was_free(rt: HostRuntime) {
+    let taking = told(asking(rt.alloc(), Activity::TakeRow), 0);
+    assert_eq!(rt; taking.activity, Activity::WriteCount);
+    assert_eq!(rt; taking.rebalance.taken.as_slice(), [1].as_slice());
+    let lost = told(asking(rt.alloc(), Activity::TakeRow), 2);
+    assert_eq!(rt;
+        (lost.activity, lost.rebalance.sought, lost.rebalance.asked),
+        (Activity::Seek, 2, 3)
+    );
+}
+
+// a row that was retired with the number 9 has the word 5 + 8 * 9
+#[test]
+fn the_number_of_a_retired_row_is_remembered(rt: HostRuntime) {
+    let local = told(asking(rt.alloc(), Activity::Seek), 77);
+    assert_eq!(rt;
+        (
+            local.activity,
+            local.rebalance.sought,
+            local.rebalance.number
+        ),
+        (Activity::SeekPass(0), 1, 9)
+    );
+}
+
+// a seat that announces no epoch has the word 0 for its pass, and any other one its epoch
+#[test]
+fn the_pass_of_each_seat_is_looked_at(rt: HostRuntime) {
+    let looking = asking(rt.alloc(), Activity::SeekPass(2));
+    let load = Operation {
+        kind: Kind::LoadPass,
+        name: Name::Pass(2),
+        action: Action::Load,
+    };
+    assert_eq!(rt; rebalance_operation(1, &looking, Choice::Go), load);
+    let quiet = told(looking, 0);
+    let later = told(asking(rt.alloc(), Activity::SeekPass(2)), 7);
+    let last = told(asking(rt.alloc(), Activity::SeekPass(7)), 7);
+    assert_eq!(rt;
+        [quiet.activity, later.activity, last.activity],
+        [
+            Activity::SeekPass(3),
+            Activity::SeekPass(3),
+            Activity::Reclaim
+        ]
+    );
+}
+
+#[test]
+fn a_pass_up_to_the_number_keeps_the_row_from_use(rt: HostRuntime) {
+    let kept = told(asking(rt.alloc(), Activity::SeekPass(2)), 6);
+    assert_eq!(rt;
+        (kept.activity, kept.rebalance.sought, kept.rebalance.asked),
+        (Activity::Seek, 2, 3)
+    );
+    let by_the_last = told(asking(rt.alloc(), Activity::SeekPass(7)), 5);
+    assert_eq!(rt; by_the_last.activity, Activity::Seek);
+}
+
+// a row that was retired with the number 6 has the word 5 + 8 * 6, a free one the word 0, and a normal one the word 2
+#[test]
+fn a_row_that_is_freed_is_tried(rt: HostRuntime) {
+    let freeing = asking(rt.alloc(), Activity::Reclaim);
+    let reclaim = Operation {
+        kind: Kind::Reclaim,
+        name: Name::State(1),
+        action: Action::Exchange(53, 0),
+    };
+    assert_eq!(rt; rebalance_operation(1, &freeing, Choice::Go), reclaim);
+    let freed = told(freeing, 53);
+    let lost = told(asking(rt.alloc(), Activity::Reclaim), 2);
+    assert_eq!(rt;
+        [
+            (freed.activity, freed.rebalance.sought),
+            (lost.activity, lost.rebalance.sought)
+        ],
+        [(Activity::TakeRow, 1), (Activity::TakeRow, 1)]
+    );
+}
+
+// A cell without a value.
+fn tombstone(key: u32, version: u64) -> Cell
+    ensures { result ≡ record { key = key; place = 0; version = version; value = None } }
+{
+    Cell {
+        key,
+        place: 0,
+        version,
+        value: None,
+    }
+}
+
+// A seat has two new rows, 3 and 5, of three kept cells and of one, and does this next, with the first or the second at hand. The full
+// row is row 2, whose least key is 40, and after it stands row 7.
+fn with_new_rows(alloc: Global, activity: Activity, at: usize) -> Local
+    requires activity { IsActivity product activity }
+    requires done { IsTakingRows activity → ⊥ }
+    requires at { at ≤ 2 }
+    ensures ranges { IsLocal product result }
+    ensures room { HasRoom product result }
+    ensures at { result.activity ≡ activity }
+{
+    let mut kept = Kept::new();
+    kept.push(tombstone(45, 1));
+    kept.push(tombstone(45, 3));
+    kept.push(tombstone(47, 2));
+    kept.push(tombstone(48, 2));
+    let mut starts = RowCuts::new();
+    starts.push(0);
+    starts.push(3);
+    let mut local = Local::idle(alloc);
+    local.activity = activity;
+    local.row = 2;
+    local.lower = 40;
+    local.rebalance.after = Some(7);
+    local.rebalance.kept = KeptCells::of(kept);
+    local.rebalance.starts = Starts::of(starts);
+    local.rebalance.taken.push(3);
+    local.rebalance.taken.push(5);
+    local.rebalance.at = at;
+    local
+}
+
+// What a seat stores by its event.
+fn stored(local: Local) -> Option<(Name, u64)>
+    requires ranges { IsLocal product local }
+    requires part { part_of Choice.Go local ≡ Part.Rebalance }
+{
+    match rebalance_operation(1, &local, Choice::Go) {
+        Operation {
+            name,
+            action: Action::Store(word),
+            ..
+        } => Some((name, word)),
+        _ => None,
+    }
+}
+
+// the list of the first row is 45 at 3, 45 at 1, 47 at 2: the places 1, 0, 2, whose links have the words 2, 1, 3
+#[test]
+fn a_new_row_is_listed_by_falling_version(rt: HostRuntime) {
+    let links = [
+        stored(with_new_rows(rt.alloc(), Activity::WriteFirst, 0)),
+        stored(with_new_rows(rt.alloc(), Activity::WriteAfter(1), 0)),
+        stored(with_new_rows(rt.alloc(), Activity::WriteAfter(0), 0)),
+        stored(with_new_rows(rt.alloc(), Activity::WriteAfter(2), 0)),
+    ];
+    let wanted = [
+        Some((Name::First(3), 2)),
+        Some((Name::After(3, 1), 1)),
+        Some((Name::After(3, 0), 3)),
+        Some((Name::After(3, 2), 0)),
+    ];
+    assert_eq!(rt; links, wanted);
+}
+
+// the link to row 5 has the word 6, and that to row 7 the word 8
+#[test]
+fn new_rows_are_linked_before_the_row_after_the_full_one(rt: HostRuntime) {
+    let words = [
+        stored(with_new_rows(rt.alloc(), Activity::WriteCount, 0)),
+        stored(with_new_rows(rt.alloc(), Activity::WriteMin, 0)),
+        stored(with_new_rows(rt.alloc(), Activity::WriteNext, 0)),
+        stored(with_new_rows(rt.alloc(), Activity::WriteNext, 1)),
+        stored(with_new_rows(rt.alloc(), Activity::WriteMin, 1)),
+    ];
+    let wanted = [
+        Some((Name::Count(3), 3)),
+        Some((Name::Min(3), 40)),
+        Some((Name::Next(3), 6)),
+        Some((Name::Next(5), 8)),
+        Some((Name::Min(5), 48)),
+    ];
+    assert_eq!(rt; words, wanted);
+}
+
+// an unmarked link to the full row has the word 3, and a marked one 2^32 more
+#[test]
+fn new_rows_are_made_normal_once_they_are_linked(rt: HostRuntime) {
+    let mut linked = with_new_rows(rt.alloc(), Activity::Replace, 0);
+    let replace = Operation {
+        kind: Kind::Replace,
+        name: Name::Head,
+        action: Action::Exchange(3, 4),
+    };
+    assert_eq!(rt; rebalance_operation(1, &linked, Choice::Go), replace);
+    rebalance_resume(&mut linked, 9, Choice::Go, 3);
+    assert_eq!(rt;
+        (linked.activity, linked.rebalance.at),
+        (Activity::Normalise, 0)
+    );
+    let mut lost = with_new_rows(rt.alloc(), Activity::Replace, 0);
+    rebalance_resume(&mut lost, 9, Choice::Go, 4_294_967_299);
+    assert_eq!(rt;
+        (lost.activity, lost.rebalance.afterwards),
+        (Activity::GiveBack, Afterwards::MoveLeft)
+    );
+}

@@ -1,0 +1,229 @@
+//! What the calls of one pass answer, one after the other.
+ghost use Rattle.std.specs.Prelude.{◌<◌, IfOk};
+ghost use Rattle.kw_words.specs.declared.sizes.TheConstants.{VALUE_END};
+ghost use Rattle.kw_world.specs.Opening.{IsOpening};
+ghost use Rattle.kw_world.specs.Sizes.{product};
+ghost use Rattle.kw_map.specs.Kiwi.{IsIdle};
+
+use crate::gatherers::Roomy;
+use kw_map::{CountGather, Kiwi, PutEnd, ScanEnd, Stop, SumGather};
+use kw_model::memory::Memory;
+use kw_table::Pass;
+use std::alloc::Global;
+use std::sync::Wait;
+use std::test::Fail;
+
+/// The clock from which on no scan begins.
+const LAST_CLOCK: u64 = 281474976710656;
+
+/// How many cells a row has.
+const ROW: u32 = 64;
+
+/// A map of so many rows, whose clock begins here, and its one pass.
+pub(crate) fn open_one(alloc: Global, rows: u32, clock: u64) -> Result<(Kiwi, Pass), Memory>
+    requires { IsOpening product (record { rows = rows; seats = 1; clock = clock; epoch = 1 }) }
+    ensures { IfOk result (λ made. IsIdle made.0 made.1) }
+{
+    let (kiwi, mut passes) = Kiwi::open_at(alloc, rows, 1, clock, 1)?;
+    let Some(pass) = passes.pop() else {
+        unreachable!()
+    };
+    Ok((kiwi, pass))
+}
+
+/// Puts this value for each key from `from` to below `end`, up to the first refusal.
+pub(crate) fn put_each<R: Wait>(
+    rt: &R,
+    kiwi: &Kiwi,
+    pass: &mut Pass,
+    from: u32,
+    end: u32,
+    value: u64,
+) -> Result<(), PutEnd>
+    requires idle { IsIdle kiwi.now pass.old }
+    requires value { value < VALUE_END }
+    ensures { IsIdle kiwi.now pass.new }
+{
+    for key in from..end {
+        kiwi.put(rt, pass, key, value)?;
+    }
+    Ok(())
+}
+
+/// Puts the values from `from` to below `end` for one key, up to the first refusal.
+fn put_again<R: Wait>(
+    rt: &R,
+    kiwi: &Kiwi,
+    pass: &mut Pass,
+    key: u32,
+    from: u32,
+    end: u32,
+) -> Result<(), PutEnd>
+    requires { IsIdle kiwi.now pass.old }
+    ensures { IsIdle kiwi.now pass.new }
+{
+    for value in from..end {
+        kiwi.put(rt, pass, key, u64::from(value))?;
+    }
+    Ok(())
+}
+
+/// The sum of the values of a range.
+pub(crate) fn sum_of(kiwi: &Kiwi, pass: &mut Pass, from: u32, upto: u32) -> Result<u128, ScanEnd>
+    requires { IsIdle kiwi.now pass.old }
+    ensures { IsIdle kiwi.now pass.new }
+{
+    let mut sum = SumGather::new();
+    kiwi.scan(pass, from, upto, &mut sum)?;
+    Ok(sum.total())
+}
+
+/// How many keys of a range have a value.
+pub(crate) fn count_of(kiwi: &Kiwi, pass: &mut Pass, from: u32, upto: u32) -> Result<u64, ScanEnd>
+    requires { IsIdle kiwi.now pass.old }
+    ensures { IsIdle kiwi.now pass.new }
+{
+    let mut count = CountGather::new();
+    kiwi.scan(pass, from, upto, &mut count)?;
+    Ok(count.total())
+}
+
+// A row that is full of keys is replaced by two, which have what it had.
+#[test]
+fn a_full_row_is_split(rt: HostRuntime) -> Result<(), Fail> {
+    let (kiwi, mut pass) = open_one(rt.alloc(), 64, 1)?;
+    let put = put_each(&rt, &kiwi, &mut pass, 0, ROW + 1, 7);
+    let found = [kiwi.get(&mut pass, 0), kiwi.get(&mut pass, 64)];
+    let all = sum_of(&kiwi, &mut pass, 0, 4294967295);
+    assert_eq!(rt; (put, found, all), (Ok(()), [Some(7), Some(7)], Ok(455)));
+    let deleted = kiwi.delete(&rt, &mut pass, 1);
+    let rest = sum_of(&kiwi, &mut pass, 0, 4294967295);
+    assert_eq!(rt; (deleted, rest), (Ok(()), Ok(448)));
+    Ok(())
+}
+
+// A row that is full of one key is replaced by one that has its last value: the puts 65, 128 and 191 do so.
+#[test]
+fn puts_of_one_key_never_end(rt: HostRuntime) -> Result<(), Fail> {
+    let (kiwi, mut pass) = open_one(rt.alloc(), 64, 1)?;
+    let put = put_again(&rt, &kiwi, &mut pass, 7, 1, 201);
+    assert_eq!(rt; (put, kiwi.get(&mut pass, 7)), (Ok(()), Some(200)));
+    Ok(())
+}
+
+// A delete at a full row rebalances it as a put does, and then the key is gone.
+#[test]
+fn a_delete_is_refused_at_a_full_row_no_more(rt: HostRuntime) -> Result<(), Fail> {
+    let (kiwi, mut pass) = open_one(rt.alloc(), 64, 1)?;
+    let put = put_each(&rt, &kiwi, &mut pass, 0, ROW, 7);
+    let deleted = kiwi.delete(&rt, &mut pass, 1);
+    assert_eq!(rt; (put, deleted), (Ok(()), Ok(())));
+    let found = kiwi.get(&mut pass, 1);
+    let rest = sum_of(&kiwi, &mut pass, 0, 4294967295);
+    assert_eq!(rt; (found, rest), (None, Ok(441)));
+    Ok(())
+}
+
+// After 62 splits 63 of the 64 rows are live, and the next split needs two. Whoever asks for no new row is not refused.
+#[test]
+fn no_rows_are_left(rt: HostRuntime) -> Result<(), Fail> {
+    let (kiwi, mut pass) = open_one(rt.alloc(), 64, 1)?;
+    let put = put_each(&rt, &kiwi, &mut pass, 1, 2049, 1);
+    let more = [
+        kiwi.put(&rt, &mut pass, 2049, 1),
+        kiwi.put(&rt, &mut pass, 2049, 1),
+    ];
+    assert_eq!(rt;
+        (put, more),
+        (Ok(()), [Err(PutEnd::NoRows), Err(PutEnd::NoRows)])
+    );
+    let found = kiwi.get(&mut pass, 2048);
+    let count = count_of(&kiwi, &mut pass, 0, 4294967295);
+    assert_eq!(rt; (found, count), (Some(1), Ok(2048)));
+    let deleted = [
+        kiwi.delete(&rt, &mut pass, 2049),
+        kiwi.delete(&rt, &mut pass, 5),
+    ];
+    let found = kiwi.get(&mut pass, 5);
+    assert_eq!(rt; (deleted, found), ([Err(PutEnd::NoRows), Ok(())], None));
+    Ok(())
+}
+
+// In a row that no other follows, and in one that others follow: a new row has at most 32 keys, so the 41st pair, which there is no room for,
+// stands in a later row than the first one, and others come after it.
+#[test]
+fn a_scan_stops_where_the_gatherer_stops(rt: HostRuntime) -> Result<(), Fail> {
+    for (first, end, upto, room, last, greatest) in [
+        (10, 15, 100, 3, 12, 14),
+        (0, 200, 199, 40, 39, 199),
+    ] {
+        let (kiwi, mut pass) = open_one(rt.alloc(), 64, 1)?;
+        let put = put_each(&rt, &kiwi, &mut pass, first, end, 1);
+        let mut roomy = Roomy::new(room);
+        let ended = kiwi.scan(&mut pass, 0, upto, &mut roomy);
+        let kept = (roomy.room, roomy.last, roomy.stops);
+        let found = kiwi.get(&mut pass, greatest);
+        let wanted = (Ok(()), Err(ScanEnd::Stopped), (0, Some(last), 1), Some(1));
+        assert_eq!(rt; (put, ended, kept, found), wanted, "with room for {room}");
+    }
+    Ok(())
+}
+
+// 200 keys in several rows, of which 40 have a second value, 3, and one of these was deleted. Of the 171 keys of the range 131 have 1 and 39 have 3.
+#[test]
+fn a_scan_over_rows_takes_each_key_as_it_is_last(rt: HostRuntime) -> Result<(), Fail> {
+    let (kiwi, mut pass) = open_one(rt.alloc(), 64, 1)?;
+    let made = [
+        put_each(&rt, &kiwi, &mut pass, 0, 200, 1),
+        put_each(&rt, &kiwi, &mut pass, 50, 90, 3),
+        kiwi.delete(&rt, &mut pass, 60),
+    ];
+    let sum = sum_of(&kiwi, &mut pass, 10, 180);
+    let count = count_of(&kiwi, &mut pass, 10, 180);
+    assert_eq!(rt;
+        (made, sum, count),
+        ([Ok(()), Ok(()), Ok(())], Ok(248), Ok(170))
+    );
+    Ok(())
+}
+
+// No scan begins, and no full row is replaced; the puts that its row has room for are made.
+#[test]
+fn only_what_needs_a_version_is_refused_where_they_are_spent(rt: HostRuntime) -> Result<(), Fail> {
+    let (kiwi, mut pass) = open_one(rt.alloc(), 64, LAST_CLOCK)?;
+    let scanned = sum_of(&kiwi, &mut pass, 0, 10);
+    let made = [
+        put_again(&rt, &kiwi, &mut pass, 5, 50, 114),
+        kiwi.put(&rt, &mut pass, 5, 114),
+        kiwi.delete(&rt, &mut pass, 5),
+    ];
+    let wanted = [Ok(()), Err(PutEnd::Spent), Err(PutEnd::Spent)];
+    let found = kiwi.get(&mut pass, 5);
+    assert_eq!(rt;
+        (scanned, made, found),
+        (Err(ScanEnd::Spent), wanted, Some(113))
+    );
+    Ok(())
+}
+
+#[test]
+fn ends_and_stops_have_texts(rt: HostRuntime) -> Result<(), Fail> {
+    let texts = [
+        Stop.to_string(rt.alloc())?,
+        PutEnd::NoRows.to_string(rt.alloc())?,
+        PutEnd::Spent.to_string(rt.alloc())?,
+        ScanEnd::Stopped.to_string(rt.alloc())?,
+        ScanEnd::Spent.to_string(rt.alloc())?,
+    ];
+    let wants = [
+        "the gatherer stopped",
+        "no rows are left",
+        "the versions or the epochs are spent",
+        "the gatherer stopped",
+        "the versions are spent",
+    ];
+    for (text, want) in texts.iter().zip(wants) {
+        assert_eq!(rt; text.as_str(), want);
+    }
+    Ok(())
+}

@@ -1,9 +1,0 @@
-use Rattle.std.proofs.Common.{length, arith, ap}
-use Rattle.kw_world.specs.Sizes.{product}
-use Rattle.kw_world.specs.Step.{Stepped}
-use Rattle.kw_world.proofs.Steps.{step-seats}
-use Rattle.kw_step_rows.proofs.tests.walk.Goals as goal
-
-pub returns : goal.returns
-returns c =
-    omega (arith, c.requires.seat, ap (λ (s : Stepped). length s.world.locals) c.in_ok-done.ensures.ok, step-seats product c.args.world.now (record { seat = 1; choice = c.args.choice }))
