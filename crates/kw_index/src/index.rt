@@ -7,7 +7,7 @@
 //! another thread.
 //!
 //! The rule of the slot is that the base of what stands in it has room for as many rows as the map has.
-ghost use Rattle.std.specs.Prelude.{ℕ, ◌≡◌, ◌<◌, ◌≤◌, ◌%◌, drop, IfOk, IfSome};
+ghost use Rattle.std.specs.Prelude.{ℕ, ◌≡◌, ◌<◌, ◌≤◌, ◌%◌, false, drop, IfOk, IfSome};
 ghost use Rattle.counted_slot.specs.Counting.{readers, IsTurn, Gains};
 ghost use Rattle.kw_index.specs.Turns.{IsLedgerOf, IsBroughtUp};
 
@@ -124,10 +124,12 @@ impl Index {
 
     /// Exchanges the ledger's base for these entries, which have the changes up to this number, where that is behind the base's. Whether it did.
     ///
-    /// The entries have room for as many rows as the index, before and after. Takes no memory.
+    /// Where it did not, the entries are as they were: the turn gained no right to write, or the number is not behind the base's. They have room for
+    /// as many rows as the index, before and after. Takes no memory.
     pub fn renew(&self, base: &mut Entries, number: u32) -> bool
         requires { base.old.rows ≡ self.now }
-        ensures { base.new.rows ≡ self.now }
+        ensures kept { result ≡ false → base.new ≡ base.old }
+        ensures rows { base.new.rows ≡ self.now }
     {
         let Some(mut ledger) = self.take() else {
             return false;

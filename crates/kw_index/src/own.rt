@@ -4,7 +4,7 @@
 //! own guesses from these, and touches nothing that others write. Others may have published since: then the row that is guessed may be in use no more,
 //! which whoever knows the rows sees at the row, and asks for a guess anew: the own entries are brought up to the last change, and guessed from. So they
 //! are after each publication of the caller's own.
-ghost use Rattle.std.specs.Prelude.{◌≡◌, ◌≢◌, ◌<◌, [], IfOk, IfSome, IsTrue, None};
+ghost use Rattle.std.specs.Prelude.{◌≡◌, ◌≢◌, ◌<◌, [], IfOk, IfSome, IsTrue, None, false};
 ghost use Rattle.kw_index.specs.Entries.{IsOf, IsGuess};
 ghost use Rattle.kw_index.specs.Turns.{IsFollowed};
 
@@ -77,13 +77,16 @@ impl OwnEntries {
         self.guess(index, key)
     }
 
-    /// Publishes a change, makes it in the own entries with all others that were published before it, and tells whether it did.
+    /// Publishes a change, makes it in the own entries with all others that were published before it, and tells whether it did: exactly where none waits
+    /// any more.
     ///
     /// Where others keep the slot just then, the change is kept and published with the caller's next one, `MOST_UNTOLD` at most. Nothing is published
-    /// where the index is of a map of another size. Takes no memory.
+    /// where the index is of a map of another size: all stays as it was. Takes no memory.
     pub fn publish(&mut self, index: &Index, change: Change) -> bool
         ensures followed { IsFollowed index.now self.old.seen self.old.entries self.new.seen self.new.entries }
         ensures told { IsTrue result → self.new.untold.items ≡ [] }
+        ensures waits { self.old.entries.rows ≡ index.now → result ≡ false → self.new.untold.items ≢ [] }
+        ensures other_size { self.old.entries.rows ≢ index.now → (result ≡ false) × (self.new ≡ self.old) }
     {
         if self.entries.rows() != index.rows() {
             return false;

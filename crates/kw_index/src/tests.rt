@@ -54,24 +54,23 @@ fn own_guesses(own: &OwnEntries, index: &Index, low: u32, high: u32) -> [Option<
 #[test]
 fn an_entry_stands_at_its_minimum(rt: HostRuntime) -> Result<(), Fail> {
     let mut entries = Entries::new(rt.alloc(), 8)?;
-    assert_eq!(rt; (entries.rows(), entries.list()), (8, [].as_slice()));
+    let new = (entries.rows(), entries.list().is_empty());
     entries.insert(Entry { min: 20, row: 5 });
     entries.place(entry(0, 0));
     entries.place(entry(10, 3));
     entries.place(entry(10, 6));
     entries.remove(0);
     let left = [entry(10, 6), entry(20, 5)];
-    assert_eq!(rt; entries.list(), left.as_slice());
+    assert_eq!(rt; (new, entries.list()), ((8, true), left.as_slice()));
     Ok(())
 }
 
 #[test]
 fn a_guess_is_the_nearest_row_to_the_left(rt: HostRuntime) -> Result<(), Fail> {
     let entries = two_rows(rt.alloc(), 4, 3)?;
-    let low = (entries.guess(0), entries.guess(99));
-    assert_eq!(rt; low, (Some(0), Some(0)));
-    let high = (entries.guess(100), entries.guess(LAST_KEY));
-    assert_eq!(rt; high, (Some(3), Some(3)));
+    for (key, row) in [(0, 0), (99, 0), (100, 3), (LAST_KEY, 3)] {
+        assert_eq!(rt; entries.guess(key), Some(row), "at {key}");
+    }
     Ok(())
 }
 
@@ -123,8 +122,11 @@ fn a_new_ledger_has_the_first_row_alone(rt: HostRuntime) -> Result<(), Fail> {
     let ledger = Ledger::new(rt.alloc(), 4)?;
     let mut entries = two_rows(rt.alloc(), 4, 3)?;
     ledger.bring_up(&mut entries, None);
-    assert_eq!(rt; entries.list(), [entry(0, 0)].as_slice());
-    assert_eq!(rt; (ledger.number(), ledger.since_base()), (0, 0));
+    let numbers = [ledger.number(), ledger.since_base()];
+    assert_eq!(rt;
+        (numbers, entries.list()),
+        ([0, 0], [entry(0, 0)].as_slice())
+    );
     Ok(())
 }
 
@@ -134,18 +136,18 @@ fn the_changes_behind_a_number_are_made_and_no_others(rt: HostRuntime) -> Result
     let mut ledger = Ledger::new(rt.alloc(), 4)?;
     ledger.add(change(0, &[entry(0, 1), entry(50, 2)]));
     ledger.add(change(2, &[entry(50, 0)]));
-    let mut all = two_rows(rt.alloc(), 4, 3)?;
-    ledger.bring_up(&mut all, Some(0));
-    assert_eq!(rt;
-        all.list(),
-        [entry(0, 1), entry(50, 0), entry(100, 3)].as_slice()
-    );
-    let mut last = two_rows(rt.alloc(), 4, 3)?;
-    ledger.bring_up(&mut last, Some(1));
-    assert_eq!(rt; last.list(), [entry(50, 0), entry(100, 3)].as_slice());
-    let mut none = two_rows(rt.alloc(), 4, 3)?;
-    ledger.bring_up(&mut none, Some(2));
-    assert_eq!(rt; none.list(), [entry(0, 0), entry(100, 3)].as_slice());
+    let all = [entry(0, 1), entry(50, 0), entry(100, 3)];
+    let last = [entry(50, 0), entry(100, 3)];
+    let none = [entry(0, 0), entry(100, 3)];
+    for (seen, wanted) in [
+        (0, all.as_slice()),
+        (1, last.as_slice()),
+        (2, none.as_slice()),
+    ] {
+        let mut entries = two_rows(rt.alloc(), 4, 3)?;
+        ledger.bring_up(&mut entries, Some(seen));
+        assert_eq!(rt; entries.list(), wanted, "behind {seen}");
+    }
     Ok(())
 }
 
@@ -154,18 +156,17 @@ fn the_changes_behind_a_number_are_made_and_no_others(rt: HostRuntime) -> Result
 fn a_ledger_keeps_the_changes_since_its_base(rt: HostRuntime) -> Result<(), Fail> {
     let mut ledger = Ledger::new(rt.alloc(), 4)?;
     let added = add_numbered(&mut ledger, 1, CHANGES_KEPT + 1);
-    assert_eq!(rt;
-        (added, ledger.number(), ledger.since_base()),
-        (128, 128, 128)
-    );
+    let full = [added, ledger.number(), ledger.since_base()];
     let mut base = Entries::new(rt.alloc(), 4)?;
     ledger.bring_up(&mut base, None);
-    assert_eq!(rt; base.list(), [entry(0, 0), entry(128, 1)].as_slice());
-    assert!(rt; ledger.renew(&mut base, 128));
-    assert_eq!(rt; base.list(), [entry(0, 0)].as_slice());
+    let last = [entry(0, 0), entry(128, 1)];
+    assert_eq!(rt; (full, base.list()), ([128, 128, 128], last.as_slice()));
+    let is_renewed = ledger.renew(&mut base, 128);
+    let more = [add_numbered(&mut ledger, 129, 130), ledger.since_base()];
+    let first = [entry(0, 0)];
     assert_eq!(rt;
-        (add_numbered(&mut ledger, 129, 130), ledger.since_base()),
-        (2, 2)
+        (is_renewed, more, base.list()),
+        (true, [2, 2], first.as_slice())
     );
     Ok(())
 }
@@ -188,13 +189,13 @@ fn who_lags_behind_the_kept_changes_begins_with_the_base(rt: HostRuntime) -> Res
     ledger.bring_up(&mut base, None);
     ledger.renew(&mut base, 64);
     add_numbered(&mut ledger, 65, 140);
-    let mut near = lagging(rt.alloc())?;
-    ledger.bring_up(&mut near, Some(12));
-    let kept = [entry(0, 0), entry(140, 1), entry(1_000, 3)];
-    assert_eq!(rt; near.list(), kept.as_slice());
-    let mut far = lagging(rt.alloc())?;
-    ledger.bring_up(&mut far, Some(11));
-    assert_eq!(rt; far.list(), [entry(0, 0), entry(140, 1)].as_slice());
+    let near = [entry(0, 0), entry(140, 1), entry(1_000, 3)];
+    let far = [entry(0, 0), entry(140, 1)];
+    for (seen, wanted) in [(12, near.as_slice()), (11, far.as_slice())] {
+        let mut entries = lagging(rt.alloc())?;
+        ledger.bring_up(&mut entries, Some(seen));
+        assert_eq!(rt; entries.list(), wanted, "behind {seen}");
+    }
     Ok(())
 }
 
@@ -205,8 +206,11 @@ fn an_older_base_is_not_taken(rt: HostRuntime) -> Result<(), Fail> {
     let mut base = two_rows(rt.alloc(), 4, 3)?;
     let older = ledger.renew(&mut base, 0);
     let beyond = ledger.renew(&mut base, 10);
-    assert_eq!(rt; (older, beyond, ledger.since_base()), (false, false, 9));
-    assert_eq!(rt; base.list(), [entry(0, 0), entry(100, 3)].as_slice());
+    let all = [entry(0, 0), entry(100, 3)];
+    assert_eq!(rt;
+        (older, beyond, ledger.since_base(), base.list()),
+        (false, false, 9, all.as_slice())
+    );
     let newer = ledger.renew(&mut base, 7);
     assert_eq!(rt; (newer, ledger.since_base()), (true, 2));
     Ok(())
@@ -216,9 +220,13 @@ fn an_older_base_is_not_taken(rt: HostRuntime) -> Result<(), Fail> {
 fn a_new_index_shows_the_first_row(rt: HostRuntime) -> Result<(), Fail> {
     let index = Index::new(rt.alloc(), 4)?;
     let mut own = OwnEntries::new(rt.alloc(), 4)?;
-    assert_eq!(rt; own_guesses(&own, &index, 0, LAST_KEY), [None, None]);
-    assert_eq!(rt; (index.rows(), own.guess_anew(&index, 7)), (4, Some(0)));
-    assert_eq!(rt; own.entries.list(), [entry(0, 0)].as_slice());
+    let [low, high] = own_guesses(&own, &index, 0, LAST_KEY);
+    let guesses = [low, high, own.guess_anew(&index, 7)];
+    let first = [entry(0, 0)];
+    assert_eq!(rt;
+        (index.rows(), guesses, own.entries.list()),
+        (4, [None, None, Some(0)], first.as_slice())
+    );
     Ok(())
 }
 
@@ -227,11 +235,16 @@ fn what_is_published_is_guessed_anew(rt: HostRuntime) -> Result<(), Fail> {
     let index = Index::new(rt.alloc(), 4)?;
     let mut own = OwnEntries::new(rt.alloc(), 4)?;
     let mut other = OwnEntries::new(rt.alloc(), 4)?;
-    assert!(rt; publish(&mut own, &index, 0, &[entry(0, 1), entry(100, 3)]));
-    assert_eq!(rt; own_guesses(&own, &index, 99, 100), [Some(1), Some(3)]);
-    assert_eq!(rt; own_guesses(&other, &index, 99, 100), [None, None]);
-    assert_eq!(rt; other.guess_anew(&index, 100), Some(3));
-    assert_eq!(rt; own_guesses(&other, &index, 99, 100), [Some(1), Some(3)]);
+    let done = publish(&mut own, &index, 0, &[entry(0, 1), entry(100, 3)]);
+    let published = own_guesses(&own, &index, 99, 100);
+    let before = own_guesses(&other, &index, 99, 100);
+    let anew = other.guess_anew(&index, 100);
+    let after = own_guesses(&other, &index, 99, 100);
+    let both = [Some(1), Some(3)];
+    assert_eq!(rt;
+        (done, anew, [published, before, after]),
+        (true, Some(3), [both, [None, None], both])
+    );
     Ok(())
 }
 
@@ -243,8 +256,9 @@ fn own_entries_stay_where_others_publish(rt: HostRuntime) -> Result<(), Fail> {
     let mut other = OwnEntries::new(rt.alloc(), 4)?;
     let first = own.guess_anew(&index, 100);
     publish(&mut other, &index, 2, &[entry(100, 1)]);
-    assert_eq!(rt; (first, own.guess(&index, 100)), (Some(0), Some(0)));
-    assert_eq!(rt; own.guess_anew(&index, 100), Some(1));
+    let stayed = own.guess(&index, 100);
+    let anew = own.guess_anew(&index, 100);
+    assert_eq!(rt; [first, stayed, anew], [Some(0), Some(0), Some(1)]);
     Ok(())
 }
 
@@ -256,7 +270,8 @@ fn own_entries_of_another_map_are_not_asked(rt: HostRuntime) -> Result<(), Fail>
     let mut own = OwnEntries::new(rt.alloc(), 5)?;
     let none = own.guess_anew(&index, 100);
     let some = own.guess_anew(&other, 100);
-    assert_eq!(rt; (none, some, own.guess(&index, 100)), (None, Some(0), None));
+    let asked = [none, some, own.guess(&index, 100)];
+    assert_eq!(rt; asked, [None, Some(0), None]);
     Ok(())
 }
 
@@ -287,9 +302,9 @@ fn own_publications_are_made_over_those_of_others(rt: HostRuntime) -> Result<(),
     third.guess_anew(&index, 0);
     first.guess_anew(&index, 0);
     let all = [entry(0, 5), entry(20, 8), entry(50, 3), entry(70, 7)];
-    assert_eq!(rt; third.entries.list(), all.as_slice());
-    assert_eq!(rt; first.entries.list(), all.as_slice());
-    assert_eq!(rt; other.entries.list(), all.as_slice());
+    for (place, own) in [&third, &first, &other].into_iter().enumerate() {
+        assert_eq!(rt; own.entries.list(), all.as_slice(), "caller {place}");
+    }
     Ok(())
 }
 
@@ -304,13 +319,14 @@ fn a_change_that_has_to_wait_is_published_with_the_next_one(rt: HostRuntime) -> 
     if let Some(ledger) = held {
         index.give(ledger);
     }
-    assert_eq!(rt;
-        (done, none, own.guess_anew(&index, 100)),
-        (false, None, Some(0))
-    );
+    let first = own.guess_anew(&index, 100);
     let both = publish(&mut own, &index, 3, &[entry(100, 2)]);
-    assert_eq!(rt; (both, own.guess(&index, 99)), (true, Some(1)));
-    assert_eq!(rt; own.entries.list(), [entry(0, 1), entry(100, 2)].as_slice());
+    let guesses = [none, first, own.guess(&index, 99)];
+    let all = [entry(0, 1), entry(100, 2)];
+    assert_eq!(rt;
+        (done, both, guesses, own.entries.list()),
+        (false, true, [None, Some(0), Some(1)], all.as_slice())
+    );
     Ok(())
 }
 
@@ -338,19 +354,17 @@ fn publications_do_not_run_out(rt: HostRuntime) -> Result<(), Fail> {
     let mut own = OwnEntries::new(rt.alloc(), 4)?;
     let published = publish_many(&mut own, &index, 100, [1, 2], 1_001);
     let mut other = OwnEntries::new(rt.alloc(), 4)?;
+    let row = other.guess_anew(&index, 100);
+    let all = [entry(0, 0), entry(100, 2)];
     assert_eq!(rt;
-        (published, other.guess_anew(&index, 100)),
-        (1_001, Some(2))
-    );
-    assert_eq!(rt;
-        other.entries.list(),
-        [entry(0, 0), entry(100, 2)].as_slice()
+        (published, row, other.entries.list()),
+        (1_001, Some(2), all.as_slice())
     );
     Ok(())
 }
 
 /// What a thread was told.
-#[derive(Clone, Copy, Debug, Default, PartialEq, Eq)]
+#[derive(Clone, Copy, Default)]
 struct Sightings {
     first: bool,
     second: bool,
@@ -401,8 +415,8 @@ fn one_thread_guesses_what_another_publishes(rt: HostRuntime) -> Result<(), Fail
         || publish_in_turn(&mut own, &index, &flag),
         || guess_until_both(&mut other, &index, &flag),
     );
-    assert!(rt; published);
-    assert_eq!(rt; (seen.first, seen.second, seen.other), (true, true, false));
+    let told = [published, seen.first, seen.second, seen.other];
+    assert_eq!(rt; told, [true, true, true, false]);
     Ok(())
 }
 
