@@ -2,7 +2,7 @@
 //!
 //! The contract of `run_on_map` says what the list of events of a whole run has, whatever the workers did beside each other, and what the
 //! answers are worth: `specs/Running.antt` and `specs/Headline.antt`. `replay` and `gen_command` print such answers.
-ghost use Rattle.std.specs.Prelude.{◌≡◌, ◌<◌, ◌^◌, ◌++◌, [], length, map, All, IfOk};
+ghost use Rattle.std.specs.Prelude.{◌≡◌, ◌<◌, ◌^◌, [], length, map, All, IfOk};
 ghost use Rattle.std.specs.List.{AllByRecursion};
 ghost use Rattle.kw_line.specs.Line.{IsItem};
 ghost use Rattle.kw_table.specs.Meetings.{front_seen};
@@ -14,6 +14,7 @@ ghost use Rattle.kw_app.specs.Running.{Ran};
 use crate::crew::Crew;
 use crate::rounds::play;
 use crate::working::Gate;
+use kw_beside::joined::joined;
 use kw_line::answer::Answer;
 use kw_line::item::Item;
 use kw_map::kiwi::Kiwi;
@@ -25,19 +26,7 @@ use std::alloc::Global;
 use std::sync::Wait;
 use std::thread::Threads;
 
-/// The answers of some blocks and then those of one more. Those of the first block are not copied: most inputs have many lines and few blocks.
-fn joined(answers: Vec<Answer>, more: Vec<Answer>) -> Result<Vec<Answer>, Memory>
-    ensures { IfOk result (λ all. all.items ≡ answers.items ++ more.items) }
-{
-    if answers.is_empty() {
-        return Ok(more);
-    }
-    let (mut all, mut more) = (answers, more);
-    all.append(&mut more)?;
-    Ok(all)
-}
-
-/// Answers the blocks in order.
+/// Answers the blocks in order. The answers of the first block are not copied: most inputs have many lines and few blocks.
 fn play_all<R: Threads + Wait + Sync, G: Gate + Sync>(
     rt: &R,
     alloc: Global,

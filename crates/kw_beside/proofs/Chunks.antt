@@ -18,7 +18,7 @@ use Rattle.kw_line.specs.Answered.{text}
 use Rattle.kw_beside.specs.Texts.{text_in}
 
 -- the chunks of a list, as many as `chunks` makes, hold all of it
-covered : (count len size : ℕ) → 0 < size → count ≡ len / size + min 1 (len % size) → len ≤ count * size
+pub covered : (count len size : ℕ) → 0 < size → count ≡ len / size + min 1 (len % size) → len ≤ count * size
 covered count len size some is =
     let q = len / size in let r = len % size in
     let whole : q * size + r ≡ len = div-add-mod' len size in

@@ -1,4 +1,5 @@
 pub mod Chunks
+pub mod Counts
 pub mod LineCuts
 pub mod ReadParts
 pub mod Readers

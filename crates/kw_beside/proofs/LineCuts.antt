@@ -4,12 +4,7 @@ use Rattle.std.specs.List.{slice_split, onto_first, HoldsAt}
 use Rattle.std.proofs.lemmas.List.{take_all, drop_all, take-append-drop, take_more, drop_more, take_rest, length-drop, get_or-drop}
 use Rattle.kw_line.specs.declared.words.TheConstants.{LINE_FEED}
 use Rattle.kw_line.specs.Cut.{lines, without_empty_end}
-use Rattle.kw_line.proofs.Parts.{lines_none}
-
--- there is always a first part
-first_part : (p : ℕ → Bool) (bytes : List ℕ) → (part : List ℕ) × (parts : List (List ℕ)) × (slice_split p bytes ≡ part ∷ parts)
-first_part p [] = ([], [], refl)
-first_part p (b ∷ bs) = let i = first_part p bs in elim (p b) as (λ t. (part : List ℕ) × (parts : List (List ℕ)) × (cond t ([] ∷ slice_split p bs) (onto_first b (slice_split p bs)) ≡ part ∷ parts)) [ true ↦ ([], slice_split p bs, refl) | false ↦ (b ∷ i.0, i.1, ap (onto_first b) i.2) ]
+use Rattle.kw_line.proofs.Parts.{first_part, lines_none}
 
 -- a byte before some parts goes onto the first one
 onto_first-append : (b : ℕ) (parts more : List (List ℕ)) (part : List ℕ) (rest : List (List ℕ)) → parts ≡ part ∷ rest → onto_first b (parts ++ more) ≡ onto_first b parts ++ more

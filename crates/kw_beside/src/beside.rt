@@ -9,6 +9,7 @@ ghost use Rattle.kw_line.specs.Line.{AreLinesOf, IfBadLine};
 ghost use Rattle.kw_line.specs.declared.parse.TheConstants.{MOST_BYTES};
 ghost use Rattle.kw_beside.specs.Texts.{text_in};
 
+use crate::joined::joined;
 use crate::pieces::pieces;
 use crate::together::together;
 use kw_line::answer::Answer;
@@ -78,12 +79,7 @@ fn in_order(alloc: Global, parts: Vec<Result<Vec<u8>, Memory>>) -> Result<Vec<u8
     let mut all = Vec::new(alloc);
     for part in parts {
         let text = part?;
-        if all.is_empty() {
-            all = text;
-        } else {
-            let mut text = text;
-            all.append(&mut text)?;
-        }
+        all = joined(all, text)?;
     }
     Ok(all)
 }
@@ -112,21 +108,16 @@ mod tests {
         let mut text = repeated(rt.alloc(), b"get 7\n", 15_000)?;
         text.append(&mut repeated(rt.alloc(), b"del 8\n", 15_000)?)?;
         text.extend_from_slice(b"put 4294967295 1\n")?;
-        assert_eq!(rt; text.len(), 180_017);
-        assert!(rt; text.len() <= MOST_BYTES);
+        assert!(rt; text.len() == 180_017);
         let items = parse_beside(&rt, rt.alloc(), &text, 3)?;
         assert_eq!(rt; items.len(), 30_001);
         assert_eq!(rt;
-            items.get(14_999),
-            Some(&Item::Call(Call::Get(7), Form::Get))
-        );
-        assert_eq!(rt;
-            items.get(15_000),
-            Some(&Item::Call(Call::Del(8), Form::Del))
-        );
-        assert_eq!(rt;
-            items.last(),
-            Some(&Item::Call(Call::Put(4294967295, 1), Form::Put))
+            [items.get(14_999), items.get(15_000), items.last()],
+            [
+                Some(&Item::Call(Call::Get(7), Form::Get)),
+                Some(&Item::Call(Call::Del(8), Form::Del)),
+                Some(&Item::Call(Call::Put(4294967295, 1), Form::Put)),
+            ]
         );
         let alone = parse(rt.alloc(), &text)?;
         assert_eq!(rt; items.as_slice(), alone.as_slice());
@@ -139,18 +130,18 @@ mod tests {
         let mut late = repeated(rt.alloc(), b"get 7\n", 30_000)?;
         late.extend_from_slice(b"get\nget 7\n")?;
         assert!(rt; late.len() <= MOST_BYTES);
-        assert_eq!(rt;
-            parse_beside(&rt, rt.alloc(), &late, 3),
-            Err(LineError::Bad { line: 30_001 })
-        );
+        let third = parse_beside(&rt, rt.alloc(), &late, 3);
         let mut both = repeated(rt.alloc(), b"get 7\n", 20_000)?;
         both.extend_from_slice(b"\n")?;
         both.append(&mut late)?;
-        assert_eq!(rt; both.len(), 300_011);
-        assert!(rt; both.len() <= MOST_BYTES);
+        assert!(rt; both.len() == 300_011);
+        let second = parse_beside(&rt, rt.alloc(), &both, 3);
         assert_eq!(rt;
-            parse_beside(&rt, rt.alloc(), &both, 3),
-            Err(LineError::Bad { line: 20_001 })
+            [third, second],
+            [
+                Err(LineError::Bad { line: 30_001 }),
+                Err(LineError::Bad { line: 20_001 }),
+            ]
         );
         Ok(())
     }
@@ -163,9 +154,9 @@ mod tests {
             answers.push(Answer::Number(u128::from(number)))?;
         }
         let text = print_beside(&rt, rt.alloc(), &answers, 3)?;
-        assert_eq!(rt; text.len(), 48_890);
-        assert!(rt; text.starts_with(b"0\n1\n2\n"));
-        assert!(rt; text.ends_with(b"\n9998\n9999\n"));
+        let starts = text.starts_with(b"0\n1\n2\n");
+        let ends = text.ends_with(b"\n9998\n9999\n");
+        assert_eq!(rt; (text.len(), starts, ends), (48_890, true, true));
         let alone = print(rt.alloc(), &answers)?;
         assert_eq!(rt; text.as_slice(), alone.as_slice());
         Ok(())

@@ -1,5 +1,5 @@
 //! An input cut into pieces of whole lines, for readers beside each other.
-ghost use Rattle.std.specs.Prelude.{◌≡◌, ◌<◌, ◌≤◌, ◌++◌, length, All, IfOk};
+ghost use Rattle.std.specs.Prelude.{◌≡◌, ◌<◌, ◌≤◌, ◌+◌, ◌-◌, ◌*◌, ◌++◌, length, All, IfOk, vec_len};
 ghost use Rattle.std.specs.List.{flat_map};
 ghost use Rattle.kw_line.specs.Cut.{lines};
 
@@ -10,7 +10,7 @@ use std::alloc::Global;
 /// How many bytes a piece has at least, but for the last one: a thread takes longer to start than a shorter piece takes to read.
 pub const SMALLEST_PIECE: usize = 65_536;
 
-/// The bytes, cut into pieces of whole lines: about so many of about the same length, and fewer where they would be short. Their lines, one piece
+/// The bytes, cut into pieces of whole lines: at most so many, of about the same length, and fewer where they would be short. Their lines, one piece
 /// after the other, are those of the bytes. None of the bytes are copied, and each is looked at once at most.
 pub fn pieces<'a>(alloc: Global, bytes: &'a [u8], count: u32) -> Result<Vec<&'a [u8]>, Memory>
     requires { 0 < count }
@@ -18,6 +18,10 @@ pub fn pieces<'a>(alloc: Global, bytes: &'a [u8], count: u32) -> Result<Vec<&'a 
         ≡ flat_map (λ piece. lines piece.now) pieces.items) }
     ensures short { IfOk result (λ pieces. All (λ piece. length piece.now
         ≤ length bytes.entry.now) pieces.items) }
+    ensures some { IfOk result (λ pieces. 0 < vec_len pieces) }
+    ensures few { IfOk result (λ pieces. vec_len pieces ≤ count) }
+    ensures long { IfOk result (λ pieces. (vec_len pieces - 1) * SMALLEST_PIECE
+        ≤ length bytes.entry.now) }
 {
     let size = bytes.len().div_ceil(count as usize).max(SMALLEST_PIECE);
     let mut pieces = Vec::new(alloc);
@@ -37,7 +41,7 @@ fn cut_behind(bytes: &[u8], least: usize) -> (&[u8], &[u8])
     requires within { least ≤ length bytes.now }
     ensures lines { lines bytes.now ≡ lines result.0.now ++ lines result.1.now }
     ensures short { length result.0.now ≤ length bytes.now }
-    ensures less { length result.1.now < length bytes.now }
+    ensures long { least + length result.1.now ≤ length bytes.now }
 {
     let feed = bytes[least - 1..]
         .iter()
@@ -93,19 +97,24 @@ mod tests {
     #[test]
     fn pieces_are_whole_lines_and_not_short(rt: HostRuntime) -> Result<(), Fail> {
         // a quarter would be shorter than the smallest piece, whose last line is the 13,108th
+        let four = lengths(rt.alloc(), 30_000, 4)?;
+        let two = lengths(rt.alloc(), 30_000, 2)?;
+        let one = lengths(rt.alloc(), 30_000, 1)?;
+        let empty = lengths(rt.alloc(), 0, 4)?;
         assert_eq!(rt;
-            lengths(rt.alloc(), 30_000, 4)?.as_slice(),
-            [65_540, 65_540, 18_920].as_slice()
+            [
+                four.as_slice(),
+                two.as_slice(),
+                one.as_slice(),
+                empty.as_slice(),
+            ],
+            [
+                [65_540, 65_540, 18_920].as_slice(),
+                [75_000, 75_000].as_slice(),
+                [150_000].as_slice(),
+                [0].as_slice(),
+            ]
         );
-        assert_eq!(rt;
-            lengths(rt.alloc(), 30_000, 2)?.as_slice(),
-            [75_000, 75_000].as_slice()
-        );
-        assert_eq!(rt;
-            lengths(rt.alloc(), 30_000, 1)?.as_slice(),
-            [150_000].as_slice()
-        );
-        assert_eq!(rt; lengths(rt.alloc(), 0, 4)?.as_slice(), [0].as_slice());
         Ok(())
     }
 }

@@ -1,10 +1,11 @@
 //! The items of an input's pieces, put together.
-ghost use Rattle.std.specs.Prelude.{ℕ, ◌≡◌, ◌<◌, ◌^◌, ◌++◌, List, length, IfOk};
+ghost use Rattle.std.specs.Prelude.{ℕ, ◌≡◌, ◌<◌, ◌^◌, List, length, IfOk};
 ghost use Rattle.kw_line.specs.Line.{AreLinesOf, IfBadLine};
 ghost use Rattle.kw_beside.specs.Pieces.{AreReadOf};
 
+use crate::joined::joined;
 use kw_line::item::{Item, LineError};
-use std::alloc::{AllocError, Global};
+use std::alloc::Global;
 
 /// The items of all pieces, one after the other, where each part is what a reader gave for a piece. The first bad line of the first piece that
 /// has one is the input's, and it is counted from the input's first line on. The items of the first piece are not copied.
@@ -30,18 +31,6 @@ pub fn together(
             Err(LineError::Memory) => return Err(LineError::Memory),
         }
     }
-    Ok(all)
-}
-
-/// The items of some pieces and then those of one more.
-fn joined(items: Vec<Item>, more: Vec<Item>) -> Result<Vec<Item>, AllocError>
-    ensures { IfOk result (λ all. all.items ≡ items.items ++ more.items) }
-{
-    if items.is_empty() {
-        return Ok(more);
-    }
-    let (mut all, mut more) = (items, more);
-    all.append(&mut more)?;
     Ok(all)
 }
 

@@ -16,7 +16,7 @@ passes_none : (mark : ℕ) (bytes : List ℕ) → HasNo mark bytes → All (λ b
 passes_none mark bytes h k d l = ne_eqb _ mark (h k d l)
 
 -- there is always a first part
-first_part : (p : ℕ → Bool) (bytes : List ℕ) → (part : List ℕ) × (parts : List (List ℕ)) × (slice_split p bytes ≡ part ∷ parts)
+pub first_part : (p : ℕ → Bool) (bytes : List ℕ) → (part : List ℕ) × (parts : List (List ℕ)) × (slice_split p bytes ≡ part ∷ parts)
 first_part p [] = ([], [], refl)
 first_part p (b ∷ bs) = let i = first_part p bs in elim (p b) as (λ t. (part : List ℕ) × (parts : List (List ℕ)) × (cond t ([] ∷ slice_split p bs) (onto_first b (slice_split p bs)) ≡ part ∷ parts)) [ true ↦ ([], slice_split p bs, refl) | false ↦ (b ∷ i.0, i.1, ap (onto_first b) i.2) ]
 

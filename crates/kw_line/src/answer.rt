@@ -102,40 +102,53 @@ mod tests {
 
     #[test]
     fn answers_a_range_by_its_form(rt: HostRuntime) -> Result<(), Fail> {
-        let (some, none) = over_three_and_none(rt.alloc(), Form::Sum)?;
-        assert_eq!(rt; (some, none), (Answer::Number(17), Answer::Number(0)));
-        let (some, none) = over_three_and_none(rt.alloc(), Form::Count)?;
-        assert_eq!(rt; (some, none), (Answer::Number(3), Answer::Number(0)));
-        let (some, none) = over_three_and_none(rt.alloc(), Form::Least)?;
-        assert_eq!(rt; (some, none), (Answer::Number(3), Answer::Nothing));
-        let (some, none) = over_three_and_none(rt.alloc(), Form::Greatest)?;
-        assert_eq!(rt; (some, none), (Answer::Number(9), Answer::Nothing));
+        let alloc = rt.alloc();
+        let answers = [
+            over_three_and_none(alloc, Form::Sum)?,
+            over_three_and_none(alloc, Form::Count)?,
+            over_three_and_none(alloc, Form::Least)?,
+            over_three_and_none(alloc, Form::Greatest)?,
+        ];
+        let want = [
+            (Answer::Number(17), Answer::Number(0)),
+            (Answer::Number(3), Answer::Number(0)),
+            (Answer::Number(3), Answer::Nothing),
+            (Answer::Number(9), Answer::Nothing),
+        ];
+        assert_eq!(rt; answers, want);
         Ok(())
     }
 
     #[test]
     fn answers_a_list_with_its_pairs(rt: HostRuntime) -> Result<(), Fail> {
-        let (some, none) = over_three_and_none(rt.alloc(), Form::List)?;
+        let answers = over_three_and_none(rt.alloc(), Form::List)?;
         let pairs = Vec::from_slice(rt.alloc(), &[(1, 5), (2, 3), (3, 9)])?;
-        assert_eq!(rt; some, Answer::Pairs(PairList::from_vec(pairs)));
-        assert_eq!(rt; none, Answer::Pairs(PairList::new(rt.alloc())));
+        let some = Answer::Pairs(PairList::from_vec(pairs));
+        let none = Answer::Pairs(PairList::new(rt.alloc()));
+        assert_eq!(rt; answers, (some, none));
         Ok(())
     }
 
     #[test]
     fn answers_one_key_and_refusals(rt: HostRuntime) -> Result<(), Fail> {
-        for form in [Form::Put, Form::Del] {
-            let done = answer_of(rt.alloc(), form, &Reply::Done)?;
-            assert_eq!(rt; done, Answer::Done);
-        }
-        let got = answer_of(rt.alloc(), Form::Get, &Reply::Value(u64::MAX))?;
-        assert_eq!(rt; got, Answer::Number(18446744073709551615));
-        let absent = answer_of(rt.alloc(), Form::Get, &Reply::Absent)?;
-        assert_eq!(rt; absent, Answer::Nothing);
-        let full = answer_of(rt.alloc(), Form::Put, &Reply::NoRows)?;
-        assert_eq!(rt; full, Answer::NoRows);
-        let spent = answer_of(rt.alloc(), Form::List, &Reply::Spent)?;
-        assert_eq!(rt; spent, Answer::Spent);
+        let alloc = rt.alloc();
+        let answers = [
+            answer_of(alloc, Form::Put, &Reply::Done)?,
+            answer_of(alloc, Form::Del, &Reply::Done)?,
+            answer_of(alloc, Form::Get, &Reply::Value(u64::MAX))?,
+            answer_of(alloc, Form::Get, &Reply::Absent)?,
+            answer_of(alloc, Form::Put, &Reply::NoRows)?,
+            answer_of(alloc, Form::List, &Reply::Spent)?,
+        ];
+        let want = [
+            Answer::Done,
+            Answer::Done,
+            Answer::Number(18446744073709551615),
+            Answer::Nothing,
+            Answer::NoRows,
+            Answer::Spent,
+        ];
+        assert_eq!(rt; answers, want);
         Ok(())
     }
 }

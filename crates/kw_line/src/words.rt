@@ -166,24 +166,32 @@ mod tests {
     // 2^63 - 1, a space, and a line feed
     #[test]
     fn the_greatest_value_and_the_marks_of_lines(rt: HostRuntime) {
-        assert_eq!(rt; MOST_VALUE, 9_223_372_036_854_775_807);
-        assert_eq!(rt; (SPACE, LINE_FEED), (32, 10));
+        assert_eq!(rt;
+            (MOST_VALUE, SPACE, LINE_FEED),
+            (9_223_372_036_854_775_807, 32, 10)
+        );
     }
 
     #[test]
     fn cuts_at_each_mark(rt: HostRuntime) {
         let mut lines = Lines::new(b"a b\r\n\nc");
-        assert_eq!(rt; lines.next(), Some(b"a b\r".as_slice()));
-        assert_eq!(rt; lines.next(), Some(b"".as_slice()));
-        assert_eq!(rt; lines.next(), Some(b"c".as_slice()));
-        assert_eq!(rt; lines.next(), None);
+        let four = [lines.next(), lines.next(), lines.next(), lines.next()];
+        let want = [
+            Some(b"a b\r".as_slice()),
+            Some(b"".as_slice()),
+            Some(b"c".as_slice()),
+            None,
+        ];
+        assert_eq!(rt; four, want);
         let mut words = Words::new(b"go  7 x ");
-        assert_eq!(rt; words.next(), Some(b"go".as_slice()));
-        assert_eq!(rt; words.next(), Some(b"".as_slice()));
-        assert_eq!(rt; words.number(), Some(7));
-        assert_eq!(rt; words.key(), None);
-        assert!(rt; !words.is_empty());
-        assert_eq!(rt; words.next(), Some(b"".as_slice()));
-        assert!(rt; words.is_empty());
+        let front = (words.next(), words.next(), words.number(), words.key());
+        let back = (words.is_empty(), words.next(), words.is_empty());
+        assert_eq!(rt;
+            (front, back),
+            (
+                (Some(b"go".as_slice()), Some(b"".as_slice()), Some(7), None),
+                (false, Some(b"".as_slice()), true)
+            )
+        );
     }
 }

@@ -10,5 +10,5 @@ loop-part-preserved c =
     let part = c.in-Some.part in
     record {
       made = All-push IsOk parts part c.loop-part.invariant.made (ap is_ok c.in_ok-text.was);
-      joined = c.in_ok-append.ensures.items ∙ (ap₂ (λ a b. a ++ b) c.loop-part.invariant.joined (ap text_in (sym c.in_ok-text.was)) ∙ flat_map_more text_in [] parts part);
+      joined = c.in_ok-all.ensures ∙ (ap₂ (λ a b. a ++ b) c.loop-part.invariant.joined (ap text_in (sym c.in_ok-text.was)) ∙ flat_map_more text_in [] parts part);
     }
