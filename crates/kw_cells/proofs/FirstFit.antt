@@ -18,7 +18,7 @@ not_above : (c d : Cell) (key : ℕ) → stands_before c d ≡ true → d.key �
 not_above c d key e k = grind (arith, nat_tests)
 
 -- of one key, a cell in front is later
-later_in_front : (c d : Cell) → stands_before c d ≡ true → c.key ≡ d.key → is_later c d ≡ true
+pub later_in_front : (c d : Cell) → stands_before c d ≡ true → c.key ≡ d.key → is_later c d ≡ true
 later_in_front c d e k = grind (arith, nat_tests)
 
 -- a cell that fits is the best of it and those behind it

@@ -137,6 +137,7 @@ pub fn next_pair(cells: &[Cell], from: u32, to: u32, version: u64) -> Option<(u3
 #[cfg(test)]
 mod tests {
     use super::*;
+    use std::process::Abort;
 
     fn put(key: u32, version: u64, place: u32, value: u64) -> Cell {
         Cell {
@@ -169,52 +170,75 @@ mod tests {
         ]
     }
 
+    // expects this best cell of the cells for each key and version
+    fn expect_best(rt: &impl Abort, cells: &[Cell], table: &[(u32, u64, Option<Cell>)]) {
+        for (key, version, want) in table {
+            let found = best(cells, *key, *version);
+            assert_eq!(rt; found, *want, "of key {key} at {version}");
+        }
+    }
+
     #[test]
     fn best_is_the_greatest_version_in_the_bound(rt: HostRuntime) {
-        assert_eq!(rt; best(&row(), 5, 1), Some(put(5, 1, 0, 51)));
-        assert_eq!(rt; best(&row(), 9, 8), Some(put(9, 8, 3, 98)));
-        assert_eq!(rt;
-            best(&row(), 9, 18446744073709551615),
-            Some(put(9, 8, 3, 98))
-        );
+        let table = [
+            (5, 1, Some(put(5, 1, 0, 51))),
+            (9, 8, Some(put(9, 8, 3, 98))),
+            (9, 18446744073709551615, Some(put(9, 8, 3, 98))),
+        ];
+        expect_best(&rt, &row(), &table);
     }
 
     #[test]
     fn best_of_one_version_has_the_greatest_place(rt: HostRuntime) {
-        assert_eq!(rt; best(&row(), 5, 2), Some(put(5, 2, 6, 52)));
-        assert_eq!(rt; best(&row(), 5, 7), Some(put(5, 2, 6, 52)));
+        let table = [
+            (5, 2, Some(put(5, 2, 6, 52))),
+            (5, 7, Some(put(5, 2, 6, 52))),
+        ];
+        expect_best(&rt, &row(), &table);
     }
 
     #[test]
     fn best_may_be_a_tombstone(rt: HostRuntime) {
-        assert_eq!(rt; best(&row(), 7, 2), Some(put(7, 1, 1, 71)));
-        assert_eq!(rt; best(&row(), 7, 3), Some(tombstone(7, 3, 5)));
+        let table = [
+            (7, 2, Some(put(7, 1, 1, 71))),
+            (7, 3, Some(tombstone(7, 3, 5))),
+        ];
+        expect_best(&rt, &row(), &table);
     }
 
     #[test]
     fn best_is_none_where_no_cell_fits(rt: HostRuntime) {
-        assert_eq!(rt; best(&row(), 6, 9), None);
-        assert_eq!(rt; best(&row(), 9, 7), None);
-        assert_eq!(rt; best(&row(), 5, 0), None);
-        assert_eq!(rt; best(&[], 5, 9), None);
+        expect_best(&rt, &row(), &[(6, 9, None), (9, 7, None), (5, 0, None)]);
+        expect_best(&rt, &[], &[(5, 9, None)]);
+    }
+
+    // expects this next pair of the row's for each range and version
+    fn expect_pairs(rt: &impl Abort, table: &[(u32, u32, u64, Option<(u32, u64)>)]) {
+        for (from, to, version, want) in table {
+            let found = next_pair(&row(), *from, *to, *version);
+            assert_eq!(rt; found, *want, "from {from} to {to} at {version}");
+        }
     }
 
     #[test]
     fn pairs_come_by_rising_key(rt: HostRuntime) {
-        assert_eq!(rt; next_pair(&row(), 0, 4294967295, 8), Some((5, 52)));
-        assert_eq!(rt; next_pair(&row(), 6, 4294967295, 8), Some((9, 98)));
-        assert_eq!(rt;
-            next_pair(&row(), 10, 4294967295, 8),
-            Some((4294967295, 9223372036854775807))
-        );
+        let table = [
+            (0, 4294967295, 8, Some((5, 52))),
+            (6, 4294967295, 8, Some((9, 98))),
+            (10, 4294967295, 8, Some((4294967295, 9223372036854775807))),
+        ];
+        expect_pairs(&rt, &table);
     }
 
     #[test]
     fn pairs_end_with_the_range(rt: HostRuntime) {
-        assert_eq!(rt; next_pair(&row(), 6, 8, 8), None);
-        assert_eq!(rt; next_pair(&row(), 6, 8, 2), Some((7, 71)));
-        assert_eq!(rt; next_pair(&row(), 0, 5, 1), Some((5, 51)));
-        assert_eq!(rt; next_pair(&row(), 0, 4, 8), None);
-        assert_eq!(rt; next_pair(&row(), 9, 5, 8), None);
+        let table = [
+            (6, 8, 8, None),
+            (6, 8, 2, Some((7, 71))),
+            (0, 5, 1, Some((5, 51))),
+            (0, 4, 8, None),
+            (9, 5, 8, None),
+        ];
+        expect_pairs(&rt, &table);
     }
 }

@@ -181,34 +181,77 @@ mod tests {
     #[test]
     fn the_first_that_fits_is_the_best(rt: HostRuntime) {
         let row = row();
-        assert_eq!(rt; first_fit(&row, 5, 9), Some(put(5, 2, 6, 52)));
-        assert_eq!(rt; first_fit(&row, 5, 1), Some(put(5, 1, 0, 51)));
-        assert_eq!(rt; first_fit(&row, 7, 3), Some(tombstone(7, 3, 5)));
-        assert_eq!(rt; first_fit(&row, 9, 7), None);
+        for (key, version, want) in [
+            (5, 9, Some(put(5, 2, 6, 52))),
+            (5, 1, Some(put(5, 1, 0, 51))),
+            (7, 3, Some(tombstone(7, 3, 5))),
+            (9, 7, None),
+        ] {
+            assert_eq!(rt;
+                first_fit(&row, key, version),
+                want,
+                "of key {key} at {version}"
+            );
+        }
+    }
+
+    // the next pair of cells up to key 9, after which the next one is asked for from the key behind it, or from the first cell on
+    // where there is none
+    fn next_to_nine(
+        cells: &[Cell],
+        at: &mut usize,
+        from: &mut u32,
+        version: u64,
+    ) -> Option<(u32, u64)>
+        requires in_order { AreInOrder cells.now }
+        requires below { AreBelow cells.now at.old from.old }
+        ensures { AreBelow cells.now at.new from.new }
+    {
+        let Some(pair) = next_in_order(cells, at, *from, 9, version) else {
+            *at = 0;
+            *from = 0;
+            return None;
+        };
+        *from = pair.0 + 1;
+        Some(pair)
     }
 
     #[test]
     fn pairs_come_in_one_pass(rt: HostRuntime) {
         let row = row();
         let mut at = 0;
-        assert_eq!(rt; next_in_order(&row, &mut at, 0, 9, 2), Some((5, 52)));
-        assert_eq!(rt; next_in_order(&row, &mut at, 6, 9, 2), Some((7, 71)));
-        assert_eq!(rt; next_in_order(&row, &mut at, 8, 9, 2), None);
-        at = 0;
-        assert_eq!(rt; next_in_order(&row, &mut at, 0, 9, 8), Some((5, 52)));
-        assert_eq!(rt; next_in_order(&row, &mut at, 6, 9, 8), Some((9, 98)));
-        assert_eq!(rt; at, 6);
+        let mut from = 0;
+        let pairs = [
+            next_to_nine(&row, &mut at, &mut from, 2),
+            next_to_nine(&row, &mut at, &mut from, 2),
+            next_to_nine(&row, &mut at, &mut from, 2),
+            next_to_nine(&row, &mut at, &mut from, 8),
+            next_to_nine(&row, &mut at, &mut from, 8),
+        ];
+        let want = [
+            Some((5, 52)),
+            Some((7, 71)),
+            None,
+            Some((5, 52)),
+            Some((9, 98)),
+        ];
+        assert_eq!(rt; (pairs, at), (want, 6));
     }
 
     #[test]
     fn a_cell_belongs_behind_those_before_it(rt: HostRuntime) {
         let row = row();
-        assert_eq!(rt; place_in(&put(5, 2, 5, 0), &row), 1);
-        assert_eq!(rt; place_in(&put(4, 1, 0, 0), &row), 0);
-        assert_eq!(rt; place_in(&put(7, 2, 0, 0), &row), 4);
-        assert_eq!(rt; place_in(&put(9, 8, 2, 0), &row), 6);
-        assert!(rt; is_behind(&put(9, 8, 2, 0), &row));
-        assert!(rt; !is_behind(&put(9, 9, 2, 0), &row));
-        assert!(rt; is_behind(&put(0, 1, 0, 0), &[]));
+        let places = [
+            place_in(&put(5, 2, 5, 0), &row),
+            place_in(&put(4, 1, 0, 0), &row),
+            place_in(&put(7, 2, 0, 0), &row),
+            place_in(&put(9, 8, 2, 0), &row),
+        ];
+        let behind = [
+            is_behind(&put(9, 8, 2, 0), &row),
+            is_behind(&put(9, 9, 2, 0), &row),
+            is_behind(&put(0, 1, 0, 0), &[]),
+        ];
+        assert_eq!(rt; (places, behind), ([1, 0, 4, 6], [true, false, true]));
     }
 }

@@ -22,8 +22,6 @@ mod tests {
     // two rows of 64 cells, a version for each of 8 seats, and the 7 rows that a rebuild makes at most
     #[test]
     fn the_room_of_a_rebuild(rt: HostRuntime) {
-        assert_eq!(rt; MOST_GATHERED, 128);
-        assert_eq!(rt; MOST_NEEDED, 8);
-        assert_eq!(rt; MOST_STARTS, 7);
+        assert_eq!(rt; [MOST_GATHERED, MOST_NEEDED, MOST_STARTS], [128, 8, 7]);
     }
 }

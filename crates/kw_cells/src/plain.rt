@@ -93,16 +93,36 @@ impl Plain {
 #[cfg(test)]
 mod tests {
     use super::*;
+    use std::process::Abort;
     use std::test::Fail;
+
+    // expects these values of keys
+    fn expect_values(rt: &impl Abort, plain: &Plain, table: &[(u32, Option<u64>)]) {
+        for (key, want) in table {
+            assert_eq!(rt; plain.get(*key), *want, "of key {key}");
+        }
+    }
+
+    // expects these pairs from one key to another
+    fn expect_pairs(
+        rt: &impl Abort,
+        plain: &mut Plain,
+        from: u32,
+        to: u32,
+        want: &[(u32, u64)],
+    ) -> Result<(), Memory> {
+        let found = plain.scan(from, to)?;
+        assert_eq!(rt; found.pairs(), want, "from {from} to {to}");
+        Ok(())
+    }
 
     #[test]
     fn shows_what_was_put(rt: HostRuntime) -> Result<(), Fail> {
         let mut plain = Plain::new(rt.alloc());
         plain.put(5, Some(50))?;
-        assert_eq!(rt; plain.get(5), Some(50));
-        assert_eq!(rt; plain.scan(0, 9)?.pairs(), [(5, 50)].as_slice());
-        assert_eq!(rt; plain.get(7), None);
-        assert_eq!(rt; plain.scan(3, 2)?.pairs(), [].as_slice());
+        expect_values(&rt, &plain, &[(5, Some(50)), (7, None)]);
+        expect_pairs(&rt, &mut plain, 0, 9, &[(5, 50)])?;
+        expect_pairs(&rt, &mut plain, 3, 2, &[])?;
         Ok(())
     }
 
@@ -111,10 +131,9 @@ mod tests {
         let mut plain = Plain::new(rt.alloc());
         plain.put(4294967295, Some(9223372036854775807))?;
         plain.put(0, Some(9223372036854775807))?;
-        let pairs = plain.scan(0, 4294967295)?;
         let both = [(0, 9223372036854775807), (4294967295, 9223372036854775807)];
-        assert_eq!(rt; pairs.pairs(), both.as_slice());
-        assert_eq!(rt; plain.scan(1, 4294967294)?.pairs(), [].as_slice());
+        expect_pairs(&rt, &mut plain, 0, 4294967295, &both)?;
+        expect_pairs(&rt, &mut plain, 1, 4294967294, &[])?;
         Ok(())
     }
 
@@ -124,8 +143,8 @@ mod tests {
         for value in 1..201 {
             plain.put(7, Some(value))?;
         }
-        assert_eq!(rt; plain.get(7), Some(200));
-        assert_eq!(rt; plain.scan(7, 7)?.pairs(), [(7, 200)].as_slice());
+        expect_values(&rt, &plain, &[(7, Some(200))]);
+        expect_pairs(&rt, &mut plain, 7, 7, &[(7, 200)])?;
         Ok(())
     }
 
@@ -135,10 +154,10 @@ mod tests {
         plain.put(5, Some(1))?;
         plain.put(6, Some(2))?;
         plain.put(5, None)?;
-        assert_eq!(rt; plain.get(5), None);
-        assert_eq!(rt; plain.scan(0, 9)?.pairs(), [(6, 2)].as_slice());
+        expect_values(&rt, &plain, &[(5, None)]);
+        expect_pairs(&rt, &mut plain, 0, 9, &[(6, 2)])?;
         plain.put(5, Some(3))?;
-        assert_eq!(rt; plain.get(5), Some(3));
+        expect_values(&rt, &plain, &[(5, Some(3))]);
         Ok(())
     }
 }

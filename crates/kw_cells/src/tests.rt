@@ -6,10 +6,11 @@ ghost use Rattle.std.specs.Prelude.{◌<◌, IsTrue};
 ghost use Rattle.kw_cells.specs.Cells.{AreApart};
 
 use crate::cell::Cell;
-use crate::keep::{Kept, keep};
+use crate::keep::keep;
 use crate::limits::{MOST_GATHERED, MOST_NEEDED};
-use crate::pack::{RowCuts, pack_rows};
+use crate::pack::pack_rows;
 use kw_words::sizes::BUILT;
+use std::process::Abort;
 use std::test::Fail;
 
 fn put(key: u32, version: u64, place: u32) -> Cell {
@@ -46,15 +47,24 @@ fn are_apart(cells: &[Cell]) -> bool
     })
 }
 
-fn kept_of(cells: &[Cell], needed: &[u64]) -> Result<Kept, Fail> {
+// expects that these are kept of the cells for the needed versions
+fn expect_kept(rt: &impl Abort, cells: &[Cell], needed: &[u64], want: &[Cell]) -> Result<(), Fail> {
     if cells.len() > MOST_GATHERED || !are_apart(cells) {
         return Err("no row has these cells")?;
     }
-    Ok(keep(cells, needed))
+    let kept = keep(cells, needed);
+    assert_eq!(rt; kept.as_slice(), want, "for {needed:?}");
+    Ok(())
 }
 
-// where the rows start of what is kept of these cells, which is so many
-fn starts_of(cells: &[Cell], needed: &[u64], count: usize) -> Result<RowCuts, Fail> {
+// expects where the rows start of what is kept of these cells, which is so many
+fn expect_starts(
+    rt: &impl Abort,
+    cells: &[Cell],
+    needed: &[u64],
+    count: usize,
+    want: &[usize],
+) -> Result<(), Fail> {
     if cells.len() > MOST_GATHERED || !are_apart(cells) || needed.len() >= BUILT {
         return Err("no row has these cells")?;
     }
@@ -62,32 +72,31 @@ fn starts_of(cells: &[Cell], needed: &[u64], count: usize) -> Result<RowCuts, Fa
     if kept.len() != count {
         return Err("another number of cells is kept")?;
     }
-    Ok(pack_rows(&kept))
+    let starts = pack_rows(&kept);
+    assert_eq!(rt; starts.as_slice(), want, "of {count} cells");
+    Ok(())
 }
 
 #[test]
 fn of_no_cells_none_is_kept(rt: HostRuntime) -> Result<(), Fail> {
-    assert_eq!(rt; kept_of(&[], &[1, 2])?.as_slice(), [].as_slice());
-    Ok(())
+    expect_kept(&rt, &[], &[1, 2], &[])
 }
 
 #[test]
 fn a_tombstone_alone_is_not_kept(rt: HostRuntime) -> Result<(), Fail> {
     let cells = [tombstone(5, 3, 0)];
-    assert_eq!(rt; kept_of(&cells, &[])?.as_slice(), [].as_slice());
-    assert_eq!(rt; kept_of(&cells, &[1, 3, 9])?.as_slice(), [].as_slice());
-    Ok(())
+    expect_kept(&rt, &cells, &[], &[])?;
+    expect_kept(&rt, &cells, &[1, 3, 9], &[])
 }
 
 #[test]
 fn a_tombstone_above_an_older_kept_cell_is_kept(rt: HostRuntime) -> Result<(), Fail> {
     let cells = [tombstone(5, 4, 1), put(5, 1, 0)];
     let both = [put(5, 1, 0), tombstone(5, 4, 1)];
-    assert_eq!(rt; kept_of(&cells, &[2])?.as_slice(), both.as_slice());
+    expect_kept(&rt, &cells, &[2], &both)?;
     // without a scan between them nobody asks for the older one, and then the tombstone hides nothing
-    assert_eq!(rt; kept_of(&cells, &[])?.as_slice(), [].as_slice());
-    assert_eq!(rt; kept_of(&cells, &[4])?.as_slice(), [].as_slice());
-    Ok(())
+    expect_kept(&rt, &cells, &[], &[])?;
+    expect_kept(&rt, &cells, &[4], &[])
 }
 
 #[test]
@@ -99,9 +108,8 @@ fn tombstones_below_all_values_go_and_others_stay(rt: HostRuntime) -> Result<(),
         tombstone(5, 8, 3),
     ];
     let late = [put(5, 6, 2), tombstone(5, 8, 3)];
-    assert_eq!(rt; kept_of(&cells, &[3, 5, 7])?.as_slice(), late.as_slice());
-    assert_eq!(rt; kept_of(&cells, &[3, 5])?.as_slice(), [].as_slice());
-    Ok(())
+    expect_kept(&rt, &cells, &[3, 5, 7], &late)?;
+    expect_kept(&rt, &cells, &[3, 5], &[])
 }
 
 #[test]
@@ -110,32 +118,28 @@ fn each_needed_version_keeps_its_best_cell(rt: HostRuntime) -> Result<(), Fail> 
     for place in 0..20 {
         cells[place] = put(7, place as u64 + 1, place as u32);
     }
-    let needed = [2, 4, 6, 8, 10, 12, 14, 16];
-    assert_eq!(rt; needed.len(), MOST_NEEDED);
-    let kept = kept_of(&cells, &needed)?;
+    // as many versions as there may be
+    let needed: [u64; MOST_NEEDED] = [2, 4, 6, 8, 10, 12, 14, 16];
     let best = [
         cells[1], cells[3], cells[5], cells[7], cells[9], cells[11], cells[13], cells[15],
         cells[19],
     ];
-    assert_eq!(rt; kept.as_slice(), best.as_slice());
-    Ok(())
+    expect_kept(&rt, &cells, &needed, &best)
 }
 
 #[test]
 fn of_one_key_and_version_the_greatest_place_is_kept(rt: HostRuntime) -> Result<(), Fail> {
     let cells = [put(5, 2, 4), put(5, 2, 6), put(5, 2, 1)];
     let last = [put(5, 2, 6)];
-    assert_eq!(rt; kept_of(&cells, &[])?.as_slice(), last.as_slice());
-    assert_eq!(rt; kept_of(&cells, &[2])?.as_slice(), last.as_slice());
-    Ok(())
+    expect_kept(&rt, &cells, &[], &last)?;
+    expect_kept(&rt, &cells, &[2], &last)
 }
 
 #[test]
 fn a_cell_given_twice_is_kept_once(rt: HostRuntime) -> Result<(), Fail> {
     let cells = [put(7, 1, 3), put(5, 2, 6), put(5, 2, 6)];
     let once = [put(5, 2, 6), put(7, 1, 3)];
-    assert_eq!(rt; kept_of(&cells, &[2])?.as_slice(), once.as_slice());
-    Ok(())
+    expect_kept(&rt, &cells, &[2], &once)
 }
 
 #[test]
@@ -146,8 +150,7 @@ fn of_so_many_keys_each_is_kept_in_order(rt: HostRuntime) -> Result<(), Fail> {
         cells[place] = put((MOST_GATHERED - place) as u32, 3, 1);
         rising[place] = put(place as u32 + 1, 3, 1);
     }
-    assert_eq!(rt; kept_of(&cells, &[1, 5])?.as_slice(), rising.as_slice());
-    Ok(())
+    expect_kept(&rt, &cells, &[1, 5], &rising)
 }
 
 #[test]
@@ -157,10 +160,8 @@ fn of_one_key_few_cells_are_kept(rt: HostRuntime) -> Result<(), Fail> {
         cells[place] = put(9, (MOST_GATHERED - place) as u64, 1);
     }
     let few = [put(9, 1, 1), put(9, 64, 1), put(9, 128, 1)];
-    assert_eq!(rt; kept_of(&cells, &[64, 1])?.as_slice(), few.as_slice());
-    let newest = [put(9, 128, 1)];
-    assert_eq!(rt; kept_of(&cells, &[])?.as_slice(), newest.as_slice());
-    Ok(())
+    expect_kept(&rt, &cells, &[64, 1], &few)?;
+    expect_kept(&rt, &cells, &[], &[put(9, 128, 1)])
 }
 
 // so many keys of one cell each
@@ -176,20 +177,14 @@ fn keys<const N: usize>() -> [Cell; N]
 
 #[test]
 fn no_cells_have_one_row(rt: HostRuntime) -> Result<(), Fail> {
-    assert_eq!(rt; starts_of(&[], &[], 0)?.as_slice(), [0].as_slice());
-    Ok(())
+    expect_starts(&rt, &[], &[], 0, &[0])
 }
 
 #[test]
 fn a_row_is_filled_before_the_next_starts(rt: HostRuntime) -> Result<(), Fail> {
-    let full = keys::<BUILT>();
-    assert_eq!(rt; starts_of(&full, &[], 32)?.as_slice(), [0].as_slice());
-    let more = keys::<33>();
-    assert_eq!(rt; starts_of(&more, &[], 33)?.as_slice(), [0, 32].as_slice());
-    let most = keys::<MOST_GATHERED>();
-    let starts = [0, 32, 64, 96];
-    assert_eq!(rt; starts_of(&most, &[], 128)?.as_slice(), starts.as_slice());
-    Ok(())
+    expect_starts(&rt, &keys::<BUILT>(), &[], 32, &[0])?;
+    expect_starts(&rt, &keys::<33>(), &[], 33, &[0, 32])?;
+    expect_starts(&rt, &keys::<MOST_GATHERED>(), &[], 128, &[0, 32, 64, 96])
 }
 
 #[test]
@@ -197,11 +192,10 @@ fn a_row_ends_before_a_key_that_does_not_fit(rt: HostRuntime) -> Result<(), Fail
     // the last key has a second cell
     let mut cells = keys::<33>();
     cells[32] = put(31, 2, 40);
-    assert_eq!(rt; starts_of(&cells, &[1], 33)?.as_slice(), [0, 31].as_slice());
+    expect_starts(&rt, &cells, &[1], 33, &[0, 31])?;
     // with one key fewer it fits
     cells[0] = put(31, 2, 40);
-    assert_eq!(rt; starts_of(&cells, &[1], 32)?.as_slice(), [0].as_slice());
-    Ok(())
+    expect_starts(&rt, &cells, &[1], 32, &[0])
 }
 
 #[test]
@@ -219,7 +213,5 @@ fn seven_rows_are_the_most(rt: HostRuntime) -> Result<(), Fail> {
             version => put(key as u32 + 1, version as u64, 0),
         };
     }
-    let starts = starts_of(&cells, &needed, 100)?;
-    assert_eq!(rt; starts.as_slice(), [0, 1, 33, 34, 66, 67, 99].as_slice());
-    Ok(())
+    expect_starts(&rt, &cells, &needed, 100, &[0, 1, 33, 34, 66, 67, 99])
 }

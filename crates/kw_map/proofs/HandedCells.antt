@@ -3,10 +3,11 @@ use Rattle.std.proofs.Common.{ℕ, zero, suc, Bool, true, false, ◌≡◌, ◌�
 use Rattle.std.proofs.lemmas.Bool.{cases_lt}
 use Rattle.std.proofs.lemmas.Bool.Decides.{nat_tests}
 use Rattle.kw_cells.specs.declared.cell.Cell.{Cell}
-use Rattle.kw_cells.specs.Cells.{is_later, fits, best_of, value_in, shown_at, pairs_of}
+use Rattle.kw_cells.specs.Cells.{fits, best_of, value_in, shown_at, pairs_of}
 use Rattle.kw_cells.specs.InOrder.{stands_before}
 use Rattle.kw_cells.specs.Pairs.{Pairs, with_shown, pairs_along, pairs_between}
 use Rattle.kw_cells.proofs.Best.{pick, offered, best_of-cons, best_of-append, best_is}
+use Rattle.kw_cells.proofs.FirstFit.{later_in_front}
 use Rattle.kw_cells.proofs.Ranges.{pairs_between-none}
 use Rattle.kw_map.specs.Handing.{IsSettled, next_low, pair_with, more_of}
 
@@ -48,10 +49,6 @@ best_before : (c : Cell) (cells : List Cell) (key version : ℕ) (b : Cell) → 
 best_before c cells key version b a e =
     let i = best_is cells key version b e in
     (i.of_key, subst (λ (x : Cell). stands_before x c ≡ true) i.among.2 (a i.among.0 b i.among.1))
-
--- of one key, a cell in front is later
-later_in_front : (b c : Cell) → stands_before b c ≡ true → b.key ≡ c.key → is_later b c ≡ true
-later_in_front b c e k = grind (arith, nat_tests)
 
 -- the best cell of a key stays the best
 best_stays : (c : Cell) (cells : List Cell) (key version : ℕ) (b : Cell) → All (λ d. stands_before d c ≡ true) cells → best_of cells key version ≡ Some b → best_of (cells ++ c ∷ []) key version ≡ Some b
