@@ -8,6 +8,7 @@ use crate::{
 use std::alloc::{AllocError, Global};
 use std::io;
 use std::io::{ErrorKind, Read, Write};
+use std::process::Abort;
 use std::test::Fail;
 
 /// Enough for every input here.
@@ -20,6 +21,22 @@ fn source(alloc: Global, text: &[u8], fails: &[u32]) -> Result<MemSource, AllocE
     ))
 }
 
+// expects these bytes of all that a source has left, or this error
+fn expect_all(
+    rt: &impl Abort,
+    alloc: Global,
+    source: &mut MemSource,
+    limit: u32,
+    want: Result<&[u8], ReadError>,
+) {
+    let read = read_all(alloc, source, limit);
+    let found = match &read {
+        Ok(bytes) => Ok(bytes.as_slice()),
+        Err(error) => Err(*error),
+    };
+    assert_eq!(rt; found, want, "with a limit of {limit}");
+}
+
 #[test]
 fn the_length_of_a_piece(rt: HostRuntime) {
     assert_eq!(rt; PIECE, 4096);
@@ -28,48 +45,46 @@ fn the_length_of_a_piece(rt: HostRuntime) {
 #[test]
 fn a_failed_read_takes_nothing(rt: HostRuntime) -> Result<(), Fail> {
     let mut source = source(rt.alloc(), b"get 5\n", &[0, 2])?;
-    assert_eq!(rt;
-        read_all(rt.alloc(), &mut source, AMPLE).err(),
-        Some(ReadError::Fault)
-    );
+    expect_all(&rt, rt.alloc(), &mut source, AMPLE, Err(ReadError::Fault));
     let mut piece = [0u8; 4];
-    assert_eq!(rt; source.read(&mut piece), Ok(4));
-    assert_eq!(rt; piece.as_slice(), b"get ".as_slice());
-    assert_eq!(rt; source.read(&mut piece), Err(Failed));
-    let rest = read_all(rt.alloc(), &mut source, AMPLE)?;
-    assert_eq!(rt; rest.as_slice(), b"5\n".as_slice());
+    let first = source.read(&mut piece);
+    let given = piece;
+    let second = source.read(&mut piece);
+    assert_eq!(rt; (first, given, second), (Ok(4), *b"get ", Err(Failed)));
+    expect_all(&rt, rt.alloc(), &mut source, AMPLE, Ok(b"5\n"));
     Ok(())
 }
 
 #[test]
 fn a_fault_after_the_last_byte_is_a_fault(rt: HostRuntime) -> Result<(), Fail> {
     let mut source = source(rt.alloc(), b"get 5\n", &[1])?;
-    assert_eq!(rt;
-        read_all(rt.alloc(), &mut source, AMPLE).err(),
-        Some(ReadError::Fault)
-    );
-    let rest = read_all(rt.alloc(), &mut source, AMPLE)?;
-    assert_eq!(rt; rest.len(), 0);
+    expect_all(&rt, rt.alloc(), &mut source, AMPLE, Err(ReadError::Fault));
+    expect_all(&rt, rt.alloc(), &mut source, AMPLE, Ok(b""));
     Ok(())
 }
 
 #[test]
 fn the_limit_itself_is_not_too_long(rt: HostRuntime) -> Result<(), Fail> {
     let text = vec![in rt.alloc(); 7u8; 5000]?;
-    let whole = read_all(rt.alloc(), &mut source(rt.alloc(), &text, &[])?, 5000)?;
-    assert_eq!(rt; whole.as_slice(), text.as_slice());
-    let short = read_all(rt.alloc(), &mut source(rt.alloc(), &text, &[])?, 4999);
-    assert_eq!(rt; short.err(), Some(ReadError::Long));
-    let none = read_all(rt.alloc(), &mut source(rt.alloc(), b"", &[])?, 0)?;
-    assert_eq!(rt; none.len(), 0);
+    for (text, limit, want) in [
+        (text.as_slice(), 5000, Ok(text.as_slice())),
+        (text.as_slice(), 4999, Err(ReadError::Long)),
+        (b"", 0, Ok(b"")),
+    ] {
+        let mut source = source(rt.alloc(), text, &[])?;
+        expect_all(&rt, rt.alloc(), &mut source, limit, want);
+    }
     Ok(())
 }
 
 #[test]
 fn a_full_sink_holds_a_prefix(rt: HostRuntime) -> Result<(), Fail> {
     let mut sink = MemSink::new(rt.alloc(), 4, Vec::new(rt.alloc()))?;
-    assert_eq!(rt; write_all(&mut sink, b"ok\n50\n50\n"), Err(WriteFault));
-    assert_eq!(rt; sink.written(), b"ok\n5".as_slice());
+    let write = write_all(&mut sink, b"ok\n50\n50\n");
+    assert_eq!(rt;
+        (write, sink.written()),
+        (Err(WriteFault), b"ok\n5".as_slice())
+    );
     Ok(())
 }
 
@@ -77,10 +92,13 @@ fn a_full_sink_holds_a_prefix(rt: HostRuntime) -> Result<(), Fail> {
 fn a_failed_write_can_be_tried_again(rt: HostRuntime) -> Result<(), Fail> {
     let fails = Vec::from_slice(rt.alloc(), &[1u32])?;
     let mut sink = MemSink::new(rt.alloc(), 10, fails)?;
-    assert_eq!(rt; write_all(&mut sink, b"ok\n"), Ok(()));
-    assert_eq!(rt; sink.write(b"50\n"), Err(Failed));
-    assert_eq!(rt; write_all(&mut sink, b"50\n"), Ok(()));
-    assert_eq!(rt; sink.written(), b"ok\n50\n".as_slice());
+    write_all(&mut sink, b"ok\n")?;
+    let failed = sink.write(b"50\n");
+    write_all(&mut sink, b"50\n")?;
+    assert_eq!(rt;
+        (failed, sink.written()),
+        (Err(Failed), b"ok\n50\n".as_slice())
+    );
     Ok(())
 }
 
@@ -107,20 +125,17 @@ impl Write for Broken {
 #[test]
 fn a_broken_device_is_counted(rt: HostRuntime) {
     let mut faults = u64::MAX - 2;
-    assert_eq!(rt;
-        read_counted(&mut Broken, &mut [0u8; 4], &mut faults),
-        Err(Failed)
-    );
-    assert_eq!(rt; faults, u64::MAX - 1);
-    assert_eq!(rt;
+    let read = read_counted(&mut Broken, &mut [0u8; 4], &mut faults);
+    let after_read = faults;
+    let moved = [
+        read,
         write_counted(&mut Broken, b"ok\n", &mut faults),
-        Err(Failed)
-    );
-    assert_eq!(rt;
         write_counted(&mut Broken, b"ok\n", &mut faults),
-        Err(Failed)
+    ];
+    assert_eq!(rt;
+        (moved, after_read, faults),
+        ([Err(Failed); 3], u64::MAX - 1, u64::MAX)
     );
-    assert_eq!(rt; faults, u64::MAX);
 }
 
 #[test]
@@ -128,14 +143,17 @@ fn a_sound_device_moves_bytes_and_counts_nothing(rt: HostRuntime) -> Result<(), 
     let mut faults = 7;
     let mut device = b"get 5\n".as_slice();
     let mut piece = [0u8; 4];
-    assert_eq!(rt; read_counted(&mut device, &mut piece, &mut faults), Ok(4));
-    assert_eq!(rt; piece.as_slice(), b"get ".as_slice());
-    assert_eq!(rt; read_counted(&mut device, &mut piece, &mut faults), Ok(2));
-    assert_eq!(rt; read_counted(&mut device, &mut piece, &mut faults), Ok(0));
+    let first = read_counted(&mut device, &mut piece, &mut faults);
+    let given = piece;
     let mut written = Vec::new(rt.alloc());
-    assert_eq!(rt; write_counted(&mut written, b"ok\n", &mut faults), Ok(3));
-    assert_eq!(rt; written.as_slice(), b"ok\n".as_slice());
-    assert_eq!(rt; faults, 7);
+    let moved = [
+        first,
+        read_counted(&mut device, &mut piece, &mut faults),
+        read_counted(&mut device, &mut piece, &mut faults),
+        write_counted(&mut written, b"ok\n", &mut faults),
+    ];
+    assert_eq!(rt; (moved, faults), ([Ok(4), Ok(2), Ok(0), Ok(3)], 7));
+    assert_eq!(rt; (given, written.as_slice()), (*b"get ", b"ok\n".as_slice()));
     Ok(())
 }
 

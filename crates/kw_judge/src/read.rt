@@ -182,6 +182,15 @@ mod tests {
         Ok(())
     }
 
+    // Expects that this is the first bad line of the bytes.
+    fn expect_bad(rt: &impl Abort, alloc: Global, bytes: &[u8], line: u32) {
+        assert_eq!(rt;
+            read_record(alloc, bytes).err(),
+            Some(RecordError::Bad { line }),
+            "in {bytes:?}"
+        );
+    }
+
     #[test]
     fn an_order_is_judged_by_its_positions(rt: HostRuntime) -> Result<(), Fail> {
         let table = [
@@ -307,11 +316,7 @@ mod tests {
             (b"order none\r\n", 1),
         ];
         for (bytes, line) in table {
-            assert_eq!(rt;
-                read_record(rt.alloc(), bytes).err(),
-                Some(RecordError::Bad { line }),
-                "in {bytes:?}"
-            );
+            expect_bad(&rt, rt.alloc(), bytes, line);
         }
         Ok(())
     }
@@ -323,11 +328,16 @@ mod tests {
             done 2.1 4 5 scan 9 0: empty\ndone 2.2 6 7 scan 1 2: stopped\n\
             open 3.1 8 del 7\norder 0.1 0.1 9.9\n";
         let written = read_record(rt.alloc(), bytes)?;
-        assert_eq!(rt; written.done().len(), 5);
-        assert_eq!(rt; written.open_calls().len(), 1);
-        assert_eq!(rt; written.order().len(), 3);
+        let counts = [
+            written.done().len(),
+            written.open_calls().len(),
+            written.order().len(),
+        ];
         let last = written.done().get(2).ok_or("no third line")?;
-        assert_eq!(rt; (last.name.seat, last.name.number), (15, 100_000));
+        assert_eq!(rt;
+            (counts, last.name.seat, last.name.number),
+            ([5, 1, 3], 15, 100_000)
+        );
         let told = judge(rt.alloc(), &written)?;
         let name = Name { seat: 0, number: 1 };
         assert_eq!(rt; told, Verdict::Twice(name));
@@ -352,13 +362,9 @@ mod tests {
     fn a_record_has_so_many_lines_at_most(rt: HostRuntime) -> Result<(), Fail> {
         let mut most = of_puts(rt.alloc(), 100_000)?;
         most.extend_from_slice(b"order none\n")?;
-        let told = verdict_on(rt.alloc(), &most)?;
-        assert_eq!(rt; told.as_slice(), b"no: missing 1.1\n".as_slice());
+        expect(&rt, rt.alloc(), &[(&most, b"no: missing 1.1\n")])?;
         let more = of_puts(rt.alloc(), 100_001)?;
-        assert_eq!(rt;
-            read_record(rt.alloc(), &more).err(),
-            Some(RecordError::Bad { line: 100_001 })
-        );
+        expect_bad(&rt, rt.alloc(), &more, 100_001);
         Ok(())
     }
 }

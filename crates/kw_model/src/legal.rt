@@ -56,10 +56,27 @@ fn may_refuse(call: &Call, reply: &Reply) -> bool
 mod tests {
     use super::*;
     use crate::pair_list::PairList;
+    use std::process::Abort;
     use std::test::Fail;
 
-    // a key is put, deleted twice and asked for, and all keys are scanned, where the get had this reply
-    fn is_legal_with(alloc: Global, got: Reply) -> Result<bool, Memory> {
+    // expects of the replies to these calls that they are legal, or that they are not
+    fn expect(
+        rt: &impl Abort,
+        alloc: Global,
+        calls: &[Call],
+        replies: &[Reply],
+        want: bool,
+    ) -> Result<(), Memory>
+        requires { length calls.now ≡ length replies.now }
+    {
+        let legal = is_legal(alloc, calls, replies)?;
+        assert_eq!(rt; legal, want, "of {replies:?}");
+        Ok(())
+    }
+
+    // a key is put, deleted twice and asked for, and all keys are scanned
+    #[test]
+    fn knows_a_deleted_key(rt: HostRuntime) -> Result<(), Fail> {
         let calls = [
             Call::Put(5, 1),
             Call::Del(5),
@@ -67,20 +84,16 @@ mod tests {
             Call::Get(5),
             Call::Scan(0, 9),
         ];
-        let replies = [
-            Reply::Done,
-            Reply::Done,
-            Reply::Done,
-            got,
-            Reply::Pairs(PairList::new(alloc)),
-        ];
-        is_legal(alloc, &calls, &replies)
-    }
-
-    #[test]
-    fn knows_a_deleted_key(rt: HostRuntime) -> Result<(), Fail> {
-        assert_eq!(rt; is_legal_with(rt.alloc(), Reply::Absent), Ok(true));
-        assert_eq!(rt; is_legal_with(rt.alloc(), Reply::Value(1)), Ok(false));
+        for (got, want) in [(Reply::Absent, true), (Reply::Value(1), false)] {
+            let replies = [
+                Reply::Done,
+                Reply::Done,
+                Reply::Done,
+                got,
+                Reply::Pairs(PairList::new(rt.alloc())),
+            ];
+            expect(&rt, rt.alloc(), &calls, &replies, want)?;
+        }
         Ok(())
     }
 
@@ -88,11 +101,11 @@ mod tests {
     fn allows_refusals_in_their_place(rt: HostRuntime) -> Result<(), Fail> {
         let calls = [Call::Put(5, 1), Call::Get(5), Call::Scan(0, 9)];
         let refused = [Reply::NoRows, Reply::Absent, Reply::Stopped];
-        assert_eq!(rt; is_legal(rt.alloc(), &calls, &refused), Ok(true));
+        expect(&rt, rt.alloc(), &calls, &refused, true)?;
         let stopped = [Reply::Stopped, Reply::Absent, Reply::Stopped];
-        assert_eq!(rt; is_legal(rt.alloc(), &calls, &stopped), Ok(false));
+        expect(&rt, rt.alloc(), &calls, &stopped, false)?;
         let stored = [Reply::NoRows, Reply::Value(1), Reply::Spent];
-        assert_eq!(rt; is_legal(rt.alloc(), &calls, &stored), Ok(false));
+        expect(&rt, rt.alloc(), &calls, &stored, false)?;
         Ok(())
     }
 
@@ -100,31 +113,30 @@ mod tests {
     fn tells_orders_apart(rt: HostRuntime) -> Result<(), Fail> {
         let first = Call::Put(5, 10);
         let second = Call::Put(5, 20);
-        let got = || [Reply::Done, Reply::Done, Reply::Value(20)];
+        let got = [Reply::Done, Reply::Done, Reply::Value(20)];
         let later_last = [first, second, Call::Get(5)];
-        assert_eq!(rt; is_legal(rt.alloc(), &later_last, &got()), Ok(true));
+        expect(&rt, rt.alloc(), &later_last, &got, true)?;
         let later_first = [second, first, Call::Get(5)];
-        assert_eq!(rt; is_legal(rt.alloc(), &later_first, &got()), Ok(false));
+        expect(&rt, rt.alloc(), &later_first, &got, false)?;
         Ok(())
     }
 
-    // one put between two scans, where the scans gave these pairs
-    fn is_legal_around(alloc: Global, before: PairList, after: PairList) -> Result<bool, Memory> {
-        let calls = [Call::Scan(0, 9), Call::Put(5, 10), Call::Scan(0, 9)];
-        let replies = [Reply::Pairs(before), Reply::Done, Reply::Pairs(after)];
-        is_legal(alloc, &calls, &replies)
-    }
-
+    // one put between two scans, where one of the scans gave a pair
     #[test]
     fn compares_the_pairs_of_a_scan(rt: HostRuntime) -> Result<(), Fail> {
-        let mut one = PairList::new(rt.alloc());
-        one.push(5, 10)?;
-        let legal = is_legal_around(rt.alloc(), PairList::new(rt.alloc()), one);
-        assert_eq!(rt; legal, Ok(true));
-        let mut early = PairList::new(rt.alloc());
-        early.push(5, 10)?;
-        let late = is_legal_around(rt.alloc(), early, PairList::new(rt.alloc()));
-        assert_eq!(rt; late, Ok(false));
+        let calls = [Call::Scan(0, 9), Call::Put(5, 10), Call::Scan(0, 9)];
+        for late in [true, false] {
+            let none = Reply::Pairs(PairList::new(rt.alloc()));
+            let mut pair = PairList::new(rt.alloc());
+            pair.push(5, 10)?;
+            let one = Reply::Pairs(pair);
+            let replies = if late {
+                [none, Reply::Done, one]
+            } else {
+                [one, Reply::Done, none]
+            };
+            expect(&rt, rt.alloc(), &calls, &replies, late)?;
+        }
         Ok(())
     }
 }

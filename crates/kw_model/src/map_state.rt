@@ -85,39 +85,46 @@ impl MapState {
 #[cfg(test)]
 mod tests {
     use super::*;
+    use std::process::Abort;
     use std::test::Fail;
 
-    #[test]
-    fn answers_each_call(rt: HostRuntime) -> Result<(), Fail> {
-        let mut map = MapState::new(rt.alloc());
-        assert_eq!(rt; map.apply(&Call::Put(7, 70)), Ok(Reply::Done));
-        assert_eq!(rt; map.apply(&Call::Put(5, 50)), Ok(Reply::Done));
-        assert_eq!(rt; map.apply(&Call::Put(7, 71)), Ok(Reply::Done));
-        assert_eq!(rt; map.apply(&Call::Get(7)), Ok(Reply::Value(71)));
-        let mut both = PairList::new(rt.alloc());
-        both.push(5, 50)?;
-        both.push(7, 71)?;
-        assert_eq!(rt; map.apply(&Call::Scan(5, 7)), Ok(Reply::Pairs(both)));
-        assert_eq!(rt;
-            map.apply(&Call::Scan(8, 4)),
-            Ok(Reply::Pairs(PairList::new(rt.alloc())))
-        );
-        assert_eq!(rt; map.apply(&Call::Del(7)), Ok(Reply::Done));
-        assert_eq!(rt; map.apply(&Call::Get(7)), Ok(Reply::Absent));
+    // expects these replies of an empty map to these calls, one after the other
+    fn expect(rt: &impl Abort, alloc: Global, table: &[(Call, Reply)]) -> Result<(), Memory> {
+        let mut map = MapState::new(alloc);
+        for (call, want) in table {
+            let reply = map.apply(call)?;
+            assert_eq!(rt; reply, *want, "to {call:?}");
+        }
         Ok(())
     }
 
     #[test]
+    fn answers_each_call(rt: HostRuntime) -> Result<(), Fail> {
+        let mut both = PairList::new(rt.alloc());
+        both.push(5, 50)?;
+        both.push(7, 71)?;
+        let table = [
+            (Call::Put(7, 70), Reply::Done),
+            (Call::Put(5, 50), Reply::Done),
+            (Call::Put(7, 71), Reply::Done),
+            (Call::Get(7), Reply::Value(71)),
+            (Call::Scan(5, 7), Reply::Pairs(both)),
+            (Call::Scan(8, 4), Reply::Pairs(PairList::new(rt.alloc()))),
+            (Call::Del(7), Reply::Done),
+            (Call::Get(7), Reply::Absent),
+        ];
+        Ok(expect(&rt, rt.alloc(), &table)?)
+    }
+
+    #[test]
     fn a_key_may_be_deleted_twice(rt: HostRuntime) -> Result<(), Fail> {
-        let mut map = MapState::new(rt.alloc());
-        assert_eq!(rt; map.apply(&Call::Put(5, 1)), Ok(Reply::Done));
-        assert_eq!(rt; map.apply(&Call::Del(5)), Ok(Reply::Done));
-        assert_eq!(rt; map.apply(&Call::Del(5)), Ok(Reply::Done));
-        assert_eq!(rt; map.apply(&Call::Get(5)), Ok(Reply::Absent));
-        assert_eq!(rt;
-            map.apply(&Call::Scan(0, 9)),
-            Ok(Reply::Pairs(PairList::new(rt.alloc())))
-        );
-        Ok(())
+        let table = [
+            (Call::Put(5, 1), Reply::Done),
+            (Call::Del(5), Reply::Done),
+            (Call::Del(5), Reply::Done),
+            (Call::Get(5), Reply::Absent),
+            (Call::Scan(0, 9), Reply::Pairs(PairList::new(rt.alloc()))),
+        ];
+        Ok(expect(&rt, rt.alloc(), &table)?)
     }
 }

@@ -81,6 +81,15 @@ mod tests {
         Ok(())
     }
 
+    // Expects that this is the first bad line of the script.
+    fn expect_bad(rt: &impl Abort, alloc: Global, script: &[u8], line: u32) {
+        assert_eq!(rt;
+            run_script(alloc, 64, script),
+            Err(ScriptError::Bad { line }),
+            "in {script:?}"
+        );
+    }
+
     #[test]
     fn puts_of_one_key_meet(rt: HostRuntime) -> Result<(), Fail> {
         let script =
@@ -160,13 +169,12 @@ mod tests {
         let output = run_script(rt.alloc(), 64, script)?;
         let want = b"\n1.64 put 5 9: ok\n1.65 put 6 9: ok\n2.1 scan 4 5: 5=9\n\
             2.2 scan 4 3: stopped\norder 1.1 1.2 1.3";
-        assert!(rt;
-            output
-                .as_slice()
-                .windows(want.len())
-                .any(|part| part == want.as_slice())
-        );
-        assert!(rt; output.as_slice().ends_with(b" 1.63 1.64 1.65 2.1 2.2\n"));
+        let has_want = output
+            .as_slice()
+            .windows(want.len())
+            .any(|part| part == want.as_slice());
+        let ends_so = output.as_slice().ends_with(b" 1.63 1.64 1.65 2.1 2.2\n");
+        assert_eq!(rt; (has_want, ends_so), (true, true));
         Ok(())
     }
 
@@ -198,11 +206,7 @@ mod tests {
             (b"put 1 1\n".as_slice(), 1),
         ];
         for (script, line) in table {
-            assert_eq!(rt;
-                run_script(rt.alloc(), 64, script),
-                Err(ScriptError::Bad { line }),
-                "in {script:?}"
-            );
+            expect_bad(&rt, rt.alloc(), script, line);
         }
         Ok(())
     }
@@ -222,10 +226,7 @@ mod tests {
         let most = of_lines(rt.alloc(), 256)?;
         expect(&rt, rt.alloc(), &most, b"order none\n")?;
         let more = of_lines(rt.alloc(), 257)?;
-        assert_eq!(rt;
-            run_script(rt.alloc(), 64, &more),
-            Err(ScriptError::Bad { line: 257 })
-        );
+        expect_bad(&rt, rt.alloc(), &more, 257);
         Ok(())
     }
 }

@@ -18,6 +18,7 @@ use kw_model::pair_list::PairList;
 use kw_world::event::{Choice, StepDone};
 use kw_world::local::Local;
 use std::alloc::Global;
+use std::process::Abort;
 use std::test::Fail;
 
 // More events than any call of these tests makes.
@@ -96,12 +97,14 @@ fn begin_two(alloc: Global, call: Call) -> Result<(Shared, Player, Player), Memo
     Ok((shared, putter, reader))
 }
 
-// The replies of a put, and of a call of another pass that comes after the put's first event and this many more.
-fn within_a_put(
+// Expects that a put is made, and this reply of a call of another pass that comes after the put's first event and this many more.
+fn expect_within_a_put(
+    rt: &impl Abort,
     alloc: Global,
     more: u32,
     call: Call,
-) -> Result<(Option<Reply>, Option<Reply>), Memory>
+    want: Reply,
+) -> Result<(), Memory>
     requires { is_call_in_range call ≡ true }
 {
     let (shared, mut putter, mut reader) = begin_two(alloc, call)?;
@@ -109,21 +112,24 @@ fn within_a_put(
     let found = play(&shared, &mut reader, ALL)?;
     let done = play(&shared, &mut putter, ALL)?;
     meet(&shared, &mut putter.pass, &mut reader.pass);
-    Ok((done, found))
+    assert_eq!(rt;
+        (done, found),
+        (Some(Reply::Done), Some(want)),
+        "after {more} more"
+    );
+    Ok(())
 }
 
 // A put makes 14 events. The ninth announces its cell.
 #[test]
 fn a_get_finds_the_value_from_the_announcement_on(rt: HostRuntime) -> Result<(), Fail> {
     for more in 0..13 {
-        let (done, found) = within_a_put(rt.alloc(), more, Call::Get(5))?;
         let value = if more < 8 {
             Reply::Absent
         } else {
             Reply::Value(50)
         };
-        assert_eq!(rt; done, Some(Reply::Done));
-        assert_eq!(rt; found, Some(value));
+        expect_within_a_put(&rt, rt.alloc(), more, Call::Get(5), value)?;
     }
     Ok(())
 }
@@ -132,13 +138,12 @@ fn a_get_finds_the_value_from_the_announcement_on(rt: HostRuntime) -> Result<(),
 #[test]
 fn a_scan_finds_the_pair_that_was_stamped_before_it_drew(rt: HostRuntime) -> Result<(), Fail> {
     for more in 0..13 {
-        let (done, found) = within_a_put(rt.alloc(), more, Call::Scan(0, 200))?;
         let mut pairs = PairList::new(rt.alloc());
         if more >= 10 {
             pairs.push(5, 50)?;
         }
-        assert_eq!(rt; done, Some(Reply::Done));
-        assert_eq!(rt; found, Some(Reply::Pairs(pairs)));
+        let pairs = Reply::Pairs(pairs);
+        expect_within_a_put(&rt, rt.alloc(), more, Call::Scan(0, 200), pairs)?;
     }
     Ok(())
 }
@@ -198,13 +203,14 @@ fn hints_are_lent_and_given_back(rt: HostRuntime) -> Result<(), Fail> {
 #[test]
 fn passes_are_numbered_and_meet(rt: HostRuntime) -> Result<(), Fail> {
     let (shared, mut passes) = Shared::open(rt.alloc(), 64, 8, 1, 1)?;
-    assert_eq!(rt; shared.rows(), 64);
+    // how many passes have the number of their place
     let mut number = 0;
     for pass in &passes {
-        assert_eq!(rt; pass.number(), number);
-        number += 1;
+        if pass.number() == number {
+            number += 1;
+        }
     }
-    assert_eq!(rt; number, 8);
+    assert_eq!(rt; (shared.rows(), passes.len(), number), (64, 8, 8));
     meet_all(&shared, passes.as_mut_slice());
     Ok(())
 }

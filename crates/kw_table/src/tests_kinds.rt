@@ -24,6 +24,7 @@ use kw_world::event::Choice;
 use kw_world::local::Local;
 use kw_world::operation::{Action, Operation};
 use std::alloc::Global;
+use std::process::Abort;
 use std::test::Fail;
 
 // More events than any call of these tests makes.
@@ -401,10 +402,7 @@ fn take_turn_of(
 }
 
 // What two passes of a table of two rows are told when they take these turns, turn by turn.
-pub(crate) fn take_turns(
-    alloc: Global,
-    turns: &[(Who, Turn)],
-) -> Result<Vec<Vec<(Kind, u64)>>, Memory> {
+fn take_turns(alloc: Global, turns: &[(Who, Turn)]) -> Result<Vec<Vec<(Kind, u64)>>, Memory> {
     let (shared, mut first, mut second) = open_two(alloc)?;
     let mut told = Vec::new(alloc);
     for turn in turns {
@@ -415,11 +413,25 @@ pub(crate) fn take_turns(
 }
 
 // What the turn of this number was told; nothing, where there was none.
-pub(crate) fn told_at(told: &[Vec<(Kind, u64)>], turn: usize) -> &[(Kind, u64)] {
+fn told_at(told: &[Vec<(Kind, u64)>], turn: usize) -> &[(Kind, u64)] {
     match told.get(turn) {
         Some(made) => made.as_slice(),
         None => &[],
     }
+}
+
+// Expects of two passes of a table of two rows that take these turns that each turn with one of these numbers finds this.
+pub(crate) fn expect_told(
+    rt: &impl Abort,
+    alloc: Global,
+    turns: &[(Who, Turn)],
+    table: &[(usize, &[(Kind, u64)])],
+) -> Result<(), Memory> {
+    let told = take_turns(alloc, turns)?;
+    for (turn, finds) in table {
+        assert_eq!(rt; told_at(&told, *turn), *finds, "in turn {turn}");
+    }
+    Ok(())
 }
 
 // A put of key 5 and value 10 up to its stamp: row 0 is the first row and has no next one, its count is 0, and the seat's entry is idle.
@@ -480,26 +492,21 @@ const PUT_FROM_ITS_STAMP: [(Kind, u64); 7] = [
 fn a_put_and_the_scan_that_helps_it_find_the_words_of_their_kinds(
     rt: HostRuntime,
 ) -> Result<(), Fail> {
-    let told = take_turns(
-        rt.alloc(),
-        &[
-            (Who::First, Turn::Put(5, 10)),
-            (Who::First, Turn::Go(9)),
-            (Who::Second, Turn::Scan(0, 9)),
-            (Who::Second, Turn::Go(ALL)),
-            (Who::First, Turn::Go(ALL)),
-        ],
-    )?;
-    for (turn, finds) in [
+    let turns = [
+        (Who::First, Turn::Put(5, 10)),
+        (Who::First, Turn::Go(9)),
+        (Who::Second, Turn::Scan(0, 9)),
+        (Who::Second, Turn::Go(ALL)),
+        (Who::First, Turn::Go(ALL)),
+    ];
+    let table = [
         (0, [(Kind::LoadEpoch, 1)].as_slice()),
         (1, PUT_UNTIL_ITS_STAMP.as_slice()),
         (2, [(Kind::LoadEpoch, 1)].as_slice()),
         (3, SCAN_THAT_HELPS.as_slice()),
         (4, PUT_FROM_ITS_STAMP.as_slice()),
-    ] {
-        assert_eq!(rt; told_at(&told, turn), finds, "in turn {turn}");
-    }
-    Ok(())
+    ];
+    Ok(expect_told(&rt, rt.alloc(), &turns, &table)?)
 }
 
 // A get that guesses row 0, whose least key is 0. It finds the entries idle and the put's cell 0 as the list's first, which is 1 as a link, and
@@ -523,18 +530,17 @@ const GET_BY_ITS_GUESS: [(Kind, u64); 14] = [
 
 #[test]
 fn a_get_that_guesses_its_row_finds_what_a_put_stored(rt: HostRuntime) -> Result<(), Fail> {
-    let told = take_turns(
-        rt.alloc(),
-        &[
-            (Who::First, Turn::Put(5, 10)),
-            (Who::First, Turn::Go(ALL)),
-            (Who::Second, Turn::Get(5)),
-            (Who::Second, Turn::Go(1)),
-            (Who::Second, Turn::Guess(0)),
-            (Who::Second, Turn::Go(14)),
-        ],
-    )?;
-    assert_eq!(rt; told_at(&told, 4), [(Kind::LoadState, 2)].as_slice());
-    assert_eq!(rt; told_at(&told, 5), GET_BY_ITS_GUESS.as_slice());
-    Ok(())
+    let turns = [
+        (Who::First, Turn::Put(5, 10)),
+        (Who::First, Turn::Go(ALL)),
+        (Who::Second, Turn::Get(5)),
+        (Who::Second, Turn::Go(1)),
+        (Who::Second, Turn::Guess(0)),
+        (Who::Second, Turn::Go(14)),
+    ];
+    let table = [
+        (4, [(Kind::LoadState, 2)].as_slice()),
+        (5, GET_BY_ITS_GUESS.as_slice()),
+    ];
+    Ok(expect_told(&rt, rt.alloc(), &turns, &table)?)
 }

@@ -3,7 +3,7 @@
 //! The words that they find are those of a model of the events in another language. A row's state is 2 as a word where it is normal, 3 where it
 //! is a leader that has not decided, 11 where it leads alone, 0 where it is free, 1 where seat 0 writes it, and 13 where it is retired with
 //! number 1.
-use crate::tests_kinds::{ALL, Turn, Who, take_turns, told_at};
+use crate::tests_kinds::{ALL, Turn, Who, expect_told};
 use kw_words::kind::Kind;
 use std::test::Fail;
 
@@ -116,8 +116,7 @@ const TWO_REBALANCES: [(Who, Turn); 17] = [
 
 #[test]
 fn a_full_row_is_replaced_and_used_again(rt: HostRuntime) -> Result<(), Fail> {
-    let told = take_turns(rt.alloc(), TWO_REBALANCES.as_slice())?;
-    for (turn, finds) in [
+    let table = [
         (2, REBALANCE_BEGINS.as_slice()),
         (3, FREEZES_ENTRIES.as_slice()),
         (4, [(Kind::LoadScan, 0); 8].as_slice()),
@@ -127,10 +126,8 @@ fn a_full_row_is_replaced_and_used_again(rt: HostRuntime) -> Result<(), Fail> {
         (9, REPLACES_THE_ROW.as_slice()),
         (14, USES_A_ROW_AGAIN.as_slice()),
         (16, REPLACES_THE_NEXT_ROW.as_slice()),
-    ] {
-        assert_eq!(rt; told_at(&told, turn), finds, "in turn {turn}");
-    }
-    Ok(())
+    ];
+    Ok(expect_told(&rt, rt.alloc(), &TWO_REBALANCES, &table)?)
 }
 
 // Another pass's scan from 0 to 9 has stored that it waits with the clock 1, which is 5 as a word. A rebalance comes to the scans, draws a version
@@ -150,19 +147,16 @@ const HELPS_A_SCAN: [(Kind, u64); 10] = [
 
 #[test]
 fn a_rebalance_helps_a_scan(rt: HostRuntime) -> Result<(), Fail> {
-    let told = take_turns(
-        rt.alloc(),
-        &[
-            (Who::First, Turn::Puts(ROW, 7)),
-            (Who::Second, Turn::Scan(0, 9)),
-            (Who::Second, Turn::Go(3)),
-            (Who::First, Turn::Put(7, 1)),
-            (Who::First, Turn::Go(27)),
-            (Who::First, Turn::Go(10)),
-        ],
-    )?;
-    assert_eq!(rt; told_at(&told, 5), HELPS_A_SCAN.as_slice());
-    Ok(())
+    let turns = [
+        (Who::First, Turn::Puts(ROW, 7)),
+        (Who::Second, Turn::Scan(0, 9)),
+        (Who::Second, Turn::Go(3)),
+        (Who::First, Turn::Put(7, 1)),
+        (Who::First, Turn::Go(27)),
+        (Who::First, Turn::Go(10)),
+    ];
+    let table = [(5, HELPS_A_SCAN.as_slice())];
+    Ok(expect_told(&rt, rt.alloc(), &turns, &table)?)
 }
 
 // The 64 keys of a row and one more want two rows, and one is free: it is taken, and given back.
@@ -176,15 +170,12 @@ const GIVES_A_ROW_BACK: [(Kind, u64); 5] = [
 
 #[test]
 fn a_row_that_is_one_too_few_is_given_back(rt: HostRuntime) -> Result<(), Fail> {
-    let told = take_turns(
-        rt.alloc(),
-        &[
-            (Who::First, Turn::PutsFrom(ROW, 0)),
-            (Who::First, Turn::Put(64, 1)),
-            (Who::First, Turn::Go(292)),
-            (Who::First, Turn::Go(ALL)),
-        ],
-    )?;
-    assert_eq!(rt; told_at(&told, 3), GIVES_A_ROW_BACK.as_slice());
-    Ok(())
+    let turns = [
+        (Who::First, Turn::PutsFrom(ROW, 0)),
+        (Who::First, Turn::Put(64, 1)),
+        (Who::First, Turn::Go(292)),
+        (Who::First, Turn::Go(ALL)),
+    ];
+    let table = [(3, GIVES_A_ROW_BACK.as_slice())];
+    Ok(expect_told(&rt, rt.alloc(), &turns, &table)?)
 }

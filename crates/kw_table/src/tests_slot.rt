@@ -12,9 +12,7 @@ use std::test::Fail;
 fn pass_words_have_a_line_each(rt: HostRuntime) {
     let one = slot(2, Name::Pass(0));
     let other = slot(2, Name::Pass(1));
-    assert_eq!(rt; one, 32);
-    assert_eq!(rt; other, 40);
-    assert_eq!(rt; other.abs_diff(one), WORDS_A_LINE);
+    assert_eq!(rt; (one, other, other.abs_diff(one)), (32, 40, WORDS_A_LINE));
 }
 
 #[test]
@@ -27,8 +25,7 @@ fn words_of_rows_lie_side_by_side(rt: HostRuntime) {
         slot(2, Name::Count(0)),
         slot(2, Name::State(1)),
     ];
-    assert_eq!(rt; found, [24, 96, 216, 224, 225, 493]);
-    assert_eq!(rt; slots(2), 762);
+    assert_eq!(rt; (found, slots(2)), ([24, 96, 216, 224, 225, 493], 762));
 }
 
 #[test]
@@ -42,9 +39,11 @@ fn a_run_begins_with_four_words_at_their_slots(rt: HostRuntime) -> Result<(), Fa
     let words = opening_words(rt.alloc(), opening)?;
     let words = words.as_slice();
     let found = [words.get(0), words.get(8), words.get(16), words.get(224)];
-    assert_eq!(rt; found, [Some(&5), Some(&7), Some(&1), Some(&2)]);
-    assert_eq!(rt; words.len(), 493);
-    assert_eq!(rt; words.iter().filter(|word| **word > 0).count(), 4);
+    let written = words.iter().filter(|word| **word > 0).count();
+    assert_eq!(rt;
+        (found, words.len(), written),
+        ([Some(&5), Some(&7), Some(&1), Some(&2)], 493, 4)
+    );
     Ok(())
 }
 

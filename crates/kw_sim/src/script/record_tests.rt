@@ -9,9 +9,12 @@ use std::test::Fail;
 // Records the script on 64 rows, expects these bytes, and expects that they are a record that is good.
 fn expect(rt: &impl Abort, alloc: Global, script: &[u8], want: &[u8]) -> Result<(), Fail> {
     let bytes = record_script(alloc, 64, script)?;
-    assert_eq!(rt; bytes.as_slice(), want, "of {script:?}");
     let read = read_record(alloc, &bytes)?;
-    assert_eq!(rt; judge(alloc, &read)?, Verdict::Yes, "of {script:?}");
+    assert_eq!(rt;
+        (bytes.as_slice(), judge(alloc, &read)?),
+        (want, Verdict::Yes),
+        "of {script:?}"
+    );
     Ok(())
 }
 
