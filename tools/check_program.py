@@ -9,6 +9,8 @@ Each case has its words, its standard input and output, and what the process mus
 worked out by hand, the summaries by a generator in Python, and which lines are refused on a map of few rows by a simulator of the
 map's events that was written apart from this program.
 
+The tables of records and of scripts with a bad line are in `record_cases.py`.
+
 Each script of the folder `scripts` beside this file is run three times: it must print its `.printed`, its record must be its `.record`, and
 that must be judged good. Its name says what it shows. Many of its lines name the kind of the one step that they make, and the positions in
 the record count all steps, so that together they tell how many steps each call makes. What is printed comes from that simulator too, and
@@ -17,6 +19,7 @@ none is in the repository.
 The last line says how many cases passed; the status is 1 where one did not."""
 
 import argparse
+import random
 import shlex
 import subprocess
 import sys
@@ -24,14 +27,15 @@ from collections import namedtuple
 from pathlib import Path
 
 from kiwi_map import KIWI
+from record_cases import BAD_RECORDS, BAD_SCRIPTS, JUDGED
 
 # What is wrong with a stream: standard input is a folder, which cannot be read; standard output is a device that is full.
 FOLDER, FULL = "/", "/dev/full"
 LONG = b"get 1\n" * 3_000_000
+MOST_BYTES = 16_777_216
 SCRIPTS = Path(__file__).resolve().parent / "scripts"
 
-# A put that is stamped and goes on, and a get that finds it; its record; and a record whose order has a call behind a later one.
-SCRIPT = b"call 0 put 5 10\nuntil 0 stamp\ncall 1 get 5\ngo 1 100\n"
+# A put that is stamped and goes on, and a get that finds it, and a record whose order has a call behind a later one.
 RECORD = b"done 1.1 11 26 get 5: 10\nopen 0.1 0 put 5 10\norder 0.1 1.1\n"
 TURNED = b"done 0.1 0 5 put 5 10: ok\ndone 1.1 6 9 get 5: 10\norder 1.1 0.1\n"
 
@@ -76,10 +80,25 @@ TWO_BAD[14999] = TWO_BAD[18999] = b"put\n"
 FEW = b"".join(b"put %d %d\n" % (number % 16, number) for number in range(8000)) + b"wait\nlist 0 15\nsum 0 15\n"
 FEW_LIST = b" ".join(b"%d=%d" % (key, 7984 + key) for key in range(16))
 
+# Each form, of keys that are there and that are not.
+FORMS = b"get 7\nsum 3 2\nleast 0 9\nlist 0 9\nput 1 5\nput 2 3\nput 3 9\nleast 1 3\ngreatest 1 3\ncount 2 9\nsum 0 9\nlist 1 2\n" + (
+    b"del 2\ndel 4\nget 2\nget 3\nlist 0 9\n"
+)
+FORMS_PRINTED = b"none\n0\nnone\nempty\nok\nok\nok\n3\n9\n2\n17\n1=5 2=3\nok\nok\nnone\n9\n1=5 3=9\n"
+
+# Blocks that are empty, and blocks that ask for what those before them put: key k from 100 to 123 has the value k - 90.
+EMPTY = b"wait\nwait\nput 3 30\nput 4 40\nput 5 50\nwait\nwait\nget 5\nget 4\nget 3\nwait\n"
+BLOCK = b"".join(b"put %d %d\n" % (key, key - 90) for key in range(100, 124)) + b"wait\nsum 100 123\ncount 100 123\nlist 100 101\n"
+QUIET = b"".join(b"put %d %d\n" % (key, 10 * key) for key in range(1, 17)) + b"wait\n" + b"".join(b"del %d\n" % key for key in range(1, 9))
+QUIET += b"wait\nget 1\nget 9\nsum 0 99\ncount 0 99\nleast 0 99\ngreatest 0 99\nlist 15 16\n"
+QUIET_PRINTED = 24 * b"ok\n" + b"none\n90\n1000\n8\n90\n160\n15=150 16=160\n"
+
 # What is said where a line was refused.
 SOME = b"some calls were refused\n"
 
-# The summaries of a thousand lines and of ten thousand, and of these on a map of few rows, where 2,857 lines are refused.
+# The summaries of forty lines, of eighty, of a thousand and of ten thousand, and of these on a map of few rows, where 2,857 lines are refused.
+FORTY = b"puts 25\ndels 6\ngets 9\nfound 0\ncount 25\nsum 405429\nleast 985\ngreatest 32572\n"
+EIGHTY = b"puts 48\ndels 9\ngets 23\nfound 0\ncount 47\nsum 827435\nleast 1414\ngreatest 32434\n"
 THOUSAND = b"puts 610\ndels 126\ngets 264\nfound 24\ncount 560\nsum 8968157\nleast 30\ngreatest 32724\n"
 TEN_THOUSAND = b"puts 6209\ndels 1273\ngets 2518\nfound 1140\ncount 2815\nsum 45459495\nleast 0\ngreatest 32724\n"
 FEW_ROWS = b"puts 6209\ndels 1273\ngets 2518\nfound 1026\ncount 2183\nsum 35749411\nleast 0\ngreatest 32757\n"
@@ -106,11 +125,20 @@ CASES = (
     Case("rows that run out", "replay --rows 64", RISING, printed=RISING_PRINTED, said=SOME, status=8),
     Case("refused lines change nothing", "replay --rows 64", RISING + LATER, printed=RISING_PRINTED + LATER_PRINTED, said=SOME, status=8),
     Case("workers and rows", "replay --rows 64 --workers 8", b"put 5 50\nwait\nsum 0 9\n", printed=b"ok\n50\n"),
+    Case("each form, of keys that are there and that are not", "replay", FORMS, printed=FORMS_PRINTED),
+    Case("blocks without lines", "replay --workers 3", b"wait\nwait\nwait"),
+    Case("a wait behind the last line", "replay --workers 8", b"put 3 30\nget 3\nwait\n", printed=b"ok\n30\n"),
+    Case("empty blocks between others", "replay --workers 8", EMPTY, printed=b"ok\nok\nok\n50\n40\n30\n"),
+    Case("a block sees what one worker put before it", "replay", BLOCK, printed=24 * b"ok\n" + b"516\n24\n100=10 101=11\n"),
+    Case("a block sees what all workers put before it", "replay --workers 4", BLOCK, printed=24 * b"ok\n" + b"516\n24\n100=10 101=11\n"),
+    Case("quiet lines by one worker", "replay", QUIET, printed=QUIET_PRINTED),
+    Case("quiet lines by two workers", "replay --workers 2", QUIET, printed=QUIET_PRINTED),
+    Case("quiet lines by four workers", "replay --workers 4", QUIET, printed=QUIET_PRINTED),
     Case("a script", "simulate", b"", printed=b"order none\n"),
+    Case("as many lines as a script may have", "simulate", 256 * b"stop 0\n", printed=b"order none\n"),
     Case("a script with a flag before an option", "simulate --record --rows 64", b"", printed=b"order none\n"),
     Case("a script of more rows", "simulate --rows 70", b"guess 0 69\n", printed=b"order none\n"),
     Case("no row is used again beside a get that stands still", "simulate", STILL, printed=STILL_PRINTED),
-    Case("a script's record", "simulate --record", SCRIPT, printed=RECORD),
     Case("a good record", "judge", RECORD, printed=b"yes\n"),
     Case("a record with a call missing", "judge", RECORD.replace(b" 1.1\n", b"\n"), printed=b"no: missing 1.1\n", said=b"not legal\n", status=7),
     Case("a record with its order turned round", "judge", TURNED, printed=b"no: late 0.1 1.1\n", said=b"not legal\n", status=7),
@@ -119,6 +147,9 @@ CASES = (
     Case("a record with no such call", "judge", RECORD.replace(b"0.1 1.1", b"0.1 7.7"), printed=b"no: unknown 7.7\n", said=b"not legal\n", status=7),
     Case("a record with a refused put", "judge", REFUSED, printed=b"yes\n"),
     Case("a summary", "gen 7 3", printed=b"puts 3\ndels 0\ngets 0\nfound 0\ncount 3\nsum 22218\nleast 3365\ngreatest 10868\n"),
+    Case("a summary of three lines", "gen 1 3", printed=b"puts 2\ndels 0\ngets 1\nfound 0\ncount 2\nsum 21839\nleast 5627\ngreatest 16212\n"),
+    Case("a summary of forty lines", "gen 5 40", printed=FORTY),
+    Case("a summary of eighty lines by workers", "gen 1 80 --workers 4", printed=EIGHTY),
     Case("a summary of many lines", "gen 1 1000", printed=THOUSAND),
     Case("a summary of many lines by workers", "gen 1 1000 --workers 4", printed=THOUSAND),
     Case("a summary of more lines", "gen 1 10000", printed=TEN_THOUSAND),
@@ -126,6 +157,9 @@ CASES = (
     Case("a summary where rows run out", "gen --rows 64 1 10000", printed=FEW_ROWS, said=SOME, status=8),
     Case("no such command", "rollup", said=b"bad words\n", status=2),
     Case("a worker too many", "replay --workers 9", said=b"bad words\n", status=2),
+    Case("too few rows", "replay --rows 63", said=b"bad words\n", status=2),
+    Case("workers named twice", "replay --workers 1 --workers 1", said=b"bad words\n", status=2),
+    Case("bad words before an input that cannot be read", "replay --workers 9", FOLDER, said=b"bad words\n", status=2),
     Case("a script recorded twice", "simulate --record --record", said=b"bad words\n", status=2),
     Case("a flag in an option's place", "simulate --rows --record 64", said=b"bad words\n", status=2),
     Case("a replay recorded", "replay --record", said=b"bad words\n", status=2),
@@ -139,6 +173,10 @@ CASES = (
     Case("a row that a script has not", "simulate", b"guess 0 69\n", said=b"bad line 1\n", status=3),
     Case("a record without an order", "judge", b"done 0.1 0 5 get 5: none\n", said=b"bad line 2\n", status=3),
     Case("no record", "judge", b"", said=b"bad line 1\n", status=3),
+    Case("a value that is too great", "replay", b"put 1 9223372036854775808\n", said=b"bad line 1\n", status=3),
+    Case("a second line that is cut off", "replay", b"put 1 1\nput 3", said=b"bad line 2\n", status=3),
+    Case("an input as long as it may be", "replay", MOST_BYTES * b"9", said=b"bad line 1\n", status=3),
+    Case("an input of a byte too many", "replay", (MOST_BYTES + 1) * b"9", said=b"input too long\n", status=3),
     Case("an input that is too long", "replay", LONG, said=b"input too long\n", status=3),
     Case("an input that cannot be read", "replay", FOLDER, said=b"read fault\n", status=4),
     Case("an output that is full", "replay", b"get 1\n", FULL, said=b"write fault\n", status=5),
@@ -147,6 +185,45 @@ CASES = (
     Case("an output that is full of a summary", "gen 1 3", b"", FULL, said=b"write fault\n", status=5),
     Case("an output that is full of what is wrong", "judge", TURNED, FULL, said=b"write fault\n", status=5),
 )
+
+
+def mixed_case():
+    """Lines by one worker, whose full rows are split and rebuilt on the way: of each eight of them five put, one deletes and sums what is
+    around the key, and two get. At the end come all sums of a thousand keys. The replies are those of a dictionary."""
+    chance, pairs, lines, replies = random.Random(1), {}, [], []
+
+    def add(line, reply):
+        lines.append(line)
+        replies.append(reply)
+
+    def sum_of(least, most):
+        return sum(value for key, value in pairs.items() if least <= key <= most)
+
+    for number in range(4000):
+        key, kind = chance.randrange(4096), number % 8
+        if kind < 5:
+            pairs[key] = number
+            add(f"put {key} {number}", "ok")
+        elif kind == 5:
+            pairs.pop(key, None)
+            add(f"del {key}", "ok")
+            add(f"sum {key} {key + 99}", sum_of(key, key + 99))
+        else:
+            add(f"get {key}", pairs.get(key, "none"))
+    for least in range(0, 4096, 1000):
+        add(f"sum {least} {least + 999}", sum_of(least, least + 999))
+    given, printed = ("".join(f"{it}\n" for it in side).encode() for side in (lines, replies))
+    return Case("lines of all sorts on rows that are split and rebuilt", "replay", given, printed=printed)
+
+
+def text_cases():
+    """The cases of records and scripts that are kept as tables."""
+    for name, record, verdict in JUDGED:
+        is_good = verdict == b"yes"
+        yield Case(name, "judge", record, printed=verdict + b"\n", said=b"" if is_good else b"not legal\n", status=0 if is_good else 7)
+    for words, table in (("judge", BAD_RECORDS), ("simulate", BAD_SCRIPTS), ("simulate --record", BAD_SCRIPTS)):
+        for name, text, line in table:
+            yield Case(f"{name}: `{words}`", words, text, said=b"bad line %d\n" % line, status=3)
 
 
 def script_cases():
@@ -183,7 +260,7 @@ def main():
     program = shlex.split(options.program) if options.program else [KIWI]
     subprocess.run([*program, "replay"], input=b"", check=False)  # proves and builds the program, which the first run says on standard error
     failed = 0
-    cases = (*CASES, *script_cases())
+    cases = (*CASES, mixed_case(), *text_cases(), *script_cases())
     for case in cases:
         got, wanted = ended(program, case), (case.printed, case.said, case.status)
         if got != wanted:

@@ -1,5 +1,6 @@
-//! Whole runs over streams in memory, by the public call alone. What is expected was worked out by hand or by a map in another language.
-use crate::fault::write_fault;
+//! Whole runs over streams in memory, by the public call alone: what no process can show, of streams that fail in their midst and of what a gate
+//! is told, and the replies to many lines beside those of the plain list. What the process prints and ends with is checked by
+//! `tools/check_program.py`. What is expected was worked out by hand.
 use crate::outcome::{Outcome, Status};
 use crate::run::run;
 use crate::working::{Gate, NoGate};
@@ -12,10 +13,8 @@ use std::test::Fail;
 use std::thread::Threads;
 
 mod alone;
-mod generated;
-mod refusals;
+mod gates;
 mod streams;
-mod workers;
 
 const ROOM: u32 = 65_536;
 
@@ -64,50 +63,14 @@ fn ran_past<R: Threads + Wait + Sync, G: Gate + Sync>(
 }
 
 /// Expects that the run ended so, and wrote this text.
-fn expect_end(
-    rt: &impl Abort,
-    ended: &Ended,
-    status: Status,
-    line: u32,
-    text: &[u8],
-) -> Result<(), Fail> {
-    assert_eq!(rt; ended.outcome.status, status);
-    assert_eq!(rt; ended.outcome.line, line);
-    assert_eq!(rt; ended.written.as_slice(), text);
+fn expect_end(rt: &impl Abort, ended: &Ended, status: Status, text: &[u8]) -> Result<(), Fail> {
+    assert_eq!(rt;
+        (
+            ended.outcome.status,
+            ended.outcome.line,
+            ended.written.as_slice()
+        ),
+        (status, 0, text)
+    );
     Ok(())
-}
-
-/// Expects that this is the fault line of a run that ended so.
-fn expect_fault_line(
-    rt: &impl Abort,
-    alloc: Global,
-    outcome: &Outcome,
-    text: &[u8],
-) -> Result<(), Fail> {
-    let mut sink = MemSink::new(alloc, ROOM, Vec::new(alloc))?;
-    let written = write_fault(outcome, &mut sink);
-    assert!(rt; written.is_ok());
-    assert_eq!(rt; sink.written(), text);
-    Ok(())
-}
-
-/// Replays the lines by this many workers, and expects that all are answered, with this text.
-fn expect_replies<R: Threads + Wait + Sync + Abort>(
-    rt: &R,
-    alloc: Global,
-    workers: &str,
-    input: &str,
-    text: &str,
-) -> Result<Ended, Fail> {
-    let bytes = Vec::from_slice(alloc, input.as_bytes())?;
-    let ended = ran(
-        rt,
-        alloc,
-        &["replay", "--workers", workers],
-        bytes,
-        &[],
-        ROOM,
-    )?;
-    expect_end(rt, &ended, Status::Done, 0, text.as_bytes())?;
-    Ok(ended)
 }

@@ -16,5 +16,3 @@ pub mod memory;
 pub mod pack;
 pub mod plain;
 pub mod plain_pairs;
-#[cfg(test)]
-mod tests;

@@ -14,14 +14,3 @@ pub const MOST_NEEDED: usize = SEATS;
 
 /// `MOST_NEW_ROWS`, as the length of a list.
 pub const MOST_STARTS: usize = MOST_NEW_ROWS as usize;
-
-#[cfg(test)]
-mod tests {
-    use super::*;
-
-    // two rows of 64 cells, a version for each of 8 seats, and the 7 rows that a rebuild makes at most
-    #[test]
-    fn the_room_of_a_rebuild(rt: HostRuntime) {
-        assert_eq!(rt; [MOST_GATHERED, MOST_NEEDED, MOST_STARTS], [128, 8, 7]);
-    }
-}

@@ -61,18 +61,3 @@ impl PlainPairs {
         &self.pairs
     }
 }
-
-#[cfg(test)]
-mod tests {
-    use super::*;
-    use std::test::Fail;
-
-    #[test]
-    fn gives_its_pairs_back(rt: HostRuntime) -> Result<(), Fail> {
-        let mut pairs = PlainPairs::new(rt.alloc());
-        pairs.push(5, 50)?;
-        let again = PlainPairs::from_vec(pairs.into_vec());
-        assert_eq!(rt; again.pairs(), [(5, 50)].as_slice());
-        Ok(())
-    }
-}

@@ -145,6 +145,3 @@ fn picked(name: Name, arguments: Arguments) -> Option<Command>
         _ => None,
     }
 }
-
-#[cfg(test)]
-mod tests;

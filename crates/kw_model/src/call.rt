@@ -62,28 +62,3 @@ impl Clone for Reply {
         })
     }
 }
-
-#[cfg(test)]
-mod tests {
-    use super::*;
-    use std::test::Fail;
-
-    #[test]
-    fn clones_each_reply(rt: HostRuntime) -> Result<(), Fail> {
-        let mut pairs = PairList::new(rt.alloc());
-        pairs.push(5, 50)?;
-        let replies = [
-            Reply::Done,
-            Reply::Value(7),
-            Reply::Absent,
-            Reply::Pairs(pairs),
-            Reply::NoRows,
-            Reply::Spent,
-            Reply::Stopped,
-        ];
-        for reply in &replies {
-            assert_eq!(rt; reply.clone()?, *reply);
-        }
-        Ok(())
-    }
-}

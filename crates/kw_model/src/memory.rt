@@ -39,16 +39,3 @@ impl<T: Drop> From<AllocFailed<T>> for Memory {
         Memory
     }
 }
-
-#[cfg(test)]
-mod tests {
-    use super::*;
-    use std::test::Fail;
-
-    #[test]
-    fn says_what_was_wanted(rt: HostRuntime) -> Result<(), Fail> {
-        let text = Memory.to_string(rt.alloc())?;
-        assert_eq!(rt; text.as_str(), "out of memory");
-        Ok(())
-    }
-}

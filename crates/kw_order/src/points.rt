@@ -176,6 +176,3 @@ fn rank_behind(history: &History, table: &PutTable, first: u64, behind: Option<u
         None => rank_at_first(first),
     }
 }
-
-#[cfg(test)]
-mod tests;

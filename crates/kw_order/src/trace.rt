@@ -176,6 +176,3 @@ pub fn order(alloc: Global, trace: &Trace) -> Result<Vec<CallName>, Memory>
 {
     points::order(alloc, trace.recorder.history())
 }
-
-#[cfg(test)]
-mod tests;

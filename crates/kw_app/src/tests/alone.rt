@@ -80,7 +80,7 @@ fn one_worker_replies_as_the_plain_list_does(rt: HostRuntime) -> Result<(), Fail
     let bytes = Vec::from_slice(rt.alloc(), lines.input.as_bytes())?;
     assert!(rt; bytes.len() <= MOST_BYTES);
     let ended = ran(&rt, rt.alloc(), &["replay"], bytes, &[], 4 * ROOM)?;
-    expect_end(&rt, &ended, Status::Done, 0, lines.text.as_bytes())?;
+    expect_end(&rt, &ended, Status::Done, lines.text.as_bytes())?;
     assert!(rt; ended.outcome.front.is_some());
     Ok(())
 }

@@ -1,0 +1,131 @@
+//! What a gate is told before and after each line, by which two workers wait for each other.
+use super::{ROOM, expect_end, ran_past};
+use crate::outcome::Status;
+use crate::working::Gate;
+use kw_io::MemSource;
+use std::sync::atomic::{AtomicU64, Ordering};
+use std::test::Fail;
+use std::thread;
+
+// How many turns a worker waits for the other one.
+const TURNS: u32 = 1_000_000;
+
+// The worker 0 before line 1 and the worker 1 before line 2 wait here for each other.
+#[derive(Drop)]
+struct Meeting {
+    first: AtomicU64,
+    second: AtomicU64,
+    met: AtomicU64,
+}
+
+impl Meeting {
+    fn new() -> Meeting {
+        Meeting {
+            first: AtomicU64::new(0),
+            second: AtomicU64::new(0),
+            met: AtomicU64::new(0),
+        }
+    }
+
+    fn wait(&self, own: &AtomicU64, other: &AtomicU64) {
+        own.store(1, Ordering::SeqCst);
+        for _ in 0..TURNS {
+            if other.load(Ordering::SeqCst) == 1 {
+                self.met.fetch_add(1, Ordering::SeqCst);
+                return;
+            }
+            thread::yield_now();
+        }
+    }
+}
+
+impl Gate for Meeting {
+    fn before(&self, worker: u32, line: u32) {
+        match (worker, line) {
+            (0, 1) => self.wait(&self.first, &self.second),
+            (1, 2) => self.wait(&self.second, &self.first),
+            _ => {}
+        }
+    }
+
+    fn after(&self, _worker: u32, _line: u32) {}
+}
+
+#[test]
+fn workers_run_beside_each_other(rt: HostRuntime) -> Result<(), Fail> {
+    let gate = Meeting::new();
+    let input = Vec::from_slice(rt.alloc(), b"put 0 1\nput 1 1\n")?;
+    let mut source = MemSource::new(input, Vec::new(rt.alloc()));
+    let words = ["replay", "--workers", "2"];
+    let ended = ran_past(&rt, rt.alloc(), &words, &mut source, ROOM, &gate)?;
+    expect_end(&rt, &ended, Status::Done, b"ok\nok\n")?;
+    assert_eq!(rt; gate.met.load(Ordering::SeqCst), 2);
+    Ok(())
+}
+
+// Worker 0 is held up before line 1 until worker 1 has answered line 3, and worker 1 before line 2 until worker 0 is held up.
+#[derive(Drop)]
+struct HoldUp {
+    held: AtomicU64,
+    answered: AtomicU64,
+    ended: AtomicU64,
+    given_up: AtomicU64,
+}
+
+impl HoldUp {
+    fn new() -> HoldUp {
+        HoldUp {
+            held: AtomicU64::new(0),
+            answered: AtomicU64::new(0),
+            ended: AtomicU64::new(0),
+            given_up: AtomicU64::new(0),
+        }
+    }
+
+    fn wait(&self, other: &AtomicU64) {
+        for _ in 0..TURNS {
+            if other.load(Ordering::SeqCst) == 1 {
+                return;
+            }
+            thread::yield_now();
+        }
+        self.given_up.fetch_add(1, Ordering::SeqCst);
+    }
+}
+
+impl Gate for HoldUp {
+    fn before(&self, worker: u32, line: u32) {
+        match (worker, line) {
+            (0, 1) => {
+                self.held.store(1, Ordering::SeqCst);
+                self.wait(&self.answered);
+            }
+            (1, 2) => self.wait(&self.held),
+            _ => {}
+        }
+    }
+
+    fn after(&self, worker: u32, line: u32) {
+        match (worker, line) {
+            (0, 1) => self.ended.store(1, Ordering::SeqCst),
+            (1, 3) => self.answered.store(1, Ordering::SeqCst),
+            _ => {}
+        }
+    }
+}
+
+#[test]
+fn a_gate_is_told_before_a_line_is_asked_and_after_it_is_answered(
+    rt: HostRuntime,
+) -> Result<(), Fail> {
+    let gate = HoldUp::new();
+    let input = Vec::from_slice(rt.alloc(), b"put 0 5\nget 1\nsum 0 9\n")?;
+    let mut source = MemSource::new(input, Vec::new(rt.alloc()));
+    let words = ["replay", "--workers", "2"];
+    let ended = ran_past(&rt, rt.alloc(), &words, &mut source, ROOM, &gate)?;
+    // The sum is asked while the put is still held up, so it sees nothing.
+    expect_end(&rt, &ended, Status::Done, b"ok\nnone\n0\n")?;
+    assert_eq!(rt; gate.given_up.load(Ordering::SeqCst), 0);
+    assert_eq!(rt; gate.ended.load(Ordering::SeqCst), 1);
+    Ok(())
+}
