@@ -5,7 +5,6 @@ pub mod PutStages
 pub mod InsertStages
 pub mod WalkStages
 pub mod Drawing
-pub mod Starting
 pub mod Anew
 pub mod CursorEvents
 pub mod AfterList

@@ -48,7 +48,7 @@ pub fn locate(shared: &Shared, pass: &mut Pass, local: &mut Local, guess: Option
 }
 
 // The first event of a walk.
-pub(crate) fn set_out(shared: &Shared, pass: &mut Pass, local: &mut Local, guess: Option<u32>)
+fn set_out(shared: &Shared, pass: &mut Pass, local: &mut Local, guess: Option<u32>)
     requires follows { Follows shared.now pass.old local.old }
     requires start { local.old.activity ≡ Activity.Start }
     ensures goes { GoesTo shared.now pass.old pass.new }

@@ -1,4 +1,4 @@
-use Rattle.kw_live.proofs.Starting.{update_starts}
+use Rattle.kw_map_tests.proofs.Starting.{update_starts}
 use Rattle.kw_map_tests.proofs.live.update.Goals as goal
 
 pub locate-requires-clause-going : goal.locate-requires-clause-going

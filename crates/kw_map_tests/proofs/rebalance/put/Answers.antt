@@ -1,7 +1,7 @@
 use Rattle.std.proofs.Common.{◌∙◌, ap}
 use Rattle.kw_world.specs.declared.answer.Answer.TheVariants.{Done}
 use Rattle.kw_core.specs.Stages.{is_put}
-use Rattle.kw_live.proofs.Starting.{put_arrives}
+use Rattle.kw_map_tests.proofs.Starting.{put_arrives}
 use Rattle.kw_map_tests.proofs.rebalance.put.Goals as goal
 
 pub enter_anew-requires-clause-update : goal.enter_anew-requires-clause-update
