@@ -71,6 +71,7 @@ AGAIN = b"".join(b"put 7 %d\n" % value for value in range(1, 10001)) + b"get 7\n
 RISING = b"".join(b"put %d %d\n" % (key, key) for key in range(1, 2050))
 RISING_PRINTED = 2048 * b"ok\n" + b"no rows\n"
 LATER = b"get 2049\nput 1 5\nget 1\nput 2049 1\ndel 2048\nget 2048\ncount 0 4294967295\n"
+GONE, GONE_PRINTED = b"get 2048\nget 2049\ndel 7\nget 7\ncount 0 9999\n", b"2048\nnone\nok\nnone\n2047\n"
 LATER_PRINTED = b"none\nok\n5\nno rows\nno rows\n2048\n2048\n"
 
 # Many keys, which split rows, and few of them, of which rows are rebuilt: what is asked after all puts is the same for any workers.
@@ -87,7 +88,12 @@ FORMS = b"get 7\nsum 3 2\nleast 0 9\nlist 0 9\nput 1 5\nput 2 3\nput 3 9\nleast 
 FORMS_PRINTED = b"none\n0\nnone\nempty\nok\nok\nok\n3\n9\n2\n17\n1=5 2=3\nok\nok\nnone\n9\n1=5 3=9\n"
 
 # Blocks that are empty, and blocks that ask for what those before them put: key k from 100 to 123 has the value k - 90.
-EMPTY = b"wait\nwait\nput 3 30\nput 4 40\nput 5 50\nwait\nwait\nget 5\nget 4\nget 3\nwait\n"
+EMPTY = (
+    (b"wait\n", b""),
+    (b"wait\nwait\nwait", b""),
+    (b"put 3 30\nget 3\nwait\n", b"ok\n30\n"),
+    (b"wait\nwait\nput 3 30\nput 4 40\nput 5 50\nwait\nwait\nget 5\nget 4\nget 3\nwait\n", b"ok\nok\nok\n50\n40\n30\n"),
+)
 BLOCK = b"".join(b"put %d %d\n" % (key, key - 90) for key in range(100, 124)) + b"wait\nsum 100 123\ncount 100 123\nlist 100 101\n"
 QUIET = b"".join(b"put %d %d\n" % (key, 10 * key) for key in range(1, 17)) + b"wait\n" + b"".join(b"del %d\n" % key for key in range(1, 9))
 QUIET += b"wait\nget 1\nget 9\nsum 0 99\ncount 0 99\nleast 0 99\ngreatest 0 99\nlist 15 16\n"
@@ -96,7 +102,8 @@ QUIET_PRINTED = 24 * b"ok\n" + b"none\n90\n1000\n8\n90\n160\n15=150 16=160\n"
 # What is said where a line was refused.
 SOME = b"some calls were refused\n"
 
-# The summaries of forty lines, of eighty, of a thousand and of ten thousand, and of these on a map of few rows, where 2,857 lines are refused.
+# The summaries of three lines, of forty, of eighty, of a thousand and of ten thousand, and of these on a map of few rows, where 2,857 lines are refused.
+THREE = b"puts 2\ndels 0\ngets 1\nfound 0\ncount 2\nsum 21839\nleast 5627\ngreatest 16212\n"
 FORTY = b"puts 25\ndels 6\ngets 9\nfound 0\ncount 25\nsum 405429\nleast 985\ngreatest 32572\n"
 EIGHTY = b"puts 48\ndels 9\ngets 23\nfound 0\ncount 47\nsum 827435\nleast 1414\ngreatest 32434\n"
 THOUSAND = b"puts 610\ndels 126\ngets 264\nfound 24\ncount 560\nsum 8968157\nleast 30\ngreatest 32724\n"
@@ -123,18 +130,19 @@ CASES = (
     Case("few keys by workers", "replay --workers 8", FEW, printed=8000 * b"ok\n" + FEW_LIST + b"\n127864\n"),
     Case("rows that are used again", "replay --rows 64", AGAIN, printed=10000 * b"ok\n" + b"10000\n"),
     Case("rows that run out", "replay --rows 64", RISING, printed=RISING_PRINTED, said=SOME, status=8),
+    Case("a deletion that wants no new row where rows have run out", "replay --rows 64", RISING + GONE, printed=RISING_PRINTED + GONE_PRINTED, said=SOME, status=8),
     Case("refused lines change nothing", "replay --rows 64", RISING + LATER, printed=RISING_PRINTED + LATER_PRINTED, said=SOME, status=8),
     Case("workers and rows", "replay --rows 64 --workers 8", b"put 5 50\nwait\nsum 0 9\n", printed=b"ok\n50\n"),
     Case("each form, of keys that are there and that are not", "replay", FORMS, printed=FORMS_PRINTED),
-    Case("blocks without lines", "replay --workers 3", b"wait\nwait\nwait"),
-    Case("a wait behind the last line", "replay --workers 8", b"put 3 30\nget 3\nwait\n", printed=b"ok\n30\n"),
-    Case("empty blocks between others", "replay --workers 8", EMPTY, printed=b"ok\nok\nok\n50\n40\n30\n"),
+    *(Case(f"empty blocks by {it} workers: {given}", f"replay --workers {it}", given, printed=printed) for it in (1, 3, 8) for given, printed in EMPTY),
     Case("a block sees what one worker put before it", "replay", BLOCK, printed=24 * b"ok\n" + b"516\n24\n100=10 101=11\n"),
     Case("a block sees what all workers put before it", "replay --workers 4", BLOCK, printed=24 * b"ok\n" + b"516\n24\n100=10 101=11\n"),
     Case("quiet lines by one worker", "replay", QUIET, printed=QUIET_PRINTED),
     Case("quiet lines by two workers", "replay --workers 2", QUIET, printed=QUIET_PRINTED),
     Case("quiet lines by four workers", "replay --workers 4", QUIET, printed=QUIET_PRINTED),
     Case("a script", "simulate", b"", printed=b"order none\n"),
+    Case("a get that goes on", "simulate", b"call 0 get 5\ngo 0 1\n", printed=b"order none\n"),
+    Case("a get that goes on is not in the record", "simulate --record", b"call 0 get 5\ngo 0 1\n", printed=b"order none\n"),
     Case("as many lines as a script may have", "simulate", 256 * b"stop 0\n", printed=b"order none\n"),
     Case("a script with a flag before an option", "simulate --record --rows 64", b"", printed=b"order none\n"),
     Case("a script of more rows", "simulate --rows 70", b"guess 0 69\n", printed=b"order none\n"),
@@ -147,8 +155,10 @@ CASES = (
     Case("a record with no such call", "judge", RECORD.replace(b"0.1 1.1", b"0.1 7.7"), printed=b"no: unknown 7.7\n", said=b"not legal\n", status=7),
     Case("a record with a refused put", "judge", REFUSED, printed=b"yes\n"),
     Case("a summary", "gen 7 3", printed=b"puts 3\ndels 0\ngets 0\nfound 0\ncount 3\nsum 22218\nleast 3365\ngreatest 10868\n"),
-    Case("a summary of three lines", "gen 1 3", printed=b"puts 2\ndels 0\ngets 1\nfound 0\ncount 2\nsum 21839\nleast 5627\ngreatest 16212\n"),
+    Case("a summary of three lines", "gen 1 3", printed=THREE),
+    Case("a summary with options before and behind its numbers", "gen --workers 8 1 3 --rows 64", printed=THREE),
     Case("a summary of forty lines", "gen 5 40", printed=FORTY),
+    Case("a summary of eighty lines by two workers", "gen 1 80 --workers 2", printed=EIGHTY),
     Case("a summary of eighty lines by workers", "gen 1 80 --workers 4", printed=EIGHTY),
     Case("a summary of many lines", "gen 1 1000", printed=THOUSAND),
     Case("a summary of many lines by workers", "gen 1 1000 --workers 4", printed=THOUSAND),
