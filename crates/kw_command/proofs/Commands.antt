@@ -1,5 +1,5 @@
--- Which command words mean, as a function of them: it gives just the command that the definition gives, and so words mean one command
--- at most.
+-- Which command words mean, as a function of them: it gives just the command that the definition
+-- gives, and so words mean one command at most.
 use Rattle.std.proofs.Common.{◌≡◌, ℕ, Bool, true, false, cond, Option, Some, None, List, [], ◌∷◌, codes, drop, refl, sym, ◌∙◌, ap, subst}
 use Rattle.std.specs.Prelude.{MatchOption}
 use Rattle.std.specs.List.{flat_map, AllByRecursion}

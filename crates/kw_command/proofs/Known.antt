@@ -1,4 +1,5 @@
--- Words that are tested one by one: each is the name of an option, the flag, or a word that `clap` takes for a number just where it is one.
+-- Words that are tested one by one: each is the name of an option, the flag, or a word that `clap`
+-- takes for a number just where it is one.
 use Rattle.std.proofs.Common.{◌≡◌, ◌==◌, ℕ, ◌<◌, ◌≤◌, ◌^◌, Bool, true, false, ◌&&◌, ◌||◌, cond, Some, None, is_some, List, [], ◌∷◌, length, codes, refl, sym, ◌∙◌, ap, arith}
 use Rattle.std.specs.Prelude.{nat_le, nat_lt, ℤ, pos, neg_ℤ, int_le}
 use Rattle.std.specs.Char.{is_ascii_digit, digit_value}

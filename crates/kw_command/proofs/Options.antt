@@ -12,7 +12,8 @@ use Rattle.kw_command.specs.Words.{Part, number, workers, rows, recorded, number
 use Rattle.kw_command.specs.Reading.{once, with_workers, with_rows, with_number, then_with, no_arguments, picked, picked_from}
 use Rattle.kw_command.proofs.Meaning.{adds, then_flag}
 
--- what is known of an option after one more word that it is given, or none where it is one too many or a bad one
+-- what is known of an option after one more word that it is given, or none where it is one too many
+-- or a bad one
 abbrev pub fill : Option (Option ℕ) → ℕ → ℕ → List ℕ → Option (Option ℕ)
 fill None least most w = None
 fill (Some o) least most w = option_map (λ n. Some n) (once o least most w)

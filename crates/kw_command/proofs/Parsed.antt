@@ -1,5 +1,5 @@
--- What the walk over the words leaves is what reading them adds: each word that `clap` takes adds what the definition says, and where
--- it finds a fault the words are no arguments.
+-- What the walk over the words leaves is what reading them adds: each word that `clap` takes adds
+-- what the definition says, and where it finds a fault the words are no arguments.
 use Rattle.std.proofs.Common.{◌≡◌, ℕ, Bool, true, false, ◌&&◌, ◌||◌, ◌⊎◌, inl, inr, cond, Option, Some, None, is_some, List, [], ◌∷◌, ◌++◌, codes, drop, map, take, refl, sym, ◌∙◌, ap, subst}
 use Rattle.std.specs.Prelude.{option_map, fold}
 use Rattle.std.specs.List.{AllByRecursion}

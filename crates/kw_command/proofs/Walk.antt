@@ -1,6 +1,6 @@
--- What `clap` makes of the words after a command's own word: its own definitions, computed at the one set of arguments that the
--- program has. A walk over the words stands between two of them with the uses that are settled, and one that is still open, which
--- the next word or the end settles.
+-- What `clap` makes of the words after a command's own word: its own definitions, computed at the
+-- one set of arguments that the program has. A walk over the words stands between two of them with
+-- the uses that are settled, and one that is still open, which the next word or the end settles.
 use Rattle.std.proofs.Common.{◌≡◌, ◌==◌, ℕ, Bool, true, false, ◌&&◌, ◌||◌, cond, Option, Some, None, is_some, List, [], ◌∷◌, ◌++◌, map, drop, codes, refl, sym, ◌∙◌, ap}
 use Rattle.std.specs.Prelude.{option_map, option_and_then, find, fold}
 use Rattle.std.specs.Str.{bytes_eq}
@@ -27,7 +27,8 @@ rules = shape.rules
 
 -- ---- uses
 
--- one use of an argument: a number that it is given, or whether the flag is given, which is so by default not
+-- one use of an argument: a number that it is given, or whether the flag is given, which is so by
+-- default not
 pub data Use : Type 0 where
   given : Field → Text → Use
   flag : Bool → Use

@@ -10,7 +10,8 @@ use Rattle.kw_command.specs.declared.command.Command.TheVariants as command
 use Rattle.kw_command.specs.declared.command.TheConstants.{MOST_WORKERS, DEFAULT_WORKERS, FEWEST_ROWS, DEFAULT_ROWS, SIMULATED_ROWS, MOST_START, MOST_LINES}
 use Rattle.kw_command.specs.declared.words.TheConstants.{MOST_DIGITS}
 
--- what may stand after a command's own word: a number by itself, an option and its number, or the flag
+-- what may stand after a command's own word: a number by itself, an option and its number, or the
+-- flag
 pub data Part : Type 0 where
   number : List ℕ → Part
   workers : List ℕ → Part
@@ -60,7 +61,8 @@ all_flags (recorded ∷ parts) = codes "--record" ∷ all_flags parts
 abbrev pub is_digits : List ℕ → Bool
 is_digits w = list_all is_ascii_digit w && (nat_lt 0 (length w) && nat_le (length w) MOST_DIGITS)
 
--- the word is a command's own, the name of an option, the flag, or digits; every other word is bad wherever it stands
+-- the word is a command's own, the name of an option, the flag, or digits; every other word is bad
+-- wherever it stands
 abbrev pub is_known : List ℕ → Bool
 is_known w = bytes_eq w (codes "replay") || (bytes_eq w (codes "simulate") || (bytes_eq w (codes "judge") || (bytes_eq w (codes "gen")
     || (bytes_eq w (codes "--workers") || (bytes_eq w (codes "--rows") || (bytes_eq w (codes "--record") || is_digits w))))))
@@ -69,7 +71,8 @@ is_known w = bytes_eq w (codes "replay") || (bytes_eq w (codes "simulate") || (b
 abbrev pub number_in : ℕ → ℕ → List ℕ → Option ℕ
 number_in least most w = if is_digits w && (nat_le least (digits_value 10 w) && nat_le (digits_value 10 w) most) then Some (digits_value 10 w) else None
 
--- an option that stands once has the number that its word writes, and one that does not stand has its default
+-- an option that stands once has the number that its word writes, and one that does not stand has
+-- its default
 abbrev pub IsOption : ℕ → ℕ → ℕ → List (List ℕ) → ℕ → Type 0
 IsOption least most default [] n = n ≡ default
 IsOption least most default (w ∷ []) n = number_in least most w ≡ Some n
@@ -105,7 +108,8 @@ Makes parts (command.Gen s n w r) =
     AreNumbers (numbers parts) s n × IsOption 1 MOST_WORKERS DEFAULT_WORKERS (all_workers parts) w × IsOption FEWEST_ROWS MOST_ROWS DEFAULT_ROWS (all_rows parts) r
     × (all_flags parts ≡ [])
 
--- the words mean this command: its own word, and then numbers, options and flags in any order that make it
+-- the words mean this command: its own word, and then numbers, options and flags in any order that
+-- make it
 pub record Means (words : List (List ℕ)) (c : Command) : Type 0 where
   pub parts : List Part
   pub cut : words ≡ command_word c ∷ flat_map part_words parts

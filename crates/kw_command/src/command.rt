@@ -1,9 +1,10 @@
 //! The commands of the program, and which lists of words they are.
 //!
-//! A command is the whole list of its words: its own word first, and then numbers, options and a flag, each option and the flag at most
-//! once.
-//! `specs/Words.antt` says which lists these are; no list is two commands. Every other list is bad words, the empty one among them. What stands after
-//! the first word is read by `words`; here the first word is read, and what its command takes of the rest is picked.
+//! A command is the whole list of its words: its own word first, and then numbers, options and a
+//! flag, each option and the flag at most once. `specs/Words.antt` says which lists these are; no
+//! list is two commands. Every other list is bad words, the empty one among them. What stands after
+//! the first word is read by `words`; here the first word is read, and what its command takes of
+//! the rest is picked.
 ghost use Rattle.std.specs.Prelude.{◌≡◌, ℕ, List, IfOk, IfSome, MatchOption};
 ghost use Rattle.kw_command.specs.declared.command.Command.{Command as AnyCommand};
 ghost use Rattle.kw_command.specs.Words.{AreInRange, Means};
@@ -44,8 +45,8 @@ pub enum Command {
         workers: u32,
         rows: u32,
     },
-    /// Runs a script of seats and steps on the core of the concurrent map. Where `recorded`, what it prints is the record of the run's
-    /// calls, which `Judge` reads.
+    /// Runs a script of seats and steps on the core of the concurrent map. Where `recorded`, what
+    /// it prints is the record of the run's calls, which `Judge` reads.
     Simulate {
         rows: u32,
         recorded: bool,

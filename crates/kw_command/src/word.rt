@@ -1,6 +1,7 @@
 //! The words of the command line.
 //!
-//! A word is text, and contracts see its bytes. Nothing here knows what a word may be: `words` tests that.
+//! A word is text, and contracts see its bytes. Nothing here knows what a word may be: `words`
+//! tests that.
 ghost use Rattle.std.specs.Prelude.{◌≡◌, string_bytes};
 
 use std::convert::AsStr;

@@ -1,9 +1,10 @@
 //! What stands after a command's own word: numbers, options and a flag, as `clap` reads them.
 //!
-//! All commands share one set of arguments, and `command` picks what each takes. The words are tested one by one before `clap`
-//! sees them, so that none of the other forms that it would read (`--workers=2`, `--`, a sign) reaches it: such a word is bad
-//! words. What `clap` promises of such a parse is exact in both outcomes, and `proofs/Walk.antt` to `proofs/Tokens.antt` compute
-//! it for this one set of arguments.
+//! All commands share one set of arguments, and `command` picks what each takes. The words are
+//! tested one by one before `clap` sees them, so that none of the other forms that it would read
+//! (`--workers=2`, `--`, a sign) reaches it: such a word is bad words. What `clap` promises of such
+//! a parse is exact in both outcomes, and `proofs/Walk.antt` to `proofs/Tokens.antt` compute it for
+//! this one set of arguments.
 ghost use Rattle.std.specs.Prelude.{◌≡◌, Some, IfOk, IsTrue, drop};
 ghost use Rattle.std.specs.Char.{is_ascii_digit};
 ghost use Rattle.std.specs.List.{list_all};
@@ -23,7 +24,8 @@ use std::alloc::{AllocError, Global};
 /// The most digits that a number may have.
 pub const MOST_DIGITS: usize = 10;
 
-/// What may stand after a command's own word: two numbers, two options, and a flag, which has no value.
+/// What may stand after a command's own word: two numbers, two options, and a flag, which has no
+/// value.
 #[derive(Clone, Copy, Debug, PartialEq, Eq)]
 pub struct Arguments {
     pub start: Option<u32>,
@@ -86,7 +88,8 @@ pub fn arguments_of(alloc: Global, words: &[Word]) -> Result<Option<Arguments>, 
     }
 }
 
-/// The arguments of all commands, for `clap`. It passes over the first word, where it expects the program's name.
+/// The arguments of all commands, for `clap`. It passes over the first word, where it expects the
+/// program's name.
 fn parser<'a>(alloc: Global) -> Result<Command<'a>, AllocError>
     ensures { IfOk result (λ parser. app_of parser ≡ kiwi) }
 {

@@ -1,4 +1,5 @@
--- What a row shows of the puts that were stamped before a position, at that position and ever after.
+-- What a row shows of the puts that were stamped before a position, at that position and ever
+-- after.
 use Rattle.std.proofs.Common.{ℕ, ◌⊎◌, inl, inr, ◌<◌, ◌≤◌, arith, sym, subst}
 use Rattle.kw_kept.specs.Puts.{Put, Puts, Shows}
 use Rattle.kw_kept.specs.Readers.{Before, Front, GoesOn}

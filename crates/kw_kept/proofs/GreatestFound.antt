@@ -1,4 +1,5 @@
--- A finite set of puts that were given their cells at different events has a greatest for each key and version.
+-- A finite set of puts that were given their cells at different events has a greatest for each key
+-- and version.
 use Rattle.std.proofs.Common.{ℕ, zero, suc, ◌≡◌, ◌⊎◌, inl, inr, ◌<◌, ◌≤◌, Option, Some, None, arith, refl, sym, subst}
 use Rattle.std.proofs.lemmas.Bool.{cases_eq, cases_lt}
 use Rattle.std.proofs.lemmas.Option.{same_Some}

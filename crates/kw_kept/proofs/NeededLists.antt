@@ -1,4 +1,5 @@
--- What is needed only shrinks, and a list that a rebuild makes while other seats go on covers what is needed.
+-- What is needed only shrinks, and a list that a rebuild makes while other seats go on covers what
+-- is needed.
 use Rattle.std.proofs.Common.{ℕ, ◌≡◌, ◌⊎◌, inl, inr, ◌<◌, ◌≤◌, arith, subst}
 use Rattle.kw_kept.specs.Puts.{Puts}
 use Rattle.kw_kept.specs.Kept.{Rows, Kept}

@@ -1,5 +1,6 @@
--- What a reader of a row knows at its end. If its best cell was stamped before it looked, or there is none, the gap is behind the
--- greatest put that was stamped before, which shows the same. Else the gap is behind the best cell's put.
+-- What a reader of a row knows at its end. If its best cell was stamped before it looked, or there
+-- is none, the gap is behind the greatest put that was stamped before, which shows the same. Else
+-- the gap is behind the best cell's put.
 use Rattle.std.proofs.Common.{ℕ, ◌≡◌, ◌⊎◌, inl, inr, ◌≤◌, Option, Some, None, refl, sym, ◌∙◌, subst}
 use Rattle.kw_kept.specs.Puts.{Puts, StandsBefore, StandsUpTo, Same}
 use Rattle.kw_kept.specs.Readers.{Sets, Reads, Knows}
@@ -20,7 +21,8 @@ module _ (puts : Puts) (s : Sets) (k v : ℕ) (best : Option ℕ) (r : Reads put
   top_shows : Same puts top front
   top_shows = same_sym puts front top (r.shows front top r.front.1 r.top.1)
 
-  -- the early attempts are lost, or stamped and up to a gap that what was gathered and what was stamped before elsewhere stand up to
+  -- the early attempts are lost, or stamped and up to a gap that what was gathered and what was
+  -- stamped before elsewhere stand up to
   early_known : (gap : Option ℕ) → ((q : ℕ) → s.gathered q → (puts q).key ≡ k → (puts q).version ≤ v → StandsUpTo puts gap q) → ((q : ℕ) → s.before q → (puts q).key ≡ k → (puts q).version ≤ v → StandsUpTo puts gap q) → (q : ℕ) → s.early q → (puts q).key ≡ k → s.lost q ⊎ s.stamped q × ((puts q).version ≤ v → StandsUpTo puts gap q)
   early_known gap g b q i f = which (r.where_made q)
     where

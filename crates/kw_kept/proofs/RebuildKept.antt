@@ -1,19 +1,22 @@
--- The replacing of rows keeps what rows show of the stamped puts: of each old row the new ones have kept what each version shows that
--- is listed, and what the newest shows; a version that is not listed is at least all of the old row, so it shows the same as the newest.
+-- The replacing of rows keeps what rows show of the stamped puts: of each old row the new ones have
+-- kept what each version shows that is listed, and what the newest shows; a version that is not
+-- listed is at least all of the old row, so it shows the same as the newest.
 use Rattle.std.proofs.Common.{ℕ, ◌≡◌, ◌⊎◌, inl, inr, ◌≤◌, Option, arith}
 use Rattle.kw_kept.specs.Puts.{Puts, Greatest, Shows}
 use Rattle.kw_kept.specs.Kept.{Rows, Kept, Rebuilds, IsAsBefore, Replaces}
 use Rattle.kw_kept.proofs.GreatestPut.{greatest_of_same}
 use Rattle.kw_kept.proofs.Shown.{shows_through}
 
--- what a set shows at a version that is at least all of its key, it shows at each other such version
+-- what a set shows at a version that is at least all of its key, it shows at each other such
+-- version
 pub shows_beyond : (puts : Puts) (P Q : ℕ → Type 0) (k most u v : ℕ) → ((p : ℕ) → P p → (puts p).key ≡ k → (puts p).version ≤ most) → ((p : ℕ) → Q p → (puts p).key ≡ k → (puts p).version ≤ most) → most ≤ u → most ≤ v → Shows puts P Q k u → Shows puts P Q k v
 shows_beyond puts P Q k most u v f g l m h b t x y = h b t (down P f b x) (down Q g t y)
   where
     down : (R : ℕ → Type 0) → ((p : ℕ) → R p → (puts p).key ≡ k → (puts p).version ≤ most) → (o : Option ℕ) → Greatest puts R k v o → Greatest puts R k u o
     down R f o = greatest_of_same puts R R k v u o (λ p e i w. (i, omega (arith, f p i e, l))) (λ p e i w. (i, omega (arith, f p i e, m)))
 
--- a row that was built of another shows what that showed, at each version that is listed or at least all of it
+-- a row that was built of another shows what that showed, at each version that is listed or at
+-- least all of it
 pub rebuild_shown : (puts : Puts) (old new stamped listed : ℕ → Type 0) (k u most newest : ℕ) → Rebuilds puts old new listed k most newest → most ≤ newest → listed u ⊎ (most ≤ u) → Shows puts old stamped k u → Shows puts new stamped k u
 rebuild_shown puts old new stamped listed k u most newest r m c h = shows_through puts new old stamped k u (r.found u) (which c) h
   where

@@ -1,5 +1,6 @@
--- A stamp keeps what rows show of the stamped puts. At a version that does not show the new put nothing changes. At one that does, the
--- greatest of all is the new put, or a put above it, which has a cell in the row.
+-- A stamp keeps what rows show of the stamped puts. At a version that does not show the new put
+-- nothing changes. At one that does, the greatest of all is the new put, or a put above it, which
+-- has a cell in the row.
 use Rattle.std.proofs.Common.{ℕ, ◌≡◌, ◌⊎◌, inl, inr, ◌<◌, ◌≤◌, Some, None, arith, refl, sym, ◌∙◌, ap, subst}
 use Rattle.std.proofs.lemmas.Bool.{cases_eq, cases_lt}
 use Rattle.kw_kept.specs.Puts.{Puts, StandsBefore, StandsUpTo, Shows}

@@ -1,6 +1,7 @@
--- That rows have kept what is needed of the stamped puts, and the two changes that could lose it: a stamp, and the replacing of rows.
--- `in_row q` are the puts of which row q has a stamped cell, `stamped` all stamped puts, `holds q k` says that the key k is of the row q
--- of the list. `Rows` has the three; a contract takes them by tests (`RowTests`).
+-- That rows have kept what is needed of the stamped puts, and the two changes that could lose it: a
+-- stamp, and the replacing of rows. `in_row q` are the puts of which row q has a stamped cell,
+-- `stamped` all stamped puts, `holds q k` says that the key k is of the row q of the list. `Rows`
+-- has the three; a contract takes them by tests (`RowTests`).
 use Rattle.std.specs.Prelude.{ℕ, ◌≡◌, ◌⊎◌, ◌≤◌, Bool}
 use Rattle.kw_kept.specs.Puts.{Puts, On, OnEach, StandsBefore, HasGreatest, Shows}
 
@@ -43,8 +44,8 @@ pub record Stamps (puts puts' : Puts) (rows rows' : Rows) (row o : ℕ) : Type 0
   pub held : (q k : ℕ) → rows'.holds q k → rows.holds q k
   pub alone : (q : ℕ) → rows'.holds q (puts' o).key → q ≡ row
 
--- the row `new` was built of the row `old`, as to this key: it has kept what each listed version shows, and what `newest` shows, which is
--- at least every version
+-- the row `new` was built of the row `old`, as to this key: it has kept what each listed version
+-- shows, and what `newest` shows, which is at least every version
 pub record Rebuilds (puts : Puts) (old new : ℕ → Type 0) (listed : ℕ → Type 0) (k most newest : ℕ) : Type 0 where
   -- the cells of the new row are cells of the old one
   pub of_old : (p : ℕ) → new p → (puts p).key ≡ k → old p
@@ -59,7 +60,8 @@ pub record IsAsBefore (puts : Puts) (old new : ℕ → Type 0) (k : ℕ) : Type 
   pub had : (p : ℕ) → new p → (puts p).key ≡ k → old p
   pub has : (p : ℕ) → old p → (puts p).key ≡ k → new p
 
--- rows of the list are replaced by others: each key of a row is of a row that stays, or of one that was built of its row
+-- rows of the list are replaced by others: each key of a row is of a row that stays, or of one that
+-- was built of its row
 pub record Replaces (puts : Puts) (rows rows' : Rows) (needed listed : ℕ → Type 0) (most newest : ℕ) : Type 0 where
   pub each : (q k : ℕ) → rows'.holds q k → (rows.holds q k × IsAsBefore puts (rows.in_row q) (rows'.in_row q) k) ⊎ (g : ℕ) × rows.holds g k × Rebuilds puts (rows.in_row g) (rows'.in_row q) listed k most newest
   -- the stamped puts are the same

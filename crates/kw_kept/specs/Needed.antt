@@ -1,15 +1,16 @@
--- Which versions are needed: those that scans have drawn or may still be given, and all that have not been drawn. What is needed only
--- shrinks, and whoever rebuilds a row may go by a list of what it found to be needed.
--- `through i u` says that the scan of seat i has drawn u, or that somebody holds u for the wait of that scan, which still stands.
--- `waits i` is the position at which the scan of seat i began to wait, the last time that it did.
+-- Which versions are needed: those that scans have drawn or may still be given, and all that have
+-- not been drawn. What is needed only shrinks, and whoever rebuilds a row may go by a list of what
+-- it found to be needed. `through i u` says that the scan of seat i has drawn u, or that somebody
+-- holds u for the wait of that scan, which still stands. `waits i` is the position at which the
+-- scan of seat i began to wait, the last time that it did.
 use Rattle.std.specs.Prelude.{ℕ, ◌≡◌, ◌⊎◌, ◌<◌, ◌≤◌}
 
 -- at or above the clock, or needed through the scan of a seat
 abbrev pub IsNeeded : ℕ → (ℕ → ℕ → Type 0) → ℕ → Type 0
 IsNeeded clock through u = (clock ≤ u) ⊎ (i : ℕ) × through i u
 
--- what an event may do: the clock and the waits do not go back, a version that is newly needed through a seat was not drawn before,
--- and a scan that begins to wait needs none but such
+-- what an event may do: the clock and the waits do not go back, a version that is newly needed
+-- through a seat was not drawn before, and a scan that begins to wait needs none but such
 pub record Moves (clock clock' : ℕ) (waits waits' : ℕ → ℕ) (through through' : ℕ → ℕ → Type 0) : Type 0 where
   pub rises : clock ≤ clock'
   pub goes_on : (i u : ℕ) → through' i u → through i u ⊎ (clock ≤ u)

@@ -1,8 +1,8 @@
 -- Puts and their order, the greatest of a set of them, and when two sets show the same.
 use Rattle.std.specs.Prelude.{ℕ, ◌≡◌, ◌⊎◌, ◌<◌, ◌≤◌, Bool, true, Option, Some, None}
 
--- a put of a value, or of none: a tombstone. `add` is the position at which it was given its cell, `at` the one at which it was
--- stamped with its version
+-- a put of a value, or of none: a tombstone. `add` is the position at which it was given its cell,
+-- `at` the one at which it was stamped with its version
 pub record Put : Type 0 where
   pub key : ℕ
   pub version : ℕ
@@ -35,7 +35,8 @@ StandsUpTo puts (Some p) q = (q ≡ p) ⊎ StandsBefore puts q p
 abbrev pub AreApart : Puts → (ℕ → Type 0) → Type 0
 AreApart puts P = (p q : ℕ) → P p → P q → (puts p).add ≡ (puts q).add → p ≡ q
 
--- of those of the set that have this key and a version of at most u, the greatest; or none where there are none
+-- of those of the set that have this key and a version of at most u, the greatest; or none where
+-- there are none
 pub record Greatest (puts : Puts) (P : ℕ → Type 0) (k u : ℕ) (o : Option ℕ) : Type 0 where
   pub among : (p : ℕ) → o ≡ Some p → P p × ((puts p).key ≡ k) × ((puts p).version ≤ u)
   pub greatest : (q : ℕ) → P q → (puts q).key ≡ k → (puts q).version ≤ u → StandsUpTo puts o q

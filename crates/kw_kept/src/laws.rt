@@ -1,16 +1,17 @@
 //! The laws of what rows keep.
 //!
-//! Nothing runs here: the functions' clauses are the statements. A contract can quantify over tests of numbers and not over sets, so
-//! each set is given by a test (`On`, `OnEach`), and the sets of a law by one record of tests (`RowTests`, `Tests`); the lemmas behind the
-//! clauses take any sets.
+//! Nothing runs here: the functions' clauses are the statements. A contract can quantify over tests
+//! of numbers and not over sets, so each set is given by a test (`On`, `OnEach`), and the sets of a
+//! law by one record of tests (`RowTests`, `Tests`); the lemmas behind the clauses take any sets.
 ghost use Rattle.std.specs.Prelude.{◌≡◌, ◌<◌, ◌≤◌, ◌⊎◌, true, ℕ, Bool, Option};
 ghost use Rattle.kw_kept.specs.Puts.{Put, On, OnEach, AreApart, Greatest, HasGreatest, Shows};
 ghost use Rattle.kw_kept.specs.Kept.{RowTests, on_rows, Kept, Stamps, Rebuilds, Replaces};
 ghost use Rattle.kw_kept.specs.Needed.{IsNeeded, Moves, IsCovered, IsLate, Passes};
 ghost use Rattle.kw_kept.specs.Readers.{Before, Front, GoesOn, Tests, on_sets, Reads, Knows};
 
-/// A finite set of puts that were given their cells at different events has a greatest for each key and version. Two greatest of
-/// one set are one. What a set shows goes from set to set, through one that has a greatest.
+/// A finite set of puts that were given their cells at different events has a greatest for each key
+/// and version. Two greatest of one set are one. What a set shows goes from set to set, through one
+/// that has a greatest.
 pub fn greatest_laws()
     ensures found { (puts : ℕ → Put) (a : ℕ → Bool) (n k u : ℕ) → ((p : ℕ) → On a p → p < n) →
         AreApart puts (On a) → HasGreatest puts (On a) k u }
@@ -20,8 +21,8 @@ pub fn greatest_laws()
         Shows puts (On a) (On b) k u → Shows puts (On b) (On c) k u → Shows puts (On a) (On c) k u }
 {}
 
-/// Rows that have kept what is needed still have after a stamp. At a version that shows the new put its row shows what all stamped
-/// puts show, whatever it had kept before.
+/// Rows that have kept what is needed still have after a stamp. At a version that shows the new put
+/// its row shows what all stamped puts show, whatever it had kept before.
 pub fn stamp_laws()
     ensures own { (puts later : ℕ → Put) (a b : RowTests) (row o u : ℕ) →
         Stamps puts later (on_rows a) (on_rows b) row o → (later o).version ≤ u →
@@ -31,8 +32,9 @@ pub fn stamp_laws()
         Kept later (on_rows b) (On needed) }
 {}
 
-/// A row that was built of another shows what that showed, at each version that is listed or at least every version in it. So rows
-/// that have kept what is needed still have when some are replaced.
+/// A row that was built of another shows what that showed, at each version that is listed or at
+/// least every version in it. So rows that have kept what is needed still have when some are
+/// replaced.
 pub fn replace_laws()
     ensures rebuilt { (puts : ℕ → Put) (old new stamped listed : ℕ → Bool) (k u most newest : ℕ) →
         Rebuilds puts (On old) (On new) (On listed) k most newest → most ≤ newest → On listed u
@@ -42,8 +44,9 @@ pub fn replace_laws()
         Kept puts (on_rows a) (On needed) → Kept puts (on_rows b) (On needed) }
 {}
 
-/// What is needed was needed before, so rows that have kept what was needed still have. What a rebuild has listed covers what is
-/// needed through the seats that it passed, whatever goes on meanwhile, and when all are passed it covers all that is needed.
+/// What is needed was needed before, so rows that have kept what was needed still have. What a
+/// rebuild has listed covers what is needed through the seats that it passed, whatever goes on
+/// meanwhile, and when all are passed it covers all that is needed.
 pub fn needed_laws()
     ensures shrinks { (clock later : ℕ) (waits after : ℕ → ℕ) (a b : ℕ → ℕ → Bool) (u : ℕ) →
         Moves clock later waits after (OnEach a) (OnEach b) → IsNeeded later (OnEach b) u →
@@ -71,8 +74,9 @@ pub fn needed_laws()
         On listed u ⊎ (most ≤ u) }
 {}
 
-/// Where a row shows what all stamped puts show, its cells stamped before a position that no stamp has reached show what all puts
-/// stamped before it show; and that stays, whatever is stamped later.
+/// Where a row shows what all stamped puts show, its cells stamped before a position that no stamp
+/// has reached show what all puts stamped before it show; and that stays, whatever is stamped
+/// later.
 pub fn front_laws()
     ensures starts { (puts : ℕ → Put) (row stamped : ℕ → Bool) (a k u : ℕ) →
         ((p : ℕ) → On stamped p → (puts p).at < a) → ((p : ℕ) → On row p → On stamped p) →
@@ -82,8 +86,8 @@ pub fn front_laws()
         Front puts (On row) (On stamped) a k u → Front later (On next) (On now) a k u }
 {}
 
-/// What a reader of a row knows at its end: it answers what a gap shows, and of the attempts that were announced before it began each
-/// is lost, or stamped and not after that gap.
+/// What a reader of a row knows at its end: it answers what a gap shows, and of the attempts that
+/// were announced before it began each is lost, or stamped and not after that gap.
 pub fn reader_laws()
     ensures { (puts : ℕ → Put) (a : Tests) (k v : ℕ) (best : Option ℕ) →
         Reads puts (on_sets a) k v best → Knows puts (on_sets a) k v best }

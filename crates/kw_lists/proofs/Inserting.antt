@@ -40,7 +40,8 @@ ahead_all r at (Some x) c l a d e b = which (l.first d e b)
     which (inl q) = subst (Stands r c) (sym q) a
     which (inr q) = stands_trans r c x d a q
 
--- the new cell, seen from another link behind which it stands: what this link holds stands before it
+-- the new cell, seen from another link behind which it stands: what this link holds stands before
+-- it
 before_new : (r : Row) → IsList r → (at : Option ℕ) (c : ℕ) → MayInsert r at c → (x : Option ℕ) → IsOn r x → is_same x at ≡ false → IsBehind r x c → (e : ℕ) × (r.link x ≡ Some e) × Stands r e c
 before_new r l at c m x o e b = which (sides r at x m.on o e)
   where

@@ -20,7 +20,8 @@ goes_met : (r : Row) (at : Option ℕ) (c : ℕ) → StandsMet r at → r.link a
 goes_met r None c m e = first c e
 goes_met r (Some a) c m e = next a c m e
 
--- a walk that stands at a link meets what is listed behind it, in k steps where no more than k cells are left
+-- a walk that stands at a link meets what is listed behind it, in k steps where no more than k
+-- cells are left
 abbrev Reaches : ℕ → Row → ℕ → ℕ → Type 0
 Reaches n r k d = (at : Option ℕ) (walked : ℕ) → IsWalking n r at walked → n < walked + k → StandsMet r at → r.listed d ≡ true → IsBehind r at d → IsMet r d
 

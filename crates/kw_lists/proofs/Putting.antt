@@ -37,8 +37,8 @@ put_stops n r own lost at c k s = which (stands_or r c own)
     which (inr (inl x)) = absurd (s x)
     which (inr (inr x)) = x
 
--- what the exchange needs to link the cell in is just what the put knows there, where the link is as it was: so what each put
--- does to the others is what they may count on
+-- what the exchange needs to link the cell in is just what the put knows there, where the link is
+-- as it was: so what each put does to the others is what they may count on
 pub put_inserts : (n : ℕ) (r : Row) (own lost : ℕ) (at held : Option ℕ) → IsSet n r own lost at held → r.link at ≡ held → MayInsert r at own
 put_inserts n r own lost at held k e = record {
   unlisted = k.met.from.unlisted;

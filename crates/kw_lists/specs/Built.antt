@@ -18,8 +18,9 @@ abbrev pub LeadsFrom : ℕ → Row → ℕ → Option ℕ → Type 0
 LeadsFrom n r low None = (j : ℕ) → j < n → r.key j < low
 LeadsFrom n r low (Some e) = IsFirstFrom n r low e
 
--- n cells stand in the row, strictly rising by key and then by version, and all are listed. The first link leads to the last place of
--- the least key. The link of a cell leads to the place before its own if that has its key, and else to the last place of the next key
+-- n cells stand in the row, strictly rising by key and then by version, and all are listed. The
+-- first link leads to the last place of the least key. The link of a cell leads to the place before
+-- its own if that has its key, and else to the last place of the next key
 pub record IsBuilt (n : ℕ) (r : Row) : Type 0 where
   pub listed : (c : ℕ) → c < n → r.listed c ≡ true
   pub below : (c : ℕ) → r.listed c ≡ true → c < n

@@ -31,7 +31,8 @@ abbrev pub IsAhead : Row → ℕ → Option ℕ → Type 0
 IsAhead r c None = Unit {0}
 IsAhead r c (Some d) = Stands r c d
 
--- a cell may be linked in here: it is not listed, and it stands between the link and what this holds, which its own link holds too
+-- a cell may be linked in here: it is not listed, and it stands between the link and what this
+-- holds, which its own link holds too
 pub record MayInsert (r : Row) (at : Option ℕ) (c : ℕ) : Type 0 where
   pub unlisted : r.listed c ≡ false
   pub on : IsOn r at
@@ -44,15 +45,15 @@ pub record SameCell (r r' : Row) (c : ℕ) : Type 0 where
   pub key : r'.key c ≡ r.key c
   pub version : r'.version c ≡ r.version c
 
--- the rows agree in what is listed, in the links of the list, and in the keys and versions of listed cells. What else stands in
--- them, as in a cell that a put is writing, is not said
+-- the rows agree in what is listed, in the links of the list, and in the keys and versions of
+-- listed cells. What else stands in them, as in a cell that a put is writing, is not said
 pub record Agree (r r' : Row) : Type 0 where
   pub listed : (c : ℕ) → r'.listed c ≡ r.listed c
   pub link : (at : Option ℕ) → IsOn r at → r'.link at ≡ r.link at
   pub cell : (c : ℕ) → r.listed c ≡ true → SameCell r r' c
 
--- what events leave of a row of n cells to those who walk along its list: what is listed stays listed and as it was, and a link of
--- the list holds what it held, or more cells are listed
+-- what events leave of a row of n cells to those who walk along its list: what is listed stays
+-- listed and as it was, and a link of the list holds what it held, or more cells are listed
 pub record Leaves (n : ℕ) (r r' : Row) : Type 0 where
   pub listed : (c : ℕ) → r.listed c ≡ true → r'.listed c ≡ true
   pub cell : (c : ℕ) → r.listed c ≡ true → SameCell r r' c

@@ -1,8 +1,10 @@
--- Cells of one row, linked in an order: the order, the links, and what makes the cells that are listed a list.
+-- Cells of one row, linked in an order: the order, the links, and what makes the cells that are
+-- listed a list.
 use Rattle.std.specs.Prelude.{ℕ, ◌≡◌, ◌⊎◌, ◌==◌, ◌&&◌, ◌||◌, nat_lt, ◌<◌, Bool, true, false, Option, Some, None}
 
--- what stands in a row: the keys and the versions of its cells by their places, the links, and which cells are listed. The link at
--- none is the row's first, and one that holds none leads to no cell
+-- what stands in a row: the keys and the versions of its cells by their places, the links, and
+-- which cells are listed. The link at none is the row's first, and one that holds none leads to no
+-- cell
 pub record Row : Type 0 where
   pub key : ℕ → ℕ
   pub version : ℕ → ℕ

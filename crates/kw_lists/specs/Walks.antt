@@ -17,7 +17,8 @@ passes r (Some a) c = c == a || stands r c a
 abbrev pub has_passed : Row → Option ℕ → ℕ → Bool
 has_passed r at c = r.listed c && passes r at c
 
--- a walk that stands at this link of the list has met so many cells: no more than there are listed ones that it has passed
+-- a walk that stands at this link of the list has met so many cells: no more than there are listed
+-- ones that it has passed
 pub record IsWalking (n : ℕ) (r : Row) (at : Option ℕ) (walked : ℕ) : Type 0 where
   pub on : IsOn r at
   pub counted : walked ≤ count_below n (has_passed r at)

@@ -10,7 +10,8 @@ ghost use Rattle.kw_lists.specs.Puts.{IsFrom, IsAt, IsSet, LeavesCell, LeavesOwn
 ghost use Rattle.kw_lists.specs.Walks.{IsPassed, IsWalking, IsMet};
 ghost use Rattle.kw_lists.specs.Built.{IsBuilt};
 
-/// The order of cells is strict and total, and the test says which of two cells stands before the other.
+/// The order of cells is strict and total, and the test says which of two cells stands before the
+/// other.
 pub fn order_laws()
     ensures trans { (r : Row) (a b c : ℕ) → Stands r a b → Stands r b c → Stands r a c }
     ensures apart { (r : Row) (a b : ℕ) → Stands r a b → Stands r b a → ⊥ }
@@ -19,8 +20,9 @@ pub fn order_laws()
     ensures no { (r : Row) (c d : ℕ) → stands r c d ≡ false → c ≢ d → Stands r d c }
 {}
 
-/// A cell that is linked in keeps the order of the list, and is the one cell more. A cell that is not listed may get its link. A row that
-/// agrees with a list where it is listed is a list, and so is a row of which nothing is listed.
+/// A cell that is linked in keeps the order of the list, and is the one cell more. A cell that is
+/// not listed may get its link. A row that agrees with a list where it is listed is a list, and so
+/// is a row of which nothing is listed.
 pub fn insert_laws()
     ensures list { (r : Row) (at : Option ℕ) (c : ℕ) → IsList r → MayInsert r at c →
         IsList (inserted r at c) }
@@ -38,7 +40,8 @@ pub fn insert_laws()
     ensures empty { (n : ℕ) (r : Row) → IsEmpty r → IsSound n r }
 {}
 
-/// What events leave of a row: all that agrees is left, and so is all that was there where a cell is linked in.
+/// What events leave of a row: all that agrees is left, and so is all that was there where a cell
+/// is linked in.
 pub fn leave_laws()
     ensures agree { (n : ℕ) (r after : Row) → Agree r after → Leaves n r after }
     ensures insert { (n : ℕ) (r after : Row) (at : Option ℕ) (c : ℕ) → MayInsert r at c → c < n →
@@ -51,7 +54,8 @@ pub fn leave_laws()
         IsOn r at → SameCell r after d → IsBehind r at d → IsBehind after at d }
 {}
 
-/// Rows that are read off the words agree where the words of the list are what they were, and where a link leads to one cell more.
+/// Rows that are read off the words agree where the words of the list are what they were, and where
+/// a link leads to one cell more.
 pub fn word_laws()
     ensures keeps { (v w : Name → ℕ) (r : ℕ) (listed : ℕ → Bool) → KeepsList v w r listed →
         Agree (row_in v r listed) (row_in w r listed) }
@@ -60,8 +64,9 @@ pub fn word_laws()
         (row_in w r (with_cell listed c)) }
 {}
 
-/// A put that walks to the place of its cell and links it in, while others do the same. Where its exchange finds what it is to find, the
-/// cell may be linked in there; where it finds another word the exchange is lost, and fewer are lost than there are cells.
+/// A put that walks to the place of its cell and links it in, while others do the same. Where its
+/// exchange finds what it is to find, the cell may be linked in there; where it finds another word
+/// the exchange is lost, and fewer are lost than there are cells.
 pub fn put_laws()
     ensures begins { (n : ℕ) (r : Row) (own : ℕ) → r.listed own ≡ false → IsFrom n r own 0 None }
     ensures loads { (n : ℕ) (r : Row) (own lost : ℕ) (at : Option ℕ) → IsList r →
@@ -88,7 +93,8 @@ pub fn put_laws()
         IsSet n after own lost at held }
 {}
 
-/// A walk along the links meets no cell twice, and so no more cells than there are; a put, whose own cell is not listed, fewer.
+/// A walk along the links meets no cell twice, and so no more cells than there are; a put, whose
+/// own cell is not listed, fewer.
 pub fn walk_laws()
     ensures begins { (n : ℕ) (r : Row) → IsWalking n r None 0 }
     ensures goes_on { (n : ℕ) (r : Row) (at : Option ℕ) (walked c : ℕ) → c < n → r.listed c ≡ true →
@@ -104,8 +110,9 @@ pub fn walk_laws()
         IsPassed r (Some c) d }
 {}
 
-/// What a reader meets: a cell that is listed behind its link is the one that the link holds, or stands behind that, so the reader will meet
-/// it; and at the first cell above its range, or at the end of the list, it has met all. The first cell of a key is the newest.
+/// What a reader meets: a cell that is listed behind its link is the one that the link holds, or
+/// stands behind that, so the reader will meet it; and at the first cell above its range, or at the
+/// end of the list, it has met all. The first cell of a key is the newest.
 pub fn read_laws()
     ensures meets { (r : Row) (at to : Option ℕ) (d : ℕ) → Leads r at to → r.listed d ≡ true →
         IsBehind r at d → (c : ℕ) × (to ≡ Some c) × ((d ≡ c) ⊎ Stands r c d) }
@@ -123,8 +130,9 @@ pub fn path_laws()
     ensures met { (r : Row) (d : ℕ) → IsList r → IsMet r d → r.listed d ≡ true }
 {}
 
-/// A row that is written at once, from cells that rise by key and then by version, is a list where the link of each cell leads to the place
-/// before its own if that has its key, and else to the last place of the next key.
+/// A row that is written at once, from cells that rise by key and then by version, is a list where
+/// the link of each cell leads to the place before its own if that has its key, and else to the
+/// last place of the next key.
 pub fn write_laws()
     ensures { (n : ℕ) (r : Row) → IsBuilt n r → IsList r }
 {}

@@ -1,5 +1,6 @@
--- Lists of pairs by rising key: what a put, a delete and a range leave at each key, that they keep the order, and that
--- a rising list is known by its values. The lemmas on orders and replies in other crates stand on these.
+-- Lists of pairs by rising key: what a put, a delete and a range leave at each key, that they keep
+-- the order, and that a rising list is known by its values. The lemmas on orders and replies in
+-- other crates stand on these.
 use Rattle.std.proofs.Common.{ℕ, suc, Bool, true, false, ◌≡◌, ◌≢◌, ◌<◌, ◌≤◌, cond, eqb, ltb, leb, ◌&&◌, not, ◌==◌, nat_le, [], ◌∷◌, Some, None, refl, arith}
 use Rattle.std.proofs.lemmas.Bool.Decides.{nat_tests}
 use Rattle.std.specs.List.{filter}

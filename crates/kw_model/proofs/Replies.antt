@@ -1,4 +1,5 @@
--- Equal replies and right ones: that `==` on replies decides whether they are equal, and what it decides of a reply.
+-- Equal replies and right ones: that `==` on replies decides whether they are equal, and what it
+-- decides of a reply.
 use Rattle.std.proofs.Common.{ℕ, Bool, true, false, ◌≡◌, List, refl, sym, ap, ◌∙◌, arith, Decides, IsTrue, ◌↔◌, ◌⊎◌, inl, inr, MatchBool}
 use Rattle.std.specs.Cmp.Lexicographic.{pointwise_decides}
 use Rattle.std.proofs.lemmas.Bool.Decides.{nat_tests, Decides-eqb}

@@ -1,4 +1,5 @@
--- What std says of the entries of its tree, in the words of the map. Only the map of this crate stands on them.
+-- What std says of the entries of its tree, in the words of the map. Only the map of this crate
+-- stands on them.
 use Rattle.std.proofs.Common.{ℕ, suc, ◌≡◌, ◌<◌, ◌≤◌, List, [], ◌∷◌, refl, arith}
 use Rattle.std.proofs.lemmas.Bool.Decides.{nat_tests}
 use Rattle.std.specs.List.{AllByRecursion}

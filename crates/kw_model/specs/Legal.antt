@@ -1,4 +1,5 @@
--- Which replies a list of calls may have: the answers of the map in turn, and refusals in their place.
+-- Which replies a list of calls may have: the answers of the map in turn, and refusals in their
+-- place.
 use Rattle.std.specs.Prelude.{ℕ, ◌≡◌, Bool, true, false, not, ◌&&◌, ◌==◌, Option, Some, None, List, [], ◌∷◌, MatchBool, if◌then◌else◌}
 use Rattle.kw_model.specs.Map.{Pairs, after, answer}
 use Rattle.kw_model.specs.declared.call.Call.{Call}

@@ -1,5 +1,5 @@
--- The ordered map of one thread: a list of pairs by strictly rising key, what each call answers, and the map after it.
--- Every promise on replies, here and above, is measured by these definitions.
+-- The ordered map of one thread: a list of pairs by strictly rising key, what each call answers,
+-- and the map after it. Every promise on replies, here and above, is measured by these definitions.
 use Rattle.std.specs.Prelude.{ℕ, suc, ◌≤◌, not, ◌&&◌, List, [], ◌∷◌, Option, Some, None, if◌then◌else◌, ◌==◌, nat_lt, nat_le}
 use Rattle.std.specs.List.{filter}
 use Rattle.kw_model.specs.declared.call.Call.{Call}

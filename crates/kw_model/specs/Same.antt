@@ -1,4 +1,5 @@
--- The test for equal lists of pairs, which `==` on them computes. A file of its own, since it names no type of the crate.
+-- The test for equal lists of pairs, which `==` on them computes. A file of its own, since it names
+-- no type of the crate.
 use Rattle.std.specs.Prelude.{ℕ, Bool, nat_eq, List}
 use Rattle.std.specs.Ordering.{on, eq_of_both}
 use Rattle.std.specs.Cmp.Lexicographic.{pointwise}

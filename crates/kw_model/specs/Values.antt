@@ -1,4 +1,5 @@
--- What a range of the map says as one number: the values of its pairs, and the least and the greatest of them.
+-- What a range of the map says as one number: the values of its pairs, and the least and the
+-- greatest of them.
 use Rattle.std.specs.Prelude.{ℕ, min, max, List, [], ◌∷◌, map, fold, Option, Some, None}
 use Rattle.kw_model.specs.Map.{Pairs}
 

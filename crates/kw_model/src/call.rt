@@ -1,15 +1,16 @@
 //! What is asked of the map, and what it answers.
 //!
-//! The two enums here are the words in which every layer speaks of the map: the map of one thread in this crate, the
-//! steps of the concurrent map and the program's lines. They are plain data whose variants clauses match on, so a new
-//! variant is a change of what the map means. Every crate that names a call or a reply relies on them.
+//! The two enums here are the words in which every layer speaks of the map: the map of one thread
+//! in this crate, the steps of the concurrent map and the program's lines. They are plain data
+//! whose variants clauses match on, so a new variant is a change of what the map means. Every crate
+//! that names a call or a reply relies on them.
 use crate::pair_list::PairList;
 use std::alloc::AllocError;
 
 /// A call of the map.
 ///
-/// A key is any `u32`. A value is any `u64` here; the concurrent map takes values below 2^63 alone, which its callers
-/// see to.
+/// A key is any `u32`. A value is any `u64` here; the concurrent map takes values below 2^63 alone,
+/// which its callers see to.
 #[derive(Clone, Copy, Debug, PartialEq, Eq)]
 pub enum Call {
     /// Sets the value of a key: the key, then the value.
@@ -18,8 +19,8 @@ pub enum Call {
     Del(u32),
     /// Asks for the value of a key.
     Get(u32),
-    /// Asks for the pairs from the first key to the second, both included. The range is empty where the first is above
-    /// the second.
+    /// Asks for the pairs from the first key to the second, both included. The range is empty where
+    /// the first is above the second.
     Scan(u32, u32),
 }
 
@@ -49,7 +50,8 @@ impl Clone for Reply {
 
     ghost is_clone = { λ reply copy. copy ≡ reply };
 
-    // Pairs are copied into new memory, for which an `AllocError` may be the answer; the other replies need none.
+    // Pairs are copied into new memory, for which an `AllocError` may be the answer; the other
+    // replies need none.
     fn clone(&self) -> Result<Reply, AllocError> {
         Ok(match self {
             Reply::Done => Reply::Done,

@@ -1,8 +1,8 @@
 //! Which replies are those of the map.
 //!
-//! A list of calls and a list of their replies are legal where a map that was empty gives each reply in turn, or the
-//! reply is a refusal that the call may have, which leaves the map as it was. `is_legal` decides it by asking the map;
-//! whoever records calls and replies can be judged by it.
+//! A list of calls and a list of their replies are legal where a map that was empty gives each
+//! reply in turn, or the reply is a refusal that the call may have, which leaves the map as it was.
+//! `is_legal` decides it by asking the map; whoever records calls and replies can be judged by it.
 ghost use Rattle.std.specs.Prelude.{◌≡◌, ◌↔◌, IsTrue, IfOk, OnOk, length, []};
 ghost use Rattle.kw_model.specs.Legal.{IsLegal, IsRight, may_refuse, went};
 
@@ -13,8 +13,8 @@ use std::alloc::Global;
 
 /// Whether these replies to these calls are legal, beginning with the empty map.
 ///
-/// The two lists have one length, and the reply in a place is that of the call there. A map is kept while the calls are
-/// gone through, so any two lists may want for memory.
+/// The two lists have one length, and the reply in a place is that of the call there. A map is kept
+/// while the calls are gone through, so any two lists may want for memory.
 pub fn is_legal(alloc: Global, calls: &[Call], replies: &[Reply]) -> Result<bool, Memory>
     requires { length calls.now ≡ length replies.now }
     ensures { IfOk result (λ legal. IsTrue legal ↔ IsLegal [] calls.now replies.now) }

@@ -1,7 +1,8 @@
 //! The ordered map of one thread.
 //!
-//! The map is a tree of std behind a `Model` that shows its pairs by strictly rising key, so clauses compare it with the
-//! list of the definition and nobody outside depends on the tree. Whoever asks for legal replies asks this map.
+//! The map is a tree of std behind a `Model` that shows its pairs by strictly rising key, so
+//! clauses compare it with the list of the definition and nobody outside depends on the tree.
+//! Whoever asks for legal replies asks this map.
 ghost use Rattle.std.specs.Prelude.{◌≡◌, [], IfOk, OnOk, OnErr};
 ghost use Rattle.kw_model.specs.Map.{IsRising, after, answer, between};
 
@@ -42,8 +43,8 @@ impl MapState {
 
     /// Asks a call of the map, and gives its answer.
     ///
-    /// A put and a delete answer `Done`, a get `Value` or `Absent`, a scan `Pairs`; no other reply comes. Without memory
-    /// for a new pair, or for the pairs of a scan, the map stays as it was.
+    /// A put and a delete answer `Done`, a get `Value` or `Absent`, a scan `Pairs`; no other reply
+    /// comes. Without memory for a new pair, or for the pairs of a scan, the map stays as it was.
     pub fn apply(&mut self, call: &Call) -> Result<Reply, Memory>
         ensures answer { IfOk result (λ reply. reply ≡ answer self.old call.now) }
         ensures after { OnOk result (self.new ≡ after self.old call.now) }

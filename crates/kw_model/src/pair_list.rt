@@ -1,8 +1,8 @@
 //! A list of pairs that grows at its end: what a scan answers.
 //!
-//! Contracts see the list as a list of pairs of numbers and never its `Vec`, so replies can be compared with those of a
-//! definition. The list keeps whatever order its pairs are pushed in; that a scan's pairs rise is for those who push to
-//! show.
+//! Contracts see the list as a list of pairs of numbers and never its `Vec`, so replies can be
+//! compared with those of a definition. The list keeps whatever order its pairs are pushed in; that
+//! a scan's pairs rise is for those who push to show.
 ghost use Rattle.std.specs.Prelude.{◌≡◌, ◌++◌, ◌∷◌, [], take, OnOk, OnErr};
 
 use crate::memory::Memory;
@@ -90,7 +90,8 @@ impl PairList {
         PairList::new(*self.pairs.allocator())
     }
 
-    /// Gives the pairs away, and leaves none. Takes no memory; later pushes take theirs from the same allocator.
+    /// Gives the pairs away, and leaves none. Takes no memory; later pushes take theirs from the
+    /// same allocator.
     pub fn take(&mut self) -> PairList
         ensures given { result ≡ self.old }
         ensures left { self.new ≡ [] }

@@ -1,5 +1,6 @@
--- Events that change no state of a held row: free rows taken, infants given back or written, retired rows free again, marks, frozen
--- rows, numbers and passes. States, marks and what seats know of their groups stay right.
+-- Events that change no state of a held row: free rows taken, infants given back or written,
+-- retired rows free again, marks, frozen rows, numbers and passes. States, marks and what seats
+-- know of their groups stay right.
 use Rattle.std.proofs.Common.{ℕ, ◌≡◌, ◌≢◌, ◌⊎◌, inl, inr, true, Option, Some, None, sym, ◌∙◌, ap, subst, ◌<◌}
 use Rattle.std.proofs.lemmas.Bool.{cases_eq}
 use Rattle.kw_rows.specs.Ledger.{Ledger, Fate, Status, Free, Infant, Live, Dead, IsLive, IsDead, IsFresh, IsHeld}

@@ -1,4 +1,5 @@
--- The list of rows as it stands: which link leads where, and where a live row stands that is not of a given part of the list.
+-- The list of rows as it stands: which link leads where, and where a live row stands that is not of
+-- a given part of the list.
 use Rattle.std.proofs.Common.{ℕ, ◌≡◌, ◌⊎◌, inl, inr, ◌<◌, ◌≤◌, Option, Some, None, List, [], ◌∷◌, arith, refl, sym, ◌∙◌, ap, subst}
 use Rattle.std.proofs.lemmas.Option.{same_Some}
 use Rattle.kw_rows.specs.Ledger.{Ledger, IsLive}

@@ -1,4 +1,5 @@
--- Every event but the replacing one leaves the list of rows as it was, and what held rows lead to; and what is recorded is past.
+-- Every event but the replacing one leaves the list of rows as it was, and what held rows lead to;
+-- and what is recorded is past.
 use Rattle.std.proofs.Common.{ℕ, suc, ◌≡◌, ◌≢◌, ◌⊎◌, inl, inr, ◌<◌, Option, Some, None, arith, sym, ◌∙◌, subst}
 use Rattle.std.proofs.lemmas.Bool.{cases_eq}
 use Rattle.std.proofs.lemmas.Option.{same_Some}

@@ -1,10 +1,12 @@
--- An event that leaves what a seat may name as it was keeps the list of rows, and what held rows lead to.
+-- An event that leaves what a seat may name as it was keeps the list of rows, and what held rows
+-- lead to.
 use Rattle.std.proofs.Common.{ℕ, suc, ◌≡◌, ◌⊎◌, inl, inr, ◌<◌, ◌≤◌, Option, Some, None, arith, refl, sym, ◌∙◌, ap, subst}
 use Rattle.kw_rows.specs.Ledger.{Ledger, Fate, IsLive, IsDead, IsFresh, IsHeld, WasHeld, Past}
 use Rattle.kw_rows.specs.Rows.{Rows, Chain, Closed, Follows, HoldsKey, IsBefore, WasLinked, bound}
 use Rattle.kw_rows.proofs.Statuses.{not_dead}
 
--- a row that was held, or is linked or dead after the event, has the words that the list reads and the fate that it had
+-- a row that was held, or is linked or dead after the event, has the words that the list reads and
+-- the fate that it had
 pub record Frames (w w' : Rows) (ledger ledger' : Ledger) : Type 0 where
   pub head : w'.head ≡ w.head
   pub next : (x : ℕ) → WasLinked ledger x → w'.next x ≡ w.next x

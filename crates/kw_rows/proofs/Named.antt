@@ -1,4 +1,5 @@
--- What a seat that may name a row knows of it: it may name the row after it, where the range of the row ends. And which rows are one.
+-- What a seat that may name a row knows of it: it may name the row after it, where the range of the
+-- row ends. And which rows are one.
 use Rattle.std.proofs.Common.{ℕ, ◌≡◌, ◌⊎◌, inl, inr, ◌<◌, ◌≤◌, Option, Some, None, arith, refl, sym, ◌∙◌, ap}
 use Rattle.std.proofs.lemmas.Option.{same_Some}
 use Rattle.kw_rows.specs.Ledger.{Ledger, Status, Free, Infant, Live, Dead, IsLive, IsFresh, IsHeld, WasHeld}

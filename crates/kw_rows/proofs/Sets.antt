@@ -1,4 +1,5 @@
--- The exchanges of one state: each leaves the states and the marks of all rows right, and what seats know of their groups.
+-- The exchanges of one state: each leaves the states and the marks of all rows right, and what
+-- seats know of their groups.
 use Rattle.std.proofs.Common.{ℕ, ◌≡◌, ◌⊎◌, inl, inr, ◌≤◌, ◌<◌, true, Some, arith, refl, sym, ◌∙◌, ap, subst}
 use Rattle.std.proofs.lemmas.Bool.{cases_eq}
 use Rattle.kw_rows.specs.Ledger.{Ledger, Fate, IsLive, IsDead, IsHeld}

@@ -1,4 +1,5 @@
--- What a row's state and marks say stays true of a row that is as it was, whatever becomes of another.
+-- What a row's state and marks say stays true of a row that is as it was, whatever becomes of
+-- another.
 use Rattle.std.proofs.Common.{ℕ, ◌≡◌, ◌⊎◌, inl, inr, ◌<◌, Some, sym, ◌∙◌, ap, subst}
 use Rattle.kw_rows.specs.Ledger.{Ledger, Fate, Status, Free, Infant, Live, Dead, IsLive, IsDead}
 use Rattle.kw_rows.specs.RowState as row

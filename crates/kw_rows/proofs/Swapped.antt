@@ -1,5 +1,5 @@
--- A part of the list is exchanged for another: the live rows stay one list, held rows lead to held rows, and rows that share a key
--- follow one another.
+-- A part of the list is exchanged for another: the live rows stay one list, held rows lead to held
+-- rows, and rows that share a key follow one another.
 use Rattle.std.proofs.Common.{ℕ, ◌≡◌, ◌⊎◌, inl, inr, ◌<◌, ◌≤◌, Option, Some, None, List, ◌∷◌, arith, refl, sym, ◌∙◌, ap, subst}
 use Rattle.std.proofs.lemmas.Option.{same_Some}
 use Rattle.kw_rows.specs.Ledger.{Ledger, Dead, IsLive, IsFresh, IsHeld, WasHeld}

@@ -1,4 +1,5 @@
--- A part of the list, of any length, is exchanged for another: what the list itself sees of a group that is replaced.
+-- A part of the list, of any length, is exchanged for another: what the list itself sees of a group
+-- that is replaced.
 use Rattle.std.proofs.Common.{ℕ, ◌≡◌, ◌≢◌, ◌<◌, Option, Some, List, ◌∷◌}
 use Rattle.kw_rows.specs.Ledger.{Ledger, Infant, IsLive, IsDead}
 use Rattle.kw_rows.specs.Rows.{Rows, leads, bound}

@@ -1,4 +1,5 @@
--- A group is replaced: its rows are dead, the new ones are live, and what other seats know of their groups still holds.
+-- A group is replaced: its rows are dead, the new ones are live, and what other seats know of their
+-- groups still holds.
 use Rattle.std.proofs.Common.{ℕ, ◌≡◌, ◌≢◌, ◌⊎◌, inl, inr, ◌<◌, true, false, Option, Some, None, List, arith, refl, sym, ◌∙◌, ap, subst}
 use Rattle.std.proofs.lemmas.Bool.{cases_eq}
 use Rattle.std.proofs.lemmas.Option.{same_Some}

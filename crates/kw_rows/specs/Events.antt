@@ -201,7 +201,8 @@ abbrev pub IsOpenLink : Rows → Ledger → Option ℕ → Type 0
 IsOpenLink w g None = Unit {0}
 IsOpenLink w g (Some p) = IsHeld g p × (w.marked p ≡ false)
 
--- the link of p, which held r, is exchanged for one to n: the group, r and c, is dead, and n and more are live
+-- the link of p, which held r, is exchanged for one to n: the group, r and c, is dead, and n and
+-- more are live
 pub record Replaces (w w' : Rows) (g g' : Ledger) (now : ℕ) (p : Option ℕ) (r : ℕ) (c after : Option ℕ) (n : ℕ) (more : List ℕ) : Type 0 where
   -- what it finds
   pub link : IsOpenLink w g p

@@ -5,7 +5,8 @@ use Rattle.kw_rows.specs.RowState.{Leader, Follower, IsLed, IsTwo, IsLeader, IsC
 use Rattle.kw_rows.specs.Rows.{Rows}
 use Rattle.kw_rows.specs.States.{LinksOn}
 
--- how far a seat is with its group: r leads, c is the row after it, `after` is what a marked link leads to
+-- how far a seat is with its group: r leads, c is the row after it, `after` is what a marked link
+-- leads to
 pub data View : Type 0 where
   Elsewhere : View
   -- it found r a leader of so many rows, none where that is not decided, and marks its link

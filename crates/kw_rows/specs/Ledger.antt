@@ -1,4 +1,5 @@
--- What has become of each row, and which rows a seat may still name. No code reads this: it is a record of past events.
+-- What has become of each row, and which rows a seat may still name. No code reads this: it is a
+-- record of past events.
 use Rattle.std.specs.Prelude.{ℕ, ◌≡◌, ◌⊎◌, ◌<◌, Option, Some}
 
 -- a row is free, or taken and not yet linked, or linked, or was linked and is so no more
@@ -8,7 +9,8 @@ pub data Status : Type 0 where
   Live : Status
   Dead : Status
 
--- the fate of a row since it was taken last; an event's position is how many events there were before it
+-- the fate of a row since it was taken last; an event's position is how many events there were
+-- before it
 pub record Fate : Type 0 where
   pub status : Status
   -- how many events there were with the one that took it, and with the one that linked it

@@ -1,7 +1,8 @@
 -- The state of a row, and the families of states that a seat may find.
 use Rattle.std.specs.Prelude.{ℕ, ◌≡◌, ◌≤◌}
 
--- a leader knows how many rows its group has, none before that is decided; a follower knows the row that leads it
+-- a leader knows how many rows its group has, none before that is decided; a follower knows the row
+-- that leads it
 pub data State : Type 0 where
   Free : State
   Infant : ℕ → State

@@ -7,7 +7,8 @@ use Rattle.kw_rows.specs.RowState.{State}
 pub record Rows : Type 0 where
   -- the first row
   pub head : Option ℕ
-  -- of each row: the next one, whether that link is marked (it changes no more), whether no more cells are given, its least key, its state
+  -- of each row: the next one, whether that link is marked (it changes no more), whether no more
+  -- cells are given, its least key, its state
   pub next : ℕ → Option ℕ
   pub marked : ℕ → Bool
   pub frozen : ℕ → Bool
@@ -56,6 +57,7 @@ pub record HoldsKey (w : Rows) (g : Ledger) (x key : ℕ) : Type 0 where
 abbrev pub WasLinked : Ledger → ℕ → Type 0
 WasLinked g x = IsLive g x ⊎ IsDead g x
 
--- a dead row and another that holds or held a key of it: one of them went before the other was linked
+-- a dead row and another that holds or held a key of it: one of them went before the other was
+-- linked
 abbrev pub Follows : Rows → Ledger → Type 0
 Follows w g = (x y key : ℕ) → IsDead g x → WasLinked g y → HoldsKey w g x key → HoldsKey w g y key → x ≢ y → ((g.fates x).gone < (g.fates y).born) ⊎ IsDead g y × ((g.fates y).gone < (g.fates x).born)

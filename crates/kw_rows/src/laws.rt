@@ -8,9 +8,10 @@ ghost use Rattle.kw_rows.specs.Group.{View, Marking, Opened, Claiming, MarkingNe
 ghost use Rattle.kw_rows.specs.Events.{Event, Holds, IsIn, rest_of};
 ghost use Rattle.kw_rows.specs.Structure.{Structure};
 
-/// An event leaves the live rows one list with rising least keys; what a seat may name leads to what it may name; each row has a state
-/// and marks that go with what has become of it; rows that share a key follow one another. What a seat knows of its group stays
-/// known while it may name the rows of it, and it may name them until its pass ends.
+/// An event leaves the live rows one list with rising least keys; what a seat may name leads to
+/// what it may name; each row has a state and marks that go with what has become of it; rows that
+/// share a key follow one another. What a seat knows of its group stays known while it may name the
+/// rows of it, and it may name them until its pass ends.
 pub fn row_laws()
     ensures chain { (w w2 : Rows) (g g2 : Ledger) (now : ℕ) → Structure w g now →
         Event w w2 g g2 now → Chain w2 g2 }
@@ -34,9 +35,9 @@ pub fn row_laws()
         Group w2 g2 view }
 {}
 
-/// What a seat comes to know of its group, from what it knew and what it finds: of a row that leads, of one whose link is marked, and of
-/// the row after it; and which links it may mark
-/// and which rows it may freeze.
+/// What a seat comes to know of its group, from what it knew and what it finds: of a row that
+/// leads, of one whose link is marked, and of the row after it; and which links it may mark and
+/// which rows it may freeze.
 pub fn view_laws()
     ensures leads { (w : Rows) (g : Ledger) (now : ℕ) → Structure w g now → (r n : ℕ) → IsHeld g r →
         w.state r ≡ Leader n → Group w g (Marking r n) }

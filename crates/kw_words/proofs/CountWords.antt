@@ -1,4 +1,5 @@
--- Counts and their words: each count in range has one word and is read back from it, and what adding and freezing do to it.
+-- Counts and their words: each count in range has one word and is read back from it, and what
+-- adding and freezing do to it.
 use Rattle.std.proofs.Common.{ℕ, ◌≡◌, ◌≢◌, ◌+◌, ◌<◌, ◌^◌, bit_or, true, Some, None, ap, arith}
 use Rattle.std.proofs.lemmas.Bool.Decides.{nat_tests}
 use Rattle.kw_words.proofs.Refusals.{none_unless}

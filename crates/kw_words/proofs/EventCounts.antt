@@ -1,12 +1,14 @@
--- How many events a seat makes that goes on alone, in a table of so many rows, and what the sizes owe their number. Each number that is none of the
--- sizes has a name here and stands nowhere else. They are what is allowed for: no law of lists of events has been drawn from them yet.
+-- How many events a seat makes that goes on alone, in a table of so many rows, and what the sizes
+-- owe their number. Each number that is none of the sizes has a name here and stands nowhere else.
+-- They are what is allowed for: no law of lists of events has been drawn from them yet.
 use Rattle.std.proofs.Common.{ℕ, ◌+◌, ◌*◌, ◌≤◌, ◌^◌, arith}
 use Rattle.std.specs.Prelude.{min, max}
 use Rattle.kw_words.specs.declared.sizes.TheConstants.{SEATS, CELLS, BUILT, MOST_GROUP, MOST_NEW_ROWS}
 
 -- ---- a row that is read
 
--- at an entry: a load of it and, where it is pending, of the key and of the clock, and the exchange that stamps it
+-- at an entry: a load of it and, where it is pending, of the key and of the clock, and the exchange
+-- that stamps it
 abbrev at_an_entry : ℕ
 at_an_entry = 4
 
@@ -54,7 +56,8 @@ at_a_frozen_entry = 3
 abbrev at_a_scan : ℕ
 at_a_scan = 3
 
--- at a row that it asks whether it is free, beside a load for each seat: a load and two exchanges, one that frees it and one that takes it
+-- at a row that it asks whether it is free, beside a load for each seat: a load and two exchanges,
+-- one that frees it and one that takes it
 abbrev at_an_asked_row : ℕ
 at_an_asked_row = 3
 
@@ -98,13 +101,15 @@ at_a_row_walked = 2
 abbrev beside_a_walk : ℕ
 beside_a_walk = 10
 
--- from the beginning of a walk to that of the next: a put and a rebalance are made, or all rows are read
+-- from the beginning of a walk to that of the next: a put and a rebalance are made, or all rows are
+-- read
 abbrev pub events_of_a_pass : ℕ → ℕ
 events_of_a_pass rows = beside_a_walk + at_a_row_walked * rows + max (events_of_a_put + events_of_a_rebalance rows) (rows * (at_a_row_walked + events_of_a_row))
 
 -- ---- the bound
 
--- how many passes there may be until a call ends, rows are replaced, or the seat goes on to a row before them
+-- how many passes there may be until a call ends, rows are replaced, or the seat goes on to a row
+-- before them
 abbrev passes : ℕ
 passes = 2
 

@@ -1,5 +1,6 @@
--- What the sizes of the product's map owe each other and the encodings, a lemma for each: other sizes are right where these lemmas hold of them.
--- What they owe the events of a seat that goes on alone is in EventCounts.
+-- What the sizes of the product's map owe each other and the encodings, a lemma for each: other
+-- sizes are right where these lemmas hold of them. What they owe the events of a seat that goes on
+-- alone is in EventCounts.
 use Rattle.std.proofs.Common.{ℕ, ◌+◌, ◌*◌, ◌-◌, ◌/◌, ◌%◌, ◌<◌, ◌≤◌, ◌≡◌, refl, arith}
 use Rattle.kw_words.specs.declared.sizes.TheConstants.{SEATS, CELLS, BUILT, SEAT_COUNT, CELL_COUNT, BUILT_COUNT, MOST_SEATS, MOST_CELLS, MOST_ROWS, MOST_GROUP, MOST_NEW_ROWS, VERSION_END, NUMBER_END, SPENT, FROZEN_BIT}
 use Rattle.kw_words.specs.Layout.{IsSized}
@@ -36,8 +37,8 @@ built_below_cells = omega arith
 pub built_has_room : BUILT + SEATS < CELLS
 built_has_room = omega arith
 
--- the rows that a rebalance builds have room for all cells of the rows that it replaces, since two neighbours hold more
--- than a new row may
+-- the rows that a rebalance builds have room for all cells of the rows that it replaces, since two
+-- neighbours hold more than a new row may
 pub new_rows_have_room : MOST_GROUP * CELLS < (MOST_NEW_ROWS + 1) / 2 * (BUILT + 1)
 new_rows_have_room = omega arith
 
@@ -49,7 +50,8 @@ new_rows_are_odd = refl
 abbrev pub rows_for_a_put : ℕ
 rows_for_a_put = 3
 
--- the puts that fill a new row pay for the rows that its rebalance builds, with a row in hand for each seat
+-- the puts that fill a new row pay for the rows that its rebalance builds, with a row in hand for
+-- each seat
 pub puts_pay_for_rows : MOST_NEW_ROWS * (SEATS + 1) ≤ rows_for_a_put * (CELLS - BUILT - SEATS)
 puts_pay_for_rows = omega arith
 

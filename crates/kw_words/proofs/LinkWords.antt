@@ -1,4 +1,5 @@
--- Links and their words: each link in range has one word and is read back from it, and what marking does to it.
+-- Links and their words: each link in range has one word and is read back from it, and what marking
+-- does to it.
 use Rattle.std.proofs.Common.{ℕ, ◌≡◌, ◌≢◌, ◌+◌, ◌<◌, ◌^◌, bit_or, Bool, true, false, Some, None, Option, refl, ap, ◌∙◌, sym, arith}
 use Rattle.std.proofs.lemmas.Bool.Decides.{nat_tests}
 use Rattle.kw_words.proofs.Refusals.{none_unless}

@@ -1,4 +1,5 @@
--- The words that hold one number or none: each value in range has one word, and is read back from it.
+-- The words that hold one number or none: each value in range has one word, and is read back from
+-- it.
 use Rattle.std.proofs.Common.{ℕ, Bool, true, false, nat_lt, nat_le, if◌then◌else◌, ◌≡◌, ◌==◌, ◌-◌, ◌<◌, ◌≤◌, ◌^◌, Some, None, Option, refl, ap, arith}
 use Rattle.std.proofs.lemmas.Bool.Decides.{nat_tests}
 use Rattle.kw_words.specs.declared.sizes.TheConstants.{MOST_CELLS, KEY_END, VALUE_END}

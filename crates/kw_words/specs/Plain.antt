@@ -1,4 +1,5 @@
--- The words that hold one number, or none: keys, values, versions, announced epochs and links between cells.
+-- The words that hold one number, or none: keys, values, versions, announced epochs and links
+-- between cells.
 use Rattle.std.specs.Prelude.{ℕ, ◌+◌, ◌-◌, ◌%◌, ◌<◌, ◌≤◌, ◌==◌, nat_lt, nat_le, if◌then◌else◌, Option, Some, None}
 use Rattle.kw_words.specs.declared.sizes.TheConstants.{MOST_CELLS, KEY_END, VALUE_END}
 

@@ -1,7 +1,8 @@
 //! How many cells of a row were asked for.
 //!
-//! A put adds one to the count of its row, and the count that it found is its cell. The count may pass the number of
-//! cells: a put that finds it there or frozen has no cell. A rebalance freezes the count.
+//! A put adds one to the count of its row, and the count that it found is its cell. The count may
+//! pass the number of cells: a put that finds it there or frozen has no cell. A rebalance freezes
+//! the count.
 ghost use Rattle.std.specs.Prelude.{◌≡◌, Some};
 ghost use Rattle.kw_words.specs.Count.{IsCount, count_word, count_of};
 ghost use Rattle.kw_words.specs.declared.count.Count.{Count};

@@ -1,7 +1,8 @@
 //! The kinds of event.
 //!
-//! An event is one operation of a seat on one word of the table. Its kind says what the operation is for. Scripts name the
-//! kinds as `KINDS` lists them, in the order in which they are declared here.
+//! An event is one operation of a seat on one word of the table. Its kind says what the operation
+//! is for. Scripts name the kinds as `KINDS` lists them, in the order in which they are declared
+//! here.
 ghost use Rattle.std.specs.Prelude.{◌≡◌, ◌↔◌, Some, length, slice_get, IsTrue};
 ghost use Rattle.kw_words.specs.Kind.{name_of, place_in_kinds};
 ghost use Rattle.kw_words.specs.declared.kind.Kind.{Kind};

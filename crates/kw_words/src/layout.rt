@@ -1,9 +1,10 @@
 //! Where each word of the table lies.
 //!
-//! First come four words of the whole map, then three words for each seat, then the rows one after the other. A row has
-//! five words of its own, one for each seat, and four for each cell. `Layout` is generic in the numbers of seats and of
-//! cells, and its calls take the number of rows. That different words have different places is a clause of `place`: all
-//! that is proved of the words above rests on it.
+//! First come four words of the whole map, then three words for each seat, then the rows one after
+//! the other. A row has five words of its own, one for each seat, and four for each cell. `Layout`
+//! is generic in the numbers of seats and of cells, and its calls take the number of rows. That
+//! different words have different places is a clause of `place`: all that is proved of the words
+//! above rests on it.
 ghost use Rattle.std.specs.Prelude.{◌≡◌, ◌<◌, ◌+◌};
 ghost use Rattle.kw_words.specs.Layout.{IsSized, IsWithin, place_of, words_of, row_start, cell_start};
 ghost use Rattle.kw_words.specs.declared.layout.Name.{Name};
@@ -71,7 +72,8 @@ impl<const SEATS: usize, const CELLS: usize> Layout<SEATS, CELLS> {
         Self::placed(rows, name)
     }
 
-    // `place` without the clause on other words, which is one goal there and would be one for each word here.
+    // `place` without the clause on other words, which is one goal there and would be one for each
+    // word here.
     fn placed(rows: u32, name: Name) -> usize
         requires sized { IsSized SEATS CELLS rows }
         requires within { IsWithin SEATS CELLS rows name }

@@ -1,7 +1,7 @@
 //! The link from one row of the list to the next.
 //!
-//! A link leads to a row or ends the list. A rebalance marks the link of a row that it replaces, and a marked link does
-//! not change any more.
+//! A link leads to a row or ends the list. A rebalance marks the link of a row that it replaces,
+//! and a marked link does not change any more.
 ghost use Rattle.std.specs.Prelude.{◌≡◌, Some};
 ghost use Rattle.kw_words.specs.Link.{IsLink, link_word, link_of};
 ghost use Rattle.kw_words.specs.declared.link.Link.{Link};

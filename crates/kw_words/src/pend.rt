@@ -1,7 +1,8 @@
 //! What a seat has announced in a row.
 //!
-//! A put announces its cell in the entry of its seat before it reads the clock, and writes its version there. Readers and
-//! rebalances read the entries of a row to find the puts that are on their way.
+//! A put announces its cell in the entry of its seat before it reads the clock, and writes its
+//! version there. Readers and rebalances read the entries of a row to find the puts that are on
+//! their way.
 ghost use Rattle.std.specs.Prelude.{◌≡◌, Some};
 ghost use Rattle.kw_words.specs.Pend.{IsPend, pend_word, pend_of};
 ghost use Rattle.kw_words.specs.declared.pend.Pend.{Pend};

@@ -1,8 +1,8 @@
 //! The words that hold one number, or none.
 //!
-//! Keys, values, versions, announced epochs and links between cells are written as plain numbers. Every number is read back
-//! as something, so `unpack` of these words never refuses: what is promised is that each value in range has a word of its
-//! own, and is read back from it.
+//! Keys, values, versions, announced epochs and links between cells are written as plain numbers.
+//! Every number is read back as something, so `unpack` of these words never refuses: what is
+//! promised is that each value in range has a word of its own, and is read back from it.
 ghost use Rattle.std.specs.Prelude.{◌≡◌, ◌<◌, ◌≤◌};
 ghost use Rattle.kw_words.specs.Plain.{IsValue, value_word, value_of_word, IsCounted, version_word, version_of_word, pass_word, pass_of_word, IsCell, cell_link_word, cell_of_link_word, key_word, key_of_word};
 ghost use Rattle.kw_words.specs.declared.sizes.TheConstants.{MOST_CELLS, KEY_END, VALUE_END};
@@ -22,7 +22,8 @@ pub fn pack_value(value: Option<u64>) -> u64
     }
 }
 
-/// The value that a word stands for, or none for a tombstone. A word that is neither is read as a tombstone.
+/// The value that a word stands for, or none for a tombstone. A word that is neither is read as a
+/// tombstone.
 #[tactic(auto, unfolding(crate::specs::Plain::value_of_word))]
 pub fn unpack_value(word: u64) -> Option<u64>
     ensures value { result ≡ value_of_word word }
@@ -86,7 +87,8 @@ pub fn pack_cell_link(cell: Option<u32>) -> u64
     }
 }
 
-/// The cell that a link leads to, below `MOST_CELLS`; none at the end of the list, and for a word that leads to no cell.
+/// The cell that a link leads to, below `MOST_CELLS`; none at the end of the list, and for a word
+/// that leads to no cell.
 #[tactic(auto, unfolding(crate::specs::Plain::cell_of_link_word))]
 pub fn unpack_cell_link(word: u64) -> Option<u32>
     ensures value { result ≡ cell_of_link_word word }

@@ -1,7 +1,8 @@
 //! The scan of a seat.
 //!
-//! A scan first writes the clock that it loaded, then draws a version, and then sets the version here. A rebalance that
-//! finds it waiting sets a version for it, so that it knows which versions are still read.
+//! A scan first writes the clock that it loaded, then draws a version, and then sets the version
+//! here. A rebalance that finds it waiting sets a version for it, so that it knows which versions
+//! are still read.
 ghost use Rattle.std.specs.Prelude.{◌≡◌, Some};
 ghost use Rattle.kw_words.specs.Scan.{IsScan, scan_word, scan_of};
 ghost use Rattle.kw_words.specs.declared.scan.ScanWord.{ScanWord};

@@ -1,7 +1,8 @@
 //! The sizes of the product's map, and the limits of the encodings.
 //!
-//! The first three are the product's choice, and may be changed within the limits. The limits are what the encodings have
-//! room for: they say which values a word can hold, and every `pack` requires them.
+//! The first three are the product's choice, and may be changed within the limits. The limits are
+//! what the encodings have room for: they say which values a word can hold, and every `pack`
+//! requires them.
 
 /// How many seats the map has: how many threads may call it at once.
 pub const SEATS: usize = 8;
@@ -48,10 +49,12 @@ pub const SPENT: u64 = 1 << 48;
 /// Keys are below this.
 pub const KEY_END: u64 = 1 << 32;
 
-/// Values are below this. It is added to a value in its word, so that no value has the word of a tombstone.
+/// Values are below this. It is added to a value in its word, so that no value has the word of a
+/// tombstone.
 pub const VALUE_END: u64 = 1 << 63;
 
-/// The bit of a count's word that says that the row is frozen. The cells given are counted below it.
+/// The bit of a count's word that says that the row is frozen. The cells given are counted below
+/// it.
 pub const FROZEN_BIT: u64 = 1 << 32;
 
 /// The bit of a link's word that says that the link is marked.

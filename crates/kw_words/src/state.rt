@@ -1,7 +1,7 @@
 //! The state of a row.
 //!
-//! A row is free, then the infant of the seat that builds it, then normal. A rebalance engages it as a leader or as a
-//! follower and replaces it, and it is retired until no call can still read it.
+//! A row is free, then the infant of the seat that builds it, then normal. A rebalance engages it
+//! as a leader or as a follower and replaces it, and it is retired until no call can still read it.
 ghost use Rattle.std.specs.Prelude.{◌≡◌, Some};
 ghost use Rattle.kw_words.specs.State.{IsState, state_word, state_of};
 ghost use Rattle.kw_words.specs.declared.state.State.{State};
@@ -17,7 +17,8 @@ pub enum State {
     Infant(u32),
     /// The row holds a part of the map.
     Normal,
-    /// The row leads a rebalance of this many rows, at most `MOST_GROUP`; 0 where that is not decided yet.
+    /// The row leads a rebalance of this many rows, at most `MOST_GROUP`; 0 where that is not
+    /// decided yet.
     Leader(u32),
     /// The row goes along in the rebalance of this row, below `MOST_ROWS`.
     Follower(u32),
