@@ -3,11 +3,13 @@
 
   tools/compare_keep.py                       10,000 lists against the functions of this file
   tools/compare_keep.py 500 --seed 7
-  tools/compare_keep.py 10000 --model FILE    a Python file with the same `Cell`, `keep` and `pack_rows`
+  tools/compare_keep.py 10000 --model FILE
+      a Python file with the same `Cell`, `keep` and `even_rows`
 
-A list has up to 128 cells of few or many keys, in any order, and up to 31 needed versions. A program of one crate, which is
-made in a folder of its own beside copies of kw_cells and kw_words, answers the lists under `rt try`, so nothing is proved here. The
-last line says how many agreed; the status is 1 where one did not."""
+A list has up to 128 cells of few or many keys, in any order, and up to 31 needed versions. A
+program of one crate, which is made in a folder of its own beside copies of kw_cells and kw_words,
+answers the lists under `rt try`, so nothing is proved here. The last line says how many agreed; the
+status is 1 where one did not."""
 
 import argparse
 import importlib.util
@@ -80,7 +82,8 @@ class Cell(NamedTuple):
 
 
 def keep(cells, needed):
-    """Of each key the newest cell and the best one for each needed version; then the oldest go while they are tombstones."""
+    """Of each key the newest cell and the best one for each needed version; then the oldest go
+    while they are tombstones."""
     kept = []
     for key in sorted({cell.key for cell in cells}):
         own = sorted({cell for cell in cells if cell.key == key}, key=lambda cell: (cell.version, cell.place))
@@ -93,13 +96,23 @@ def keep(cells, needed):
     return kept
 
 
-def pack_rows(kept, built):
-    """The starts of the rows: a key begins a new row where it does not fit with what the row has so far."""
+def even_rows(kept, built):
+    """The starts of as few rows as rows of at most `built` cells can be, of which the longest is as
+    short as it can be with so few: each row is filled up to that before the next one starts. Which
+    lengths are possible is found by trying each last row."""
+    ends = [place for place in range(1, len(kept) + 1) if place == len(kept) or kept[place].key != kept[place - 1].key]
+    # of the cells up to each end: the shortest that the longest row can be, where there is one row,
+    # then two and so on
+    longest = list(ends)
+    while longest and longest[-1] > built:
+        longest = [
+            min([whole, *(max(longest[first], end - ends[first]) for first in range(last))])
+            for last, (whole, end) in enumerate(zip(longest, ends))
+        ]
     starts = [0]
-    for key in sorted({cell.key for cell in kept}):
-        places = [place for place, cell in enumerate(kept) if cell.key == key]
-        if places[-1] + 1 - starts[-1] > built:
-            starts.append(places[0])
+    for begin, end in zip([0, *ends], ends):
+        if end - starts[-1] > longest[-1]:
+            starts.append(begin)
     return starts
 
 
@@ -132,7 +145,7 @@ def line_of(cells, needed):
 
 def answer_of(model, cells, needed):
     kept = model.keep([model.Cell(*cell) for cell in cells], needed)
-    return "".join(f"{word} " for word in [*map(written, kept), *map(str, model.pack_rows(kept, BUILT))])
+    return "".join(f"{word} " for word in [*map(written, kept), *map(str, model.even_rows(kept, BUILT))])
 
 
 def model_of(path):

@@ -1,4 +1,5 @@
--- Where rising cells are cut by a test that holds of lesser keys: the cells that pass it are counted, and stand in front.
+-- Where rising cells are cut by a test that holds of lesser keys: the cells that pass it are
+-- counted, and stand in front.
 use Rattle.std.proofs.Common.{ℕ, zero, suc, Bool, true, false, ◌≡◌, ◌<◌, ◌≤◌, ◌+◌, cond, count_by, List, [], ◌∷◌, refl, sym, ◌∙◌, arith, length, get_or}
 use Rattle.std.proofs.lemmas.List.Sums.{sum_by-cons}
 use Rattle.std.proofs.lemmas.Bool.{false≢true}

@@ -63,8 +63,8 @@ keys_rise cells o k n d x u w = which (cases_lt k n)
     which (inl y) = let e = o k n d y w in let f = ap (λ (c : Cell). c.key) (get_or_default cells n d x w) in not_above (get_or cells k d) (get_or cells n d) (get_or cells n x).key e f
     which (inr y) = let e : k ≡ n = omega arith in let f = ap (λ j. (get_or cells j d).key) e in let g = ap (λ (c : Cell). c.key) (get_or_default cells n d x w) in omega arith
 
--- a pass stands at a place: no key of the range below `low` shows a value, and no cell in front with a key from there on has a version
--- that may be shown
+-- a pass stands at a place: no key of the range below `low` shows a value, and no cell in front
+-- with a key from there on has a version that may be shown
 pub record Passing (cells : List Cell) (version from low at : ℕ) : Type 0 where
   pub floor : from ≤ low
   pub silent : IsSilent cells version from low

@@ -10,10 +10,13 @@ pub mod Shown
 pub mod Passing
 pub mod Moved
 pub mod Few
-pub mod Starts
-pub mod StartsOf
 pub mod CutAt
-pub mod StartsMade
+pub mod Places
+pub mod Made
+pub mod Fewest
+pub mod Even
+pub mod Enough
+pub mod Turns
 pub mod KeptOf
 pub mod Worked
 pub mod Rooms

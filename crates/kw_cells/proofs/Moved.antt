@@ -1,4 +1,5 @@
--- The same cells in another order: what is kept of them stays the same. And the order that the sort makes.
+-- The same cells in another order: what is kept of them stays the same. And the order that the sort
+-- makes.
 use Rattle.std.proofs.Common.{ℕ, true, false, ◌≡◌, ◌≤◌, List, [], refl, arith, Any, length, drop, inl, inr, ◌⊎◌}
 use Rattle.std.specs.List.{refill}
 use Rattle.std.specs.List.Sorted.{IsPermutation, IsSortedBy}

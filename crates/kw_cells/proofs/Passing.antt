@@ -14,8 +14,9 @@ use Rattle.kw_cells.specs.declared.cell.Cell.{Cell}
 abbrev pub IsShowing : List Cell → List ℕ → ℕ → ℕ → Cell → Type 0
 IsShowing s needed i key x = (x.key ≡ key) × IsChosen s needed x × (is_some x.value ≡ true) × ((m : ℕ) (d : Cell) → i ≤ m → m < length s → x.key ≡ (get_or s m d).key → x.version ≤ (get_or s m d).version)
 
--- what holds where the cells before a place have been gone through. A cell may stand twice; one that stands at the place again
--- is not picked before it, so what holds of the cells gone through has a case for the cell at the place
+-- what holds where the cells before a place have been gone through. A cell may stand twice; one
+-- that stands at the place again is not picked before it, so what holds of the cells gone through
+-- has a case for the cell at the place
 pub record IsSoFar (s : List Cell) (needed : List ℕ) (i : ℕ) (shown : Option ℕ) (kept : List Cell) : Type 0 where
   pub few : length kept ≤ i
   pub rising : AreRising kept

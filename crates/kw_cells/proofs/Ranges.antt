@@ -1,4 +1,5 @@
--- The pairs that a range of keys shows: what they are at each key, that no other list is so, and how they begin.
+-- The pairs that a range of keys shows: what they are at each key, that no other list is so, and
+-- how they begin.
 use Rattle.std.proofs.Common.{ℕ, zero, suc, Bool, true, false, ◌≡◌, ◌<◌, ◌≤◌, ◌+◌, ◌-◌, ◌&&◌, leb, Option, Some, None, [], ◌∷◌, refl, sym, ap, ◌∙◌, arith, All}
 use Rattle.std.proofs.lemmas.Bool.Decides.{nat_tests}
 use Rattle.kw_cells.specs.Pairs.{Pairs, RisesFrom, value_of, ShowsRange, with_shown, pairs_along, pairs_between}

@@ -28,7 +28,8 @@ AreFew most kept = (i : ℕ) (d : Cell) → i + most < length kept → (get_or k
 abbrev pub count_of : ℕ → ℕ → List Cell → ℕ
 count_of key n kept = count_by (λ c. eqb c.key key) (take n kept)
 
--- the first n cells: those of lower keys stand before a place, and of the key are no more than behind it, nor than `most`
+-- the first n cells: those of lower keys stand before a place, and of the key are no more than
+-- behind it, nor than `most`
 record HasBlock (kept : List Cell) (most key n from : ℕ) : Type 0 where
   pub within : from ≤ n
   pub below : (k : ℕ) (d : Cell) → k < from → (get_or kept k d).key < key

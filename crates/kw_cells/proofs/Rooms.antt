@@ -1,10 +1,11 @@
--- The sizes leave room for a rebuild: those of the product, and the greatest that the encodings have room for.
+-- The sizes leave room for a rebuild: those of the product, and the greatest that the encodings
+-- have room for.
 use Rattle.std.proofs.Common.{ℕ, suc, ◌≡◌, ◌<◌, ◌≤◌, ◌+◌, ◌*◌, ◌/◌, refl, arith}
 use Rattle.kw_words.specs.declared.sizes.TheConstants.{SEATS, CELLS, BUILT, MOST_SEATS, MOST_CELLS, MOST_GROUP}
 use Rattle.kw_cells.specs.declared.limits.TheConstants.{MOST_GATHERED, MOST_NEEDED, MOST_STARTS}
 
--- how many rows are enough for so many cells, where two neighbours have more than `built`: an odd number, since the last
--- row stands alone
+-- how many rows are enough for so many cells, where two neighbours have more than `built`: an odd
+-- number, since the last row stands alone
 pub record AreEnough (gathered built rows : ℕ) : Type 0 where
   pub pairs : ℕ
   pub odd : rows ≡ pairs + pairs + 1

@@ -1,4 +1,5 @@
--- What a scan of the plain list gives: the index leads it to the last entry of each key of the range.
+-- What a scan of the plain list gives: the index leads it to the last entry of each key of the
+-- range.
 use Rattle.std.proofs.Common.{ℕ, suc, Bool, true, false, ◌≡◌, ◌<◌, ◌≤◌, cond, eqb, leb, ◌&&◌, nat_le, Option, Some, None, [], ◌∷◌, ◌++◌, refl, sym, ap, ◌∙◌, arith, length, get_or, append-nil}
 use Rattle.std.proofs.lemmas.Bool.Decides.{nat_tests}
 use Rattle.std.specs.BTreeMap.{insert_entry}

@@ -11,7 +11,8 @@ use Rattle.kw_cells.proofs.Best.{best_is, best_of-best, best_of-none, none_fits}
 pub kept_given : (cells : List Cell) (needed : List ℕ) (kept : List Cell) → IsKeptList cells needed kept → All (Contains cells) kept
 kept_given cells needed kept list i d l = ((list.exactly (get_or kept i d)).0 (Contains-get_or kept i d l)).0.0
 
--- at a needed version, and at one that no cell is above, each key shows the same, or no value in both
+-- at a needed version, and at one that no cell is above, each key shows the same, or no value in
+-- both
 pub shows_the_same : (cells : List Cell) (needed : List ℕ) (kept : List Cell) → AreApart cells → IsKeptList cells needed kept → (key u : ℕ) → Contains needed u ⊎ All (λ c. c.version ≤ u) cells → ShowsTheSame cells kept key u
 shows_the_same cells needed kept apart list key u at = go (best_of cells key u) refl (best_of kept key u) refl
   where

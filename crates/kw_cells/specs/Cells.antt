@@ -1,4 +1,5 @@
--- Which cell of a key a version shows, as a relation and as a function, and the pairs that the cells of a row show.
+-- Which cell of a key a version shows, as a relation and as a function, and the pairs that the
+-- cells of a row show.
 use Rattle.std.specs.Prelude.{ℕ, ◌≡◌, ◌≤◌, ◌<◌, ◌==◌, ◌&&◌, ◌||◌, nat_lt, nat_le, Bool, false, List, [], ◌∷◌, Option, Some, None, All, Any, Contains, if◌then◌else◌}
 use Rattle.kw_cells.specs.Pairs.{Pairs, pairs_between}
 use Rattle.kw_cells.specs.declared.cell.Cell.{Cell}
@@ -23,7 +24,8 @@ abbrev pub later_of : Cell → Option Cell → Cell
 later_of c None = c
 later_of c (Some d) = if is_later c d then c else d
 
--- the best cell of the key at this version, or none. Where several agree in version and place, it is the last of them
+-- the best cell of the key at this version, or none. Where several agree in version and place, it
+-- is the last of them
 unfoldable pub best_of : List Cell → ℕ → ℕ → Option Cell
 best_of [] key version = None
 best_of (c ∷ cells) key version = if fits key version c then Some (later_of c (best_of cells key version)) else best_of cells key version
@@ -41,7 +43,8 @@ value_in (Some c) = c.value
 abbrev pub shown_at : List Cell → ℕ → ℕ → Option ℕ
 shown_at cells version key = value_in (best_of cells key version)
 
--- the pairs that the cells show at this version: by rising key, each key from a to b whose best cell has a value
+-- the pairs that the cells show at this version: by rising key, each key from a to b whose best
+-- cell has a value
 abbrev pub pairs_of : List Cell → ℕ → ℕ → ℕ → Pairs
 pairs_of cells a b version = pairs_between (shown_at cells version) a b
 

@@ -16,7 +16,8 @@ abbrev pub place_in : Cell → List Cell → ℕ
 place_in c [] = 0
 place_in c (d ∷ cells) = if stands_before d c then suc (place_in c cells) else 0
 
--- the cells with one more at its place; one that agrees with a cell in key, version and place is not put beside it
+-- the cells with one more at its place; one that agrees with a cell in key, version and place is
+-- not put beside it
 abbrev pub with_cell : Cell → List Cell → List Cell
 with_cell c [] = c ∷ []
 with_cell c (d ∷ cells) = if stands_before d c then d ∷ with_cell c cells else if stands_before c d then c ∷ d ∷ cells else d ∷ cells

@@ -21,8 +21,8 @@ IsNewest cells c = All (λ d. d.key ≡ c.key → is_later d c ≡ false) cells
 abbrev pub IsChosen : List Cell → List ℕ → Cell → Type 0
 IsChosen cells needed c = Contains cells c × (IsNewest cells c ⊎ Any (λ u. IsBest cells c.key u c) needed)
 
--- chosen, and a chosen cell of its key that is not above it has a value: just those are left where the oldest chosen cell
--- of a key is dropped again and again, as long as it is a tombstone
+-- chosen, and a chosen cell of its key that is not above it has a value: just those are left where
+-- the oldest chosen cell of a key is dropped again and again, as long as it is a tombstone
 abbrev pub IsKept : List Cell → List ℕ → Cell → Type 0
 IsKept cells needed c = IsChosen cells needed c × Any (λ d. (d.key ≡ c.key) × (d.version ≤ c.version) × IsChosen cells needed d × IsSome d.value) cells
 
@@ -57,8 +57,8 @@ is_chosen cells needed c = is_newest cells c || list_any (λ u. is_best cells u 
 abbrev pub is_kept : List Cell → List ℕ → Cell → Bool
 is_kept cells needed c = is_chosen cells needed c && list_any (λ d. d.key == c.key && nat_le d.version c.version && is_chosen cells needed d && is_some d.value) cells
 
--- the cells with one more behind those that are before it; one that agrees with a cell in key, version and place is not
--- put beside it
+-- the cells with one more behind those that are before it; one that agrees with a cell in key,
+-- version and place is not put beside it
 abbrev pub with_rising : Cell → List Cell → List Cell
 with_rising c [] = c ∷ []
 with_rising c (d ∷ cells) = if is_before d c then d ∷ with_rising c cells else if is_before c d then c ∷ d ∷ cells else d ∷ cells

@@ -11,10 +11,12 @@ is_before c d = nat_lt c.key d.key || (c.key == d.key && is_later d c)
 abbrev pub IsOrdered : List Cell → Type 0
 IsOrdered s = (i j : ℕ) (d : Cell) → i ≤ j → j < length s → is_before (slice_index_or s j d) (slice_index_or s i d) ≡ false
 
--- the cell at a place is the last of its key, or a needed version lies from its own to below the next one's
+-- the cell at a place is the last of its key, or a needed version lies from its own to below the
+-- next one's
 abbrev pub IsPicked : List Cell → List ℕ → ℕ → Type 0
 IsPicked s needed i = (d : Cell) → i + 1 < length s → (slice_index_or s (i + 1) d).key ≡ (slice_index_or s i d).key → Any (λ u. ((slice_index_or s i d).version ≤ u) × (u < (slice_index_or s (i + 1) d).version)) needed
 
--- a cell that may be kept as far as tombstones go: it has a value, or it is of the key that was kept last
+-- a cell that may be kept as far as tombstones go: it has a value, or it is of the key that was
+-- kept last
 abbrev pub MayStay : Option ℕ → Cell → Type 0
 MayStay shown c = (IsSome c.value) ⊎ (shown ≡ Some c.key)

@@ -1,5 +1,5 @@
--- Lists of pairs of a key and its value, and the list that a range of keys shows. A scan of a row and a scan of the
--- plain list are both said in these words.
+-- Lists of pairs of a key and its value, and the list that a range of keys shows. A scan of a row
+-- and a scan of the plain list are both said in these words.
 use Rattle.std.specs.Prelude.{ℕ, zero, suc, ◌-◌, ◌≡◌, ◌≤◌, ◌==◌, List, [], ◌∷◌, Option, Some, None, All, if◌then◌else◌}
 
 -- pairs of a key and its value
@@ -20,8 +20,8 @@ abbrev pub value_of : ℕ → Pairs → Option ℕ
 value_of k [] = None
 value_of k (p ∷ m) = if k == p.0 then Some p.1 else value_of k m
 
--- the pairs are those of the keys from a to b that show a value, each with the value that it shows, by strictly rising
--- key; at most one list is so
+-- the pairs are those of the keys from a to b that show a value, each with the value that it shows,
+-- by strictly rising key; at most one list is so
 pub record ShowsRange (shown : ℕ → Option ℕ) (a b : ℕ) (pairs : Pairs) : Type 0 where
   pub rising : IsRising pairs
   pub inside : All (λ p. (a ≤ p.0) × (p.0 ≤ b)) pairs

@@ -1,8 +1,8 @@
 //! Cells, and which of them a version shows.
 //!
-//! A row of the concurrent map keeps several cells of one key. Whoever reads a row at a version gathers its cells into a
-//! slice and asks here: a get for the best cell of its key, a scan for one pair after the other. Nothing here takes
-//! memory or changes a cell.
+//! A row of the concurrent map keeps several cells of one key. Whoever reads a row at a version
+//! gathers its cells into a slice and asks here: a get for the best cell of its key, a scan for one
+//! pair after the other. Nothing here takes memory or changes a cell.
 ghost use Rattle.std.specs.Prelude.{ℕ, ◌≡◌, ◌+◌, ◌≤◌, ◌<◌, [], ◌∷◌, IsTrue, IsNone, IfSome, IfNone, All, MatchOption, if◌then◌else◌, ◌↔◌};
 ghost use Rattle.std.specs.Ordering.{is_lt};
 ghost use Rattle.kw_cells.specs.Cells.{is_later, fits, best_of, IsBest, shown_at, pairs_of, IsLeastKey, IsNextPair};
@@ -12,8 +12,9 @@ use std::cmp::Ordering;
 
 /// One version of one key in a row.
 ///
-/// The fields stand in an order that leaves no gaps: a `u64` lies at a multiple of 8 bytes, so that two `u32` beside each
-/// other take as much room as one alone. A cell has 32 bytes, and would have 40 with the version before the place.
+/// The fields stand in an order that leaves no gaps: a `u64` lies at a multiple of 8 bytes, so that
+/// two `u32` beside each other take as much room as one alone. A cell has 32 bytes, and would have
+/// 40 with the version before the place.
 #[derive(Clone, Copy, Debug, Default, PartialEq, Eq)]
 pub struct Cell {
     /// The key, any `u32`.
@@ -55,10 +56,12 @@ impl Cell {
     }
 }
 
-/// The cell of the key with the greatest version not above `version`, and of these the one with the greatest place.
+/// The cell of the key with the greatest version not above `version`, and of these the one with the
+/// greatest place.
 ///
-/// None where no cell of the key has a version at most `version`. A tombstone is a cell like any other. Of cells of the
-/// key that agree in version and place, which no row has, it is the last in the slice. Reads each cell once.
+/// None where no cell of the key has a version at most `version`. A tombstone is a cell like any
+/// other. Of cells of the key that agree in version and place, which no row has, it is the last in
+/// the slice. Reads each cell once.
 pub fn best(cells: &[Cell], key: u32, version: u64) -> Option<Cell>
     ensures function { result ≡ best_of cells.now key version }
     ensures best { IfSome result (IsBest cells.now key version) }
@@ -84,7 +87,8 @@ fn later(found: Option<Cell>, cell: Cell) -> Cell
     }
 }
 
-/// The value that the key shows at this version: that of its best cell. None where that is a tombstone or there is none.
+/// The value that the key shows at this version: that of its best cell. None where that is a
+/// tombstone or there is none.
 fn value_at(cells: &[Cell], key: u32, version: u64) -> Option<u64>
     ensures { result ≡ shown_at cells.now version key }
 {
@@ -105,12 +109,12 @@ fn least_key(cells: &[Cell], from: u32, to: u32) -> Option<u32>
     least
 }
 
-/// The first pair that the cells show at this version in the range from `from` to `to`, both included: the least key
-/// of the range whose best cell has a value, with that value.
+/// The first pair that the cells show at this version in the range from `from` to `to`, both
+/// included: the least key of the range whose best cell has a value, with that value.
 ///
-/// None where no key of the range shows a value, and so where `from > to`. A caller takes all pairs of a row by asking
-/// again from the key after the one that it was given, until None comes or that key was `to`; all these calls together
-/// read each cell twice for each key of the row.
+/// None where no key of the range shows a value, and so where `from > to`. A caller takes all pairs
+/// of a row by asking again from the key after the one that it was given, until None comes or that
+/// key was `to`; all these calls together read each cell twice for each key of the row.
 pub fn next_pair(cells: &[Cell], from: u32, to: u32, version: u64) -> Option<(u32, u64)>
     ensures next { IfSome result (IsNextPair cells.now from to version) }
     ensures none { IfNone result ((key : ℕ) → from ≤ key → key ≤ to → shown_at cells.now version key

@@ -1,8 +1,8 @@
 //! Cells in the order of a row's list, and what a version shows of them, in one pass.
 //!
-//! The list of a row goes by key, then by falling version, then by falling place: so the first cell of a key that a version
-//! may show is the best one, and the pairs of a range come one after the other. `cell` asks the same of cells in any order,
-//! and reads them again for each key.
+//! The list of a row goes by key, then by falling version, then by falling place: so the first cell
+//! of a key that a version may show is the best one, and the pairs of a range come one after the
+//! other. `cell` asks the same of cells in any order, and reads them again for each key.
 ghost use Rattle.std.specs.Prelude.{ℕ, ◌≡◌, ◌↔◌, ◌+◌, ◌≤◌, ◌<◌, [], ◌∷◌, IfSome, IfNone, IsTrue, length, None};
 ghost use Rattle.kw_cells.specs.Cells.{best_of, IsNextPair, shown_at, pairs_of};
 ghost use Rattle.kw_cells.specs.InOrder.{stands_before, AreInOrder, AreBelow, place_in};
@@ -10,7 +10,8 @@ ghost use Rattle.kw_cells.specs.InOrder.{stands_before, AreInOrder, AreBelow, pl
 use crate::cell::Cell;
 
 impl Cell {
-    /// Whether this cell stands before the other in a row's list: by key, then by falling version, then by falling place.
+    /// Whether this cell stands before the other in a row's list: by key, then by falling version,
+    /// then by falling place.
     #[inline(always)]
     pub fn stands_before(&self, other: &Cell) -> bool
         ensures { result ≡ stands_before self.now other.now }
@@ -37,8 +38,8 @@ pub fn place_in(cell: &Cell, cells: &[Cell]) -> usize
     0
 }
 
-/// Whether the cell's place is behind all of the cells, as that of the next cell of a walk along a row's list is. Looks at the last
-/// of them alone.
+/// Whether the cell's place is behind all of the cells, as that of the next cell of a walk along a
+/// row's list is. Looks at the last of them alone.
 #[inline(always)]
 pub fn is_behind(cell: &Cell, cells: &[Cell]) -> bool
     requires { AreInOrder cells.now }
@@ -51,9 +52,11 @@ pub fn is_behind(cell: &Cell, cells: &[Cell]) -> bool
     cells[count - 1].stands_before(cell)
 }
 
-/// The cell of the key with the greatest version not above `version`, of cells in order: the first that has such a version.
+/// The cell of the key with the greatest version not above `version`, of cells in order: the first
+/// that has such a version.
 ///
-/// None where no cell of the key has a version at most `version`. Reads no cell behind the one that it answers.
+/// None where no cell of the key has a version at most `version`. Reads no cell behind the one that
+/// it answers.
 pub fn first_fit(cells: &[Cell], key: u32, version: u64) -> Option<Cell>
     requires in_order { AreInOrder cells.now }
     ensures { result ≡ best_of cells.now key version }
@@ -66,12 +69,12 @@ pub fn first_fit(cells: &[Cell], key: u32, version: u64) -> Option<Cell>
     None
 }
 
-/// The first pair that cells in order show at this version in the range from `from` to `to`, both included, as
-/// `cell::next_pair` says.
+/// The first pair that cells in order show at this version in the range from `from` to `to`, both
+/// included, as `cell::next_pair` says.
 ///
-/// The keys of the cells in front of the place `at` are below `from`. It goes on to the first cell that may have a later
-/// pair, so that a caller who asks again from the key after the one that it was given reads each cell once, and no cell
-/// behind the first one above the range.
+/// The keys of the cells in front of the place `at` are below `from`. It goes on to the first cell
+/// that may have a later pair, so that a caller who asks again from the key after the one that it
+/// was given reads each cell once, and no cell behind the first one above the range.
 #[inline(always)]
 pub fn next_in_order(
     cells: &[Cell],

@@ -1,8 +1,9 @@
 //! Which cells a rebuild of rows keeps.
 //!
-//! A rebalance gathers the cells of a group of rows and the versions that scans may still ask for, and asks here which of
-//! the cells go into the new rows. Nothing here takes memory or changes a cell. Readers of the new rows rely on `shows`:
-//! what a key shows at a needed version, and at one above all, it still shows.
+//! A rebalance gathers the cells of a group of rows and the versions that scans may still ask for,
+//! and asks here which of the cells go into the new rows. Nothing here takes memory or changes a
+//! cell. Readers of the new rows rely on `shows`: what a key shows at a needed version, and at one
+//! above all, it still shows.
 ghost use Rattle.std.specs.Prelude.{ℕ, ◌≡◌, ◌≤◌, ◌<◌, ◌+◌, ◌-◌, ◌^◌, ◌↔◌, IsTrue, All, Any, Contains, length};
 ghost use Rattle.std.specs.List.Sorted.{IsPermutation};
 ghost use Rattle.kw_cells.specs.Cells.{AreApart};
@@ -17,12 +18,14 @@ use arrayvec::ArrayVec;
 /// The cells that a rebuild keeps, at most `MOST_GATHERED`.
 pub type Kept = ArrayVec<Cell, MOST_GATHERED>;
 
-/// The cells that a rebuild keeps of these, strictly rising by key and version: of each key the newest cell and the best
-/// one for each needed version, but no tombstone that has only tombstones of its key below it.
+/// The cells that a rebuild keeps of these, strictly rising by key and version: of each key the
+/// newest cell and the best one for each needed version, but no tombstone that has only tombstones
+/// of its key below it.
 ///
-/// The cells come in any order. They are at most `MOST_GATHERED`, and those that agree in key, version and place are one.
-/// At most one cell of a key is kept for each needed version, and one more. At a needed version, and at one that no cell is
-/// above, each key has the same best cell as before, or shows no value before and after. Takes no memory.
+/// The cells come in any order. They are at most `MOST_GATHERED`, and those that agree in key,
+/// version and place are one. At most one cell of a key is kept for each needed version, and one
+/// more. At a needed version, and at one that no cell is above, each key has the same best cell as
+/// before, or shows no value before and after. Takes no memory.
 pub fn keep(cells: &[Cell], needed: &[u64]) -> Kept
     requires room { length cells.now ≤ MOST_GATHERED }
     requires apart { AreApart cells.now }
@@ -81,7 +84,8 @@ fn may_stay(cell: &Cell, shown: Option<u32>) -> bool
     cell.value.is_some() || shown == Some(cell.key)
 }
 
-/// Whether the cell at this place is the last of its key, or a needed version lies from its own to below the next one's.
+/// Whether the cell at this place is the last of its key, or a needed version lies from its own to
+/// below the next one's.
 fn is_picked(ordered: &[Cell], place: usize, needed: &[u64]) -> bool
     requires { place < length ordered.now }
     ensures { IsTrue result ↔ IsPicked ordered.now needed.now place }

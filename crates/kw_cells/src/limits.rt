@@ -1,8 +1,9 @@
 //! How much a rebuild of rows takes in and gives out.
 //!
-//! A rebalance gathers the cells of a group of rows, keeps some of them and cuts these into new rows. What a row and a
-//! group hold stands with the encodings, in `kw_words::sizes`; here is what follows from it for the lists of a rebuild, and
-//! nothing else names these numbers. Beside `keep` and `pack_rows` whoever keeps such lists takes their room from here.
+//! A rebalance gathers the cells of a group of rows, keeps some of them and cuts these into new
+//! rows. What a row and a group hold stands with the encodings, in `kw_words::sizes`; here is what
+//! follows from it for the lists of a rebuild, and nothing else names these numbers. Beside `keep`
+//! and `pack_rows` whoever keeps such lists takes their room from here.
 
 use kw_words::sizes::{CELLS, MOST_GROUP, MOST_NEW_ROWS, SEATS};
 

@@ -1,8 +1,9 @@
 //! A map of one thread that keeps every entry it was given.
 //!
-//! The list of entries is the truth: a key has the value of its last entry, and a delete is an entry without a value.
-//! Beside it stands a tree from each key to the place of its last entry, so that a get and a scan need not walk the
-//! list. Contracts see the list alone; that the tree fits it is the invariant of the type, which `put` keeps.
+//! The list of entries is the truth: a key has the value of its last entry, and a delete is an
+//! entry without a value. Beside it stands a tree from each key to the place of its last entry, so
+//! that a get and a scan need not walk the list. Contracts see the list alone; that the tree fits
+//! it is the invariant of the type, which `put` keeps.
 ghost use Rattle.std.specs.Prelude.{◌≡◌, ◌↔◌, ◌⊎◌, ◌++◌, ◌∷◌, [], IsNone, IfOk, OnOk, OnErr};
 ghost use Rattle.kw_cells.specs.Pairs.{ShowsRange};
 ghost use Rattle.kw_cells.specs.Plain.{last_of, shown_last};
@@ -13,8 +14,8 @@ use std::alloc::Global;
 use std::collections::BTreeMap;
 use std::marker::Model;
 
-/// A map of one thread, seen as the list of its entries of a key and an optional value, in the order in which they
-/// were put.
+/// A map of one thread, seen as the list of its entries of a key and an optional value, in the
+/// order in which they were put.
 #[derive(Drop)]
 pub struct Plain {
     alloc: Global,
@@ -44,7 +45,8 @@ impl Plain {
         }
     }
 
-    /// Appends an entry: the key's value, or None for a delete. Without memory the list stays as it was.
+    /// Appends an entry: the key's value, or None for a delete. Without memory the list stays as it
+    /// was.
     pub fn put(&mut self, key: u32, value: Option<u64>) -> Result<(), Memory>
         ensures ok { OnOk result (self.new ≡ self.old ++ (key, value) ∷ []) }
         ensures err { OnErr result (self.new ≡ self.old) }
@@ -58,7 +60,8 @@ impl Plain {
         Ok(())
     }
 
-    /// The value of the key's last entry. None where that is a delete, or where the key has no entry.
+    /// The value of the key's last entry. None where that is a delete, or where the key has no
+    /// entry.
     pub fn get(&self, key: u32) -> Option<u64>
         ensures value { result ≡ shown_last self.now key }
         ensures none { IsNone result ↔ ((last_of self.now key ≡ None)
@@ -68,8 +71,8 @@ impl Plain {
         self.entries[place].1
     }
 
-    /// Each key from `from` to `to`, both included, whose last entry has a value, with that value, by strictly rising
-    /// key.
+    /// Each key from `from` to `to`, both included, whose last entry has a value, with that value,
+    /// by strictly rising key.
     ///
     /// Empty where `from > to`. The list stays as it is, also without memory for the pairs.
     pub fn scan(&mut self, from: u32, to: u32) -> Result<PlainPairs, Memory>

@@ -1,4 +1,5 @@
--- No key of the range below the present one shows a value, and no cell so far may show one from there on.
+-- No key of the range below the present one shows a value, and no cell so far may show one from
+-- there on.
 use Rattle.std.proofs.Common.{◌-◌, length}
 use Rattle.kw_cells.proofs.FirstFit.{Passing}
 use Rattle.kw_cells.proofs.in_order.next_in_order.Given as goal

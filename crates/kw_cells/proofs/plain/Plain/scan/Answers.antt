@@ -1,4 +1,5 @@
--- The range of the index gives the places of last entries; each shows a value that is pushed, or nothing.
+-- The range of the index gives the places of last entries; each shows a value that is pushed, or
+-- nothing.
 use Rattle.std.proofs.Common.{◌≡◌, ◌<◌, ◌++◌, ◌∷◌, sym, ap, ◌∙◌, subst, rules, arith, length}
 use Rattle.kw_cells.specs.Pairs.{Pairs, ShowsRange}
 use Rattle.kw_cells.specs.Plain.{Entries, shown_last}

@@ -1,4 +1,5 @@
--- The pairs pushed so far, and those that the places left show, are those of the range; each place is that of an entry.
+-- The pairs pushed so far, and those that the places left show, are those of the range; each place
+-- is that of an entry.
 use Rattle.std.proofs.Common.{◌≡◌, ◌++◌}
 use Rattle.kw_cells.proofs.Scans.{shown_by, ArePlaces}
 use Rattle.kw_cells.proofs.plain.Plain.scan.Given as goal

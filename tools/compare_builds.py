@@ -1,0 +1,89 @@
+#!/usr/bin/env python3
+"""Compares two builds of the program on keys that were put again and again: what a put, a get and a
+sum of a thousand keys take.
+
+  tools/compare_builds.py BEFORE AFTER
+      nanoseconds, each program in turn, the median of five rounds
+  tools/compare_builds.py BEFORE AFTER --count
+      instructions, which do not depend on what else the machine does
+  tools/compare_builds.py BEFORE AFTER --count --keys 4096 --lines 1000
+
+BEFORE and AFTER are the built programs themselves (crates/kw_program/out/kw_program of two
+checkouts, built alike). Each answers `replay` with one worker: puts of random keys until each was
+put twenty times on average, then so many lines of one kind. A figure is the difference of that run
+and one without the last lines, divided by their number, so what the program does for a line is in
+it. Nothing is promised of the figures. --count takes valgrind, and is some fifty times as slow."""
+
+import argparse
+import random
+import re
+import statistics
+import subprocess
+import time
+
+SUMMED = 1000
+KINDS = ("put", "get", "sum")
+COUNTED = re.compile(rb"Collected : (\d+)")
+
+
+def updated_lines(keys, updates, chance):
+    """Puts of random keys, so that rows are split while some of their cells are older ones. The
+    values have one digit, so that the input is no longer than it may be."""
+    return [f"put {key} {number % 10}" for number, key in enumerate(chance.choices(range(keys), k=keys * updates))]
+
+
+def asked_line(kind, keys, chance):
+    """A line of this kind."""
+    if kind == "sum":
+        least = chance.randrange(keys - SUMMED + 1)
+        return f"sum {least} {least + SUMMED - 1}"
+    key = chance.randrange(keys)
+    return f"put {key} 9" if kind == "put" else f"get {key}"
+
+
+def nanoseconds(program, text):
+    start = time.monotonic_ns()
+    subprocess.run([program, "replay"], input=text, stdout=subprocess.DEVNULL, check=True)
+    return time.monotonic_ns() - start
+
+
+def instructions(program, text):
+    words = ["valgrind", "--tool=callgrind", "--callgrind-out-file=/dev/null", program, "replay"]
+    run = subprocess.run(words, input=text, stdout=subprocess.DEVNULL, stderr=subprocess.PIPE, check=True)
+    return int(COUNTED.search(run.stderr)[1])
+
+
+def figures(measure, program, texts, lines):
+    """What a line of each kind takes, by one round."""
+    without = measure(program, texts[None])
+    return {kind: (measure(program, texts[kind]) - without) / lines for kind in KINDS}
+
+
+def main():
+    options = argparse.ArgumentParser(description=__doc__, formatter_class=argparse.RawDescriptionHelpFormatter)
+    options.add_argument("before")
+    options.add_argument("after")
+    options.add_argument("--count", action="store_true", help="count instructions")
+    options.add_argument("--keys", type=int, default=65_536, help="how many keys, at least a thousand")
+    options.add_argument("--updates", type=int, default=20, help="how often each is put, on average")
+    options.add_argument("--lines", type=int, default=20_000, help="how many lines of a kind are measured")
+    options.add_argument("--rounds", type=int, default=5, help="how many rounds are timed")
+    options.add_argument("--seed", type=int, default=1)
+    args = options.parse_args()
+    chance = random.Random(args.seed)
+    first = updated_lines(args.keys, args.updates, chance)
+    texts = {kind: [asked_line(kind, args.keys, chance) for _ in range(args.lines)] if kind else [] for kind in (None, *KINDS)}
+    texts = {kind: "".join(f"{line}\n" for line in [*first, *asked]).encode() for kind, asked in texts.items()}
+    measure, rounds = (instructions, 1) if args.count else (nanoseconds, args.rounds)
+    told = {"before": [], "after": []}
+    for _ in range(rounds):
+        for name, program in (("before", args.before), ("after", args.after)):
+            told[name].append(figures(measure, program, texts, args.lines))
+    print(f"{'instructions' if args.count else 'nanoseconds'} a line, {args.keys} keys, each put {args.updates} times on average")
+    for kind in KINDS:
+        before, after = (statistics.median(it[kind] for it in told[name]) for name in told)
+        print(f"{kind:<4}{before:>10.0f}{after:>10.0f}   {after / before:.2f} times")
+
+
+if __name__ == "__main__":
+    main()
