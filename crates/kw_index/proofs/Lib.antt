@@ -3,3 +3,4 @@ pub mod Lawful
 pub mod Placed
 pub mod Guessed
 pub mod Marked
+pub mod Brought

@@ -3,7 +3,8 @@ use Rattle.std.specs.Prelude.{ℕ, List, fold}
 use Rattle.kw_index.specs.declared.entries.Entry.{Entry}
 use Rattle.kw_index.specs.Entries.{Listing, without, with_own}
 
--- what callers see of a change: the entries of the rows that come, in the order in which they are placed, and the row that goes
+-- what callers see of a change: the entries of the rows that come, in the order in which they are
+-- placed, and the row that goes
 pub record Replacement : Type 0 where
   pub placed : List Entry
   pub gone : ℕ
@@ -12,6 +13,7 @@ pub record Replacement : Type 0 where
 abbrev pub placed_all : ℕ → List Entry → List Entry → List Entry
 placed_all rows entries list = fold (λ list e. with_own rows e list) list entries
 
--- the entries after a change: those of the rows that come are placed, and then that of the row that goes is dropped
+-- the entries after a change: those of the rows that come are placed, and then that of the row that
+-- goes is dropped
 abbrev pub with_change : Replacement → Listing → Listing
 with_change change old = record { rows = old.rows; list = without change.gone (placed_all old.rows change.placed old.list) }

@@ -1,4 +1,5 @@
--- The entries of an index as a list: what they keep, what an edit leaves of them, and which row they name for a key.
+-- The entries of an index as a list: what they keep, what an edit leaves of them, and which row
+-- they name for a key.
 use Rattle.std.specs.Prelude.{ℕ, ◌≡◌, ◌≢◌, ◌≤◌, ◌<◌, ◌==◌, nat_lt, not, if◌then◌else◌, Bool, true, List, ◌∷◌, ◌++◌, Option, Some, None, All, AllPairs, Contains, filter, length, slice_index_or}
 use Rattle.kw_index.specs.declared.entries.Entry.{Entry}
 
@@ -37,7 +38,8 @@ without row list = filter (λ e. not (e.row == row)) list
 abbrev pub with_entry : Entry → List Entry → List Entry
 with_entry new list = filter (λ e. nat_lt e.min new.min) list ++ new ∷ filter (λ e. nat_lt new.min e.min) list
 
--- this one in place of its row's own and of the one with its minimum, where its row is one of the map
+-- this one in place of its row's own and of the one with its minimum, where its row is one of the
+-- map
 abbrev pub with_own : ℕ → Entry → List Entry → List Entry
 with_own rows new list = if nat_lt new.row rows then with_entry new (without new.row list) else list
 
@@ -47,7 +49,8 @@ pub record IsNearest (list : List Entry) (key : ℕ) (e : Entry) : Type 0 where
   pub at_most : e.min ≤ key
   pub greatest : All (λ f. f.min ≤ key → f.min ≤ e.min) list
 
--- the row of the entry with the greatest minimum that is at most the key, or none where each minimum is above the key
+-- the row of the entry with the greatest minimum that is at most the key, or none where each
+-- minimum is above the key
 abbrev pub IsGuess : List Entry → ℕ → Option ℕ → Type 0
 IsGuess list key (Some row) = (e : Entry) × IsNearest list key e × (e.row ≡ row)
 IsGuess list key None = All (λ e. key < e.min) list

@@ -1,10 +1,12 @@
--- What a ledger is: entries as they once were, and the changes since, of which the last ones are kept; and what it makes of entries that lag behind.
+-- What a ledger is: entries as they once were, and the changes since, of which the last ones are
+-- kept; and what it makes of entries that lag behind.
 use Rattle.std.specs.Prelude.{ℕ, zero, suc, ◌≡◌, ◌+◌, ◌-◌, ◌^◌, ◌%◌, nat_le, if◌then◌else◌, List, [], ◌∷◌, Option, Some, None, length, slice_index_or, slice_set}
 use Rattle.kw_index.specs.Changes.{Replacement, with_change}
 use Rattle.kw_index.specs.Entries.{Listing}
 use Rattle.kw_index.specs.declared.ledger.TheConstants.{CHANGES_KEPT}
 
--- what callers see of a ledger: its base, the number of the last change that the base has, the places of the changes that are kept, and the number of the last change
+-- what callers see of a ledger: its base, the number of the last change that the base has, the
+-- places of the changes that are kept, and the number of the last change
 pub record Account : Type 0 where
   pub base : Listing
   pub base_number : ℕ
@@ -44,7 +46,8 @@ after account seen (suc count) listing = with_change (change_of account (later s
 abbrev pub shown : Account → Listing
 shown account = after account account.base_number (behind account account.base_number) account.base
 
--- entries that had the changes up to a number, with all changes: they themselves with those behind it where these are kept, else the base with those behind that
+-- entries that had the changes up to a number, with all changes: they themselves with those behind
+-- it where these are kept, else the base with those behind that
 abbrev pub brought_up : Account → Option ℕ → Listing → Listing
 brought_up account None listing = shown account
 brought_up account (Some seen) listing = if nat_le (behind account seen) CHANGES_KEPT then after account seen (behind account seen) listing else shown account

@@ -1,7 +1,8 @@
 //! What a publication changes of the entries before it.
 //!
-//! A rebalance puts new rows in the place of one: each of them comes with its least key, and the one goes. The same change is made in several lists
-//! of entries, one after the other, so it is a value of its own. It has room for `MOST_PLACED` rows.
+//! A rebalance puts new rows in the place of one: each of them comes with its least key, and the
+//! one goes. The same change is made in several lists of entries, one after the other, so it is a
+//! value of its own. It has room for `MOST_PLACED` rows.
 ghost use Rattle.std.specs.Prelude.{◌≡◌, ◌<◌, ◌≤◌, [], ◌∷◌, ◌++◌, length};
 ghost use Rattle.kw_index.specs.Changes.{with_change};
 
@@ -12,10 +13,16 @@ use std::marker::Model;
 /// The most rows that one change brings: one more than a rebalance takes.
 pub const MOST_PLACED: usize = 8;
 
+/// How many changes wait at most until they can be published. Others keep the slot for long only
+/// where one of them is halted in its turn, for as long as the system runs another thread in its
+/// place.
+pub const MOST_UNTOLD: usize = 64;
+
 /// New rows in the place of one.
 ///
-/// Seen as the list of the entries of the new rows, in the order in which they are placed, and the row that goes.
-#[derive(Debug, Drop)]
+/// Seen as the list of the entries of the new rows, in the order in which they are placed, and the
+/// row that goes.
+#[derive(Debug, Default, Drop)]
 pub struct Change {
     placed: ArrayVec<Entry, MOST_PLACED>,
     gone: u32,
@@ -40,7 +47,8 @@ impl Change {
         }
     }
 
-    /// This row comes too, with its least key. It is left out where the change has `MOST_PLACED` rows already. Takes no memory.
+    /// This row comes too, with its least key. It is left out where the change has `MOST_PLACED`
+    /// rows already. Takes no memory.
     pub fn place(&mut self, entry: Entry)
         ensures room { length self.old.placed < MOST_PLACED → self.new ≡ record {
           placed = self.old.placed ++ entry ∷ [];
@@ -55,9 +63,11 @@ impl Change {
 }
 
 impl Entries {
-    /// Makes the change: the new rows come, each with its least key, and the one row goes. Takes no memory.
+    /// Makes the change: the new rows come, each with its least key, and the one row goes. Takes no
+    /// memory.
     ///
-    /// In this order nothing is searched for: the first new row takes the place of the one that goes, which then has no entry any more.
+    /// In this order nothing is searched for: the first new row takes the place of the one that
+    /// goes, which then has no entry any more.
     pub fn apply(&mut self, change: &Change)
         ensures { self.new ≡ with_change change.now self.old }
     {

@@ -1,11 +1,13 @@
 //! The entries of an index, as one thread edits them.
 //!
-//! An entry names a row and the least key of its range. Entries are a list by strictly rising minima in which no row comes twice, so the
-//! row for a key is found by binary search. Their room is taken when they are made: as the rows differ and are rows of the map, there are
-//! never more entries than rows, and no edit takes memory. `index` publishes them.
+//! An entry names a row and the least key of its range. Entries are a list by strictly rising
+//! minima in which no row comes twice, so the row for a key is found by binary search. Their room
+//! is taken when they are made: as the rows differ and are rows of the map, there are never more
+//! entries than rows, and no edit takes memory. `index` publishes them.
 //!
-//! What an edit searches for by a key it finds by binary search. For a row it goes through the entries, but only where the row is marked as one
-//! that may have an entry. So whoever replaces rows places the new ones first: a replaced row whose least key the first of them takes has then
+//! What an edit searches for by a key it finds by binary search. For a row it goes through the
+//! entries, but only where the row is marked as one that may have an entry. So whoever replaces
+//! rows places the new ones first: a replaced row whose least key the first of them takes has then
 //! lost its entry and its mark, and a row that is newly taken has none.
 ghost use Rattle.std.specs.Prelude.{MatchBool, IsTrue, ◌≡◌, ◌≢◌, ◌≤◌, ◌<◌, ◌==◌, nat_lt, true, false, [], length, position, IfOk, All, AllPairs};
 ghost use Rattle.std.specs.List.Sorted.{IsPartitionPoint};
@@ -31,7 +33,8 @@ pub struct Entry {
 pub struct Entries {
     rows: u32,
     list: Vec<Entry>,
-    // For each row whether it may have an entry: one that has is marked, so that nothing is searched for the others.
+    // For each row whether it may have an entry: one that has is marked, so that nothing is
+    // searched for the others.
     marks: Vec<bool>,
 }
 
@@ -47,7 +50,8 @@ impl Model for Entries {
 }
 
 impl Entries {
-    /// No entries, with room for those of a map of this many rows. The only error is the want of memory.
+    /// No entries, with room for those of a map of this many rows. The only error is the want of
+    /// memory.
     pub fn new(alloc: Global, rows: u32) -> Result<Entries, Memory>
         ensures { IfOk result (λ made. made ≡ record { rows = rows; list = [] }) }
     {
@@ -71,9 +75,11 @@ impl Entries {
         &self.list
     }
 
-    /// The row of the entry with the greatest minimum that is at most the key. None where each minimum is above the key.
+    /// The row of the entry with the greatest minimum that is at most the key. None where each
+    /// minimum is above the key.
     ///
-    /// The row is below the number of rows. Takes no memory, and as many steps as the logarithm of the number of entries.
+    /// The row is below the number of rows. Takes no memory, and as many steps as the logarithm of
+    /// the number of entries.
     pub fn guess(&self, key: u32) -> Option<u32>
         ensures { IsGuess self.now.list key result }
     {
@@ -84,7 +90,8 @@ impl Entries {
         Some(self.list[at - 1].row)
     }
 
-    /// Drops the entry of a row, if there is one. Takes no memory, and no search where the row's entry is gone already.
+    /// Drops the entry of a row, if there is one. Takes no memory, and no search where the row's
+    /// entry is gone already.
     pub fn remove(&mut self, row: u32)
         ensures list { self.new ≡ record { rows = self.old.rows; list = without row self.old.list } }
         ensures absent { All (λ e. e.row ≢ row) self.new.list }
@@ -125,7 +132,8 @@ impl Entries {
         }
     }
 
-    /// Makes this the one entry of its row, in place of the row's own and of the one with the same minimum, if there are such.
+    /// Makes this the one entry of its row, in place of the row's own and of the one with the same
+    /// minimum, if there are such.
     ///
     /// Nothing changes where the row is none of the map. Takes no memory.
     pub fn place(&mut self, entry: Entry)

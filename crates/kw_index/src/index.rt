@@ -1,28 +1,33 @@
 //! The slot in which the published ledger stands, and what threads ask of it.
 //!
-//! The slot is a value with a word that counts its readers. Who reads takes a turn that counts one reader more, and leaves. Who edits takes the ledger
-//! out, and only while nobody reads; nobody else comes until it is back: a slot whose ledger is out has a word of its own, `FREE`, from which
-//! nobody but the one who has it takes a turn. Edits are short: a few changes are written, or one base exchanged for another. A turn that
-//! meets another word than the one it loaded is tried again, `TRIES` times at most; then the call goes on without the index. So nothing here waits for
+//! The slot is a value with a word that counts its readers. Who reads takes a turn that counts one
+//! reader more, and leaves. Who edits takes the ledger out, and only while nobody reads; nobody
+//! else comes until it is back: a slot whose ledger is out has a word of its own, `FREE`, from
+//! which nobody but the one who has it takes a turn. Edits are short: a few changes are written, or
+//! one base exchanged for another. A turn that meets another word than the one it loaded is tried
+//! again, `TRIES` times at most; then the call goes on without the index. So nothing here waits for
 //! another thread.
 //!
-//! The rule of the slot is that the base of what stands in it has room for as many rows as the map has.
-ghost use Rattle.std.specs.Prelude.{ℕ, ◌≡◌, ◌<◌, ◌≤◌, ◌%◌, false, drop, IfOk, IfSome};
+//! The rule of the slot is that the base of what stands in it has room for as many rows as the map
+//! has.
+ghost use Rattle.std.specs.Prelude.{ℕ, ◌≡◌, ◌<◌, ◌≤◌, ◌%◌, false, drop, IfOk, IfSome, None, Some};
 ghost use Rattle.counted_slot.specs.Counting.{readers, IsTurn, Gains};
-ghost use Rattle.kw_index.specs.Turns.{IsLedgerOf, IsBroughtUp};
+ghost use Rattle.kw_index.specs.Turns.{IsLedgerOf};
 
-use crate::change::Change;
+use crate::change::{Change, MOST_UNTOLD};
 use crate::entries::Entries;
-use crate::ledger::Ledger;
+use crate::ledger::{Ledger, Shown};
 use crate::memory::Memory;
+use arrayvec::ArrayVec;
 use counted_slot::{Claim, Counted, FREE, Fits, MOST_READERS, ONE_READER, PRESENT, TAKEN};
 use std::alloc::Global;
 use std::marker::Model;
 
 /// How often a turn is tried.
 ///
-/// Whoever reads keeps editors out for as long as it makes the changes that it has not seen, a microsecond at most where it does so at each publication
-/// of its own, and an editor everybody for less. So many tries as these outlast both.
+/// Whoever reads keeps editors out for as long as it makes the changes that it has not seen, a
+/// microsecond at most where it does so at each publication of its own, and an editor everybody for
+/// less. So many tries as these outlast both.
 pub const TRIES: u32 = 4_096;
 
 impl Fits for Ledger {
@@ -31,16 +36,8 @@ impl Fits for Ledger {
     ghost fits = { IsLedgerOf };
 }
 
-/// What the index has shown to a thread: the number of the last change, and how many changes were made since the base.
-#[derive(Clone, Copy, Debug, PartialEq, Eq)]
-pub struct Shown {
-    /// The number of the last change.
-    pub number: u32,
-    /// How many changes were made since the base.
-    pub since_base: u32,
-}
-
-/// The published ledger of a map, which threads share by `&`. Seen as the number of rows of the map.
+/// The published ledger of a map, which threads share by `&`. Seen as the number of rows of the
+/// map.
 #[derive(Drop)]
 pub struct Index {
     rows: u32,
@@ -56,7 +53,8 @@ impl Model for Index {
 }
 
 impl Index {
-    /// The index of a map of this many rows, at least 1, with the one entry of the least key 0 and row 0.
+    /// The index of a map of this many rows, at least 1, with the one entry of the least key 0 and
+    /// row 0.
     ///
     /// All memory of the index is taken here, and the only error is the want of it.
     pub fn new(alloc: Global, rows: u32) -> Result<Index, Memory>
@@ -79,23 +77,24 @@ impl Index {
         self.rows
     }
 
-    /// Brings entries up to the last change that a turn shows, as `Ledger::bring_up` does.
+    /// Brings entries up to the last change that a turn shows, as `Ledger::bring_up` does, and
+    /// tells what `Ledger::shown` does.
     ///
-    /// The entries have room for as many rows as the index. None comes only where the turn gained no right to read, and nothing has changed then. Takes
-    /// no memory.
+    /// The entries have room for as many rows as the index. None comes only where the turn gained
+    /// no right to read. Nothing has changed then, nor where the last change is the one that was
+    /// seen. Takes no memory.
     pub fn bring_up(&self, entries: &mut Entries, seen: Option<u32>) -> Option<Shown>
         requires { entries.old.rows ≡ self.now }
-        ensures shown { IsBroughtUp self.now seen entries.old entries.new result }
+        ensures none { result ≡ None → entries.new ≡ entries.old }
+        ensures same { IfSome result (λ shown. seen ≡ Some shown.number →
+            entries.new ≡ entries.old) }
         ensures rows { entries.new.rows ≡ entries.old.rows }
     {
         let turn = self.turn_to_read()?;
         let shown = match turn.get() {
             Some(ledger) => {
                 ledger.bring_up(entries, seen);
-                Some(Shown {
-                    number: ledger.number(),
-                    since_base: ledger.since_base(),
-                })
+                Some(ledger.shown())
             }
             None => None,
         };
@@ -105,9 +104,9 @@ impl Index {
 
     /// Publishes changes, the first ones first, and takes out those that it published.
     ///
-    /// None where the turn gained no right to write, and as many as the ledger has room for: it keeps no more than `CHANGES_KEPT` since its base. Takes no
-    /// memory.
-    pub fn add(&self, changes: &mut Vec<Change>)
+    /// None where the turn gained no right to write, and as many as the ledger has room for: it
+    /// keeps no more than `CHANGES_KEPT` since its base. Takes no memory.
+    pub fn add(&self, changes: &mut ArrayVec<Change, MOST_UNTOLD>)
         ensures { (count : ℕ) × (changes.new.items ≡ drop count changes.old.items) }
     {
         let Some(mut ledger) = self.take() else {
@@ -122,10 +121,12 @@ impl Index {
         self.give(ledger);
     }
 
-    /// Exchanges the ledger's base for these entries, which have the changes up to this number, where that is behind the base's. Whether it did.
+    /// Exchanges the ledger's base for these entries, which have the changes up to this number,
+    /// where that is behind the base's. Whether it did.
     ///
-    /// Where it did not, the entries are as they were: the turn gained no right to write, or the number is not behind the base's. They have room for
-    /// as many rows as the index, before and after. Takes no memory.
+    /// Where it did not, the entries are as they were: the turn gained no right to write, or the
+    /// number is not behind the base's. They have room for as many rows as the index, before and
+    /// after. Takes no memory.
     pub fn renew(&self, base: &mut Entries, number: u32) -> bool
         requires { base.old.rows ≡ self.now }
         ensures kept { result ≡ false → base.new ≡ base.old }
@@ -153,7 +154,8 @@ impl Index {
         None
     }
 
-    // Puts a ledger in, where none is. Nobody else takes a turn at a slot whose ledger is out, so the first try gains it.
+    // Puts a ledger in, where none is. Nobody else takes a turn at a slot whose ledger is out, so
+    // the first try gains it.
     pub(crate) fn give(&self, ledger: Ledger)
         requires { IsLedgerOf self.now ledger }
     {

@@ -1,13 +1,15 @@
 //! What is published: entries as they once were, and the changes that were made since.
 //!
-//! A copy of all entries costs as many steps as there are rows, and where several threads publish at once each would copy what the others wrote. So whoever
-//! publishes writes its change alone, and whoever guesses does so from entries of its own, in which it makes the changes that it has not seen, in the
-//! order of their numbers. The last `CHANGES_KEPT` changes are kept, each in the place of the one with as many numbers less. Who has seen none, or lags
-//! behind further than that, begins with the ledger's base: entries that have all changes up to a number of their own. The base is
-//! renewed in time, so that the changes behind it are always kept.
+//! A copy of all entries costs as many steps as there are rows, and where several threads publish
+//! at once each would copy what the others wrote. So whoever publishes writes its change alone, and
+//! whoever guesses does so from entries of its own, in which it makes the changes that it has not
+//! seen, in the order of their numbers. The last `CHANGES_KEPT` changes are kept, each in the place
+//! of the one with as many numbers less. Who has seen none, or lags behind further than that,
+//! begins with the ledger's base: entries that have all changes up to a number of their own. The
+//! base is renewed in time, so that the changes behind it are always kept.
 //!
 //! `index` has the slot in which the ledger stands.
-ghost use Rattle.std.specs.Prelude.{◌≡◌, ◌≤◌, nat_lt, MatchBool, IfOk};
+ghost use Rattle.std.specs.Prelude.{◌≡◌, ◌≤◌, nat_lt, MatchBool, IfOk, Some};
 ghost use Rattle.kw_index.specs.declared.ledger.TheConstants.{CHANGES_KEPT};
 ghost use Rattle.kw_index.specs.Ledgers.{IsFirst, IsKept, after, behind, place, with_added, with_base, brought_up};
 
@@ -27,9 +29,20 @@ pub const CHANGES_BEFORE_RENEWAL: u32 = 64;
 // The first row of a map, whose range begins with the least key.
 const FIRST: Entry = Entry { min: 0, row: 0 };
 
+/// What a ledger shows: the number of the last change, and how many changes were made since the
+/// base.
+#[derive(Clone, Copy, Debug, PartialEq, Eq)]
+pub struct Shown {
+    /// The number of the last change.
+    pub number: u32,
+    /// How many changes were made since the base.
+    pub since_base: u32,
+}
+
 /// Entries, and the changes that were made since, numbered from 1; 0 comes after `u32::MAX`.
 ///
-/// Seen as the base, the number of the last change that it has, the places of the changes that are kept, and the number of the last change.
+/// Seen as the base, the number of the last change that it has, the places of the changes that are
+/// kept, and the number of the last change.
 #[derive(Drop)]
 pub struct Ledger {
     base: Entries,
@@ -51,8 +64,8 @@ impl Model for Ledger {
 }
 
 impl Ledger {
-    /// A ledger of no change, whose base has the one entry of row 0 from the least key on, of a map of this many rows. The only error is the
-    /// want of memory.
+    /// A ledger of no change, whose base has the one entry of row 0 from the least key on, of a map
+    /// of this many rows. The only error is the want of memory.
     pub fn new(alloc: Global, rows: u32) -> Result<Ledger, Memory>
         requires { 1 ≤ rows }
         ensures { IfOk result (IsFirst rows) }
@@ -82,14 +95,27 @@ impl Ledger {
         self.number.wrapping_sub(self.base_number)
     }
 
-    /// Whether there is room for a change more: fewer than `CHANGES_KEPT` were made since the base. Takes no memory.
+    /// The number of the last change, and how many were made since the base. Takes no memory.
+    pub fn shown(&self) -> Shown
+        ensures number { result.number ≡ self.now.number }
+        ensures since_base { result.since_base ≡ behind self.now self.now.base_number }
+    {
+        Shown {
+            number: self.number(),
+            since_base: self.since_base(),
+        }
+    }
+
+    /// Whether there is room for a change more: fewer than `CHANGES_KEPT` were made since the base.
+    /// Takes no memory.
     pub fn has_room(&self) -> bool
         ensures { result ≡ nat_lt (behind self.now self.now.base_number) CHANGES_KEPT }
     {
         self.since_base() < CHANGES_KEPT
     }
 
-    /// Adds a change, which gets the next number, and tells whether it did: not where there is no room. Takes no memory.
+    /// Adds a change, which gets the next number, and tells whether it did: not where there is no
+    /// room. Takes no memory.
     pub fn add(&mut self, change: Change) -> bool
         ensures added { MatchBool result (self.new ≡ with_added change self.old) (self.new ≡ self.old) }
         ensures room { result ≡ nat_lt (behind self.old self.old.base_number) CHANGES_KEPT }
@@ -104,11 +130,13 @@ impl Ledger {
 
     /// Brings entries that have the changes up to a number, or none, up to the last change.
     ///
-    /// Where the changes behind that number are kept they are made, and else those behind the base, in a copy of it. The entries have room for
-    /// as many rows as the base, before and after. Takes no memory.
+    /// Where the changes behind that number are kept they are made, and else those behind the
+    /// base, in a copy of it; where there is none, nothing changes. The entries have room for as
+    /// many rows as the base, before and after. Takes no memory.
     pub fn bring_up(&self, entries: &mut Entries, seen: Option<u32>)
         requires { entries.old.rows ≡ self.now.base.rows }
         ensures brought { entries.new ≡ brought_up self.now seen entries.old }
+        ensures same { seen ≡ Some self.now.number → entries.new ≡ entries.old }
         ensures rows { entries.new.rows ≡ entries.old.rows }
     {
         match seen {
@@ -133,8 +161,8 @@ impl Ledger {
         }
     }
 
-    /// Exchanges the base for these entries, which have the changes up to this number, where that lies between the base's and the last. Whether it
-    /// did. Takes no memory.
+    /// Exchanges the base for these entries, which have the changes up to this number, where that
+    /// lies between the base's and the last. Whether it did. Takes no memory.
     pub fn renew(&mut self, base: &mut Entries, number: u32) -> bool
         requires { base.old.rows ≡ self.old.base.rows }
         ensures exchanged { MatchBool result ((self.new ≡ with_base base.old number self.old) × (base.new ≡ self.old.base))

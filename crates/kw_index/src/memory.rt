@@ -1,7 +1,8 @@
 //! Want of memory.
 //!
-//! The one error of the calls here that take memory, and of many calls in the crates above. It says nothing more, since
-//! there is nothing that a caller could learn: what was asked for is left as it was.
+//! The one error of the calls here that take memory, and of many calls in the crates above. It says
+//! nothing more, since there is nothing that a caller could learn: what was asked for is left as it
+//! was.
 ghost use Rattle.std.specs.Prelude.{Some, codes};
 
 use std::alloc::{AllocError, AllocFailed};

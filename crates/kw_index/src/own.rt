@@ -1,55 +1,55 @@
 //! A caller's own entries, from which it guesses.
 //!
-//! A turn at the slot writes the slot's word twice, so that threads which guess at once wait for each other's writes. A caller with entries of its
-//! own guesses from these, and touches nothing that others write. Others may have published since: then the row that is guessed may be in use no more,
-//! which whoever knows the rows sees at the row, and asks for a guess anew: the own entries are brought up to the last change, and guessed from. So they
-//! are after each publication of the caller's own.
-ghost use Rattle.std.specs.Prelude.{◌≡◌, ◌≢◌, ◌<◌, [], IfOk, IfSome, IsTrue, None, false};
+//! A turn at the slot writes the slot's word twice, so that threads which guess at once wait for
+//! each other's writes. A caller with entries of its own guesses from these, and touches nothing
+//! that others write. Others may have published since: then the row that is guessed may be in use
+//! no more, which whoever knows the rows sees at the row, and asks for a guess anew: the own
+//! entries are brought up to the last change, and guessed from. So they are after each publication
+//! of the caller's own.
+ghost use Rattle.std.specs.Prelude.{ℕ, ◌≡◌, ◌≢◌, ◌<◌, [], ◌∷◌, ◌++◌, IfOk, IfSome, IsTrue, None, Some, drop, false, length};
 ghost use Rattle.kw_index.specs.Entries.{IsOf, IsGuess};
-ghost use Rattle.kw_index.specs.Turns.{IsFollowed};
 
-use crate::change::Change;
+use crate::change::{Change, MOST_UNTOLD};
 use crate::entries::Entries;
-use crate::index::{Index, Shown};
-use crate::ledger::CHANGES_BEFORE_RENEWAL;
+use crate::index::Index;
+use crate::ledger::{CHANGES_BEFORE_RENEWAL, Shown};
 use crate::memory::Memory;
+use arrayvec::ArrayVec;
 use std::alloc::Global;
 
-/// How many changes wait at most until they can be published. Others keep the slot for long only where one of them is halted in its turn, for as long as the
-/// system runs another thread in its place.
-pub const MOST_UNTOLD: usize = 64;
-
-/// Entries that a caller guesses from, what it has to publish, and spare ones for a base that it may have to renew.
+/// Entries that a caller guesses from, what it has to publish, and spare ones for a base that it
+/// may have to renew.
 #[derive(Drop)]
 pub struct OwnEntries {
     pub(crate) entries: Entries,
     // The number of the last change that they have. None where they were not brought up yet.
     pub(crate) seen: Option<u32>,
     // What is to be published and could not be yet, the first change first.
-    untold: Vec<Change>,
+    untold: ArrayVec<Change, MOST_UNTOLD>,
     spare: Entries,
 }
 
 impl OwnEntries {
-    /// No entries, with room for those of a map of this many rows. The only error is the want of memory.
+    /// No entries, with room for those of a map of this many rows. The only error is the want of
+    /// memory.
     pub fn new(alloc: Global, rows: u32) -> Result<OwnEntries, Memory>
         ensures { IfOk result (λ made. made.entries ≡ record { rows = rows; list = [] }) }
     {
         let entries = Entries::new(alloc, rows)?;
-        let untold = Vec::with_capacity(alloc, MOST_UNTOLD)?;
         let spare = Entries::new(alloc, rows)?;
         Ok(OwnEntries {
             entries,
             seen: None,
-            untold,
+            untold: ArrayVec::new(),
             spare,
         })
     }
 
-    /// A row to begin at for the key by these entries, whatever was published since they were brought up: it may be in use no more.
+    /// A row to begin at for the key by these entries, whatever was published since they were
+    /// brought up: it may be in use no more.
     ///
-    /// None exactly where each minimum is above the key, or the entries have room for another number of rows than the index. A row is below
-    /// the number of rows. Takes no memory.
+    /// None exactly where each minimum is above the key, or the entries have room for another
+    /// number of rows than the index. A row is below the number of rows. Takes no memory.
     pub fn guess(&self, index: &Index, key: u32) -> Option<u32>
         ensures shown { self.now.entries.rows ≡ index.now → IsOf index.now self.now.entries
             × IsGuess self.now.entries.list key result }
@@ -65,10 +65,10 @@ impl OwnEntries {
         }
     }
 
-    /// The same once the entries were brought up to the last change that a turn shows: for a key whose row by the own entries is in use no more. Takes no
-    /// memory.
+    /// The same once the entries were brought up to the last change that a turn shows: for a key
+    /// whose row by the own entries is in use no more. Takes no memory.
     pub fn guess_anew(&mut self, index: &Index, key: u32) -> Option<u32>
-        ensures followed { IsFollowed index.now self.old.seen self.old.entries self.new.seen self.new.entries }
+        ensures followed { self.new.seen ≡ self.old.seen → self.new.entries ≡ self.old.entries }
         ensures shown { self.new.entries.rows ≡ index.now → IsGuess self.new.entries.list key result }
         ensures other_size { self.new.entries.rows ≢ index.now → result ≡ None }
         ensures in_range { IfSome result (λ row. row < index.now) }
@@ -77,13 +77,20 @@ impl OwnEntries {
         self.guess(index, key)
     }
 
-    /// Publishes a change, makes it in the own entries with all others that were published before it, and tells whether it did: exactly where none waits
-    /// any more.
+    /// Publishes a change, makes it in the own entries with all others that were published before
+    /// it, and tells whether it did: exactly where none waits any more.
     ///
-    /// Where others keep the slot just then, the change is kept and published with the caller's next one, `MOST_UNTOLD` at most. Nothing is published
-    /// where the index is of a map of another size: all stays as it was. Takes no memory.
+    /// Changes wait in the order in which they came, and the first ones are published first. Where
+    /// others keep the slot just then, the change is kept and published with the caller's next one;
+    /// where `MOST_UNTOLD` wait already, it is dropped. Nothing is published where the index is of
+    /// a map of another size: all stays as it was. Takes no memory.
     pub fn publish(&mut self, index: &Index, change: Change) -> bool
-        ensures followed { IsFollowed index.now self.old.seen self.old.entries self.new.seen self.new.entries }
+        ensures followed { self.new.seen ≡ self.old.seen → self.new.entries ≡ self.old.entries }
+        ensures kept { self.old.entries.rows ≡ index.now → length self.old.untold.items < MOST_UNTOLD →
+            (count : ℕ) × (self.new.untold.items
+            ≡ drop count (self.old.untold.items ++ change ∷ [])) }
+        ensures full { self.old.entries.rows ≡ index.now → length self.old.untold.items ≡ MOST_UNTOLD →
+            (count : ℕ) × (self.new.untold.items ≡ drop count self.old.untold.items) }
         ensures told { IsTrue result → self.new.untold.items ≡ [] }
         ensures waits { self.old.entries.rows ≡ index.now → result ≡ false → self.new.untold.items ≢ [] }
         ensures other_size { self.old.entries.rows ≢ index.now → (result ≡ false) × (self.new ≡ self.old) }
@@ -91,8 +98,8 @@ impl OwnEntries {
         if self.entries.rows() != index.rows() {
             return false;
         }
-        if self.untold.len() < MOST_UNTOLD {
-            let _ = self.untold.push(change);
+        if !self.untold.is_full() {
+            self.untold.push(change);
         }
         index.add(&mut self.untold);
         if let Some(shown) = self.follow(index) {
@@ -103,9 +110,14 @@ impl OwnEntries {
         self.untold.is_empty()
     }
 
-    // The own entries are brought up to the last change that a turn shows, where they are of a map of the index's size.
+    // The own entries are brought up to the last change that a turn shows, where they are of a map
+    // of the index's size.
     fn follow(&mut self, index: &Index) -> Option<Shown>
-        ensures { IsFollowed index.now self.old.seen self.old.entries self.new.seen self.new.entries }
+        ensures none { result ≡ None → self.new ≡ self.old }
+        ensures some { IfSome result (λ shown. self.new.seen ≡ Some shown.number) }
+        ensures followed { self.new.seen ≡ self.old.seen → self.new.entries ≡ self.old.entries }
+        ensures rows { self.new.entries.rows ≡ self.old.entries.rows }
+        ensures untold { self.new.untold ≡ self.old.untold }
     {
         if self.entries.rows() != index.rows() {
             return None;
@@ -115,10 +127,12 @@ impl OwnEntries {
         Some(shown)
     }
 
-    // A copy of the own entries, which have the changes up to this number, becomes the base that is published.
+    // A copy of the own entries, which have the changes up to this number, becomes the base that is
+    // published.
     fn renew(&mut self, index: &Index, number: u32)
         ensures entries { self.new.entries ≡ self.old.entries }
         ensures seen { self.new.seen ≡ self.old.seen }
+        ensures untold { self.new.untold ≡ self.old.untold }
     {
         if self.spare.rows() == index.rows() && self.entries.rows() == index.rows() {
             self.spare.copy_from(&self.entries);

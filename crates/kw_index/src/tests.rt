@@ -1,4 +1,5 @@
-//! What edits leave of entries, what a ledger makes of entries that lag behind, what an index shows, and two threads on one index.
+//! What edits leave of entries, what a ledger makes of entries that lag behind, what an index
+//! shows, and two threads on one index.
 ghost use Rattle.std.specs.Prelude.{◌≡◌, IfOk};
 
 use crate::change::Change;
@@ -15,7 +16,8 @@ use std::thread;
 /// The greatest key.
 const LAST_KEY: u32 = 4_294_967_295;
 
-/// How often a thread of a test tries before it gives up: minutes, since another thread may wait long for a processor of a busy machine.
+/// How often a thread of a test tries before it gives up: minutes, since another thread may wait
+/// long for a processor of a busy machine.
 const MOST_TRIES: u32 = 1_000_000_000;
 
 fn entry(min: u32, row: u32) -> Entry {
@@ -95,7 +97,8 @@ fn the_base_is_renewed_before_the_changes_behind_it_are_lost(rt: HostRuntime) {
     assert!(rt; CHANGES_BEFORE_RENEWAL + 8 <= CHANGES_KEPT);
 }
 
-/// Adds a change for each number from one to another, by which row 1 begins at that key, and tells how many the ledger took.
+/// Adds a change for each number from one to another, by which row 1 begins at that key, and tells
+/// how many the ledger took.
 fn add_numbered(ledger: &mut Ledger, from: u32, to: u32) -> u32
     ensures { ledger.new.base ≡ ledger.old.base }
 {
@@ -130,7 +133,8 @@ fn a_new_ledger_has_the_first_row_alone(rt: HostRuntime) -> Result<(), Fail> {
     Ok(())
 }
 
-// Whoever has the changes up to a number gets those behind it, and keeps what else it has: here an entry of row 3.
+// Whoever has the changes up to a number gets those behind it, and keeps what else it has: here an
+// entry of row 3.
 #[test]
 fn the_changes_behind_a_number_are_made_and_no_others(rt: HostRuntime) -> Result<(), Fail> {
     let mut ledger = Ledger::new(rt.alloc(), 4)?;
@@ -151,7 +155,8 @@ fn the_changes_behind_a_number_are_made_and_no_others(rt: HostRuntime) -> Result
     Ok(())
 }
 
-// One change more than is kept is refused, and leaves all as it was; a base renewed by hand makes room for it.
+// One change more than is kept is refused, and leaves all as it was; a base renewed by hand makes
+// room for it.
 #[test]
 fn a_ledger_keeps_the_changes_since_its_base(rt: HostRuntime) -> Result<(), Fail> {
     let mut ledger = Ledger::new(rt.alloc(), 4)?;
@@ -171,7 +176,8 @@ fn a_ledger_keeps_the_changes_since_its_base(rt: HostRuntime) -> Result<(), Fail
     Ok(())
 }
 
-/// Entries of a map of four rows that lag behind: row 0 from key 0 on, and row 3, which no numbered change names, from key 1000 on.
+/// Entries of a map of four rows that lag behind: row 0 from key 0 on, and row 3, which no numbered
+/// change names, from key 1000 on.
 fn lagging(alloc: Global) -> Result<Entries, Memory>
     ensures { IfOk result (λ entries. entries.rows ≡ 4) }
 {
@@ -181,7 +187,8 @@ fn lagging(alloc: Global) -> Result<Entries, Memory>
     Ok(entries)
 }
 
-// Whoever lags behind by as many changes as are kept gets these, and keeps an entry of its own; one further behind gets the base.
+// Whoever lags behind by as many changes as are kept gets these, and keeps an entry of its own; one
+// further behind gets the base.
 #[test]
 fn who_lags_behind_the_kept_changes_begins_with_the_base(rt: HostRuntime) -> Result<(), Fail> {
     let mut ledger = numbered(rt.alloc(), 64)?;
@@ -286,8 +293,9 @@ fn own_entries_of_another_map_are_not_published(rt: HostRuntime) -> Result<(), F
     Ok(())
 }
 
-// Each of two callers publishes twice, the first one in a row, and then over the other's. What each publishes is made over all that was published before,
-// as a third caller, and at last each of the two, shows.
+// Each of two callers publishes twice, the first one in a row, and then over the other's. What each
+// publishes is made over all that was published before, as a third caller, and at last each of the
+// two, shows.
 #[test]
 fn own_publications_are_made_over_those_of_others(rt: HostRuntime) -> Result<(), Fail> {
     let index = Index::new(rt.alloc(), 9)?;
@@ -308,7 +316,8 @@ fn own_publications_are_made_over_those_of_others(rt: HostRuntime) -> Result<(),
     Ok(())
 }
 
-// While the ledger is out, a change has to wait, and the own entries stay. It is published with the caller's next one, and before that.
+// While the ledger is out, a change has to wait, and the own entries stay. It is published with the
+// caller's next one, and before that.
 #[test]
 fn a_change_that_has_to_wait_is_published_with_the_next_one(rt: HostRuntime) -> Result<(), Fail> {
     let index = Index::new(rt.alloc(), 4)?;
@@ -330,7 +339,8 @@ fn a_change_that_has_to_wait_is_published_with_the_next_one(rt: HostRuntime) -> 
     Ok(())
 }
 
-/// Publishes so many changes, by each of which one of two rows gives its place to the other, and tells how many were published.
+/// Publishes so many changes, by each of which one of two rows gives its place to the other, and
+/// tells how many were published.
 fn publish_many(own: &mut OwnEntries, index: &Index, min: u32, rows: [u32; 2], times: u32) -> u32 {
     let [one, other] = rows;
     let mut published: u32 = 0;
@@ -390,7 +400,8 @@ fn guess_until_both(own: &mut OwnEntries, index: &Index, flag: &AtomicBool) -> S
     seen
 }
 
-/// Publishes that one row takes the other's place, and back, until the flag is set, and tells whether it ever did.
+/// Publishes that one row takes the other's place, and back, until the flag is set, and tells
+/// whether it ever did.
 fn publish_in_turn(own: &mut OwnEntries, index: &Index, flag: &AtomicBool) -> bool {
     let mut ever = false;
     for _ in 0..MOST_TRIES {
@@ -420,7 +431,8 @@ fn one_thread_guesses_what_another_publishes(rt: HostRuntime) -> Result<(), Fail
     Ok(())
 }
 
-/// Publishes by turns that one of two rows takes the other's place, so many times, each once the one before it was published.
+/// Publishes by turns that one of two rows takes the other's place, so many times, each once the
+/// one before it was published.
 fn publish_all(own: &mut OwnEntries, index: &Index, min: u32, rows: [u32; 2], times: u32) {
     let mut left = times;
     for _ in 0..MOST_TRIES {
@@ -438,7 +450,8 @@ fn publish_all(own: &mut OwnEntries, index: &Index, min: u32, rows: [u32; 2], ti
     }
 }
 
-// Two threads publish beside each other, each for keys of its own. What is shown in the end has the last change of each.
+// Two threads publish beside each other, each for keys of its own. What is shown in the end has the
+// last change of each.
 #[test]
 fn of_two_threads_that_publish_no_change_is_lost(rt: HostRuntime) -> Result<(), Fail> {
     let index = Index::new(rt.alloc(), 5)?;
