@@ -1,6 +1,7 @@
--- What happens to the bytes of a stream, where the stream tells them. `None` is a stream that does not tell, and then nothing
--- is said. For whole pieces the words are std's: `Appends old new bytes` for a sink, `Consumes old new bytes` for a source,
--- `Keeps old new` for either, and `IsAtEnd left`, no byte is left.
+-- What happens to the bytes of a stream, where the stream tells them. `None` is a stream that does
+-- not tell, and then nothing is said. For whole pieces the words are std's: `Appends old new bytes`
+-- for a sink, `Consumes old new bytes` for a source, `Keeps old new` for either, and `IsAtEnd
+-- left`, no byte is left.
 use Rattle.std.specs.Prelude.{ℕ, List, Option, take}
 use Rattle.std.specs.Io.KnownBytes.{Appends, Consumes}
 

@@ -4,7 +4,8 @@
 //! [`Source`] and [`Sink`] are the traits. Each says what is known of its bytes, and keeps a count
 //! of its faults, so that a caller's contract can say which bytes moved and that a fault was
 //! reported only where one happened. [`MemSource`] and [`MemSink`] stand in memory and fail at the
-//! calls that they are told, for tests; [`StdSource`], [`StdSink`] and [`ErrSink`] are the
+//! calls that they are told, and [`NeverSource`] and [`NeverSink`] never fail, for tests and for
+//! what is said of runs without faults; [`StdSource`], [`StdSink`] and [`ErrSink`] are the
 //! process's own streams, of whose bytes nothing is known. All of the program's input and output
 //! goes through these traits, so code above this crate is generic in its source and its sink.
 #![tactic(auto)]
@@ -13,6 +14,8 @@ pub mod errors;
 mod listed;
 pub mod mem_sink;
 pub mod mem_source;
+pub mod never_sink;
+pub mod never_source;
 pub mod reading;
 pub mod std_streams;
 pub mod writing;
@@ -20,6 +23,8 @@ pub mod writing;
 pub use errors::{Failed, Memory, ReadError, WriteFault};
 pub use mem_sink::MemSink;
 pub use mem_source::MemSource;
+pub use never_sink::NeverSink;
+pub use never_source::NeverSource;
 pub use reading::{PIECE, Source, read_all};
 pub use std_streams::{ErrSink, StdSink, StdSource};
 pub use writing::{Sink, write_all};

@@ -2,8 +2,8 @@
 //! on, and the errors' texts.
 use crate::std_streams::{read_counted, write_counted};
 use crate::{
-    Failed, MemSink, MemSource, Memory, PIECE, ReadError, Sink, Source, WriteFault, read_all,
-    write_all,
+    Failed, MemSink, MemSource, Memory, NeverSink, NeverSource, PIECE, ReadError, Sink, Source,
+    WriteFault, read_all, write_all,
 };
 use std::alloc::{AllocError, Global};
 use std::io;
@@ -99,6 +99,29 @@ fn a_failed_write_can_be_tried_again(rt: HostRuntime) -> Result<(), Fail> {
         (failed, sink.written()),
         (Err(Failed), b"ok\n50\n".as_slice())
     );
+    Ok(())
+}
+
+#[test]
+fn streams_that_never_fail_take_all_and_keep_what_fits(rt: HostRuntime) -> Result<(), Fail> {
+    let mut source = NeverSource::new(Vec::from_slice(rt.alloc(), b"ok\n50\n50\n")?);
+    let mut first = [0u8; 4];
+    let count = source.read(&mut first);
+    assert_eq!(rt; (count, first), (Ok(4), *b"ok\n5"));
+    let rest = read_all(rt.alloc(), &mut source, AMPLE)?;
+    let at_end = source.read(&mut first);
+    assert_eq!(rt; (rest.as_slice(), at_end), (b"0\n50\n".as_slice(), Ok(0)));
+    let mut room = Vec::with_capacity(rt.alloc(), 6)?;
+    room.push(7u8)?;
+    let mut sink = NeverSink::new(room);
+    let long = b"ok\n50\n50\n";
+    let written = [
+        sink.write(&long[..4]),
+        sink.write(&long[4..]),
+        sink.write(long),
+    ];
+    assert_eq!(rt; written, [Ok(4), Ok(5), Ok(9)]);
+    assert_eq!(rt; sink.kept(), b"ok\n50\n".as_slice());
     Ok(())
 }
 
