@@ -57,7 +57,8 @@ lines-take_drop_all bytes end e =
     let none = drop_all end bytes (omega arith) in
     sym (rw (all, none, lines_none) (append-nil (lines bytes)))
 
--- bytes that are cut behind the first line feed at or behind a place, or else at their end, have the lines of both parts
+-- bytes that are cut behind the first line feed at or behind a place, or else at their end, have
+-- the lines of both parts
 pub lines-cut_at : (bytes : List ℕ) (found : Option ℕ) (least end : ℕ) → 0 < least → least ≤ length bytes → MatchOption found (end ≡ length bytes) (λ at. end ≡ least + at) → IfSome found (λ at. (at < length (drop (least - 1) bytes)) × HoldsAt (λ byte. byte ≡ LINE_FEED) (drop (least - 1) bytes) at) → lines bytes ≡ lines (take end bytes) ++ lines (take (length bytes - end) (drop end bytes))
 lines-cut_at bytes None least end some within e f = rw (take_rest bytes end) (lines-take_drop_all bytes end e)
 lines-cut_at bytes (Some at) least end some within e f =

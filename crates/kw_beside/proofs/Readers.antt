@@ -21,7 +21,8 @@ are_read [] (part ∷ parts) len each = absurd (omega arith)
 are_read (piece ∷ pieces) [] len each = absurd (omega arith)
 are_read (piece ∷ pieces) (part ∷ parts) len each = (each 0 piece part (omega arith), are_read pieces parts (omega arith) (λ i d e lt. each (suc i) d e (omega arith)))
 
--- what calls that read the pieces into which bytes are cut give, one call for each, is read of the bytes
+-- what calls that read the pieces into which bytes are cut give, one call for each, is read of the
+-- bytes
 pub are_read_of : {F : Type 0} (g : Shared F (Bor (List ℕ) × Unit {0}) (Result (Vec Item Global) LineError)) (f : F) (bytes : List ℕ) (pieces : List (Bor (List ℕ))) (parts : List (Result (Vec Item Global) LineError))
     → lines bytes ≡ flat_map (λ piece. lines piece.now) pieces → length parts ≡ length pieces → GivesJobs g f pieces parts → ((piece : Bor (List ℕ)) (part : Result (Vec Item Global) LineError) → g.post f (piece, tt) part → IsRead piece.now part) → AreReadOf bytes parts
 are_read_of g f bytes pieces parts cut len gives reads = record {

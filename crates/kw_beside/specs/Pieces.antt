@@ -7,7 +7,8 @@ use Rattle.kw_line.specs.declared.item.LineError.{LineError}
 use Rattle.kw_line.specs.Cut.{lines}
 use Rattle.kw_line.specs.Line.{AreLinesOf, IfBadLine}
 
--- what a reader gives for a piece: the items of its lines, or its first bad line, or the want of memory
+-- what a reader gives for a piece: the items of its lines, or its first bad line, or the want of
+-- memory
 pub record IsRead (piece : List ℕ) (part : Result (Vec Item Global) LineError) : Type 0 where
   pub items : IfOk part (λ items. AreLinesOf piece items.items)
   pub bad : IfBadLine piece part

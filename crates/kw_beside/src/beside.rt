@@ -1,7 +1,8 @@
 //! An input read, and its answers printed, by threads beside each other.
 //!
-//! Each thread takes some of the lines, or of the answers, that stand behind each other; what they give is put together in order. So what comes out
-//! is what one thread would have made: how many there are is for speed alone.
+//! Each thread takes some of the lines, or of the answers, that stand behind each other; what they
+//! give is put together in order. So what comes out is what one thread would have made: how many
+//! there are is for speed alone.
 ghost use Rattle.std.specs.Prelude.{◌≡◌, ◌<◌, ◌≤◌, length, All, IsOk, IfOk, OnOk, vec_len};
 ghost use Rattle.std.specs.List.{flat_map};
 ghost use Rattle.kw_line.specs.Answered.{text};
@@ -24,7 +25,8 @@ use std::thread::Threads;
 /// How many answers a thread prints at least: fewer are printed sooner than a thread starts.
 const SMALLEST_PART: usize = 4_096;
 
-/// The items of an input's lines, one for each line, read by about so many threads, at least 1. A short input is read by fewer.
+/// The items of an input's lines, one for each line, read by about so many threads, at least 1. A
+/// short input is read by fewer.
 pub fn parse_beside<R: Threads + Sync>(
     rt: &R,
     alloc: Global,
@@ -102,7 +104,8 @@ mod tests {
         Ok(text)
     }
 
-    // 180 017 bytes, so three pieces: of 65 538 bytes twice, as far as the end of the line in which byte 65 536 stands, and what is left
+    // 180 017 bytes, so three pieces: of 65 538 bytes twice, as far as the end of the line in which
+    // byte 65 536 stands, and what is left
     #[test]
     fn reads_by_three_threads_as_by_one(rt: HostRuntime) -> Result<(), Fail> {
         let mut text = repeated(rt.alloc(), b"get 7\n", 15_000)?;
@@ -124,7 +127,8 @@ mod tests {
         Ok(())
     }
 
-    // in the third of three pieces, and then also one in the second: of 300 011 bytes a piece has a third, as far as the end of a line
+    // in the third of three pieces, and then also one in the second: of 300 011 bytes a piece has a
+    // third, as far as the end of a line
     #[test]
     fn names_the_first_bad_line_of_the_whole(rt: HostRuntime) -> Result<(), Fail> {
         let mut late = repeated(rt.alloc(), b"get 7\n", 30_000)?;
@@ -146,7 +150,8 @@ mod tests {
         Ok(())
     }
 
-    // 10 numbers of one digit, 90 of two, 900 of three and 9 000 of four, and 10 000 line feeds, by parts of 4 096 numbers, twice, and 1 808
+    // 10 numbers of one digit, 90 of two, 900 of three and 9 000 of four, and 10 000 line feeds, by
+    // parts of 4 096 numbers, twice, and 1 808
     #[test]
     fn prints_by_three_threads_as_by_one(rt: HostRuntime) -> Result<(), Fail> {
         let mut answers = Vec::new(rt.alloc());

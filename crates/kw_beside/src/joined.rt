@@ -3,7 +3,8 @@ ghost use Rattle.std.specs.Prelude.{◌≡◌, ◌++◌, IfOk};
 
 use std::alloc::AllocError;
 
-/// The items of one list and then those of another. Where the first list is empty nothing is copied, so the first part of a long list never is.
+/// The items of one list and then those of another. Where the first list is empty nothing is
+/// copied, so the first part of a long list never is.
 pub fn joined<T: Drop>(items: Vec<T>, more: Vec<T>) -> Result<Vec<T>, AllocError>
     ensures { IfOk result (λ all. all.items ≡ items.items ++ more.items) }
 {

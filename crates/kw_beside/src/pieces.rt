@@ -7,11 +7,13 @@ use kw_line::words::LINE_FEED;
 use kw_model::memory::Memory;
 use std::alloc::Global;
 
-/// How many bytes a piece has at least, but for the last one: a thread takes longer to start than a shorter piece takes to read.
+/// How many bytes a piece has at least, but for the last one: a thread takes longer to start than a
+/// shorter piece takes to read.
 pub const SMALLEST_PIECE: usize = 65_536;
 
-/// The bytes, cut into pieces of whole lines: at most so many, of about the same length, and fewer where they would be short. Their lines, one piece
-/// after the other, are those of the bytes. None of the bytes are copied, and each is looked at once at most.
+/// The bytes, cut into pieces of whole lines: at most so many, of about the same length, and fewer
+/// where they would be short. Their lines, one piece after the other, are those of the bytes. None
+/// of the bytes are copied, and each is looked at once at most.
 pub fn pieces<'a>(alloc: Global, bytes: &'a [u8], count: u32) -> Result<Vec<&'a [u8]>, Memory>
     requires { 0 < count }
     ensures lines { IfOk result (λ pieces. lines bytes.entry.now
@@ -35,7 +37,8 @@ pub fn pieces<'a>(alloc: Global, bytes: &'a [u8], count: u32) -> Result<Vec<&'a 
     Ok(pieces)
 }
 
-/// So many of the bytes and those up to the end of the line in which they end, and what stands behind that line.
+/// So many of the bytes and those up to the end of the line in which they end, and what stands
+/// behind that line.
 fn cut_behind(bytes: &[u8], least: usize) -> (&[u8], &[u8])
     requires some { 0 < least }
     requires within { least ≤ length bytes.now }

@@ -7,8 +7,9 @@ use crate::joined::joined;
 use kw_line::item::{Item, LineError};
 use std::alloc::Global;
 
-/// The items of all pieces, one after the other, where each part is what a reader gave for a piece. The first bad line of the first piece that
-/// has one is the input's, and it is counted from the input's first line on. The items of the first piece are not copied.
+/// The items of all pieces, one after the other, where each part is what a reader gave for a piece.
+/// The first bad line of the first piece that has one is the input's, and it is counted from the
+/// input's first line on. The items of the first piece are not copied.
 pub fn together(
     alloc: Global,
     parts: Vec<Result<Vec<Item>, LineError>>,

@@ -27,7 +27,8 @@ more_reached cs n greatest a there h = elim (cases_lt greatest a.first) [
     older (inl zero) e = inl (e ∙ zero)
     older (inr (k, c, l, w, f)) e = inr (k, c, omega arith, w, f ∙ sym e)
 
--- a call that had ended before the greatest of these began: the first that began after its end stands in front of it
+-- a call that had ended before the greatest of these began: the first that began after its end
+-- stands in front of it
 pub first_of : (cs : List Recorded) (n greatest last : ℕ) (a b : Recorded) → a.last ≡ Some last → last < greatest → IsReached cs n greatest → IsFirst (λ _ (d : Recorded). d.first ≤ last) (λ _ (d : Recorded). last < d.first) cs b → IsFirstAfter cs b n a
 first_of cs n greatest last a b e l (inl zero) f = absurd (omega arith)
 first_of cs n greatest last a b e l (inr (k, c, below, w, first)) f = record {

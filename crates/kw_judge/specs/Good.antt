@@ -49,8 +49,9 @@ calls_in_order r = map (call_named r) r.order
 abbrev pub EndedBefore : Recorded → Recorded → Type 0
 EndedBefore a b = (end : ℕ) × (a.last ≡ Some end) × (end < b.first)
 
--- the order has the name of each line once and no other; no call stands behind one that began only after it had ended; and
--- the calls, asked in this order of the empty map of one thread, have their replies
+-- the order has the name of each line once and no other; no call stands behind one that began only
+-- after it had ended; and the calls, asked in this order of the empty map of one thread, have their
+-- replies
 pub record IsGood (r : RecordView) : Type 0 where
   pub once : Once r.order
   pub known : (name : Name) → Contains r.order name → Contains (names_of r) name

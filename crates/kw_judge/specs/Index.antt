@@ -1,4 +1,5 @@
--- Names that are looked up by a number of each, and the places of an order among the lines of a record.
+-- Names that are looked up by a number of each, and the places of an order among the lines of a
+-- record.
 use Rattle.std.specs.Prelude.{ℕ, ◌≡◌, ◌+◌, ◌*◌, ◌<◌, Some, None, List, map, length, slice_get, get_or}
 use Rattle.std.specs.Ordering.{nat_cmp}
 use Rattle.std.specs.BTreeMap.{BTreeMap, get}

@@ -16,8 +16,8 @@ use Rattle.kw_judge.specs.declared.record.RecordError.TheVariants as error
 use Rattle.kw_judge.specs.declared.record.TheConstants.{RECORD_SEATS, MOST_NUMBER, MOST_POSITION, MOST_CALLS}
 use Rattle.kw_judge.specs.Texts.{done_text, open_text, order_text}
 
--- a record as contracts see it: the calls that were answered, the puts and deletes that were not and took effect, and the order
--- that is claimed
+-- a record as contracts see it: the calls that were answered, the puts and deletes that were not
+-- and took effect, and the order that is claimed
 pub record RecordView : Type 0 where
   pub done : List DoneCall
   pub open_calls : List OpenCall
@@ -64,7 +64,8 @@ Once {X} xs = (i j : ℕ) (x : X) → slice_get xs i ≡ Some x → slice_get xs
 abbrev pub names_of : RecordView → List Name
 names_of r = map (λ (d : DoneCall). d.name) r.done ++ map (λ (o : OpenCall). o.name) r.open_calls
 
--- what a record may be: its numbers are in range, no name stands in two of its lines, and these are not too many
+-- what a record may be: its numbers are in range, no name stands in two of its lines, and these are
+-- not too many
 pub record IsRecord (r : RecordView) : Type 0 where
   pub each_done : AllByRecursion IsDone r.done
   pub each_open : AllByRecursion IsOpen r.open_calls
@@ -92,12 +93,14 @@ pub record Begins (ls : List (List ℕ)) : Type 0 where
   pub rest : List (List ℕ)
   pub texts : record_lines whole ≡ ls ++ rest
 
--- the lines after those that begin a record are bad from the first one on; where none is there, what there is is no record yet
+-- the lines after those that begin a record are bad from the first one on; where none is there,
+-- what there is is no record yet
 abbrev pub IsBadAfter : List (List ℕ) → List (List ℕ) → Type 0
 IsBadAfter before [] = (r : RecordView) → IsRecord r → record_lines r ≡ before → ⊥
 IsBadAfter before (line ∷ after) = Begins (before ++ line ∷ []) → ⊥
 
--- this line, counted from 1, is the first up to which the lines begin no record; or it is the one after the last
+-- this line, counted from 1, is the first up to which the lines begin no record; or it is the one
+-- after the last
 pub record IsFirstBad (bytes : List ℕ) (number : ℕ) : Type 0 where
   pub before : List (List ℕ)
   pub after : List (List ℕ)

@@ -58,7 +58,8 @@ name_text name = decimal name.seat ++ DOT ∷ decimal name.number
 unfoldable pub done_head : DoneCall → List ℕ
 done_head d = join_with_byte SPACE (codes "done" ∷ name_text d.name ∷ decimal d.first ∷ decimal d.last ∷ call_words d.call)
 
--- the line of a call that was answered: its name, its first and its last position, the call and its reply
+-- the line of a call that was answered: its name, its first and its last position, the call and its
+-- reply
 unfoldable pub done_text : DoneCall → List ℕ
 done_text d = done_head d ++ COLON ∷ SPACE ∷ reply_text d.reply
 

@@ -44,7 +44,8 @@ IsMissing r name = IsFirst (λ i n. Contains r.order n) (λ i n. Contains r.orde
 abbrev pub InTime : List Recorded → ℕ → Recorded → Type 0
 InTime cs i a = (j : ℕ) (b : Recorded) → j < i → slice_get cs j ≡ Some b → EndedBefore a b → ⊥
 
--- it had ended before this one began, which stands in front of it, and before no one that stands in front of that one
+-- it had ended before this one began, which stands in front of it, and before no one that stands in
+-- front of that one
 abbrev pub IsFirstAfter : List Recorded → Recorded → ℕ → Recorded → Type 0
 IsFirstAfter cs b i a = IsFirst (λ j c. EndedBefore a c → ⊥) (λ j c. (j < i) × EndedBefore a c) cs b
 
@@ -60,7 +61,8 @@ map_before cs i = went_all [] (map (λ (c : Recorded). c.call) (take i cs)) (map
 abbrev pub IsWrong : RecordView → Name → Type 0
 IsWrong r name = (x : Recorded) × (x.name ≡ name) × IsFirst (λ i c. IsRight (map_before (calls_in_order r) i) c.call c.reply) (λ i c. IsRight (map_before (calls_in_order r) i) c.call c.reply → ⊥) (calls_in_order r) x
 
--- no name stands twice; each one is known; none is missing; and no call stands behind one that began after it had ended
+-- no name stands twice; each one is known; none is missing; and no call stands behind one that
+-- began after it had ended
 abbrev pub AllOnce : RecordView → Type 0
 AllOnce r = AllHold (IsNew r.order) r.order
 

@@ -1,7 +1,7 @@
 //! Names, looked up.
 //!
-//! An [`Index`] finds the place at which a name stands in a list; contracts see that list. It is a tree over one number of each
-//! name, so a look-up takes time logarithmic in the number of names.
+//! An [`Index`] finds the place at which a name stands in a list; contracts see that list. It is a
+//! tree over one number of each name, so a look-up takes time logarithmic in the number of names.
 ghost use Rattle.std.specs.Prelude.{◌≡◌, Some, IfOk, MatchOption, MatchResult, Contains, slice_get};
 ghost use Rattle.kw_judge.specs.Record.{IsName, Once};
 ghost use Rattle.kw_judge.specs.Index.{key_of, AreNames};

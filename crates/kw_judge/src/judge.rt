@@ -1,8 +1,8 @@
 //! Whether a record is good.
 //!
-//! The five things that may be wrong are looked for one after the other, each in one walk over the order or the lines, and the
-//! first one found is the verdict. Names are looked up in an [`Index`], so all of it takes time that is linear but for the
-//! look-ups and the calls of the map.
+//! The five things that may be wrong are looked for one after the other, each in one walk over the
+//! order or the lines, and the first one found is the verdict. Names are looked up in an [`Index`],
+//! so all of it takes time that is linear but for the look-ups and the calls of the map.
 ghost use Rattle.std.specs.Prelude.{◌≡◌, ◌↔◌, ◌<◌, ◌≤◌, IsTrue, IfOk, OnOk, MatchOption, MatchResult, Contains, length, map};
 ghost use Rattle.kw_judge.specs.declared.record.DoneCall.{DoneCall as AnyDone};
 ghost use Rattle.kw_model.specs.Legal.{IsRight, may_refuse, went};
@@ -23,7 +23,8 @@ use std::alloc::Global;
 
 /// Says whether a record is good, or what is wrong with it first.
 ///
-/// The verdict is `Yes` exactly where the record is good, and each other one exactly where it is the first that holds.
+/// The verdict is `Yes` exactly where the record is good, and each other one exactly where it is
+/// the first that holds.
 pub fn judge(alloc: Global, written: &Record) -> Result<Verdict, Memory>
     ensures { IfOk result (λ verdict. (other : AnyVerdict) →
         (verdict ≡ other) ↔ IsVerdict written.now other) }
@@ -107,7 +108,8 @@ impl<'a> Line<'a> {
         }
     }
 
-    /// Whether the map gives the call this reply, or the call may be refused by it; one that was not answered counts as done.
+    /// Whether the map gives the call this reply, or the call may be refused by it; one that was
+    /// not answered counts as done.
     fn is_right(&self, map: &mut MapState) -> Result<bool, Memory>
         ensures right { IfOk result (λ right. IsTrue right ↔ IsRight map.old
             (recorded self.now).call (recorded self.now).reply) }
@@ -171,7 +173,8 @@ fn first_missing(order: &Index, names: &[Name]) -> Option<Name>
     None
 }
 
-/// The first call of the order that had ended before one in front of it began, and the first such one.
+/// The first call of the order that had ended before one in front of it began, and the first such
+/// one.
 fn first_late(written: &Record, places: &[usize]) -> Option<(Name, Name)>
     requires { StandInOrder written.now places.now }
     ensures { MatchOption result (AllInTime written.now) (λ names. IsLate written.now names.0
@@ -224,8 +227,8 @@ fn first_wrong(alloc: Global, written: &Record, places: &[usize]) -> Result<Opti
     Ok(None)
 }
 
-/// Whether the map gives this reply to the call, or the call may be refused by it. The map is asked unless the call was refused,
-/// and is then the map after the call.
+/// Whether the map gives this reply to the call, or the call may be refused by it. The map is asked
+/// unless the call was refused, and is then the map after the call.
 fn is_right(map: &mut MapState, call: &Call, reply: &Reply) -> Result<bool, Memory>
     ensures right { IfOk result (λ right. IsTrue right ↔ IsRight map.old call.now reply.now) }
     ensures went { OnOk result (map.new ≡ went map.old call.now reply.now) }

@@ -1,7 +1,7 @@
 //! From words to calls.
 //!
-//! Each reader takes what it reads off the front of the words that are left, and its contract says the same both ways: which
-//! words it takes for what, and that no other words would have been that.
+//! Each reader takes what it reads off the front of the words that are left, and its contract says
+//! the same both ways: which words it takes for what, and that no other words would have been that.
 ghost use Rattle.std.specs.Prelude.{◌≡◌, ◌≢◌, ◌++◌, ℕ, List, map, decimal, MatchOption};
 ghost use Rattle.kw_model.specs.declared.call.Call.{Call as AnyCall};
 ghost use Rattle.kw_line.specs.Line.{FitsCall, arguments};

@@ -1,7 +1,8 @@
 //! The one text of calls, replies and names, and of the lines of a record.
 //!
-//! Each is printed by one function here, at the end of a `Vec` that grows, so that everything that prints them prints them
-//! alike. A function whose contract has no word on an `Err` may have left a part of its text.
+//! Each is printed by one function here, at the end of a `Vec` that grows, so that everything that
+//! prints them prints them alike. A function whose contract has no word on an `Err` may have left a
+//! part of its text.
 ghost use Rattle.std.specs.Prelude.{◌≡◌, ◌++◌, ◌∷◌, [], OnOk, OnErr};
 ghost use Rattle.std.specs.List.{flat_map};
 ghost use Rattle.kw_judge.specs.Texts.{call_text, call_word, reply_text, name_text, done_text, open_text, order_text};
@@ -104,7 +105,8 @@ pub fn push_open(out: &mut Vec<u8>, name: Name, first: u64, call: &Call) -> Resu
     Ok(out.push(LINE_FEED)?)
 }
 
-/// Adds the line that says in which order these calls stand: their names in it, or `none` where there are none.
+/// Adds the line that says in which order these calls stand: their names in it, or `none` where
+/// there are none.
 pub fn push_order(out: &mut Vec<u8>, names: &[Name]) -> Result<(), Memory>
     ensures { OnOk result (out.new.items ≡ out.old.items
         ++ order_text names.now ++ LINE_FEED ∷ []) }

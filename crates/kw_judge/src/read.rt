@@ -1,7 +1,8 @@
 //! A record, read from its bytes.
 //!
-//! Lines are taken one after the other, as long as those so far begin a record: each is the text of a call or of an order, calls
-//! that were answered come first, no name stands twice, there are not too many, and the order is the last line.
+//! Lines are taken one after the other, as long as those so far begin a record: each is the text of
+//! a call or of an order, calls that were answered come first, no name stands twice, there are not
+//! too many, and the order is the last line.
 ghost use Rattle.std.specs.Prelude.{ℕ, ◌≡◌, ◌<◌, ◌≤◌, ◌⊎◌, ◌++◌, ◌∷◌, [], None, Contains, length, Err, IfOk, MatchBool, MatchOption};
 ghost use Rattle.kw_judge.specs.Record.{RecordView, IsRecord, IsName, IsDone, IsOpen, IsRecordText, Begins, IfBad, record_lines};
 ghost use Rattle.kw_judge.specs.Texts.{done_text, open_text};
@@ -17,8 +18,8 @@ use std::collections::BTreeMap;
 
 /// The record whose text the bytes are.
 ///
-/// `Bad` names the first line up to which the lines begin no record, or the line after the last one where no order stands at
-/// the end. Any bytes may be given: the bad line is line 100,002 at most.
+/// `Bad` names the first line up to which the lines begin no record, or the line after the last one
+/// where no order stands at the end. Any bytes may be given: the bad line is line 100,002 at most.
 pub fn read_record(alloc: Global, bytes: &[u8]) -> Result<Record, RecordError>
     ensures record { IfOk result (IsRecordText bytes.now) }
     ensures bad { IfBad bytes.now result }
@@ -63,8 +64,8 @@ impl Reader {
         }
     }
 
-    /// Takes one more line, and tells whether the lines still begin a record. Where they do not, or for want of memory, the reader
-    /// is of no more use.
+    /// Takes one more line, and tells whether the lines still begin a record. Where they do not, or
+    /// for want of memory, the reader is of no more use.
     fn take(&mut self, alloc: Global, line: &[u8]) -> Result<bool, Memory>
         requires { IsReading self.old }
         ensures { IfOk result (λ taken. MatchBool taken

@@ -1,7 +1,8 @@
 //! What a record holds.
 //!
-//! The plain types of this crate: a call's [`Name`], a call that was answered and one that was not, and what is wrong with bytes
-//! that are no record. `specs/Texts.antt` has the text of each line, `specs/Record.antt` the ranges of their numbers.
+//! The plain types of this crate: a call's [`Name`], a call that was answered and one that was not,
+//! and what is wrong with bytes that are no record. `specs/Texts.antt` has the text of each line,
+//! `specs/Record.antt` the ranges of their numbers.
 ghost use Rattle.std.specs.Prelude.{◌≡◌};
 ghost use Rattle.kw_judge.specs.Record.{IsRecord};
 
@@ -23,14 +24,16 @@ pub const MOST_POSITION: u64 = 9_223_372_036_854_775_807;
 /// How many calls a record may have.
 pub const MOST_CALLS: usize = 100_000;
 
-/// The name of a call: the seat that made it, and its number among the calls of the seat, from 1 on.
+/// The name of a call: the seat that made it, and its number among the calls of the seat, from 1
+/// on.
 #[derive(Clone, Copy, Debug, PartialEq, Eq)]
 pub struct Name {
     pub seat: u32,
     pub number: u32,
 }
 
-/// A call that was answered: the positions of its first and of its last event, what was asked and what was answered.
+/// A call that was answered: the positions of its first and of its last event, what was asked and
+/// what was answered.
 #[derive(Debug, Drop, PartialEq, Eq)]
 pub struct DoneCall {
     pub name: Name,
@@ -40,7 +43,8 @@ pub struct DoneCall {
     pub reply: Reply,
 }
 
-/// A put or delete that was not answered and took effect: the position of its first event, and what was asked.
+/// A put or delete that was not answered and took effect: the position of its first event, and what
+/// was asked.
 #[derive(Clone, Copy, Debug, PartialEq, Eq)]
 pub struct OpenCall {
     pub name: Name,
@@ -50,7 +54,8 @@ pub struct OpenCall {
 
 /// A run, call by call, and the order in which its calls are claimed to stand.
 ///
-/// The numbers of each line are in range, no name stands in two lines, and there are at most `MOST_CALLS` lines.
+/// The numbers of each line are in range, no name stands in two lines, and there are at most
+/// `MOST_CALLS` lines.
 #[derive(Debug, Drop)]
 pub struct Record {
     done: Vec<DoneCall>,
@@ -117,8 +122,8 @@ impl Record {
 /// Why bytes are no record.
 #[derive(Clone, Copy, Debug, PartialEq, Eq, Error)]
 pub enum RecordError {
-    /// The first line, counted from 1, up to which the lines begin no record; the line after the last one where all lines do, and
-    /// no order stands at their end.
+    /// The first line, counted from 1, up to which the lines begin no record; the line after the
+    /// last one where all lines do, and no order stands at their end.
     #[error("bad line {line}")]
     Bad { line: u32 },
     /// Memory was wanted and not found.

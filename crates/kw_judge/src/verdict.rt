@@ -1,6 +1,7 @@
 //! What a judge says of a record.
 //!
-//! A [`Verdict`] names the first thing that is wrong, and where; `specs/Verdict.antt` says what each means.
+//! A [`Verdict`] names the first thing that is wrong, and where; `specs/Verdict.antt` says what
+//! each means.
 ghost use Rattle.std.specs.Prelude.{◌≡◌, ◌++◌, ◌∷◌, [], IfOk, OnOk};
 ghost use Rattle.kw_judge.specs.Verdict.{verdict_text};
 ghost use Rattle.kw_judge.specs.Texts.{name_text};
@@ -11,7 +12,8 @@ use kw_line::words::{LINE_FEED, SPACE};
 use kw_model::memory::Memory;
 use std::alloc::Global;
 
-/// Whether a record is good, or what is wrong with it. Each variant after the first comes only where none before it does.
+/// Whether a record is good, or what is wrong with it. Each variant after the first comes only
+/// where none before it does.
 #[derive(Clone, Copy, Debug, PartialEq, Eq)]
 pub enum Verdict {
     /// The record is good.
@@ -22,7 +24,8 @@ pub enum Verdict {
     Unknown(Name),
     /// The name of the first line whose name the order lacks.
     Missing(Name),
-    /// The first call of the order that had ended before one in front of it began, and the first such one.
+    /// The first call of the order that had ended before one in front of it began, and the first
+    /// such one.
     Late(Name, Name),
     /// The first call of the order whose reply is not that of the map.
     Wrong(Name),

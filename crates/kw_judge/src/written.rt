@@ -1,7 +1,8 @@
 //! From a line of a record to what is written in it.
 //!
-//! Each reader here is told all bytes of what it reads, and its contract says the same both ways: what these bytes are the text of,
-//! and that they are no such text. A line is read once for each kind of line, so the time is linear in its bytes.
+//! Each reader here is told all bytes of what it reads, and its contract says the same both ways:
+//! what these bytes are the text of, and that they are no such text. A line is read once for each
+//! kind of line, so the time is linear in its bytes.
 ghost use Rattle.std.specs.Prelude.{◌≡◌, ◌≢◌, ◌<◌, ◌≤◌, ◌^◌, ◌∷◌, ◌++◌, [], ℕ, List, All, decimal, length, IsTrue, ◌↔◌, IfOk, MatchOption};
 ghost use Rattle.kw_line.specs.Cut.{words};
 ghost use Rattle.std.specs.List.{AllByRecursion};

@@ -1,5 +1,5 @@
 -- Decimal texts of numbers, and what `parse` reads of them.
-use Rattle.std.proofs.Common.{ℕ, ◌≡◌, ◌≢◌, ◌<◌, ◌≤◌, ◌+◌, ◌^◌, leb, ◌⊎◌, List, ◌∷◌, Option, Some, None, Result, Ok, Err, length, get_or, MatchOption, MatchResult, inl, inr, refl, sym, ◌∙◌, subst, ap, arith, rules}
+use Rattle.std.proofs.Common.{ℕ, ◌≡◌, ◌≢◌, ◌<◌, ◌≤◌, ◌+◌, ◌-◌, ◌*◌, ◌^◌, leb, ◌⊎◌, List, ◌∷◌, ◌++◌, take, drop, Option, Some, None, Result, Ok, Err, length, get_or, MatchOption, MatchResult, inl, inr, refl, sym, ◌∙◌, subst, ap, arith, rules}
 use Rattle.std.specs.Result.{OkIff, result_ok}
 use Rattle.std.proofs.lemmas.Bool.{cases_eq, cases_lt, le-leb, lt-leb}
 use Rattle.std.specs.Bool.{then_some}
@@ -8,7 +8,11 @@ use Rattle.std.specs.Str.{IsUtf8}
 use Rattle.std.specs.Str.Parse.{AllDigits, digits_value, ParsesUnsigned}
 use Rattle.std.proofs.lemmas.Str.Parse.{IsNumeralModel, numerals_by_value, tells_digits, parse_plain, not_in_digits}
 use Rattle.std.proofs.lemmas.Fmt.{digits_decimal, first_decimal, decimal_nonempty, decimal_digit, decimal_injective, decimal-digits_value, IsAscii-decimal, parse-decimal}
-use Rattle.std.proofs.lemmas.Str.{IsUtf8-from_ascii}
+use Rattle.std.proofs.lemmas.Str.{IsUtf8-from_ascii, digit_value_digit}
+use Rattle.std.proofs.lemmas.Int.Digits.{digits_more, digits_value_more}
+use Rattle.std.proofs.lemmas.List.{get_or-take, length-take-le, length-drop, take-take, take_all, take-append-drop}
+use Rattle.std.proofs.lemmas.Grind.{pow_more}
+use Rattle.std.proofs.Math.Nat.{pow-le-pow_right}
 
 -- digits and their value are std's
 pub own : IsNumeralModel (AllDigits 10) (digits_value 10)
@@ -26,7 +30,8 @@ no_leading_zero n h e = elim (cases_eq n 0) [ inl z ↦ rw (z, decimal_digit 0 (
 pub IsUtf8-decimal : (n : ℕ) → n < 2 ^ 64 → IsUtf8 (decimal n)
 IsUtf8-decimal n h = search (rules, IsUtf8-from_ascii, IsAscii-decimal n h)
 
--- what `parse` reads of bytes without a plus sign and a leading zero is the number whose text they are
+-- what `parse` reads of bytes without a plus sign and a leading zero is the number whose text they
+-- are
 pub number-from_parse : {E : Type 0} (bytes : List ℕ) (r : Result ℕ E) → ParsesUnsigned 64 10 bytes r → get_or bytes 0 0 ≢ 43 → (get_or bytes 0 0 ≡ 48 → length bytes ≡ 1) → MatchOption (result_ok r) ((n : ℕ) → n < 2 ^ 64 → bytes ≢ decimal n) (λ n. (n < 2 ^ 64) × (bytes ≡ decimal n))
 number-from_parse {E} bytes (Ok n) h plus zeros =
     let k = parse_plain own {E = E} 64 bytes (Ok n) h plus in
@@ -62,3 +67,30 @@ from_try limit n (Err e) h = elim (cases_lt n limit) [ inl l ↦ absurd (h l) | 
 
 pub from_test : (most n : ℕ) → ((n < most + 1) × (then_some (leb n most) n ≡ Some n)) ⊎ ((most + 1 ≤ n) × (then_some (leb n most) n ≡ None))
 from_test most n = elim (cases_lt n (most + 1)) [ inl l ↦ inl (l, rw (le-leb n most (omega arith)) refl) | inr l ↦ inr (l, rw (lt-leb n most (omega arith)) refl) ]
+
+-- one byte more that is a digit: what is read so far is digits, and this is their value
+pub digits_read_on : (bytes : List ℕ) (i value byte : ℕ) → i < length bytes → byte ≡ get_or bytes i 0 → 48 ≤ byte → byte ≤ 57 → AllDigits 10 (take i bytes) → value ≡ digits_value 10 (take i bytes) → AllDigits 10 (take (i + 1) bytes) × (value * 10 + (byte - 48) ≡ digits_value 10 (take (i + 1) bytes))
+digits_read_on bytes i value byte l b low high digits v =
+    let d = digit_value_digit (get_or bytes i 0) (omega (arith, b), omega (arith, b)) in
+    (digits_more 10 bytes i l digits (omega (arith, b, d)), omega (arith, digits_value_more 10 bytes i l, v, b, d))
+
+-- a number below ten to the i, and one digit behind it: below ten to the i + 1
+pub tens_more : (i value byte : ℕ) → value < 10 ^ i → 48 ≤ byte → byte ≤ 57 → value * 10 + (byte - 48) < 10 ^ (i + 1)
+tens_more i value byte l low high = omega (arith, pow_more 10 i, l)
+
+-- fewer than 19 digits, and one more behind them, fit
+pub tens_fit : (i value : ℕ) → i < 19 → value < 10 ^ i → value * 10 + 9 < 2 ^ 64
+tens_fit i value l h = let p : 10 ^ i ≤ 10 ^ 18 = pow-le-pow_right {n = 10} (omega arith) {i = i} {j = 18} (omega arith) in omega (arith, p, h)
+
+-- digits in front without a leading zero are the decimal text of their value, and the rest stands
+-- behind it
+pub split_decimal : (bytes : List ℕ) (most count value : ℕ) → AllDigits 10 (take count (take most bytes)) → value ≡ digits_value 10 (take count (take most bytes)) → count ≤ length (take most bytes) → most ≤ length bytes → value < 2 ^ 64 → (0 < count) × (get_or bytes 0 0 ≡ 48 → count ≡ 1) → bytes ≡ decimal value ++ take (length bytes - count) (drop count bytes)
+split_decimal bytes most count value digits v within room fits plain =
+    let low : count ≤ most = omega (arith, within, length-take-le most bytes room) in
+    let same = take-take count most bytes low in
+    let size = length-take-le count bytes (omega (arith, low, room)) in
+    let first = get_or-take count bytes 0 0 plain.0 in
+    let worth : value ≡ digits_value 10 (take count bytes) = v ∙ ap (digits_value 10) same in
+    let text = decimal-digits_value own (take count bytes) (rw same at digits) (omega (arith, size, plain.0)) (λ z. size ∙ plain.1 (sym first ∙ z)) (omega (arith, worth, fits)) in
+    let behind = take_all (length bytes - count) (drop count bytes) (omega (arith, length-drop count bytes)) in
+    sym (take-append-drop count bytes) ∙ ap (λ t. t ++ drop count bytes) (sym text ∙ ap decimal (sym worth)) ∙ ap (λ t. decimal value ++ t) (sym behind)

@@ -1,10 +1,11 @@
 -- The lines of bytes and the words of a line, from the first one on.
-use Rattle.std.proofs.Common.{ℕ, suc, ◌≡◌, ◌≢◌, ◌<◌, ◌≤◌, List, [], ◌∷◌, ◌++◌, Option, Some, None, Bool, true, false, cond, eqb, length, All, MatchOption, ◌↔◌, is_some, not, unwrap_or, refl, sym, ap, ◌∙◌, arith}
+use Rattle.std.proofs.Common.{ℕ, suc, ◌≡◌, ◌≢◌, ◌<◌, ◌≤◌, ◌+◌, ◌-◌, add-one, drop-cons, take, drop, get_or, List, [], ◌∷◌, ◌++◌, Option, Some, None, Bool, true, false, cond, eqb, length, All, MatchOption, ◌↔◌, is_some, not, unwrap_or, refl, sym, ap, ◌∙◌, arith}
 use Rattle.std.specs.Borrow.{Bor}
 use Rattle.std.specs.List.{slice_split, onto_first}
 use Rattle.std.proofs.lemmas.List.Splits.{slice_split_at, slice_split_none}
-use Rattle.std.proofs.lemmas.List.{nil_from_length}
-use Rattle.std.proofs.lemmas.Bool.{ne_eqb}
+use Rattle.std.proofs.lemmas.List.{nil_from_length, get_or-take, get_or_default, length-drop, length-take-le, take_all, take-append-drop}
+use Rattle.std.proofs.lemmas.Bool.{ne_eqb, eq-eqb, eqb-true}
+use Rattle.memchr.specs.Find.{Nowhere, Passes, is_byte}
 use Rattle.kw_line.specs.declared.words.TheConstants.{LINE_FEED, SPACE}
 use Rattle.kw_line.specs.Cut.{lines, words, words_of, without_empty_end}
 
@@ -14,6 +15,19 @@ HasNo mark bytes = All (λ byte. byte ≢ mark) bytes
 
 passes_none : (mark : ℕ) (bytes : List ℕ) → HasNo mark bytes → All (λ byte. eqb byte mark ≡ false) bytes
 passes_none mark bytes h k d l = ne_eqb _ mark (h k d l)
+
+-- a mark that is found at no place is none of the bytes, and the first place where it is found cuts
+-- them
+pub has_none : (mark : ℕ) (bytes : List ℕ) → Nowhere (Passes (is_byte mark) bytes) 0 (length bytes) → HasNo mark bytes
+has_none mark bytes none k d l e = none k (omega arith) l (eq-eqb _ mark (get_or_default bytes k 0 d l ∙ e))
+
+pub cut_at_first : (mark : ℕ) (bytes : List ℕ) (end : ℕ) → end < length bytes → Nowhere (Passes (is_byte mark) bytes) 0 end → Passes (is_byte mark) bytes end → (bytes ≡ take end bytes ++ mark ∷ take (length bytes - (end + 1)) (drop (end + 1) bytes)) × HasNo mark (take end bytes)
+cut_at_first mark bytes end within none found =
+    let is_mark : get_or bytes end 0 ≡ mark = eqb-true _ mark found in
+    let whole = take_all (length bytes - (end + 1)) (drop (end + 1) bytes) (omega (arith, length-drop (end + 1) bytes)) in
+    let behind : drop end bytes ≡ mark ∷ drop (end + 1) bytes = rw (add-one end) (drop-cons bytes end 0 within ∙ ap (λ b. b ∷ drop (suc end) bytes) is_mark) in
+    let size = length-take-le end bytes (omega arith) in
+    (sym (take-append-drop end bytes) ∙ ap (λ t. take end bytes ++ t) (behind ∙ ap (λ t. mark ∷ t) (sym whole)), λ k d l e. let low : k < end = omega (arith, l, size) in none k (omega arith) low (eq-eqb _ mark (sym (get_or-take end bytes k 0 low) ∙ get_or_default (take end bytes) k 0 d l ∙ e)))
 
 -- there is always a first part
 pub first_part : (p : ℕ → Bool) (bytes : List ℕ) → (part : List ℕ) × (parts : List (List ℕ)) × (slice_split p bytes ≡ part ∷ parts)

@@ -1,10 +1,10 @@
 -- The words of an item's text, and which lines are texts.
-use Rattle.std.proofs.Common.{ℕ, ◌≡◌, ◌≢◌, ◌<◌, ◌≤◌, ◌+◌, ◌^◌, List, [], ◌∷◌, ◌++◌, map, Option, Some, None, Bool, true, false, not, cond, eqb, length, MatchOption, ◌↔◌, codes, IsTrue, ◌⊎◌, inl, inr, subst, refl, sym, ap, ◌∙◌, arith}
+use Rattle.std.proofs.Common.{ℕ, ◌≡◌, ◌≢◌, ◌<◌, ◌≤◌, ◌+◌, ◌-◌, ◌^◌, List, [], ◌∷◌, ◌++◌, map, take, drop, get_or, Option, Some, None, Bool, true, false, not, cond, eqb, length, MatchOption, ◌↔◌, codes, IsTrue, ◌⊎◌, inl, inr, subst, refl, sym, ap, ◌∙◌, arith}
 use Rattle.std.specs.Fmt.{decimal}
 use Rattle.std.specs.Bool.{then_some}
 use Rattle.std.specs.Str.{bytes_eq}
 use Rattle.std.specs.List.{join_with_byte, AllByRecursion, list_all}
-use Rattle.std.proofs.lemmas.List.{append-nil, get_or_default, length-append, length-map, nil_from_length}
+use Rattle.std.proofs.lemmas.List.{append-nil, take_all, get_or_default, length-append, length-map, nil_from_length}
 use Rattle.std.proofs.lemmas.List.Splits.{join_with_byte-slice_split}
 use Rattle.std.proofs.lemmas.List.Elements.{All-from_recursion}
 use Rattle.std.proofs.lemmas.Bool.{false≢true, eqb-false, and_parts, not-true}
@@ -43,6 +43,16 @@ no_space_form form.List = no_space (form_word form.List) refl
 
 pub no_space_decimal : (n : ℕ) → n < 2 ^ 64 → HasNo SPACE (decimal n)
 no_space_decimal n h k d l e = not_in_digits own (decimal n) SPACE (digits_decimal own n h) (λ r. omega (arith, r.0, r.1)) k l (get_or_default (decimal n) k 0 d l ∙ e)
+
+-- a number that stands first in a line is its first word, where nothing or a space stands behind it
+pub number_alone : (line behind : List ℕ) (n : ℕ) → n < 2 ^ 64 → line ≡ decimal n ++ behind → behind ≡ [] → words line ≡ decimal n ∷ []
+number_alone line behind n l e none = ap words (e ∙ ap (λ t. decimal n ++ t) none ∙ append-nil (decimal n)) ∙ words_one (decimal n) (no_space_decimal n l)
+
+pub number_before_space : (line behind : List ℕ) (n : ℕ) → n < 2 ^ 64 → line ≡ decimal n ++ behind → 0 < length behind → get_or behind 0 0 ≡ SPACE → words line ≡ decimal n ∷ words (take (length behind - 1) (drop 1 behind))
+number_before_space line [] n l e some space = absurd (omega arith)
+number_before_space line (b ∷ rest) n l e some space =
+    let whole : take (length (b ∷ rest) - 1) (drop 1 (b ∷ rest)) ≡ rest = take_all (length (b ∷ rest) - 1) rest (omega arith) in
+    ap words (e ∙ ap (λ t. decimal n ++ t ∷ rest) space) ∙ words_cut (decimal n) rest (no_space_decimal n l) ∙ ap (λ t. decimal n ∷ words t) (sym whole)
 
 -- words without spaces, separated by one space each, are cut into these words again
 pub words_join : (word : List ℕ) (more : List (List ℕ)) → AllByRecursion (HasNo SPACE) (word ∷ more) → words (join_with_byte SPACE (word ∷ more)) ≡ word ∷ more

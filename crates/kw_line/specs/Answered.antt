@@ -53,7 +53,8 @@ answer_of_pairs form.Least ps = number_or_nothing (least (values ps))
 answer_of_pairs form.Greatest ps = number_or_nothing (greatest (values ps))
 answer_of_pairs _ ps = answer.Pairs ps
 
--- what a line says of its reply; a call that was stopped has no answer, and is given one here only so that there is always one
+-- what a line says of its reply; a call that was stopped has no answer, and is given one here only
+-- so that there is always one
 abbrev pub answer_for : Form → Reply → Answer
 answer_for f reply.Done = answer.Done
 answer_for f (reply.Value v) = answer.Number v

@@ -10,7 +10,8 @@ without_empty_end [] = []
 without_empty_end (part ∷ []) = if length part == 0 then [] else part ∷ []
 without_empty_end (part ∷ next ∷ parts) = part ∷ without_empty_end (next ∷ parts)
 
--- the lines of bytes: what stands between line feeds; nothing after the last feed is no line, so the last line's feed may be missing
+-- the lines of bytes: what stands between line feeds; nothing after the last feed is no line, so
+-- the last line's feed may be missing
 unfoldable pub lines : List ℕ → List (List ℕ)
 lines bytes = without_empty_end (slice_split (λ byte. byte == LINE_FEED) bytes)
 

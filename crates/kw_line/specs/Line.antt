@@ -54,7 +54,8 @@ abbrev pub IsItem : Item → Type 0
 IsItem (item.Call c f) = IsCallOf f c × FitsCall c
 IsItem item.Wait = Unit {0}
 
--- the words of an item: that of its form, and the numbers of its call without a sign or a leading zero
+-- the words of an item: that of its form, and the numbers of its call without a sign or a leading
+-- zero
 abbrev pub item_words : Item → List (List ℕ)
 item_words (item.Call c f) = form_word f ∷ map decimal (arguments c)
 item_words item.Wait = codes "wait" ∷ []
@@ -76,7 +77,8 @@ pub record AreLinesOf (bytes : List ℕ) (items : List Item) : Type 0 where
   pub each : AllByRecursion IsItem items
   pub texts : lines bytes ≡ map item_text items
 
--- this line of the bytes, counted from 1, is the text of no item, and each line before it is the text of one
+-- this line of the bytes, counted from 1, is the text of no item, and each line before it is the
+-- text of one
 pub record IsFirstBadLine (bytes : List ℕ) (number : ℕ) : Type 0 where
   pub before : List Item
   pub line : List ℕ

@@ -15,7 +15,8 @@ is_wait item.Wait = true
 abbrev pub blocks : List Item → List (List Item)
 blocks items = slice_split is_wait items
 
--- of each call of a block, whether it is quiet: it asks for no range, or the block sets no value and takes no key away
+-- of each call of a block, whether it is quiet: it asks for no range, or the block sets no value
+-- and takes no key away
 abbrev pub quiet_in : List Item → List Bool
 quiet_in block = map (λ f. not (is_range f) || not (list_any is_update (forms block))) (forms block)
 

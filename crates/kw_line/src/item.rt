@@ -1,7 +1,8 @@
 //! What a line asks for.
 //!
-//! The types of this crate that its callers hold: an [`Item`] for each line of an input, the [`Form`] in which its
-//! answer is printed, and what is wrong with a line. `specs/Line.antt` gives the one text of each item.
+//! The types of this crate that its callers hold: an [`Item`] for each line of an input, the
+//! [`Form`] in which its answer is printed, and what is wrong with a line. `specs/Line.antt` gives
+//! the one text of each item.
 use kw_model::call::Call;
 use std::alloc::{AllocError, AllocFailed};
 use thiserror::Error;

@@ -1,11 +1,61 @@
 //! Numbers as they stand in lines: decimal digits, without a sign and without a leading zero.
 //!
-//! Every reader and writer of numbers in a line goes through here, so that each number has one text.
-ghost use Rattle.std.specs.Prelude.{◌≡◌, ◌≢◌, ◌<◌, ◌^◌, ◌++◌, ◌⊎◌, ℕ, IsTrue, false, decimal, length, slice_index, MatchOption, OnOk, OnErr};
+//! Every reader and writer of numbers in a line goes through here, so that each number has one
+//! text.
+ghost use Rattle.std.specs.Prelude.{◌≡◌, ◌≢◌, ◌<◌, ◌≤◌, ◌^◌, ◌++◌, ◌⊎◌, ℕ, IsTrue, false, decimal, length, slice_index, take, IfSome, MatchOption, OnOk, OnErr};
+ghost use Rattle.std.specs.Str.Parse.{AllDigits, digits_value};
 
 use itoa::Buffer;
 use kw_model::memory::Memory;
 use std::str;
+
+/// How many digits a number may have so that it surely fits: there are greater ones of 20 digits.
+const FITTING_DIGITS: usize = 19;
+
+/// The number whose decimal text the bytes begin with, and what stands behind that text.
+///
+/// None where no such text is found, and also where the digits may be too many to fit. Each digit
+/// is looked at once, so this is the quick way; where it finds none, [`number`] decides.
+pub(crate) fn split_number(bytes: &[u8]) -> Option<(u64, &[u8])>
+    ensures { IfSome result (λ parts. (parts.0 < 2 ^ 64)
+        × (bytes.now ≡ decimal parts.0 ++ parts.1.now)) }
+{
+    let most = bytes.len().min(FITTING_DIGITS);
+    let (value, count) = leading_digits(&bytes[..most]);
+    if !is_plain(bytes, count) {
+        return None;
+    }
+    Some((value, &bytes[count..]))
+}
+
+/// Whether so many digits in front are the text of a number: there are some, and a zero stands in
+/// front of no other.
+fn is_plain(bytes: &[u8], count: usize) -> bool
+    ensures { IsTrue result → (0 < count) × (slice_index bytes.now 0 ≡ 48 → count ≡ 1) }
+{
+    match bytes {
+        [b'0', ..] => count == 1,
+        _ => 0 < count,
+    }
+}
+
+/// The value of the digits that the bytes begin with, and how many they are.
+fn leading_digits(bytes: &[u8]) -> (u64, usize)
+    requires { length bytes.now ≤ FITTING_DIGITS }
+    ensures within { result.1 ≤ length bytes.now }
+    ensures digits { AllDigits 10 (take result.1 bytes.now) }
+    ensures value { result.0 ≡ digits_value 10 (take result.1 bytes.now) }
+    ensures fits { result.0 < 2 ^ 64 }
+{
+    let mut value = 0;
+    for (count, byte) in bytes.iter().enumerate() {
+        if *byte < b'0' || b'9' < *byte {
+            return (value, count);
+        }
+        value = value * 10 + u64::from(*byte - b'0');
+    }
+    (value, bytes.len())
+}
 
 /// The number whose decimal text the bytes are, or none.
 pub fn number(bytes: &[u8]) -> Option<u64>

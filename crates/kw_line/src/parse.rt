@@ -1,7 +1,7 @@
 //! From lines to items.
 //!
-//! A line is read word by word, and it is the text of an item exactly where all its words are read. Nothing is read
-//! twice, so the whole takes time linear in the bytes.
+//! A line is read word by word, and it is the text of an item exactly where all its words are read.
+//! No byte is read more than a few times, so the whole takes time linear in the bytes.
 ghost use Rattle.std.specs.Prelude.{◌≡◌, ◌≢◌, ◌≤◌, ◌++◌, ◌∷◌, [], ℕ, List, map, length, decimal, MatchOption, IfOk, vec_len};
 ghost use Rattle.kw_model.specs.declared.call.Call.{Call as AnyCall};
 ghost use Rattle.kw_line.specs.declared.item.Form.{Form as AnyForm};

@@ -83,7 +83,8 @@ fn push_pair(out: &mut Vec<u8>, pair: &(u32, u64)) -> Result<(), Memory>
     push_number(out, u128::from(pair.1))
 }
 
-/// Adds a call at the end as a line has it: this word and the numbers of the call, separated by one space each.
+/// Adds a call at the end as a line has it: this word and the numbers of the call, separated by one
+/// space each.
 pub fn push_call(out: &mut Vec<u8>, word: &[u8], call: &Call) -> Result<(), Memory>
     ensures ok { OnOk result (out.new.items ≡ out.old.items ++ call_text word.now call.now) }
     ensures err { OnErr result (out.new.items ≡ out.old.items) }

@@ -1,13 +1,14 @@
 //! The lines of bytes, and the words of a line.
 //!
-//! Both are iterators, seen as the list of what they still give: `specs/Cut.antt` says which lines and words there
-//! are. A reader of another grammar takes its lines and words from here too, and reads them with [`Words::number`],
-//! [`Words::key`] and [`Words::value`].
-ghost use Rattle.std.specs.Prelude.{◌≡◌, ◌≢◌, ◌<◌, ◌^◌, ◌∷◌, [], ◌++◌, ℕ, List, All, decimal, IsTrue, ◌↔◌, MatchOption};
+//! Both are iterators, seen as the list of what they still give: `specs/Cut.antt` says which lines
+//! and words there are. A reader of another grammar takes its lines and words from here too, and
+//! reads them with [`Words::number`], [`Words::key`] and [`Words::value`].
+ghost use Rattle.std.specs.Prelude.{◌≡◌, ◌≢◌, ◌<◌, ◌^◌, ◌∷◌, [], ◌++◌, ℕ, List, All, decimal, IsTrue, ◌↔◌, IfSome, MatchOption};
 ghost use Rattle.std.specs.Iterator.{YieldsFirstRef, item_count};
-ghost use Rattle.kw_line.specs.Cut.{lines, words};
+ghost use Rattle.kw_line.specs.Cut.{lines, words, words_of};
 
 use crate::number;
+use memchr::memchr;
 use std::marker::Model;
 
 /// The byte that ends a line.
@@ -33,8 +34,24 @@ fn cut_at(bytes: &[u8], mark: u8) -> Option<(&[u8], &[u8])>
         (λ parts. (bytes.now ≡ parts.0.now ++ mark ∷ parts.1.now)
         × All (λ byte. byte ≢ mark) parts.0.now) }
 {
-    let end = bytes.iter().position(|byte| *byte == mark)?;
+    let end = memchr(mark, bytes)?;
     Some((&bytes[..end], &bytes[end + 1..]))
+}
+
+/// The number that is the first word of a line, and what is left of the line behind it.
+///
+/// None is no verdict on that word: this is the quick way, which
+/// [`split_number`](number::split_number) takes.
+fn first_number(line: &[u8]) -> Option<(u64, Option<&[u8]>)>
+    ensures { IfSome result (λ parts. (parts.0 < 2 ^ 64)
+        × (words line.now ≡ decimal parts.0 ∷ words_of parts.1)) }
+{
+    let (number, behind) = number::split_number(line)?;
+    match behind {
+        [] => Some((number, None)),
+        [SPACE, rest @ ..] => Some((number, Some(rest))),
+        _ => None,
+    }
 }
 
 /// The lines of bytes, from the first one on. The last one's line feed may be missing.
@@ -114,7 +131,13 @@ impl<'a> Words<'a> {
             ((n : ℕ) (rest : List (List ℕ)) → n < 2 ^ 64 → self.old ≢ decimal n ∷ rest)
             (λ n. (n < 2 ^ 64) × (self.old ≡ decimal n ∷ self.new)) }
     {
-        number::number(self.next()?)
+        match first_number(self.rest?) {
+            Some((number, rest)) => {
+                self.rest = rest;
+                Some(number)
+            }
+            None => number::number(self.next()?),
+        }
     }
 
     /// Takes the next word, where it is a key.

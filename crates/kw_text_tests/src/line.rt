@@ -1,4 +1,5 @@
-//! Lines and the words that they are cut into, items that are read from them, and answers that are printed.
+//! Lines and the words that they are cut into, items that are read from them, and answers that are
+//! printed.
 ghost use Rattle.std.specs.Prelude.{IsTrue};
 ghost use Rattle.kw_line.specs.Answered.{is_range};
 

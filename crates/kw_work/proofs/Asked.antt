@@ -53,7 +53,8 @@ module _ (call : ℕ → Call) (reply_of : ℕ → Reply) where
   right_at m (x ∷ xs) zero i h e = subst (λ z. IsRight m (call z) (reply_of z)) (same_Some x i e) h.0
   right_at m (x ∷ xs) (suc a) i h e = right_at (went m (call x) (reply_of x)) xs a i h.1 e
 
-  -- where each line leaves the map as if it was answered, the map answers each line as the map does that the lines before it leave
+  -- where each line leaves the map as if it was answered, the map answers each line as the map does
+  -- that the lines before it leave
   pub answered_at : (m : Pairs) (xs : List ℕ) (a i : ℕ) → ((u : ℕ) (n : Pairs) → went n (call u) (reply_of u) ≡ after n (call u)) → slice_get xs a ≡ Some i
       → slice_get (answers m (map call xs)) a ≡ Some (answer (map_after m (take a xs)) (call i))
   answered_at m [] a i h e = absurd (cc)

@@ -30,7 +30,8 @@ map-merge f g n has none before (l ∷ ls) some each =
     ap (λ x. x ∷ map f (merge n has none (before ++ l ∷ []) ls)) read
     ∙ ap (λ x. g l ∷ x) (map-merge f g n has none (before ++ l ∷ []) ls some (λ v lt. each v lt ∙ ap (λ x. map g (part n v x)) (sym (append_assoc before (l ∷ []) ls))))
 
--- where each worker has for its lines what a function gives of them, so has what is collected for all lines
+-- where each worker has for its lines what a function gives of them, so has what is collected for
+-- all lines
 pub collected_in_order : (n : ℕ) (ls : List Line) (given : ℕ → List Answer) (answer : Line → Answer) → 0 < n → ((w : ℕ) → w < n → given w ≡ map answer (part n w ls)) → merge n given no_answer [] ls ≡ map answer ls
 collected_in_order n ls given answer some each =
     sym (map-id (merge n given no_answer [] ls)) ∙ map-merge (λ (a : Answer). a) answer n given no_answer [] ls some (λ w lt. map-id (given w) ∙ each w lt)

@@ -1,4 +1,5 @@
--- Items cut into blocks: the lines of a block whose items are all calls, and the blocks of the items from where a block begins.
+-- Items cut into blocks: the lines of a block whose items are all calls, and the blocks of the
+-- items from where a block begins.
 use Rattle.std.proofs.Common.{◌≡◌, ℕ, zero, suc, ◌+◌, ◌-◌, ◌<◌, ◌≤◌, List, [], ◌∷◌, ◌++◌, length, map, take, drop, get_or, refl, ap, sym, ◌∙◌, subst, All, Some, slice_get, slice_range, arith, append_assoc, length-drop}
 use Rattle.std.specs.List.{onto_first, AllByRecursion, AllWithin}
 use Rattle.std.proofs.lemmas.List.{map-append, drop_more, get_or-take, get_or-drop, get_or_default, length-take-le, take_all}

@@ -68,7 +68,8 @@ module _ (call : ℕ → Call) (reply : ℕ → Reply) (k : ℕ) where
           which (inl n) = inl (none n.0 f, step false f ∙ n.1)
           which (inr l) = inr (suc l.0, l.1, later before l.0 l.1 l.2, step false f ∙ l.3)
 
-  -- two lists have the same updates, and of two updates the one that stands first in `ws` stands first in `zs`
+  -- two lists have the same updates, and of two updates the one that stands first in `ws` stands
+  -- first in `zs`
   pub record AreAlike (zs ws : List ℕ) : Type 0 where
     pub there : (p u : ℕ) → slice_get zs p ≡ Some u → test u ≡ true → (a : ℕ) × (slice_get ws a ≡ Some u)
     pub back : (a u : ℕ) → slice_get ws a ≡ Some u → test u ≡ true → (p : ℕ) × (slice_get zs p ≡ Some u)

@@ -22,7 +22,8 @@ never : (b : Bool) → (b && false) ≡ true → ⊥
 never true e = false≢true e
 never false e = false≢true e
 
--- a reply that is no refusal is none of this call's: the call with this reply would be legal, and so the reply the map's answer
+-- a reply that is no refusal is none of this call's: the call with this reply would be legal, and
+-- so the reply the map's answer
 not_allowed : (c : Call) (r : Reply) → is_refusal r ≡ false → may_refuse c r ≡ false
 not_allowed c r f = go (may_refuse c r) refl
   where

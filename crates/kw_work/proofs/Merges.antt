@@ -1,4 +1,5 @@
--- What the workers have for their lines, put into line order, as the lines are gone along with a place for each worker.
+-- What the workers have for their lines, put into line order, as the lines are gone along with a
+-- place for each worker.
 use Rattle.std.proofs.Common.{subst, ◌≡◌, ◌≢◌, ℕ, zero, suc, ◌+◌, ◌<◌, List, [], ◌∷◌, ◌++◌, length, map, take, get_or, refl, ap, sym, ◌∙◌, arith, append-nil, append_assoc, set, get_or-set_same, get_or-set_other, Vec}
 use Rattle.std.proofs.lemmas.Bool.{cases_eq}
 use mathlib.Core.Logic.{⊎_elim}

@@ -6,8 +6,9 @@ use Rattle.kw_line.specs.declared.answer.Answer.TheVariants.{Nothing}
 use Rattle.kw_work.specs.declared.line.Line.{Line}
 use Rattle.kw_work.specs.Dealing.{worker_of, part}
 
--- of each line in line order, what its worker has for it: the i-th that the worker has, for the i-th of the worker's lines. The
--- lines before these ones were dealt too, and `none` stands where a worker has too few
+-- of each line in line order, what its worker has for it: the i-th that the worker has, for the
+-- i-th of the worker's lines. The lines before these ones were dealt too, and `none` stands where a
+-- worker has too few
 unfoldable pub merge : {A : Type 0} → ℕ → (ℕ → List A) → A → List Line → List Line → List A
 merge workers has none before [] = []
 merge workers has none before (l ∷ ls) =

@@ -54,8 +54,8 @@ abbrev pub IsCall : Item → Type 0
 IsCall (item.Call c f) = Unit {0}
 IsCall item.Wait = ⊥
 
--- what a block is made of: items that all make calls, so many items before them, and how many workers answer them. There is a
--- worker, and the number of each line has 32 bits
+-- what a block is made of: items that all make calls, so many items before them, and how many
+-- workers answer them. There is a worker, and the number of each line has 32 bits
 pub record IsBlock (items : List Item) (before workers : ℕ) : Type 0 where
   pub some : 0 < workers
   pub calls : All IsCall items

@@ -1,4 +1,5 @@
--- Orders of the lines of an input: the calls and replies in such an order, and what an order keeps of the order of the lines.
+-- Orders of the lines of an input: the calls and replies in such an order, and what an order keeps
+-- of the order of the lines.
 use Rattle.std.specs.Prelude.{ℕ, ◌≡◌, ◌<◌, ◌≤◌, ◌⊎◌, true, false, IsTrue, All, List, [], map, length, take, get_or, slice_get, Option, Some, None}
 use Rattle.std.specs.List.{flat_map}
 use Rattle.kw_model.specs.declared.call.Call.{Call}
@@ -16,7 +17,8 @@ use Rattle.kw_work.specs.declared.line.Line.{Line}
 use Rattle.kw_work.specs.Dealing.{worker_of}
 use Rattle.kw_work.specs.Lines.{quiet_lines}
 
--- the numbers of n lines, counted from 0, in an order: each stands in it once, and nothing else does
+-- the numbers of n lines, counted from 0, in an order: each stands in it once, and nothing else
+-- does
 pub record IsOrderOf (n : ℕ) (xs : List ℕ) : Type 0 where
   pub every : (i : ℕ) → i < n → (a : ℕ) × (slice_get xs a ≡ Some i)
   pub within : (a i : ℕ) → slice_get xs a ≡ Some i → i < n
@@ -83,14 +85,16 @@ NoneRefused lines rs = (i : ℕ) (l : Line) (r : Reply) → slice_get lines i �
 abbrev pub IsAnswered : Line → Reply → Option Reply → Type 0
 IsAnswered l r answer = (answer ≡ Some r) ⊎ (IsTrue (is_range l.form) × IsTrue (may_refuse l.call r))
 
--- each quiet line has the reply that the map gives when it is asked by the lines in line order, or is a range line that was refused
+-- each quiet line has the reply that the map gives when it is asked by the lines in line order, or
+-- is a range line that was refused
 abbrev pub QuietServed : List (List Line) → List Reply → Type 0
 QuietServed blocks rs =
     (i : ℕ) (l : Line) (r : Reply) → slice_get (joined blocks) i ≡ Some l → slice_get rs i ≡ Some r → slice_get (flat_map quiet_lines blocks) i ≡ Some true → IsAnswered l r (slice_get (answers [] (calls_of (joined blocks))) i)
 
 -- Calls that were made, by their numbers, and the lines that they are of.
 
--- the calls that were made, in this order, are those of the lines: each line has one call, and it has the call and the reply of its line
+-- the calls that were made, in this order, are those of the lines: each line has one call, and it
+-- has the call and the reply of its line
 pub record AreOfLines (cs : List Call) (rs : List Reply) (call_of : ℕ → Call) (reply_of : ℕ → Reply) (line_of : ℕ → ℕ) (ys : List ℕ) : Type 0 where
   pub every : (i : ℕ) → i < length cs → (p : ℕ) × (y : ℕ) × (slice_get ys p ≡ Some y) × (line_of y ≡ i)
   pub once : (p q y z : ℕ) → slice_get ys p ≡ Some y → slice_get ys q ≡ Some z → line_of y ≡ line_of z → p ≡ q
@@ -107,7 +111,8 @@ StandsBeforeBy line_of ys i j = (p q y z : ℕ) → slice_get ys p ≡ Some y �
 abbrev pub NoItemRefused : List Item → List Reply → Type 0
 NoItemRefused items rs = (i : ℕ) (f : Form) (r : Reply) → slice_get (forms items) i ≡ Some f → slice_get rs i ≡ Some r → IsTrue (is_update f) → is_refusal r ≡ false
 
--- each quiet item has the reply that the map gives when it is asked in the order of the items, or is a range item that was refused
+-- each quiet item has the reply that the map gives when it is asked in the order of the items, or
+-- is a range item that was refused
 abbrev pub QuietItemsAnswered : List Item → List Reply → Type 0
 QuietItemsAnswered items rs =
     (i : ℕ) (c : Call) (f : Form) (r : Reply) → slice_get (calls items) i ≡ Some c → slice_get (forms items) i ≡ Some f → slice_get rs i ≡ Some r → slice_get (quiet items) i ≡ Some true

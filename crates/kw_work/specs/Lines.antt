@@ -1,4 +1,5 @@
--- What is said of the lines that are dealt: their numbers, which of them are quiet, and those of all workers together.
+-- What is said of the lines that are dealt: their numbers, which of them are quiet, and those of
+-- all workers together.
 use Rattle.std.specs.Prelude.{ℕ, ◌≡◌, ◌+◌, ◌<◌, Bool, not, ◌||◌, List, map, Some, slice_get}
 use Rattle.std.specs.List.{AllPairs, flat_map, list_any, range_with_len}
 use Rattle.kw_line.specs.declared.item.Form.{Form}
@@ -20,8 +21,8 @@ AreRising lines = AllPairs (λ (a b : Line). a.number < b.number) lines
 abbrev pub all_parts : ℕ → List Line → List Line
 all_parts workers lines = flat_map (λ worker. part workers worker lines) (range_with_len 0 workers)
 
--- of each line of a block of these forms, whether it is quiet: it asks for no range, or no line of the block sets a value or takes
--- a key away
+-- of each line of a block of these forms, whether it is quiet: it asks for no range, or no line of
+-- the block sets a value or takes a key away
 abbrev pub quiet_forms : List Form → List Bool
 quiet_forms forms = map (λ f. not (is_range f) || not (list_any is_update forms)) forms
 

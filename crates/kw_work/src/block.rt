@@ -1,8 +1,9 @@
 //! A block: the lines between two waits, and the number of workers that they are dealt to.
 //!
-//! A block borrows its items from the input and copies none. Contracts see it as its list of lines and its number of workers,
-//! the record `Dealt`, and never its fields. Only `deal` makes one. Each item of a block makes a call, so a block has a line
-//! for each item and finds it in one look. The one place where lines get their numbers is [`Block::line`].
+//! A block borrows its items from the input and copies none. Contracts see it as its list of lines
+//! and its number of workers, the record `Dealt`, and never its fields. Only `deal` makes one. Each
+//! item of a block makes a call, so a block has a line for each item and finds it in one look. The
+//! one place where lines get their numbers is [`Block::line`].
 ghost use Rattle.std.specs.Prelude.{◌≡◌, ◌<◌, ◌+◌, ◌^◌, ◌↔◌, [], Some, length, slice_get, All, IsTrue};
 ghost use Rattle.kw_work.specs.Dealing.{lines_of, IsCall};
 
@@ -35,7 +36,8 @@ impl<'a> Model for Block<'a> {
 }
 
 impl<'a> Block<'a> {
-    /// A block of these items, which all make calls; so many items stand before them in the input. Takes no memory.
+    /// A block of these items, which all make calls; so many items stand before them in the input.
+    /// Takes no memory.
     pub(crate) fn new(items: &'a [Item], before: u32, workers: u32) -> Block<'a>
         requires workers { 0 < workers }
         requires calls { All IsCall items.now }

@@ -1,8 +1,9 @@
 //! Putting the workers' answers back into line order.
 //!
-//! Each worker answers its lines in their order, whenever it comes to them. Going along the lines of the block, with a
-//! place in the answers of each worker, finds each line's answer in one look, so the time is linear in the lines. The answers
-//! of a single worker stand in line order as they are.
+//! Each worker answers its lines in their order, whenever it comes to them. Going along the lines
+//! of the block, with a place in the answers of each worker, finds each line's answer in one look,
+//! so the time is linear in the lines. The answers of a single worker stand in line order as they
+//! are.
 ghost use Rattle.std.specs.Prelude.{◌≡◌, ◌<◌, [], length, IfOk, vec_len, slice_index_or};
 ghost use Rattle.kw_work.specs.Collecting.{answers_of, no_answer, merge, AnswersEach, SameLengths, SameElse};
 
@@ -12,7 +13,8 @@ use kw_model::memory::Memory;
 use std::alloc::Global;
 use std::mem;
 
-/// The answers of a block's lines, in line order. Part w has the answers of worker w to just its lines, in their order.
+/// The answers of a block's lines, in line order. Part w has the answers of worker w to just its
+/// lines, in their order.
 pub fn collect(
     alloc: Global,
     block: &Block<'_>,

@@ -1,6 +1,7 @@
 //! Cutting an input into blocks.
 //!
-//! The one place where a wait ends a block. A block borrows its items, so nothing of the input is copied.
+//! The one place where a wait ends a block. A block borrows its items, so nothing of the input is
+//! copied.
 ghost use Rattle.std.specs.Prelude.{◌≡◌, ◌<◌, ◌^◌, length, map, All, IfOk};
 ghost use Rattle.std.specs.List.{AllByRecursion};
 ghost use Rattle.kw_line.specs.Line.{IsItem};
@@ -11,8 +12,8 @@ use kw_line::item::Item;
 use kw_model::memory::Memory;
 use std::alloc::Global;
 
-/// The blocks of these items, each to be dealt to so many workers. A wait ends a block, so there is one block more than
-/// there are waits, and a block may have no lines.
+/// The blocks of these items, each to be dealt to so many workers. A wait ends a block, so there is
+/// one block more than there are waits, and a block may have no lines.
 pub fn deal<'a>(alloc: Global, items: &'a [Item], workers: u32) -> Result<Vec<Block<'a>>, Memory>
     requires workers { 0 < workers }
     requires few { length items.now < 2 ^ 32 }

@@ -1,7 +1,8 @@
 //! What follows of dealing and collecting.
 //!
-//! Nothing runs here: the functions' clauses are the statements. Whoever runs the workers needs them to speak of an
-//! input's lines where the contracts of `deal` and `collect` speak of blocks and parts.
+//! Nothing runs here: the functions' clauses are the statements. Whoever runs the workers needs
+//! them to speak of an input's lines where the contracts of `deal` and `collect` speak of blocks
+//! and parts.
 ghost use Rattle.std.specs.Prelude.{ℕ, ◌≡◌, ◌<◌, false, List, [], length, map, All, IsPermutation};
 ghost use Rattle.std.specs.List.{flat_map, range_with_len, AllByRecursion};
 ghost use Rattle.kw_model.specs.declared.call.Call.{Call};
@@ -18,9 +19,9 @@ ghost use Rattle.kw_work.specs.Collecting.{merge, no_answer};
 ghost use Rattle.kw_work.specs.Lines.{all_parts, quiet_lines, IsItemOf, AreRising};
 ghost use Rattle.kw_work.specs.LineOrder.{IsOrderOf, StandsBefore, IsLegalIn, joined, calls_of, KeepsKeys, KeepsWorkers, HaveForms, NoneRefused, QuietServed, NoItemRefused, QuietItemsAnswered, AreOfLines, StandsBeforeBy};
 
-/// The lines are the items that make calls, in order. The blocks, one after another, are the lines, cut where the waits
-/// stand, and a line is as quiet as its item. The lines of a worker in a block rise. Each line of a block is dealt to one
-/// worker, and once.
+/// The lines are the items that make calls, in order. The blocks, one after another, are the lines,
+/// cut where the waits stand, and a line is as quiet as its item. The lines of a worker in a block
+/// rise. Each line of a block is dealt to one worker, and once.
 pub fn dealing_laws()
     ensures items { (n : ℕ) (items : List Item) → All (IsItemOf n items) (lines_of n items) }
     ensures calls { (n : ℕ) (items : List Item) → map (λ l. l.call) (lines_of n items)
@@ -39,9 +40,10 @@ pub fn dealing_laws()
         IsPermutation lines (all_parts workers lines) }
 {}
 
-/// Answers that are collected stand in the order of their lines: where each worker has for its lines what a function gives of
-/// them, what is collected is what it gives of all lines. What is dealt and then collected is as it was before.
-/// One worker has all lines of a block, and what it answers is what is collected.
+/// Answers that are collected stand in the order of their lines: where each worker has for its
+/// lines what a function gives of them, what is collected is what it gives of all lines. What is
+/// dealt and then collected is as it was before. One worker has all lines of a block, and what it
+/// answers is what is collected.
 pub fn collecting_laws()
     ensures order { (workers : ℕ) (lines : List Line) (given : ℕ → List Answer) (answer : Line →
         Answer) → 0 < workers → ((worker : ℕ) → worker < workers → given worker
@@ -54,10 +56,11 @@ pub fn collecting_laws()
         length (given 0) ≡ length lines → merge 1 given no_answer [] lines ≡ given 0 }
 {}
 
-/// Replies that are right in some order of the lines are, where the order keeps enough of the order of the lines, those that
-/// the map gives when it is asked in line order. An order that keeps all of it, as one worker's does, is the order of the
-/// lines, and where nothing is refused all replies are the map's. An order that keeps the blocks and each worker's lines
-/// keeps the lines on each key in their order, and then the replies to quiet lines are the map's, if no line that sets a
+/// Replies that are right in some order of the lines are, where the order keeps enough of the order
+/// of the lines, those that the map gives when it is asked in line order. An order that keeps all
+/// of it, as one worker's does, is the order of the lines, and where nothing is refused all replies
+/// are the map's. An order that keeps the blocks and each worker's lines keeps the lines on each
+/// key in their order, and then the replies to quiet lines are the map's, if no line that sets a
 /// value or takes a key away was refused; a range line may be refused all the same.
 pub fn quiet_laws()
     ensures whole { (n : ℕ) (xs : List ℕ) → IsOrderOf n xs →
@@ -83,8 +86,9 @@ pub fn quiet_laws()
         NoItemRefused items rs → IsLegalIn (calls items) rs xs → QuietItemsAnswered items rs }
 {}
 
-/// Calls that were made in some order, each of one line: by their lines this is an order of the lines. It is legal where the
-/// order of the calls is, and a line stands before another where its call does.
+/// Calls that were made in some order, each of one line: by their lines this is an order of the
+/// lines. It is legal where the order of the calls is, and a line stands before another where its
+/// call does.
 pub fn made_calls_laws()
     ensures order { (cs : List Call) (rs : List Reply) (call_of : ℕ → Call) (reply_of : ℕ →
         Reply) (line_of : ℕ → ℕ) (ys : List ℕ) → AreOfLines cs rs call_of reply_of line_of ys →

@@ -1,7 +1,8 @@
 //! A line that is dealt.
 //!
-//! The rule which worker takes a line stands here and nowhere else: who answers lines and who collects answers both ask
-//! [`Line::worker`], and it is proved to be `worker_of` of `specs/Dealing.antt`.
+//! The rule which worker takes a line stands here and nowhere else: who answers lines and who
+//! collects answers both ask [`Line::worker`], and it is proved to be `worker_of` of
+//! `specs/Dealing.antt`.
 ghost use Rattle.std.specs.Prelude.{◌≡◌, ◌<◌};
 ghost use Rattle.kw_work.specs.Dealing.{worker_of};
 
@@ -20,8 +21,8 @@ pub struct Line {
 }
 
 impl Line {
-    /// The worker that takes the line, one of so many: a line on one key goes by its key, so that all lines on a key go
-    /// to one worker, and a range line by its number.
+    /// The worker that takes the line, one of so many: a line on one key goes by its key, so that
+    /// all lines on a key go to one worker, and a range line by its number.
     pub fn worker(&self, workers: u32) -> u32
         requires { 0 < workers }
         ensures worker { result ≡ worker_of workers self.now }
