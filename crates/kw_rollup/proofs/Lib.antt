@@ -1,0 +1,9 @@
+pub mod Bags
+pub mod Points
+pub mod Changes
+pub mod Rising
+pub mod Tables
+pub mod Lines
+pub mod Ends
+pub mod Pairs
+pub mod Printed

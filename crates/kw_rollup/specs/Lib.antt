@@ -1,0 +1,4 @@
+pub mod Buckets
+pub mod Texts
+pub mod Kept
+pub mod Lines
