@@ -1,9 +1,12 @@
--- The arrows of the table: from an activity, with the words that are there, to what the seat knows next.
+-- The arrows of the table: from an activity, with the words that are there, to what the seat knows
+-- next.
 --
--- There is one constructor for each arrow. It carries what the event found, so that a law by cases on the arrow splits no test of the
--- table again; where a law does not matter for most arrows, one catch-all serves them. The words are a function of names.
--- What follows where the end of the looks, or of a row's cells, has no event of its own is an arrow of its own type, `NextLook` and
--- `NextRest`. In a rebalance there are two arrows in its place, so that each says outright what the seat knows next.
+-- There is one constructor for each arrow. It carries what the event found, so that a law by cases
+-- on the arrow splits no test of the table again; where a law does not matter for most arrows, one
+-- catch-all serves them. The words are a function of names. What follows where the end of the
+-- looks, or of a row's cells, has no event of its own is an arrow of its own type, `NextLook` and
+-- `NextRest`. In a rebalance there are two arrows in its place, so that each says outright what the
+-- seat knows next.
 use Rattle.std.proofs.Common.{ℕ, ◌≡◌, ◌≢◌, ◌⊎◌, inl, inr, ◌+◌, ◌<◌, ◌≤◌, ◌==◌, Option, Some, None, Bool, true, false, nat_lt, nat_le, [], arith, refl, sym, ◌∙◌, ap, subst, if◌then◌else◌, unwrap_or}
 use Rattle.std.proofs.lemmas.Bool.Decides.{nat_tests}
 use Rattle.kw_words.specs.declared.layout.Name.TheVariants as name
@@ -34,7 +37,8 @@ use Rattle.kw_world.specs.declared.limits.TheConstants.{NEWEST}
 use Rattle.kw_world.specs.declared.event.Choice.{Choice}
 use Rattle.kw_world.specs.declared.event.Choice.TheVariants.{Begin, Go, Guess, Stop}
 use Rattle.kw_world.specs.Sizes.{Sizes}
-use Rattle.kw_world.specs.Local.{resting}
+use Rattle.kw_world.specs.Local.{resting, without_rows, without_rebalance}
+use Rattle.kw_core.proofs.NextBuilt.{begun_anew, over, refused}
 use Rattle.kw_world.specs.Calls.{first_key, last_key, is_in_range, is_scan, is_range_empty}
 use Rattle.kw_world.specs.Transition.{Outcome, to, leave, row_linked, row_or_first}
 use Rattle.kw_world.specs.ScanTransitions.{begun, entered, version_settled, answer_or_stopped}
@@ -42,7 +46,7 @@ use Rattle.kw_world.specs.WalkTransitions.{start_transition, guess_met, arrive, 
 use Rattle.kw_world.specs.declared.marks.Mark.{Mark}
 use Rattle.kw_world.specs.Marks.{unmarked, least_mark}
 use Rattle.kw_world.specs.ReadTransitions.{to_look, look_met, help_met, remembering, reaching, rest_of, to_rest, list_met, list_past, row_read, get_answered, scan_ended, scan_on, with_pairs, row_scanned, gathering}
-use Rattle.kw_world.specs.PutTransitions.{has_room, given_of, stamp_met}
+use Rattle.kw_world.specs.PutTransitions.{has_room, given_of, stamp_met, tidies_row}
 use Rattle.kw_world.specs.EngageTransitions.{to_rebalance, again, refuse, state_met, engaged, followed_by, decided}
 use Rattle.kw_world.specs.FreezeTransitions.{count_frozen, to_scans, to_freeze_look, marking, freezing, freeze_met, entry_tried, to_scan_look, needing, scan_met, scan_helped}
 use Rattle.kw_world.specs.TakeTransitions.{to_take, planned, left_of, to_left, taking, take_met, take_version, keeping, take_past}
@@ -59,7 +63,8 @@ pub data NextLook (z : Sizes) (j : ℕ) : Activity → Type 0 where
   looks : j < z.seats → NextLook z j (Look j)
   lists : z.seats ≤ j → NextLook z j ListFrom
 
--- what a reader knows once its walk is over, or a remembered cell is read: it reads the next one that it remembers, or the row is read
+-- what a reader knows once its walk is over, or a remembered cell is read: it reads the next one
+-- that it remembers, or the row is read
 pub data NextRest (l : Local) : Local → Type 0 where
   rests : (m : Mark) → least_mark l.remembered ≡ Some m → NextRest l (record l { place = m.cell; place_version = m.version; remembered = unmarked m.cell l.remembered; activity = RestKey })
   answers : least_mark l.remembered ≡ None → is_scan l.call ≡ false → NextRest l (leave (answer_found (shown_at l.gathered NEWEST (first_key l.call))) l).local
@@ -163,27 +168,32 @@ pub data Arrow (z : Sizes) (v : Words) (s : ℕ) (choice : Choice) (l : Local) :
   inserts : v (link_name l.row l.link) ≡ cell_link_word l.held → Arrow z v s choice l Insert (record l { activity = PutClear })
   loses : v (link_name l.row l.link) ≢ cell_link_word l.held → Arrow z v s choice l Insert (record (losing z l) { activity = InsFrom })
   clears : Arrow z v s choice l PutClear (leave Done l).local
+  tidies : (rows : ℕ) → tidies_row rows choice l ≡ true → Arrow z v s choice l PutClear (to_rebalance (record l { tidies = true })).local
   -- the call ends
   leaves : (answer : Answer) → Arrow z v s choice l (Leave answer) (resting l.number)
   -- a put tries again
   retries : Arrow z v s choice l Again (record l { activity = AgainEpoch })
   enters_again : Arrow z v s choice l AgainEpoch (record l { epoch = v name.Epoch; activity = Enter })
   -- a rebalance begins
-  clock_is_spent : SPENT ≤ v name.Clock → Arrow z v s choice l BalClock (refuse Spent l).local
+  clock_is_spent : SPENT ≤ v name.Clock → l.tidies ≡ false → Arrow z v s choice l BalClock (refused Spent l).local
+  ends_at_clock : l.tidies ≡ true → Arrow z v s choice l BalClock (over l).local
   clock_serves : v name.Clock < SPENT → Arrow z v s choice l BalClock (record l { activity = BalEpoch })
-  epoch_is_spent : SPENT ≤ v name.Epoch → Arrow z v s choice l BalEpoch (refuse Spent l).local
+  epoch_is_spent : SPENT ≤ v name.Epoch → l.tidies ≡ false → Arrow z v s choice l BalEpoch (refused Spent l).local
+  ends_at_epoch : l.tidies ≡ true → Arrow z v s choice l BalEpoch (over l).local
   epoch_serves : v name.Epoch < SPENT → Arrow z v s choice l BalEpoch (record l { activity = BalState })
   finds_infant : (seat : ℕ) → state_of (v (name.State l.row)) ≡ Some (Infant seat) → Arrow z v s choice l BalState (record l { activity = BalNormal seat })
   finds_normal : state_of (v (name.State l.row)) ≡ Some Normal → Arrow z v s choice l BalState (record l { activity = Engage })
   finds_leader : (count : ℕ) → state_of (v (name.State l.row)) ≡ Some (Leader count) → count ≤ 1 → Arrow z v s choice l BalState (record l { activity = MarkLink count })
-  finds_other_state : Arrow z v s choice l BalState (again l).local
+  finds_other_state : l.tidies ≡ false → Arrow z v s choice l BalState (begun_anew l).local
+  ends_at_state : l.tidies ≡ true → Arrow z v s choice l BalState (over l).local
   normalises : (seat : ℕ) → Arrow z v s choice l (BalNormal seat) (record l { activity = BalState })
   engages : v (name.State l.row) ≡ state_word Normal → Arrow z v s choice l Engage (record l { activity = MarkLink 0 })
   is_engaged : v (name.State l.row) ≢ state_word Normal → Arrow z v s choice l Engage (record l { activity = BalState })
   marks_link : (count : ℕ) → count ≡ 0 → Arrow z v s choice l (MarkLink count) (record (followed_by (next_in v l.row) l) { activity = Decide 1 })
   marks_led : (count : ℕ) → count ≢ 0 → Arrow z v s choice l (MarkLink count) (record (followed_by (next_in v l.row) l) { activity = FreezeCount })
   decides : (count n : ℕ) → state_of (v (name.State l.row)) ≡ Some (Leader n) → n ≤ 1 → Arrow z v s choice l (Decide count) (record l { activity = FreezeCount })
-  decides_not : (count : ℕ) → Arrow z v s choice l (Decide count) (again l).local
+  decides_not : (count : ℕ) → l.tidies ≡ false → Arrow z v s choice l (Decide count) (begun_anew l).local
+  ends_undecided : (count : ℕ) → l.tidies ≡ true → Arrow z v s choice l (Decide count) (over l).local
   -- the full row is frozen
   freezes_count : Arrow z v s choice l FreezeCount (count_frozen l).local
   meets_idle : (i : ℕ) → pend_of (v (name.Pend l.row i)) ≡ Some pend.Idle → Arrow z v s choice l (FreezeLook i) (freezing i pend.Idle l).local
@@ -218,7 +228,8 @@ pub data Arrow (z : Sizes) (v : Words) (s : ℕ) (choice : Choice) (l : Local) :
   takes_left_key : Arrow z v s choice l TakeRestKey (record l { place_key = key_of_word (v (name.Key l.row l.place)); activity = TakeRestValue })
   keeps_left : (m : Mark) → least_mark l.rebalance.marks ≡ Some m → Arrow z v s choice l TakeRestValue (record (keeping z (value_of_word (v (name.Value l.row l.place))) l) { place = m.cell; place_version = m.version; rebalance = record (keeping z (value_of_word (v (name.Value l.row l.place))) l).rebalance { marks = unmarked m.cell l.rebalance.marks }; activity = TakeRestKey })
   keeps_no_more : least_mark l.rebalance.marks ≡ None → Arrow z v s choice l TakeRestValue (record (planned z (keeping z (value_of_word (v (name.Value l.row l.place))) l)) { activity = SeekFirst })
-  -- new rows are taken, written, linked and made normal, and the full one is retired: a type of its own has the ways that these may go
+  -- new rows are taken, written, linked and made normal, and the full one is retired: a type of its
+  -- own has the ways that these may go
   builds : (c : Activity) (next : Local) → IsBuilding c → Building z v choice l c next → Arrow z v s choice l c next
 
 -- Tests of the table.
@@ -406,31 +417,51 @@ module _ (z : Sizes) (rows : ℕ) (v : Words) (s : ℕ) (choice : Choice) (l : L
   stamp_arrow (Some pend.Frozen) e = stamps_full (record { pending = λ q. let y : Some pend.Frozen ≡ Some (pend.Pending l.cell) = sym e ∙ q in cc; stamped = λ u q. let y : Some pend.Frozen ≡ Some (pend.Stamped l.cell u) = sym e ∙ q in cc })
   stamp_arrow None e = stamps_full (record { pending = λ q. let y : None ≡ Some (pend.Pending l.cell) = sym e ∙ q in cc; stamped = λ u q. let y : None ≡ Some (pend.Stamped l.cell u) = sym e ∙ q in cc })
 
+  -- a clock at its end: the put is refused, and leaves as done where it tidied
+  refused_clock : (b : Bool) → l.tidies ≡ b → SPENT ≤ v name.Clock → Arrow z v s choice l BalClock (leave (if b then Done else Spent) (without_rebalance l)).local
+  refused_clock true e f = ends_at_clock e
+  refused_clock false e f = clock_is_spent f e
+
+  -- an epoch at its end: the same
+  refused_epoch : (b : Bool) → l.tidies ≡ b → SPENT ≤ v name.Epoch → Arrow z v s choice l BalEpoch (leave (if b then Done else Spent) (without_rebalance l)).local
+  refused_epoch true e f = ends_at_epoch e
+  refused_epoch false e f = epoch_is_spent f e
+
+  -- the row leads no more: the put begins anew, and leaves where it tidied
+  other_state : (b : Bool) → l.tidies ≡ b → Arrow z v s choice l BalState (to (if b then Leave Done else Again) (without_rows (without_rebalance l))).local
+  other_state true e = ends_at_state e
+  other_state false e = finds_other_state e
+
+  -- the group is not this seat's to decide: the same
+  not_decided : (count : ℕ) (b : Bool) → l.tidies ≡ b → Arrow z v s choice l (Decide count) (to (if b then Leave Done else Again) (without_rows (without_rebalance l))).local
+  not_decided count true e = ends_undecided count e
+  not_decided count false e = decides_not count e
+
   balance_arrow : (x : Option State) → state_of (v (name.State l.row)) ≡ x → Arrow z v s choice l BalState (state_met x l).local
-  balance_arrow (Some Free) e = finds_other_state
+  balance_arrow (Some Free) e = other_state l.tidies refl
   balance_arrow (Some (Infant seat)) e = finds_infant seat e
   balance_arrow (Some Normal) e = finds_normal e
   balance_arrow (Some (Leader count)) e = met (nat_le count 1) refl
     where
       met : (b : Bool) → nat_le count 1 ≡ b → Arrow z v s choice l BalState (let x : Outcome = if b then to (MarkLink count) l else again l in x).local
       met true h = finds_leader count e (at_most _ _ h)
-      met false h = finds_other_state
-  balance_arrow (Some (Follower leader)) e = finds_other_state
-  balance_arrow (Some (Retired number)) e = finds_other_state
-  balance_arrow None e = finds_other_state
+      met false h = other_state l.tidies refl
+  balance_arrow (Some (Follower leader)) e = other_state l.tidies refl
+  balance_arrow (Some (Retired number)) e = other_state l.tidies refl
+  balance_arrow None e = other_state l.tidies refl
 
   decide_arrow : (count : ℕ) (x : Option State) → state_of (v (name.State l.row)) ≡ x → Arrow z v s choice l (Decide count) (decided x l).local
-  decide_arrow count (Some Free) e = decides_not count
-  decide_arrow count (Some (Infant seat)) e = decides_not count
-  decide_arrow count (Some Normal) e = decides_not count
+  decide_arrow count (Some Free) e = not_decided count l.tidies refl
+  decide_arrow count (Some (Infant seat)) e = not_decided count l.tidies refl
+  decide_arrow count (Some Normal) e = not_decided count l.tidies refl
   decide_arrow count (Some (Leader n)) e = met (nat_le n 1) refl
     where
       met : (b : Bool) → nat_le n 1 ≡ b → Arrow z v s choice l (Decide count) (let x : Outcome = if b then to FreezeCount l else again l in x).local
       met true h = decides count n e (at_most _ _ h)
-      met false h = decides_not count
-  decide_arrow count (Some (Follower leader)) e = decides_not count
-  decide_arrow count (Some (Retired number)) e = decides_not count
-  decide_arrow count None e = decides_not count
+      met false h = not_decided count l.tidies refl
+  decide_arrow count (Some (Follower leader)) e = not_decided count l.tidies refl
+  decide_arrow count (Some (Retired number)) e = not_decided count l.tidies refl
+  decide_arrow count None e = not_decided count l.tidies refl
 
   freeze_arrow : (i : ℕ) (x : Option Pend) → pend_of (v (name.Pend l.row i)) ≡ x → Arrow z v s choice l (FreezeLook i) (freeze_met z i x l).local
   freeze_arrow i (Some pend.Idle) e = meets_idle i e
@@ -555,19 +586,23 @@ module _ (z : Sizes) (rows : ℕ) (v : Words) (s : ℕ) (choice : Choice) (l : L
       met : (b : Bool) → (v (link_name l.row l.link) == cell_link_word l.held) ≡ b → Arrow z v s choice l Insert (insert_tried z b l).local
       met true e = inserts (eq_from _ _ e)
       met false e = loses (eq_not _ _ e)
-  arrow PutClear b m = clears
+  arrow PutClear b m = met (tidies_row rows choice l) refl
+    where
+      met : (b : Bool) → tidies_row rows choice l ≡ b → Arrow z v s choice l PutClear (let x : Outcome = if b then to_rebalance (record l { tidies = true }) else leave Done l in x).local
+      met true e = tidies rows e
+      met false e = clears
   arrow (Leave answer) b m = leaves answer
   arrow Again b m = retries
   arrow AgainEpoch b m = enters_again
   arrow BalClock b m = met (nat_le SPENT (v name.Clock)) refl
     where
       met : (b : Bool) → nat_le SPENT (v name.Clock) ≡ b → Arrow z v s choice l BalClock (let x : Outcome = if b then refuse Spent l else to BalEpoch l in x).local
-      met true e = clock_is_spent (at_most _ _ e)
+      met true e = refused_clock l.tidies refl (at_most _ _ e)
       met false e = clock_serves (above _ _ e)
   arrow BalEpoch b m = met (nat_le SPENT (v name.Epoch)) refl
     where
       met : (b : Bool) → nat_le SPENT (v name.Epoch) ≡ b → Arrow z v s choice l BalEpoch (let x : Outcome = if b then refuse Spent l else to BalState l in x).local
-      met true e = epoch_is_spent (at_most _ _ e)
+      met true e = refused_epoch l.tidies refl (at_most _ _ e)
       met false e = epoch_serves (above _ _ e)
   arrow BalState b m = balance_arrow (state_of (v (name.State l.row))) refl
   arrow (BalNormal seat) b m = normalises seat

@@ -1,4 +1,5 @@
--- The words of rows that the table does not have: they are 0, so what an event leaves of the rows can be said of all rows.
+-- The words of rows that the table does not have: they are 0, so what an event leaves of the rows
+-- can be said of all rows.
 use Rattle.std.proofs.Common.{ℕ, ◌≡◌, ◌≤◌, arith, length}
 use Rattle.std.proofs.lemmas.List.{get_or_past}
 use Rattle.std.proofs.Math.Nat.{mul-le-mul_right}

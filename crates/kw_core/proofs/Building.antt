@@ -1,9 +1,10 @@
--- The ways that the events of a rebalance may go by which new rows are taken, written, linked in place of the full row and made normal, and
--- the full row is retired, or by which what was taken is given back.
+-- The ways that the events of a rebalance may go by which new rows are taken, written, linked in
+-- place of the full row and made normal, and the full row is retired, or by which what was taken is
+-- given back.
 --
--- As in `Arrow` there is one constructor for each way, and it carries what the event found: whether a row was free or retired, which epoch a
--- seat announces, whether a guess served, what a link leads to, and whether that is marked. What has no event of its own has a type in
--- `NextBuilt`.
+-- As in `Arrow` there is one constructor for each way, and it carries what the event found: whether
+-- a row was free or retired, which epoch a seat announces, whether a guess served, what a link
+-- leads to, and whether that is marked. What has no event of its own has a type in `NextBuilt`.
 use Rattle.std.proofs.Common.{ℕ, ◌≡◌, ◌≢◌, ◌⊎◌, inl, inr, ◌+◌, ◌<◌, ◌≤◌, ◌==◌, Option, Some, None, Bool, true, false, nat_lt, nat_le, length, arith, refl, sym, ◌∙◌, ap, subst, if◌then◌else◌}
 use Rattle.std.proofs.lemmas.Bool.Decides.{nat_tests}
 use Rattle.kw_words.specs.declared.layout.Name.TheVariants as name
@@ -14,12 +15,13 @@ use Rattle.kw_words.specs.Link.{link_of}
 use Rattle.kw_words.specs.Plain.{pass_of_word}
 use Rattle.kw_words.specs.State.{state_of, state_word}
 use Rattle.kw_world.specs.declared.activity.Activity.{Activity}
-use Rattle.kw_world.specs.declared.activity.Activity.TheVariants.{SeekFirst, Seek, SeekPass, Reclaim, TakeRow, GiveBack, WriteCount, WriteMin, WriteNext, WriteFirst, WritePend, WriteKey, WriteValue, WriteVersion, WriteAfter, Before, BeforeGuess, BeforeHead, BeforeLink, BeforeMin, Replace, Normalise, Number, Retire}
+use Rattle.kw_world.specs.declared.activity.Activity.TheVariants.{Leave, Again, SeekFirst, Seek, SeekPass, Reclaim, TakeRow, GiveBack, WriteCount, WriteMin, WriteNext, WriteFirst, WritePend, WriteKey, WriteValue, WriteVersion, WriteAfter, Before, BeforeGuess, BeforeHead, BeforeLink, BeforeMin, Replace, Normalise, Number, Retire}
 use Rattle.kw_world.specs.declared.event.Choice.{Choice}
 use Rattle.kw_world.specs.declared.event.Choice.TheVariants.{Begin, Go, Guess, Stop}
 use Rattle.kw_world.specs.declared.local.Local.{Local}
 use Rattle.kw_world.specs.declared.rebalance.Afterwards.TheVariants.{TryAgain, MoveLeft}
-use Rattle.kw_world.specs.EngageTransitions.{again}
+use Rattle.kw_world.specs.Local.{without_rows, without_rebalance}
+use Rattle.kw_world.specs.declared.answer.Answer.TheVariants.{Done}
 use Rattle.kw_world.specs.ReplaceTransitions.{at_before, before_transition, guess_before, link_before, replaced, replaced_link, row_before, row_replaced}
 use Rattle.kw_world.specs.SeekTransitions.{at_infant, give_back, given_back, has_more, numbered, pass_met, seek_first_transition, seek_met, seeking, take_row, to_pass, to_seek, with_row}
 use Rattle.kw_world.specs.Sizes.{Sizes}
@@ -28,7 +30,7 @@ use Rattle.kw_world.specs.Table.{transition}
 use Rattle.kw_world.specs.Transition.{Outcome, row_linked, row_or_first, to}
 use Rattle.kw_world.specs.WriteTransitions.{unmarked_link}
 use Rattle.kw_core.specs.Words.{Words, least_in, next_in}
-use Rattle.kw_core.proofs.NextBuilt.{GivenBack, NextBack, NextBefore, NextNewCell, NextNewEntry, NextPass, NextSeek, NextTaken, next_back, next_before, next_given, next_new_cell, next_new_entry, next_pass, next_seek, next_taken}
+use Rattle.kw_core.proofs.NextBuilt.{begun_anew, over, GivenBack, NextBack, NextBefore, NextNewCell, NextNewEntry, NextPass, NextSeek, NextTaken, next_back, next_before, next_given, next_new_cell, next_new_entry, next_pass, next_seek, next_taken}
 
 -- the activity is one of these
 abbrev pub IsBuilding : Activity → Type 0
@@ -69,12 +71,14 @@ IsYoung m None = Unit {0}
 
 -- from such an activity to what the seat knows next
 pub data Building (z : Sizes) (v : Words) (choice : Choice) (l : Local) : Activity → Local → Type 0 where
-  -- free rows are sought and taken. A search begins at the row that the seat guesses, or else where it stands
+  -- free rows are sought and taken. A search begins at the row that the seat guesses, or else where
+  -- it stands
   first_is_free : (q : ℕ) → (choice ≡ Guess q) ⊎ (q ≡ l.rebalance.sought) → state_of (v (name.State q)) ≡ Some Free → Building z v choice l SeekFirst (record (seeking q l) { activity = TakeRow })
   first_is_taken : (q rows : ℕ) (next : Local) → (choice ≡ Guess q) ⊎ (q ≡ l.rebalance.sought) → state_of (v (name.State q)) ≢ Some Free → NextSeek rows (seeking q l) next → Building z v choice l SeekFirst next
   sought_is_free : state_of (v (name.State l.rebalance.sought)) ≡ Some Free → Building z v choice l Seek (record l { activity = TakeRow })
   sought_is_taken : (rows : ℕ) (next : Local) → state_of (v (name.State l.rebalance.sought)) ≢ Some Free → NextSeek rows l next → Building z v choice l Seek next
-  -- at a retired one the passes of all seats are looked at, and then it is freed, or was not as it was found. It is tried then
+  -- at a retired one the passes of all seats are looked at, and then it is freed, or was not as it
+  -- was found. It is tried then
   first_is_retired : (q m : ℕ) → (choice ≡ Guess q) ⊎ (q ≡ l.rebalance.sought) → state_of (v (name.State q)) ≡ Some (Retired m) → Building z v choice l SeekFirst (record (numbered m (seeking q l)) { activity = SeekPass 0 })
   sought_is_retired : (m : ℕ) → state_of (v (name.State l.rebalance.sought)) ≡ Some (Retired m) → Building z v choice l Seek (record (numbered m l) { activity = SeekPass 0 })
   pass_is_old : (i epoch rows : ℕ) (next : Local) → pass_of_word (v (name.Pass i)) ≡ Some epoch → epoch ≤ l.rebalance.number → NextSeek rows l next → Building z v choice l (SeekPass i) next
@@ -115,7 +119,8 @@ pub data Building (z : Sizes) (v : Words) (choice : Choice) (l : Local) : Activi
   makes_normal : l.rebalance.at + 1 < length l.rebalance.taken → Building z v choice l Normalise (record (at_infant (l.rebalance.at + 1) l) { activity = Normalise })
   makes_last_normal : length l.rebalance.taken ≤ l.rebalance.at + 1 → Building z v choice l Normalise (record l { activity = Number })
   draws_number : Building z v choice l Number (record l { rebalance = record l.rebalance { number = v name.Epoch }; activity = Retire })
-  retires_row : Building z v choice l Retire (again l).local
+  retires_row : l.tidies ≡ false → Building z v choice l Retire (begun_anew l).local
+  retires_and_leaves : l.tidies ≡ true → Building z v choice l Retire (over l).local
 
 -- Tests of the table.
 
@@ -257,5 +262,9 @@ module _ (z : Sizes) (rows : ℕ) (v : Words) (s : ℕ) (choice : Choice) (l : L
       met true e = makes_normal (below _ _ e)
       met false e = makes_last_normal (not_below _ _ e)
   building Number o = draws_number
-  building Retire o = retires_row
+  building Retire o = met l.tidies refl
+    where
+      met : (b : Bool) → l.tidies ≡ b → Building z v choice l Retire (to (if b then Leave Done else Again) (without_rows (without_rebalance l))).local
+      met true e = retires_and_leaves e
+      met false e = retires_row e
   building _ o = absurd o

@@ -66,7 +66,8 @@ unlisted_here f r c = rw (eq-eqb r r refl) refl
 unlisted_other : (f : Listed) (r x c : ℕ) → x ≢ r → without_listed f r x c ≡ f x c
 unlisted_other f r x c d = rw (ne_eqb x r d) refl
 
--- a cell that is given where there is room, or listed where an exchange is made, leaves every other one
+-- a cell that is given where there is room, or listed where an exchange is made, leaves every other
+-- one
 given_other : (b : Bool) (o : Origins) (r c p x y : ℕ) → x ≢ r → (let k : Origins = if b then with_origin o r c p else o in k) x y ≡ o x y
 given_other true o r c p x y d = origin_other o r c p x y d
 given_other false o r c p x y d = refl
@@ -76,7 +77,8 @@ made_other true f r c x y n = listed_other f r c x y n
 made_other false f r c x y n = refl
 
 module _ {z : Sizes} {r r' : Run} {s : ℕ} {choice : Choice} {l l' : Local} where
-  -- a cell stands for the same attempt, or for none, as before, unless it is given or a copy is written there
+  -- a cell stands for the same attempt, or for none, as before, unless it is given or a copy is
+  -- written there
   pub origin_stays : (a : Activity) → Happens z r r' s choice l l' a → (q c : ℕ) → (ChangesOrigin a l q c → ⊥) → r'.origin q c ≡ r.origin q c
   origin_stays PutAdd h q c n = ap (λ (o : Origins). o q c) h.origin ∙ given_other (has_room z (count_of (word z r.world (name.Count l.row)))) r.origin l.row (given_of (count_of (word z r.world (name.Count l.row)))) (length r.history.attempts) q c n
   origin_stays (WriteVersion j) h q c n = ap (λ (o : Origins). o q c) h.origin ∙ copy_other r.origin (infant l) j (copied r.origin l.row (slice_get (infant_cells l) j)) q c n

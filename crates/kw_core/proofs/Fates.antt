@@ -125,7 +125,8 @@ module _ {z : Sizes} {r r' : Run} {s : ℕ} {choice : Choice} {l l' : Local} whe
   pub none_taken : Happens z r r' s choice l l' TakeRow → word z r.world (name.State l.rebalance.sought) ≢ state_word state.Free → r'.ledger ≡ r.ledger
   none_taken h d = h.ledger ∙ not_chosen _ _ _ r.ledger d
 
-  -- a row that was retired with the number that the seat knows is free, and all else that is recorded of it stays
+  -- a row that was retired with the number that the seat knows is free, and all else that is
+  -- recorded of it stays
   pub fate_of_freed : Happens z r r' s choice l l' Reclaim → word z r.world (name.State l.rebalance.sought) ≡ state_word (state.Retired l.rebalance.number) → r'.ledger.rows.fates l.rebalance.sought ≡ fate_free (r.ledger.rows.fates l.rebalance.sought)
   fate_of_freed h e = ap (λ (g : Ledger). g.rows.fates l.rebalance.sought) (h.ledger ∙ chosen _ _ _ r.ledger e) ∙ chosen l.rebalance.sought l.rebalance.sought _ (r.ledger.rows.fates l.rebalance.sought) refl
 

@@ -1,7 +1,7 @@
 -- What an event leaves of the words: each event writes at most one, and `writes` names it.
 --
--- For each family of words one lemma says when a word of it is kept. Its premises compute to nothing at every activity that writes
--- no word of the family.
+-- For each family of words one lemma says when a word of it is kept. Its premises compute to
+-- nothing at every activity that writes no word of the family.
 use Rattle.std.proofs.Common.{ℕ, ◌≡◌, ◌≢◌, ◌+◌, ◌<◌, Bool, true, false, Option, Some, None, arith, refl, sym, ◌∙◌, ap}
 use Rattle.std.proofs.lemmas.Option.{same_Some}
 use Rattle.kw_words.specs.declared.layout.Name.{Name}
@@ -37,8 +37,9 @@ abbrev pub walk_writes : Bool → ℕ → Option Name
 walk_writes true s = Some (name.Scan s)
 walk_writes false s = None
 
--- the word that the event of an activity writes; none where it loads. The third is whether a walk is stopped. That the table says so too
--- is `written_is`: a line that writes and has no name here is refused there
+-- the word that the event of an activity writes; none where it loads. The third is whether a walk
+-- is stopped. That the table says so too is `written_is`: a line that writes and has no name here
+-- is refused there
 abbrev pub writes : Activity → ℕ → Bool → Local → Option Name
 writes Enter s b l = Some (name.Pass s)
 writes ScanWait s b l = Some (name.Scan s)

@@ -1,8 +1,9 @@
 -- What an event leaves of the words where seats freeze full rows and help scans.
 --
--- A put writes its own entry, its count and the clock; beside it any seat may freeze an entry, freeze a count, raise the clock for a scan
--- that it helps, and settle the scan of another seat. After the frames of these words stands what each of these events leaves of the
--- word that it acts on.
+-- A put writes its own entry, its count and the clock; beside it any seat may freeze an entry,
+-- freeze a count, raise the clock for a scan that it helps, and settle the scan of another seat.
+-- After the frames of these words stands what each of these events leaves of the word that it acts
+-- on.
 use Rattle.std.proofs.Common.{ℕ, ◌≡◌, ◌≢◌, ◌⊎◌, inl, inr, ◌+◌, ◌<◌, ◌≤◌, Bool, true, false, Option, Some, None, arith, refl, sym, ◌∙◌, ap, subst}
 use Rattle.std.proofs.lemmas.Bool.{cases_eq}
 use Rattle.kw_words.specs.declared.layout.Name.TheVariants as name
@@ -76,7 +77,8 @@ no_scan Walk s true l t d f e = d (sym (same_scan s t e))
 no_scan Walk s false l t d f e = let x : None ≡ Some (name.Scan t) = e in cc
 no_scan _ s b l t d f e = cc
 
--- what becomes of a count over an event: it is as it was, one more cell is asked for, or it is frozen
+-- what becomes of a count over an event: it is as it was, one more cell is asked for, or it is
+-- frozen
 pub data CountStep (v v' : Words) (q : ℕ) : Type 0 where
   count_same : v' (name.Count q) ≡ v (name.Count q) → CountStep v v' q
   count_more : (c : Counted) → count_of (v (name.Count q)) ≡ Some c → count_of (v' (name.Count q)) ≡ Some (record c { given = c.given + 1 }) → CountStep v v' q

@@ -1,7 +1,8 @@
--- An event, as the laws see it: what it found, and what it left, over a run that is any that it may have led to.
+-- An event, as the laws see it: what it found, and what it left, over a run that is any that it may
+-- have led to.
 --
--- A goal over a free run after the event shows no list that was set and no place. In a clause for one activity the line of the
--- table, the change of the record and the seat's log compute.
+-- A goal over a free run after the event shows no list that was set and no place. In a clause for
+-- one activity the line of the table, the change of the record and the seat's log compute.
 use Rattle.std.proofs.Common.{ℕ, ◌≡◌, ◌≢◌, ◌⊎◌, inl, inr, ◌<◌, ◌==◌, Bool, true, false, nat_lt, Some, arith, refl, sym, ◌∙◌, subst, length, slice_get, slice_set, length-set, if◌then◌else◌, eq-eqb, ne_eqb}
 use Rattle.std.proofs.lemmas.Bool.{cases_eq}
 use Rattle.std.proofs.lemmas.Option.{slice_get_within, same_Some}
@@ -55,7 +56,8 @@ log_entry z r a s choice l = logged s (transition z a s choice l).operation.kind
 abbrev pub change_at : Sizes → Run → Activity → ℕ → Choice → Local → Change
 change_at z r a s choice l = change_of z a s choice l (found_at z (word z r.world) a s choice l) (r.seats s) r.origin
 
--- from r to r' the seat s, which knows l and is at the activity a, makes an event, and knows l' after it
+-- from r to r' the seat s, which knows l and is at the activity a, makes an event, and knows l'
+-- after it
 pub record Happens (z : Sizes) (r r' : Run) (s : ℕ) (choice : Choice) (l l' : Local) (a : Activity) : Type 0 where
   -- the seat, what it knows, and what it chooses
   pub activity : l.activity ≡ a

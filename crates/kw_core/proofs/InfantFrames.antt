@@ -1,9 +1,10 @@
--- What an event leaves of the words of rows, whichever activity it is of: also of those that write new rows, link them, and retire the row
--- that they replace.
+-- What an event leaves of the words of rows, whichever activity it is of: also of those that write
+-- new rows, link them, and retire the row that they replace.
 --
--- For each family of words a type says of which row, and at which place there, the event of an activity changes the word; everywhere else
--- the word stays. `row_stays` says so of all words of a row at once, for a row that is none of those on which the seat acts. The last
--- part says what each event of these leaves in its own word: an exchange that is won or lost, a store, a sum.
+-- For each family of words a type says of which row, and at which place there, the event of an
+-- activity changes the word; everywhere else the word stays. `row_stays` says so of all words of a
+-- row at once, for a row that is none of those on which the seat acts. The last part says what each
+-- event of these leaves in its own word: an exchange that is won or lost, a store, a sum.
 use Rattle.std.proofs.Common.{ℕ, ◌≡◌, ◌≢◌, ◌+◌, ◌<◌, Bool, true, false, Option, Some, None, refl, sym, ◌∙◌, ap, slice_get}
 use Rattle.std.proofs.lemmas.Option.{same_Some}
 use Rattle.kw_words.specs.declared.layout.Name.{Name}
@@ -319,8 +320,8 @@ module _ {z : Sizes} {r r' : Run} {s : ℕ} {choice : Choice} {l l' : Local} whe
 
 -- All words of a row at once.
 
--- of which row that the seat knows an event changes a word: of none, of the row where it is, of the new row at hand, of the one that it asked, or
--- of the one before its row
+-- of which row that the seat knows an event changes a word: of none, of the row where it is, of the
+-- new row at hand, of the one that it asked, or of the one before its row
 pub data Target : Type 0 where
   NoRow : Target
   OwnRow : Target

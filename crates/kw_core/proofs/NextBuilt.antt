@@ -1,27 +1,43 @@
--- What follows the events by which a rebalance takes, writes and links new rows, where a part of it has no event of its own.
+-- What follows the events by which a rebalance takes, writes and links new rows, where a part of it
+-- has no event of its own.
 --
--- There is a type for each such part, with a constructor for each way that it may go, and a lemma that the table goes one of these ways:
--- the next row is asked, or all were; the next pass is looked at, or all were; taken rows are given back, or none was taken; enough rows are taken, or one more is sought; the next
--- entry, the next cell, the next row is written, or all are; and the walk to the row before the full one begins behind the first row, or the
--- full row is the first.
+-- There is a type for each such part, with a constructor for each way that it may go, and a lemma
+-- that the table goes one of these ways: the next row is asked, or all were; the next pass is
+-- looked at, or all were; taken rows are given back, or none was taken; enough rows are taken, or
+-- one more is sought; the next entry, the next cell, the next row is written, or all are; and the
+-- walk to the row before the full one begins behind the first row, or the full row is the first.
 use Rattle.std.proofs.Common.{ℕ, ◌≡◌, ◌≢◌, ◌+◌, ◌<◌, ◌≤◌, ◌==◌, Bool, true, false, Some, None, nat_lt, length, arith, refl, if◌then◌else◌}
 use Rattle.std.proofs.lemmas.Bool.Decides.{nat_tests}
-use Rattle.kw_world.specs.declared.activity.Activity.TheVariants.{Seek, SeekPass, Reclaim, GiveBack, WriteCount, WritePend, WriteKey, WriteVersion, Before, BeforeLink, Replace}
-use Rattle.kw_world.specs.declared.answer.Answer.TheVariants.{NoRows}
+use Rattle.kw_world.specs.declared.activity.Activity.TheVariants.{Leave, Again, Seek, SeekPass, Reclaim, GiveBack, WriteCount, WritePend, WriteKey, WriteVersion, Before, BeforeLink, Replace}
+use Rattle.kw_world.specs.declared.answer.Answer.{Answer}
+use Rattle.kw_world.specs.declared.answer.Answer.TheVariants.{Done, NoRows}
 use Rattle.kw_world.specs.declared.local.Local.{Local}
 use Rattle.kw_world.specs.declared.rebalance.Afterwards.{Afterwards}
 use Rattle.kw_world.specs.declared.rebalance.Afterwards.TheVariants.{TryAgain, Refuse, MoveLeft}
-use Rattle.kw_world.specs.EngageTransitions.{again, refuse, to_rebalance}
+use Rattle.kw_world.specs.EngageTransitions.{to_rebalance}
+use Rattle.kw_world.specs.Local.{without_rows, without_rebalance}
 use Rattle.kw_world.specs.ReplaceTransitions.{at_before, first_before}
 use Rattle.kw_world.specs.SeekTransitions.{at_infant, has_more, moved_left, given_back, give_back, row_behind, to_seek, to_pass, row_taken}
 use Rattle.kw_world.specs.Sizes.{Sizes}
-use Rattle.kw_world.specs.Transition.{Outcome, to}
+use Rattle.kw_world.specs.Transition.{Outcome, to, leave}
 use Rattle.kw_world.specs.WriteTransitions.{infant_cells, row_written, to_write_cell, to_write_entry}
+
+-- a rebalance is over: the put tries again; it was done before, and leaves; or it is refused
+abbrev pub begun_anew : Local → Outcome
+begun_anew l = to Again (without_rows (without_rebalance l))
+
+abbrev pub over : Local → Outcome
+over l = leave Done (without_rebalance l)
+
+abbrev pub refused : Answer → Local → Outcome
+refused answer l = leave answer (without_rebalance l)
 
 -- no taken row is left, and what was to follow follows
 pub data GivenBack (l : Local) : Afterwards → Local → Type 0 where
-  tries_again : GivenBack l TryAgain (again l).local
-  is_refused_rows : GivenBack l Refuse (refuse NoRows l).local
+  tries_again : l.tidies ≡ false → GivenBack l TryAgain (begun_anew l).local
+  was_done : l.tidies ≡ true → GivenBack l TryAgain (over l).local
+  is_refused_rows : l.tidies ≡ false → GivenBack l Refuse (refused NoRows l).local
+  was_served : l.tidies ≡ true → GivenBack l Refuse (over l).local
   moves_left : GivenBack l MoveLeft (to_rebalance (moved_left l)).local
 
 -- the taken rows are given back from the first on, or none was taken
@@ -68,8 +84,16 @@ pub data NextBefore (r : ℕ) (l : Local) : Local → Type 0 where
 -- The table goes one of these ways.
 
 back_given : (a : Afterwards) (l : Local) → GivenBack l a (given_back a l).local
-back_given TryAgain l = tries_again
-back_given Refuse l = is_refused_rows
+back_given TryAgain l = met l.tidies refl
+  where
+    met : (b : Bool) → l.tidies ≡ b → GivenBack l TryAgain (to (if b then Leave Done else Again) (without_rows (without_rebalance l))).local
+    met true e = was_done e
+    met false e = tries_again e
+back_given Refuse l = met l.tidies refl
+  where
+    met : (b : Bool) → l.tidies ≡ b → GivenBack l Refuse (leave (if b then Done else NoRows) (without_rebalance l)).local
+    met true e = was_served e
+    met false e = is_refused_rows e
 back_given MoveLeft l = moves_left
 
 pub next_given : (l : Local) → GivenBack l l.rebalance.afterwards (given_back l.rebalance.afterwards l).local

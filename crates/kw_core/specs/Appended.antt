@@ -1,5 +1,6 @@
--- One more event of a history in two parts: what is added at the ends of its lists, and what is then set in an attempt or a call
--- that was there. The two together are the history with the event and its change.
+-- One more event of a history in two parts: what is added at the ends of its lists, and what is
+-- then set in an attempt or a call that was there. The two together are the history with the event
+-- and its change.
 use Rattle.std.specs.Prelude.{ℕ, true, false, Some, None, List, [], ◌∷◌, ◌++◌, length, set}
 use Rattle.kw_core.specs.History.{History, Logged, Attempt, CallLog, attempt, called}
 use Rattle.kw_core.specs.Noted.{Change, Begins, Adds, Announces, Loses, Stamps, Ends}

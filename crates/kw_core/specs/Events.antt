@@ -1,7 +1,7 @@
 -- Lists of events: which are valid, the world after one, and what one seat sees of it.
 --
--- All of it is over the sizes. Validity is a test, so that data may carry it, and no definition here unfolds by itself: whoever
--- stands above cites the laws on the ends of lists and on one seat.
+-- All of it is over the sizes. Validity is a test, so that data may carry it, and no definition
+-- here unfolds by itself: whoever stands above cites the laws on the ends of lists and on one seat.
 use Rattle.std.specs.Prelude.{ℕ, ◌==◌, Bool, true, false, not, ◌&&◌, nat_lt, if◌then◌else◌, Option, Some, None, List, [], ◌∷◌, slice_get, get_or}
 use Rattle.kw_words.specs.declared.sizes.TheConstants.{KEY_END, VALUE_END}
 use Rattle.kw_model.specs.declared.call.Call.{Call}
@@ -49,7 +49,8 @@ abbrev pub is_made : Choice → Option Local → Bool
 is_made choice (Some l) = not (is_skipped l.activity choice) && may_begin l.activity choice
 is_made choice None = false
 
--- the event may come next: its seat is one of the run's, it is not skipped, and a call that it begins is in range
+-- the event may come next: its seat is one of the run's, it is not skipped, and a call that it
+-- begins is in range
 unfoldable pub may_step : Opening → WorldView → Event → Bool
 may_step o w e = nat_lt e.seat o.seats && is_made e.choice (slice_get w.locals e.seat)
 

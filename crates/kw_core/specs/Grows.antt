@@ -3,7 +3,8 @@ use Rattle.std.specs.Prelude.{ℕ, ◌≡◌, ◌<◌, true, length}
 use Rattle.kw_core.specs.History.{History, attempt}
 use Rattle.kw_core.specs.HistoryLaws.{IsPut}
 
--- an attempt that was there keeps all that is known of it; what is announced now is announced at `now` or later
+-- an attempt that was there keeps all that is known of it; what is announced now is announced at
+-- `now` or later
 pub record AttemptGrows (h h' : History) (now p : ℕ) : Type 0 where
   pub key : (attempt h' p).key ≡ (attempt h p).key
   pub value : (attempt h' p).value ≡ (attempt h p).value

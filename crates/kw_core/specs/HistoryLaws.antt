@@ -58,7 +58,8 @@ abbrev pub answer_of : Option ℕ → Reply
 answer_of None = Absent
 answer_of (Some v) = Value v
 
--- a call that began at f, or drew at f, knows each attempt that was announced before: if it was not lost, it is stamped
+-- a call that began at f, or drew at f, knows each attempt that was announced before: if it was not
+-- lost, it is stamped
 pub record IsEarly (h : History) (k f q : ℕ) : Type 0 where
   pub key : (attempt h q).key ≡ k
   pub is_announced : (attempt h q).is_announced ≡ true

@@ -1,9 +1,10 @@
--- The ledger: what has become of each row and since when each seat is in a pass, as the laws of rows have it (`kw_rows`), and where each
--- scan began to wait. It is folded along with the events beside the record, and no code reads it: laws about rows that come and go
--- speak of it.
+-- The ledger: what has become of each row and since when each seat is in a pass, as the laws of
+-- rows have it (`kw_rows`), and where each scan began to wait. It is folded along with the events
+-- beside the record, and no code reads it: laws about rows that come and go speak of it.
 --
--- A row is taken by a seat that builds it (`Infant`), linked into the list (`Live`), unlinked (`Dead`), and may be taken again. A seat
--- that is in a pass may still read a row that was unlinked after the pass began.
+-- A row is taken by a seat that builds it (`Infant`), linked into the list (`Live`), unlinked
+-- (`Dead`), and may be taken again. A seat that is in a pass may still read a row that was unlinked
+-- after the pass began.
 use Rattle.std.specs.Prelude.{ℕ, zero, suc, ◌+◌, ◌==◌, Bool, true, false, if◌then◌else◌, Option, Some, None, List, [], ◌∷◌}
 use Rattle.kw_words.specs.declared.layout.Name.TheVariants.{Clock}
 use Rattle.kw_words.specs.declared.state.State.TheVariants as state
@@ -86,11 +87,14 @@ with_replaced v s now l g = record g { fates = λ q. if q == l.row then fate_dea
 abbrev pub with_number : kw_rows.Ledger → ℕ → ℕ → kw_rows.Ledger
 with_number g m now = record g { numbered = λ n. if n == m then Some now else g.numbered n }
 
--- the ledger after the event of an activity, of the seat s that knew l and found this word among these, at the position `now`: a seat
--- that stores its pass is in it from there on, one that clears it, to leave or to try again, is in none, and a scan that stores that it waits does so from there
--- on. A seat that finds a row free takes it; it gives a row back; where it finds a row retired with the number that it knows, that row
--- is free from then on, and all else that is recorded of it stays until it is taken again; where it finds the unmarked link to its full row, that row is unlinked
--- and the taken ones are linked; and the epoch that it finds where it adds to it is the number that it draws
+-- the ledger after the event of an activity, of the seat s that knew l and found this word among
+-- these, at the position `now`: a seat that stores its pass is in it from there on, one that clears
+-- it, to leave or to try again, is in none, and a scan that stores that it waits does so from there
+-- on. A seat that finds a row free takes it; it gives a row back; where it finds a row retired with
+-- the number that it knows, that row is free from then on, and all else that is recorded of it
+-- stays until it is taken again; where it finds the unmarked link to its full row, that row is
+-- unlinked and the taken ones are linked; and the epoch that it finds where it adds to it is the
+-- number that it draws
 abbrev pub ledger_after : Sizes → Activity → ℕ → Local → ℕ → Words → ℕ → Ledger → Ledger
 ledger_after z Enter s l found v now g = record g { rows = with_pass g.rows s (Some now) }
 ledger_after z ScanWait s l found v now g = record g { waits = with_wait g.waits s now }

@@ -1,9 +1,11 @@
--- Which cells of each row are listed: a ghost that is folded along with the events beside the record, and that no code reads. The laws about
--- the lists of rows speak of it. The exchange that inserts a cell lists it, and it stays listed as long as the row is not written anew.
+-- Which cells of each row are listed: a ghost that is folded along with the events beside the
+-- record, and that no code reads. The laws about the lists of rows speak of it. The exchange that
+-- inserts a cell lists it, and it stays listed as long as the row is not written anew.
 --
--- The first word that is written of a new row unlists its cells, of which the row may have had some when it was in the list before. A
--- copy is listed by the last word that is written of its cell, the link behind it: its key, its version and the attempt for which it stands are known by
--- then, so that at any time a listed cell has all three.
+-- The first word that is written of a new row unlists its cells, of which the row may have had some
+-- when it was in the list before. A copy is listed by the last word that is written of its cell,
+-- the link behind it: its key, its version and the attempt for which it stands are known by then,
+-- so that at any time a listed cell has all three.
 use Rattle.std.specs.Prelude.{ℕ, ◌==◌, Bool, false, nat_lt, if◌then◌else◌, length}
 use Rattle.kw_lists.specs.Changes.{with_cell}
 use Rattle.kw_words.specs.Plain.{cell_link_word}

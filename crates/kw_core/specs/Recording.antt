@@ -4,7 +4,8 @@ use Rattle.kw_world.specs.Sizes.{Sizes}
 use Rattle.kw_core.specs.History.{Record}
 use Rattle.kw_core.specs.declared.seat_log.SeatLog.{SeatLog}
 
--- the history, the log of each seat, where the version in each seat's scan was drawn, and to which attempt each cell was given, row by row
+-- the history, the log of each seat, where the version in each seat's scan was drawn, and to which
+-- attempt each cell was given, row by row
 pub record Recording : Type 0 where
   pub history : Record
   pub logs : List SeatLog

@@ -1,4 +1,5 @@
--- What an event adds to the log of its seat, known before the event but for whether the seat goes on to a cell of its row.
+-- What an event adds to the log of its seat, known before the event but for whether the seat goes
+-- on to a cell of its row.
 use Rattle.std.specs.Prelude.{ℕ, ◌<◌, ◌≤◌, ◌==◌, if◌then◌else◌, None, unwrap_or, [], insert, length}
 use Rattle.kw_words.specs.declared.scan.ScanWord.TheVariants.{Waiting}
 use Rattle.kw_words.specs.Scan.{scan_word}
@@ -22,8 +23,8 @@ remark_begun Go h = Same
 remark_begun (Guess r) h = Same
 remark_begun Stop h = Same
 
--- what the event of an activity adds, where the seat with this choice and local found this word, and the version in the word of its scan
--- was drawn at `settled`
+-- what the event of an activity adds, where the seat with this choice and local found this word,
+-- and the version in the word of its scan was drawn at `settled`
 abbrev pub remark_of : Sizes → Activity → Choice → Local → ℕ → Origins → History → ℕ → Remark
 remark_of z Idle choice l found o h settled = remark_begun choice h
 remark_of z ScanClock choice l found o h settled = LoadsClock (length h.log)

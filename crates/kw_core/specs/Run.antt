@@ -1,10 +1,12 @@
--- What led to a world: the world, the record of its history, and what the laws alone need beside them, by one fold over the
--- events.
+-- What led to a world: the world, the record of its history, and what the laws alone need beside
+-- them, by one fold over the events.
 --
--- Beside the record stands, for each seat, what it did last and where the version in its scan's word was drawn, for each cell, to which
--- attempt it was given, the ledger of rows, and which cells are listed. The fold goes by the activity of the acting seat: `change_of` says
--- what its event adds to the record, `seat_after` what it adds to the seat's own log, `origins_after` to which attempt a cell is given,
--- `ledger_after` what becomes of the ledger, and `listed_after` which cells are listed.
+-- Beside the record stands, for each seat, what it did last and where the version in its scan's
+-- word was drawn, for each cell, to which attempt it was given, the ledger of rows, and which cells
+-- are listed. The fold goes by the activity of the acting seat: `change_of` says what its event
+-- adds to the record, `seat_after` what it adds to the seat's own log, `origins_after` to which
+-- attempt a cell is given, `ledger_after` what becomes of the ledger, and `listed_after` which
+-- cells are listed.
 use Rattle.std.specs.Prelude.{ℕ, ◌+◌, ◌==◌, Bool, true, false, ◌&&◌, if◌then◌else◌, Option, Some, None, unwrap_or, List, [], ◌∷◌, length, insert, slice_get}
 use Rattle.kw_words.specs.declared.layout.Name.TheVariants.{Clock}
 use Rattle.kw_words.specs.declared.kind.Kind.{Kind}
@@ -61,7 +63,8 @@ pub record Run : Type 0 where
   pub world : WorldView
   pub history : History
   pub seats : ℕ → SeatLog
-  -- of each seat, the position of the draw whose version stands in the word of its scan, where one does
+  -- of each seat, the position of the draw whose version stands in the word of its scan, where one
+  -- does
   pub settled : ℕ → ℕ
   pub origin : Origins
   pub ledger : Ledger
@@ -115,7 +118,8 @@ abbrev pub losing : Option ℕ → Change
 losing (Some p) = Loses p
 losing None = Nothing
 
--- a pending entry of the row is frozen: the attempt of its cell gets no version any more. Any other entry has no attempt to lose
+-- a pending entry of the row is frozen: the attempt of its cell gets no version any more. Any other
+-- entry has no attempt to lose
 abbrev pub freezing : Pend → ℕ → Origins → Change
 freezing pend.Idle row o = Nothing
 freezing (pend.Pending cell) row o = losing (o row cell)
@@ -140,7 +144,8 @@ drawing NoRows l g = None
 drawing Spent l g = None
 drawing Stopped l g = None
 
--- what the event of an activity adds, where the seat s with this choice, local and log found this word
+-- what the event of an activity adds, where the seat s with this choice, local and log found this
+-- word
 abbrev pub change_of : Sizes → Activity → ℕ → Choice → Local → ℕ → SeatLog → Origins → Change
 change_of z Idle s choice l found g o = beginning choice s l
 change_of z LookHelp s choice l found g o = if found == pend_word (pend.Pending l.met) then helping (o l.row l.met) l.helping g.loaded else Nothing
@@ -186,13 +191,13 @@ log_gathered p at g = record g { ids = insert g.ids at (unwrap_or p 0) }
 abbrev pub place_gathered : Local → ℕ → ℕ
 place_gathered l found = place_in (cell_in_hand (value_of_word found) l) l.gathered
 
--- the log of a scan that found this word when it tried to settle: another seat has drawn for it if it waits no more, and the place of that
--- draw is known
+-- the log of a scan that found this word when it tried to settle: another seat has drawn for it if
+-- it waits no more, and the place of that draw is known
 abbrev pub log_settled : ℕ → ℕ → ℕ → SeatLog → SeatLog
 log_settled clock found settled g = if found == scan_word (Waiting clock) then g else record g { drawn = settled }
 
--- the log after the event of an activity, where the seat goes on to the activity `next`, and the version in the word of its scan was drawn at
--- `settled`
+-- the log after the event of an activity, where the seat goes on to the activity `next`, and the
+-- version in the word of its scan was drawn at `settled`
 abbrev pub seat_after : Sizes → Activity → Choice → Local → ℕ → Activity → SeatLog → Origins → History → ℕ → SeatLog
 seat_after z Idle choice l found next g o h settled = log_begun choice (length h.calls) g
 seat_after z ScanClock choice l found next g o h settled = record g { loaded = length h.log }
@@ -213,7 +218,8 @@ seat_after z _ choice l found next g o h settled = g
 
 -- What an event says of the scans.
 
--- the scan of a seat is settled, by a seat with this log that found this word, if it still waits since this clock
+-- the scan of a seat is settled, by a seat with this log that found this word, if it still waits
+-- since this clock
 abbrev pub settling : ℕ → ℕ → ℕ → SeatLog → Option Settled
 settling seat clock found g = if found == scan_word (Waiting clock) then Some (record { seat = seat; at = g.drawn }) else None
 
@@ -228,13 +234,14 @@ abbrev pub with_settled : Option Settled → (ℕ → ℕ) → (ℕ → ℕ)
 with_settled (Some x) settled t = if t == x.seat then x.at else settled t
 with_settled None settled t = settled t
 
--- the attempt for which the copy of a kept cell stands: that of the cell of the full row at which it was gathered. A place beyond the kept
--- cells stands for none
+-- the attempt for which the copy of a kept cell stands: that of the cell of the full row at which
+-- it was gathered. A place beyond the kept cells stands for none
 abbrev pub copied : Origins → ℕ → Option kw_cell.Cell → Option ℕ
 copied o row (Some c) = o row c.place
 copied o row None = None
 
--- the cell whose origin an event of a seat that knows l sets: the one whose version it writes, of the row that it builds
+-- the cell whose origin an event of a seat that knows l sets: the one whose version it writes, of
+-- the row that it builds
 abbrev pub copied_cell : Activity → Local → Origins → Option Copied
 copied_cell (WriteVersion j) l o = Some (record { row = infant l; cell = j; attempt = copied o l.row (slice_get (infant_cells l) j) })
 copied_cell _ l o = None
@@ -244,8 +251,8 @@ abbrev pub with_copied : Option Copied → Origins → Origins
 with_copied (Some x) o = with_copy o x.row x.cell x.attempt
 with_copied None o = o
 
--- the origins after the event of an activity: a cell is given to a put by the sum that asks for it, and stands for a copied attempt from the
--- event on that writes its version
+-- the origins after the event of an activity: a cell is given to a put by the sum that asks for it,
+-- and stands for a copied attempt from the event on that writes its version
 abbrev pub origins_after : Sizes → Activity → Local → ℕ → Origins → History → Origins
 origins_after z PutAdd l found o h = if has_room z (count_of found) then with_origin o l.row (given_of (count_of found)) (length h.attempts) else o
 origins_after z (WriteVersion j) l found o h = with_copy o (infant l) j (copied o l.row (slice_get (infant_cells l) j))

@@ -1,6 +1,7 @@
--- Where a seat stands: the stages of a call, and the activities by what is known of a seat there. Each family is a type that computes
--- at every activity, so that a fact with such a premise says nothing elsewhere. A family of whole stages goes by `stage_of`, the one
--- list of all activities: a new one gets its stage there. A finer family names its activities.
+-- Where a seat stands: the stages of a call, and the activities by what is known of a seat there.
+-- Each family is a type that computes at every activity, so that a fact with such a premise says
+-- nothing elsewhere. A family of whole stages goes by `stage_of`, the one list of all activities: a
+-- new one gets its stage there. A finer family names its activities.
 use Rattle.std.specs.Prelude.{◌≤◌, Bool, true, false, Option, Some, None}
 use Rattle.kw_model.specs.declared.call.Call.{Call}
 use Rattle.kw_model.specs.declared.call.Call.TheVariants.{Put, Del, Get, Scan}
@@ -172,7 +173,8 @@ IsKeepingStage Resting = ⊥
 IsKeepingStage Looking = ⊥
 IsKeepingStage _ = Unit {0}
 
--- the seat is in a call and does not look at entries: what it gathered in the last row that it read is still there
+-- the seat is in a call and does not look at entries: what it gathered in the last row that it read
+-- is still there
 abbrev pub IsKeeping : Activity → Type 0
 IsKeeping a = IsKeepingStage (stage_of a)
 

@@ -1,7 +1,7 @@
 //! The attempts of the cells that a reader has gathered in a row.
 //!
-//! Beside each gathered cell stands the attempt to which it was given. A row has `CELLS` cells, so the list lies in place and
-//! takes no memory.
+//! Beside each gathered cell stands the attempt to which it was given. A row has `CELLS` cells, so
+//! the list lies in place and takes no memory.
 ghost use Rattle.std.specs.Prelude.{◌≡◌, ◌<◌, ◌≤◌, [], insert, length};
 ghost use Rattle.kw_words.specs.declared.sizes.TheConstants.{CELLS};
 

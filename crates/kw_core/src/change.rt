@@ -1,7 +1,8 @@
 //! What an event adds to the history, known before it is made.
 //!
-//! The event is told by what its seat knows, by what the seat did last, and by the word that it finds; the history itself is
-//! not asked. There is one function for each activity that adds something.
+//! The event is told by what its seat knows, by what the seat did last, and by the word that it
+//! finds; the history itself is not asked. There is one function for each activity that adds
+//! something.
 ghost use Rattle.std.specs.Prelude.{◌≡◌, ◌==◌, ◌<◌, ◌≤◌, ◌+◌, ◌*◌, Some, None, IfOk, length, slice_get, if◌then◌else◌};
 ghost use Rattle.kw_words.specs.declared.sizes.TheConstants.{CELLS};
 ghost use Rattle.kw_words.specs.Count.{count_of};
@@ -97,8 +98,8 @@ pub struct Settled {
     pub at: u64,
 }
 
-/// The scan that the event settles which is made by a seat that knows `local` and whose log is `log`: its own, or one that it
-/// helps. None if the scan does not wait any more.
+/// The scan that the event settles which is made by a seat that knows `local` and whose log is
+/// `log`: its own, or one that it helps. None if the scan does not wait any more.
 pub fn settled_scan(local: &Local, happening: Happening, log: &SeatLog) -> Option<Settled>
     requires { IsLocal product local.now }
     ensures { result ≡ settled_scan local.now.activity happening.seat local.now happening.found
@@ -128,7 +129,8 @@ fn settling(seat: u32, clock: u64, found: u64, log: &SeatLog) -> Option<Settled>
     }
 }
 
-/// A cell that an event writes, and the attempt for which it stands from there on: that of the cell of which it is a copy, or none.
+/// A cell that an event writes, and the attempt for which it stands from there on: that of the cell
+/// of which it is a copy, or none.
 #[derive(Clone, Copy, Debug, PartialEq, Eq)]
 pub struct Copied {
     /// The row that is built.
@@ -139,7 +141,8 @@ pub struct Copied {
     pub attempt: Option<usize>,
 }
 
-/// The cell whose origin the event sets that is made by a seat that knows `local`: the one whose version it writes.
+/// The cell whose origin the event sets that is made by a seat that knows `local`: the one whose
+/// version it writes.
 pub fn copied_cell(local: &Local, origins: &[Option<usize>]) -> Option<Copied>
     requires { IsLocal product local.now }
     ensures { result ≡ copied_cell local.now.activity local.now (origin_in product origins.now) }
@@ -154,7 +157,8 @@ pub fn copied_cell(local: &Local, origins: &[Option<usize>]) -> Option<Copied>
     }
 }
 
-/// The attempt of the kept cell that is written at this place, or none where the row has no cell for it.
+/// The attempt of the kept cell that is written at this place, or none where the row has no cell
+/// for it.
 fn attempt_copied(local: &Local, cell: u32, origins: &[Option<usize>]) -> Option<usize>
     requires { IsLocal product local.now }
     ensures { result ≡ copied (origin_in product origins.now) local.now.row
@@ -176,8 +180,9 @@ fn origin_or_none(origins: &[Option<usize>], row: u32, cell: u32) -> Option<usiz
     }
 }
 
-/// What the event adds that is made by a seat that knows `local` and whose log is `log`. `origins` has the attempt to which each
-/// cell was given, row by row. Only the reply of a call that ends takes memory.
+/// What the event adds that is made by a seat that knows `local` and whose log is `log`. `origins`
+/// has the attempt to which each cell was given, row by row. Only the reply of a call that ends
+/// takes memory.
 pub fn change_of(
     local: &Local,
     happening: Happening,

@@ -1,8 +1,9 @@
 //! The record of what a list of events did, which grows by one entry with each event.
 //!
-//! Whoever takes events hands each of them here, with what it changed: a call that began or ended, a put or delete that was
-//! given a cell, announced its cell, lost it or was stamped. The laws of the record, and the order of its calls, speak of it
-//! as of three lists. A call and an attempt are named by their places in these lists, an event by its place in the log.
+//! Whoever takes events hands each of them here, with what it changed: a call that began or ended,
+//! a put or delete that was given a cell, announced its cell, lost it or was stamped. The laws of
+//! the record, and the order of its calls, speak of it as of three lists. A call and an attempt are
+//! named by their places in these lists, an event by its place in the log.
 ghost use Rattle.std.specs.Prelude.{◌≡◌, ◌≤◌, ◌-◌, OnOk, OnErr, length};
 ghost use Rattle.kw_core.specs.History.{Record};
 ghost use Rattle.kw_core.specs.declared.history.Logged.{Logged};
@@ -25,8 +26,9 @@ pub struct Logged {
 
 /// A put or delete that was given a cell.
 ///
-/// `call` is the place of its call, and a delete has no value. The positions of its announcement, of the clock load that gave
-/// its version and of the exchange that stamped it are 0 before they are known. Where the cell was lost, it is never stamped.
+/// `call` is the place of its call, and a delete has no value. The positions of its announcement,
+/// of the clock load that gave its version and of the exchange that stamped it are 0 before they
+/// are known. Where the cell was lost, it is never stamped.
 #[derive(Clone, Copy, Debug, PartialEq, Eq)]
 pub struct Attempt {
     pub call: usize,
@@ -61,8 +63,8 @@ pub struct Drawn {
 
 /// A call: the number-th of its seat, with its first event.
 ///
-/// `put` is the attempt of the call that was stamped. Of a get, `answer` is the attempt whose value it answered. Of a scan
-/// that gave pairs, `draw` is where it drew its version.
+/// `put` is the attempt of the call that was stamped. Of a get, `answer` is the attempt whose value
+/// it answered. Of a scan that gave pairs, `draw` is where it drew its version.
 #[derive(Debug, Drop, PartialEq, Eq)]
 pub struct CallLog {
     pub seat: u32,
@@ -184,8 +186,8 @@ impl History {
         Ok(())
     }
 
-    /// Adds an event, and the call or the attempt that it began. All that takes memory is done here: `settle` is to follow once
-    /// the event is made, or `forget` where it is not.
+    /// Adds an event, and the call or the attempt that it began. All that takes memory is done
+    /// here: `settle` is to follow once the event is made, or `forget` where it is not.
     pub fn append(&mut self, logged: Logged, change: &Change) -> Result<(), Memory>
         ensures ok { OnOk result (self.new ≡ appended self.old logged change.now) }
         ensures err { OnErr result (self.new ≡ self.old) }
@@ -232,7 +234,8 @@ impl History {
         Ok(())
     }
 
-    /// Writes what the last event, which was appended with this change, changed in a call or an attempt that was there.
+    /// Writes what the last event, which was appended with this change, changed in a call or an
+    /// attempt that was there.
     pub fn settle(&mut self, change: Change)
         requires some { 1 ≤ length self.old.log }
         requires within { IsWithin self.old change }
@@ -261,7 +264,8 @@ impl History {
     }
 }
 
-/// Writes into both lists what the last event of the log changed in an attempt or a call that was there.
+/// Writes into both lists what the last event of the log changed in an attempt or a call that was
+/// there.
 fn write_change(
     log: &[Logged],
     attempts: &mut Vec<Attempt>,

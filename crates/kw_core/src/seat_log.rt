@@ -1,7 +1,8 @@
 //! What a seat did last, as far as the history asks for it.
 //!
-//! A `SeatLog` is not what a seat knows: no event depends on it. It says which call of the history the seat makes, which attempt
-//! is its put's, and at which positions it did what. `Remark` is what one event adds to it.
+//! A `SeatLog` is not what a seat knows: no event depends on it. It says which call of the history
+//! the seat makes, which attempt is its put's, and at which positions it did what. `Remark` is what
+//! one event adds to it.
 ghost use Rattle.std.specs.Prelude.{◌≡◌, ◌==◌, if◌then◌else◌, ◌<◌, ◌≤◌, ◌+◌, ◌*◌, length};
 ghost use Rattle.kw_words.specs.declared.sizes.TheConstants.{CELLS};
 ghost use Rattle.kw_words.specs.declared.scan.ScanWord.TheVariants.{Waiting};
@@ -26,10 +27,11 @@ use kw_world::local::Local;
 
 /// What a seat did last.
 ///
-/// `call` is the place of its call in the history and `own` the attempt of its put; `looked`, `loaded` and `drawn` are the
-/// positions at which it looked at the first entry of a row, loaded the clock, and drew a version, for its own scan or for one
-/// that it helps. `ids` are the attempts of the cells that it has gathered, and `read` is the row that it has read, once it has
-/// come to the end of its cells.
+/// `call` is the place of its call in the history and `own` the attempt of its put; `looked`,
+/// `loaded` and `drawn` are the positions at which it looked at the first entry of a row, loaded
+/// the clock, and drew a version, for its own scan or for one that it helps. `ids` are the attempts
+/// of the cells that it has gathered, and `read` is the row that it has read, once it has come to
+/// the end of its cells.
 #[derive(Debug, Drop)]
 pub struct SeatLog {
     pub call: usize,
@@ -56,10 +58,11 @@ pub enum Remark {
     DrawsVersion(u64),
     /// The row is read, unless the seat goes on to one of its cells.
     ReadsRow(u32),
-    /// A cell of the row's list is gathered, which was given to this attempt, at this place among those that were.
+    /// A cell of the row's list is gathered, which was given to this attempt, at this place among
+    /// those that were.
     GathersListed(usize, usize),
-    /// A remembered cell is gathered, which was given to this attempt, at this place; then the row is read, unless the seat goes on
-    /// to one of its cells.
+    /// A remembered cell is gathered, which was given to this attempt, at this place; then the row
+    /// is read, unless the seat goes on to one of its cells.
     GathersRest(usize, usize, u32),
     /// The seat is given a cell, as this attempt.
     GetsCell(usize),
@@ -122,8 +125,8 @@ impl SeatLog {
 }
 
 impl Remark {
-    /// What the event adds that is made by a seat that knows `local`, with what came before it. The version in the word of the
-    /// seat's scan, if one stands there, was drawn at `settled`.
+    /// What the event adds that is made by a seat that knows `local`, with what came before it. The
+    /// version in the word of the seat's scan, if one stands there, was drawn at `settled`.
     pub fn of(
         local: &Local,
         happening: Happening,
@@ -195,7 +198,8 @@ fn is_at_cell(next: &Activity) -> bool
     }
 }
 
-/// The place among the gathered cells at which the cell in hand is put, where its value is this word.
+/// The place among the gathered cells at which the cell in hand is put, where its value is this
+/// word.
 fn place_gathered(local: &Local, found: u64) -> usize
     ensures { result ≡ place_gathered local.now found }
 {

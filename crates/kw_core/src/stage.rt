@@ -1,7 +1,8 @@
 //! Where a seat stands in its call: each activity is of one stage.
 //!
-//! A call goes through its stages in their order; a scan comes back from the cells of a row to the walk. What holds of a seat is
-//! mostly said by stages (`specs/Stages.antt`), and code that goes on as long as a stage lasts asks for it here.
+//! A call goes through its stages in their order; a scan comes back from the cells of a row to the
+//! walk. What holds of a seat is mostly said by stages (`specs/Stages.antt`), and code that goes on
+//! as long as a stage lasts asks for it here.
 ghost use Rattle.std.specs.Prelude.{◌≡◌};
 ghost use Rattle.kw_core.specs.Stages.{stage_of, is_walking_stage, is_putting_stage};
 
@@ -25,7 +26,8 @@ pub enum Stage {
     /// A get or a scan looks at the entries of the row.
     Looking,
 
-    /// A get or a scan walks along the row's list, and reads the remembered cells that it did not meet.
+    /// A get or a scan walks along the row's list, and reads the remembered cells that it did not
+    /// meet.
     Taking,
 
     /// A scan is over, and clears its word.

@@ -1,9 +1,11 @@
 //! One event of a world, whichever it is.
 //!
-//! Each part of the table is made by a crate of its own; `part` of the acting seat's local says which, and here they are one. `step` is the definition of one event, and `kind_of` names what it is for before
-//! it is made: the laws over lists of events and the simulator stand on these two. `operation` and `resume` are the halves
-//! of an event, before and after its word; the running map puts them around a word of its own table. What a reader learns from its
-//! events in a row is passed on by itself, for whoever makes those events one by one.
+//! Each part of the table is made by a crate of its own; `part` of the acting seat's local says
+//! which, and here they are one. `step` is the definition of one event, and `kind_of` names what it
+//! is for before it is made: the laws over lists of events and the simulator stand on these two.
+//! `operation` and `resume` are the halves of an event, before and after its word; the running map
+//! puts them around a word of its own table. What a reader learns from its events in a row is
+//! passed on by itself, for whoever makes those events one by one.
 ghost use Rattle.std.specs.Prelude.{◌≡◌, ◌<◌, ◌↔◌, None, length, IfOk, IfSome, OnErr};
 ghost use Rattle.kw_world.specs.Transition.{outcome};
 ghost use Rattle.kw_world.specs.Sane.{IsSane, IsLocal, HasRoom, CanStep, CanBegin};
@@ -31,10 +33,11 @@ use kw_world::world::World;
 
 /// Makes one event of the world.
 ///
-/// The event's seat is one of the world's, a value that an idle seat begins to put is below `VALUE_END`, and a seat that
-/// begins a call has begun fewer than `MOST_CALLS`. A choice that the seat's activity does not offer counts as `Go`. The answer is `Skipped`
-/// exactly where the seat is idle and begins nothing. The world is as it was after `Skipped`, and without memory, which
-/// only the pairs of a scan take, at the end of a row.
+/// The event's seat is one of the world's, a value that an idle seat begins to put is below
+/// `VALUE_END`, and a seat that begins a call has begun fewer than `MOST_CALLS`. A choice that the
+/// seat's activity does not offer counts as `Go`. The answer is `Skipped` exactly where the seat is
+/// idle and begins nothing. The world is as it was after `Skipped`, and without memory, which only
+/// the pairs of a scan take, at the end of a row.
 pub fn step(world: &mut World, event: Event) -> Result<StepDone, Memory>
     requires sane { IsSane product world.old }
     requires seat { event.seat < length world.old.locals }
@@ -86,11 +89,12 @@ pub fn operation(seat: u32, local: &Local, choice: Choice) -> Operation
     }
 }
 
-/// What a seat knows after its event, where the table has so many rows and the operation told it this. It is the same
-/// whichever seat it is.
+/// What a seat knows after its event, where the table has so many rows and the operation told it
+/// this. It is the same whichever seat it is.
 ///
-/// Takes memory only where a scan has read a row to its end, for the row's pairs: no other call wants any, and a scan does
-/// at none but the last events of a row. Without it the local is as it was.
+/// Takes memory only where a scan has read a row to its end, for the row's pairs: no other call
+/// wants any, and a scan does at none but the last events of a row. Without it the local is as it
+/// was.
 pub fn resume(local: &mut Local, rows: u32, choice: Choice, told: u64) -> Result<StepDone, Memory>
     requires ranges { IsLocal product local.old }
     requires room { HasRoom product local.old }
@@ -101,7 +105,7 @@ pub fn resume(local: &mut Local, rows: u32, choice: Choice, told: u64) -> Result
     ensures memory { OnErr result (MayEndRow local.old) }
 {
     match local.part(choice) {
-        Part::Put => put_resume(local, choice, told),
+        Part::Put => put_resume(local, rows, choice, told),
         Part::Rows => Ok(rows_resume(local, rows, choice, told)),
         Part::Rebalance => Ok(rebalance_resume(local, rows, choice, told)),
     }

@@ -1,4 +1,5 @@
-//! Cells: which one a version shows, in any order and in that of a row's list, and the room for them.
+//! Cells: which one a version shows, in any order and in that of a row's list, and the room for
+//! them.
 ghost use Rattle.kw_cells.specs.InOrder.{AreBelow, AreInOrder};
 
 use kw_cells::cell::{Cell, best, next_pair};
@@ -26,7 +27,8 @@ fn tombstone(key: u32, version: u64, place: u32) -> Cell {
     }
 }
 
-// key 5 has two versions, the later one twice; key 7 a tombstone over a value; key 9 a version far above
+// key 5 has two versions, the later one twice; key 7 a tombstone over a value; key 9 a version far
+// above
 fn row() -> [Cell; 7] {
     [
         put(5, 2, 6, 52),
@@ -172,8 +174,8 @@ fn the_first_that_fits_is_the_best(rt: HostRuntime) {
     }
 }
 
-// the next pair of cells up to key 9, after which the next one is asked for from the key behind it, or from the first cell on
-// where there is none
+// the next pair of cells up to key 9, after which the next one is asked for from the key behind it,
+// or from the first cell on where there is none
 fn next_to_nine(cells: &[Cell], at: &mut usize, from: &mut u32, version: u64) -> Option<(u32, u64)>
     requires in_order { AreInOrder cells.now }
     requires below { AreBelow cells.now at.old from.old }

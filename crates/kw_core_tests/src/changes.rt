@@ -1,4 +1,5 @@
-//! What one event adds to the record, where a seat freezes the entries of a full row, settles a scan, or writes a copy of a cell.
+//! What one event adds to the record, where a seat freezes the entries of a full row, settles a
+//! scan, or writes a copy of a cell.
 ghost use Rattle.std.specs.Prelude.{◌≡◌, ◌<◌, Some};
 ghost use Rattle.kw_words.specs.declared.sizes.TheConstants.{CELLS};
 ghost use Rattle.kw_world.specs.Sane.{IsEntry, IsLocal};
@@ -64,7 +65,8 @@ fn frozen(alloc: Global, entry: Pend, found: u64) -> Result<Change, Memory>
     change_of(&local, finding(found), &SeatLog::new(), origins.as_slice())
 }
 
-// the cell 5 pending has the word 1 + 4 * 5, and stamped with the version 3 the word 2 + 4 * 5 + 2^15 * 3
+// the cell 5 pending has the word 1 + 4 * 5, and stamped with the version 3 the word 2 + 4 * 5 +
+// 2^15 * 3
 #[test]
 fn a_frozen_entry_loses_its_attempt_where_it_is_pending_still(rt: HostRuntime) -> Result<(), Fail> {
     let pending = frozen(rt.alloc(), Pend::Pending(5), 21)?;
@@ -139,7 +141,8 @@ fn a_helper_settles_the_scan_of_another_seat(rt: HostRuntime) -> Result<(), Fail
     Ok(())
 }
 
-// A seat writes the version of this cell of its new row 3, whose one kept cell stood at the place 5 of row 0.
+// A seat writes the version of this cell of its new row 3, whose one kept cell stood at the place 5
+// of row 0.
 fn at_a_copy(alloc: Global, cell: u32) -> Local
     requires { cell < CELLS }
     ensures ranges { IsLocal product result }

@@ -1,7 +1,9 @@
 //! What a rebuild keeps and where its rows start, of cells that are written out.
 //!
-//! The expected cells and places are counted by hand from the rules: the newest cell of a key and the best one for each
-//! needed version, no tombstone below all values of its key, and rows of at most `BUILT` cells that are cut between keys.
+//! The expected cells and places are counted by hand from the rules: the newest cell of a key and
+//! the best one for each needed version, no tombstone below all values of its key, and as few rows
+//! of at most `BUILT` cells as can be, cut between keys so that the longest is as short as with so
+//! few rows it can be.
 ghost use Rattle.std.specs.Prelude.{◌<◌, IsTrue};
 ghost use Rattle.kw_cells.specs.Cells.{AreApart};
 
@@ -94,7 +96,8 @@ fn a_tombstone_above_an_older_kept_cell_is_kept(rt: HostRuntime) -> Result<(), F
     let cells = [tombstone(5, 4, 1), put(5, 1, 0)];
     let both = [put(5, 1, 0), tombstone(5, 4, 1)];
     expect_kept(&rt, &cells, &[2], &both)?;
-    // without a scan between them nobody asks for the older one, and then the tombstone hides nothing
+    // without a scan between them nobody asks for the older one, and then the tombstone hides
+    // nothing
     expect_kept(&rt, &cells, &[], &[])?;
     expect_kept(&rt, &cells, &[4], &[])
 }
@@ -181,20 +184,27 @@ fn no_cells_have_one_row(rt: HostRuntime) -> Result<(), Fail> {
 }
 
 #[test]
-fn a_row_is_filled_before_the_next_starts(rt: HostRuntime) -> Result<(), Fail> {
+fn rows_are_as_few_and_as_even_as_can_be(rt: HostRuntime) -> Result<(), Fail> {
     expect_starts(&rt, &keys::<BUILT>(), &[], 32, &[0])?;
-    expect_starts(&rt, &keys::<33>(), &[], 33, &[0, 32])?;
+    expect_starts(&rt, &keys::<33>(), &[], 33, &[0, 17])?;
+    expect_starts(&rt, &keys::<40>(), &[], 40, &[0, 20])?;
+    expect_starts(&rt, &keys::<64>(), &[], 64, &[0, 32])?;
+    expect_starts(&rt, &keys::<65>(), &[], 65, &[0, 22, 44])?;
+    expect_starts(&rt, &keys::<100>(), &[], 100, &[0, 25, 50, 75])?;
     expect_starts(&rt, &keys::<MOST_GATHERED>(), &[], 128, &[0, 32, 64, 96])
 }
 
 #[test]
-fn a_row_ends_before_a_key_that_does_not_fit(rt: HostRuntime) -> Result<(), Fail> {
-    // the last key has a second cell
+fn a_key_stays_whole(rt: HostRuntime) -> Result<(), Fail> {
+    // a key in the middle has a second cell: behind 16 cells it goes into the second row, so that
+    // both have 17 at most, and behind 15 into the first one
     let mut cells = keys::<33>();
-    cells[32] = put(31, 2, 40);
-    expect_starts(&rt, &cells, &[1], 33, &[0, 31])?;
-    // with one key fewer it fits
-    cells[0] = put(31, 2, 40);
+    cells[32] = put(16, 2, 40);
+    expect_starts(&rt, &cells, &[1], 33, &[0, 16])?;
+    cells[32] = put(15, 2, 40);
+    expect_starts(&rt, &cells, &[1], 33, &[0, 17])?;
+    // with one key fewer one row takes them all
+    cells[0] = put(15, 2, 40);
     expect_starts(&rt, &cells, &[1], 32, &[0])
 }
 

@@ -1,4 +1,5 @@
-//! One event of each sort on a call's own row: a call begins, an idle seat is skipped, and a scan ends with the pairs of a row.
+//! One event of each sort on a call's own row: a call begins, an idle seat is skipped, and a scan
+//! ends with the pairs of a row.
 ghost use Rattle.std.specs.Prelude.{◌≡◌, ◌<◌, length, IfOk, Some};
 ghost use Rattle.kw_model.specs.declared.call.Call.{Call};
 ghost use Rattle.kw_world.specs.Local.{resting};
@@ -33,7 +34,8 @@ fn idle(alloc: Global) -> Result<World, Memory>
     World::open(alloc, 3, 2, 7, 9)
 }
 
-// A scan of the keys 2 to 9 at version 5 has one cell left of its row, which it remembers: of key 4 and version 3, whose value it is to load.
+// A scan of the keys 2 to 9 at version 5 has one cell left of its row, which it remembers: of key 4
+// and version 3, whose value it is to load.
 fn at_a_value(alloc: Global) -> Local
     ensures ranges { IsLocal product result }
     ensures room { HasRoom product result }
@@ -47,6 +49,27 @@ fn at_a_value(alloc: Global) -> Local
     local.place_version = 3;
     local.place_key = 4;
     local
+}
+
+// A put in a pass of epoch 2 has cleared its entry of row 2 next.
+fn at_its_end(alloc: Global) -> Local
+    ensures ranges { IsLocal product result }
+    ensures room { HasRoom product result }
+    ensures at { result.activity ≡ Activity.PutClear }
+{
+    let mut local = Local::idle(alloc);
+    local.activity = Activity::PutClear;
+    local.call = Some(Call::Put(5, 10));
+    local.epoch = 2;
+    local.row = 2;
+    local
+}
+
+// Where a put goes on from there, in a table of so many rows, and whether it tidies.
+fn ends(alloc: Global, rows: u32, choice: Choice) -> Result<(Activity, bool), Memory> {
+    let mut local = at_its_end(alloc);
+    put_resume(&mut local, rows, choice, 0)?;
+    Ok((local.activity, local.tidies))
 }
 
 // Seat 1 makes an event on its row, with this choice.
@@ -90,11 +113,26 @@ fn an_idle_seat_that_begins_nothing_is_skipped(rt: HostRuntime) -> Result<(), Fa
 #[test]
 fn a_scan_has_the_pairs_of_a_row_at_its_last_cell(rt: HostRuntime) -> Result<(), Fail> {
     let mut local = at_a_value(rt.alloc());
-    let done = put_resume(&mut local, Choice::Go, pack_value(Some(42)))?;
+    let done = put_resume(&mut local, 3, Choice::Go, pack_value(Some(42)))?;
     assert_eq!(rt;
         (done, local.activity),
         (StepDone::Moved, Activity::ClearScan(Answer::Pairs))
     );
     assert_eq!(rt; local.pairs.pairs(), [(4, 42)].as_slice());
+    Ok(())
+}
+
+// Twice 32 rows are 64: in a pass of epoch 2 a table of 63 rows has few enough, one of 64 has not.
+#[test]
+fn a_done_put_tidies_its_own_row_in_a_table_of_few_enough(rt: HostRuntime) -> Result<(), Fail> {
+    let alloc = rt.alloc();
+    let few = ends(alloc, 63, Choice::Guess(2))?;
+    let many = ends(alloc, 64, Choice::Guess(2))?;
+    let other = ends(alloc, 63, Choice::Guess(1))?;
+    let leaves = (Activity::Leave(Answer::Done), false);
+    assert_eq!(rt;
+        (few, many, other),
+        ((Activity::BalClock, true), leaves, leaves)
+    );
     Ok(())
 }

@@ -122,7 +122,8 @@ fn a_stamped_cell_is_remembered(rt: HostRuntime) {
     assert_eq!(rt; local.rebalance.marks.as_slice(), [mark].as_slice());
 }
 
-// A seat has tried to give the version 6 to the scan of the last seat, which waited with the clock 4.
+// A seat has tried to give the version 6 to the scan of the last seat, which waited with the clock
+// 4.
 fn at_a_scan(alloc: Global) -> Local
     ensures ranges { IsLocal product result }
     ensures room { HasRoom product result }
@@ -143,7 +144,8 @@ fn the_version_of_a_helped_scan_is_needed(rt: HostRuntime) {
     assert_eq!(rt; local.rebalance.needed.as_slice(), [6].as_slice());
 }
 
-// A seat is about to read the value of the last cell of the full row, of key 45 and version 3, at the place 9.
+// A seat is about to read the value of the last cell of the full row, of key 45 and version 3, at
+// the place 9.
 fn at_the_last_cell(alloc: Global) -> Local
     ensures ranges { IsLocal product result }
     ensures room { HasRoom product result }
@@ -179,7 +181,8 @@ fn the_last_cell_is_kept_in_one_new_row(rt: HostRuntime) {
     assert_eq!(rt; local.rebalance.starts.as_slice(), [0].as_slice());
 }
 
-// A seat needs one row, has asked two, of which row 1 was the last, knows the number 6, and does this next.
+// A seat needs one row, has asked two, of which row 1 was the last, knows the number 6, and does
+// this next.
 fn asking(alloc: Global, activity: Activity) -> Local
     requires activity { IsActivity product activity }
     ensures ranges { IsLocal product result }
@@ -258,7 +261,8 @@ fn a_pass_up_to_the_number_keeps_the_row_from_use(rt: HostRuntime) {
     assert_eq!(rt; by_the_last.activity, Activity::Seek);
 }
 
-// a row that was retired with the number 6 has the word 5 + 8 * 6, a free one the word 0, and a normal one the word 2
+// a row that was retired with the number 6 has the word 5 + 8 * 6, a free one the word 0, and a
+// normal one the word 2
 #[test]
 fn a_row_that_is_freed_is_tried(rt: HostRuntime) {
     let freeing = asking(rt.alloc(), Activity::Reclaim);
@@ -291,8 +295,9 @@ fn tombstone(key: u32, version: u64) -> Cell
     }
 }
 
-// A seat has two new rows, 3 and 5, of three kept cells and of one, and does this next, with the first or the second at hand. The full
-// row is row 2, whose least key is 40, and after it stands row 7.
+// A seat has two new rows, 3 and 5, of three kept cells and of one, and does this next, with the
+// first or the second at hand. The full row is row 2, whose least key is 40, and after it stands
+// row 7.
 fn with_new_rows(alloc: Global, activity: Activity, at: usize) -> Local
     requires activity { IsActivity product activity }
     requires done { IsTakingRows activity → ⊥ }
@@ -337,7 +342,8 @@ fn stored(local: Local) -> Option<(Name, u64)>
     }
 }
 
-// the list of the first row is 45 at 3, 45 at 1, 47 at 2: the places 1, 0, 2, whose links have the words 2, 1, 3
+// the list of the first row is 45 at 3, 45 at 1, 47 at 2: the places 1, 0, 2, whose links have the
+// words 2, 1, 3
 #[test]
 fn a_new_row_is_listed_by_falling_version(rt: HostRuntime) {
     let links = [

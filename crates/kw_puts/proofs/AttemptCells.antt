@@ -1,4 +1,5 @@
--- Every event keeps what holds of the cells of attempts: which attempt has which cell, and what stands there.
+-- Every event keeps what holds of the cells of attempts: which attempt has which cell, and what
+-- stands there.
 use Rattle.std.proofs.Common.{ℕ, ◌≡◌, ◌≢◌, ◌⊎◌, inl, inr, ◌+◌, ◌<◌, ◌≤◌, Bool, true, false, Option, Some, None, arith, refl, sym, ◌∙◌, ap, subst, length}
 use Rattle.std.proofs.lemmas.Bool.{cases_eq, cases_lt}
 use Rattle.std.proofs.lemmas.Option.{same_Some}
@@ -35,10 +36,8 @@ use Rattle.kw_puts.proofs.HereStays.{here_was}
 use Rattle.kw_puts.proofs.Owners.{true_false, is_own, own_origin, row_linked, was_or_not}
 use Rattle.kw_puts.proofs.Rely.{SameAttempt, GoesOn}
 use Rattle.kw_puts.proofs.RelyProof.{key_puts, value_puts, version_puts, goes_on_by, rely_version}
-use Rattle.kw_shape.proofs.RowsStay.{holds_first, holds_stays}
-use Rattle.kw_shape.proofs.LinkedRows.{was_below}
+use Rattle.kw_shape.proofs.LinkedRows.{holds_first, holds_stays, was_below, linked_keeps}
 use Rattle.kw_puts.proofs.Relinked.{PlacesAt, new_places}
-use Rattle.kw_shape.proofs.LinkedRows.{linked_keeps}
 use Rattle.kw_shape.proofs.LinkedWords.{linked_given, linked_key, linked_value, linked_version}
 use Rattle.kw_puts.proofs.OwnAttempts.{acting_own}
 use Rattle.kw_puts.proofs.NewAttempts.{IsGiving, IsNew, attempt_was, announced_was, one_more_is, one_more_within, given_was, given_more, origin_new, origin_was, no_room_frozen, stays_frozen}
@@ -135,7 +134,8 @@ module _ (z : Sizes) (r r' : Run) (s : ℕ) (choice : Choice) (l : Local) (a : A
         born = fresh_born q p k n u;
       }
 
-  -- no seat writes into a copy: the cell into which it stores a key, a value or a version is its own
+  -- no seat writes into a copy: the cell into which it stores a key, a value or a version is its
+  -- own
   not_own : (q c p : ℕ) → r.origin q c ≡ Some p → (attempt r.history p).add < (r.ledger.rows.fates q).born → IsPutting a → q ≡ l.row → c ≡ l.cell → ⊥
   not_own q c p e d y f g =
       let m : IsPutting l.activity = subst IsPutting (sym h.activity) y in
@@ -160,7 +160,8 @@ module _ (z : Sizes) (r r' : Run) (s : ℕ) (choice : Choice) (l : Local) (a : A
         version = linked_version a h i.shape q c k o (λ y f g. not_own q c p e x.earlier (version_puts a y) f g) ∙ x.version ∙ sym stamped.1;
       }
 
-  -- what was known of the cells of the row before the event is known after it; a row that is linked now is none of these
+  -- what was known of the cells of the row before the event is known after it; a row that is linked
+  -- now is none of these
   module _ (q : ℕ) (k : WasLinked r.ledger.rows q) where
     -- a cell is that of an attempt, or a copy
     owner_keeps : WasLinked r'.ledger.rows q → (c p : ℕ) → c < z.cells → r'.origin q c ≡ Some p → HasCell r'.ledger.rows r'.history q c p ⊎ IsCopyAt (word z r'.world) r'.ledger.rows r'.history q c p
@@ -285,7 +286,8 @@ module _ (z : Sizes) (r r' : Run) (s : ℕ) (choice : Choice) (l : Local) (a : A
     pub places_at : WasLinked r'.ledger.rows q → PlacesAt z (word z r'.world) r'.ledger.rows r'.history r'.origin q
     places_at k' = record { owner = owner_keeps k'; given = place_keeps; nobody = nobody_keeps; unstored = unstored_keeps; above = above_keeps; rank = rank_keeps }
 
--- whose the cells are of each row that is or was linked: of one that was before the event, and of one that the event links
+-- whose the cells are of each row that is or was linked: of one that was before the event, and of
+-- one that the event links
 pub places_keep : (z : Sizes) (r r' : Run) (s : ℕ) (choice : Choice) (l : Local) (a : Activity) (l' : Local) → Happens z r r' s choice l l' a → Below z r → Step r.history r'.history (log_entry z r a s choice l) → Places z (word z r'.world) r'.ledger.rows r'.history r'.origin
 places_keep z r r' s choice l a l' h i st = record {
   owner = λ q c p k o e. (at q k).owner c p o e;

@@ -1,4 +1,5 @@
--- A row whose links were written from rising cells is a list of them all; and so is a new row of which every word is written.
+-- A row whose links were written from rising cells is a list of them all; and so is a new row of
+-- which every word is written.
 use Rattle.std.proofs.Common.{ℕ, zero, suc, Bool, true, false, ◌≡◌, ◌<◌, ◌≤◌, ◌+◌, ◌-◌, ◌⊎◌, ◌&&◌, eqb, ltb, leb, count_by, if◌then◌else◌, List, Option, Some, None, refl, sym, ap, subst, ◌∙◌, arith, length, drop, take, slice_get, get_or, inl, inr}
 use Rattle.std.specs.Prelude.{All}
 use Rattle.std.proofs.lemmas.List.{get_or-drop, get_or-take, length-drop, length-take}

@@ -1,5 +1,5 @@
--- Where a seat is not that builds new rows, or has just done so: it is on no way to a row, reads none, and is no scan that waits, settles or has
--- its version.
+-- Where a seat is not that builds new rows, or has just done so: it is on no way to a row, reads
+-- none, and is no scan that waits, settles or has its version.
 use Rattle.std.proofs.Common.{ℕ, ◌≡◌, ◌≢◌, Option, Some, None}
 use Rattle.kw_words.specs.declared.layout.Name.TheVariants as name
 use Rattle.kw_world.specs.declared.activity.Activity.{Activity}

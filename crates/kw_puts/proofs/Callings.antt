@@ -1,11 +1,12 @@
--- The call of a busy seat over its own event: it runs on, and what it has for a put is its own attempt.
-use Rattle.std.proofs.Common.{ℕ, ◌≡◌, ◌⊎◌, inl, inr, ◌+◌, ◌<◌, false, Option, Some, None, [], ◌∷◌, ◌++◌, arith, refl, sym, ◌∙◌, ap, subst, length, length-append}
+-- The call of a busy seat over its own event: it runs on, and what it has for a put is its own
+-- attempt.
+use Rattle.std.proofs.Common.{ℕ, ◌≡◌, ◌⊎◌, inl, inr, ◌+◌, ◌<◌, true, false, Option, Some, None, [], ◌∷◌, ◌++◌, arith, refl, sym, ◌∙◌, ap, subst, length, length-append}
 use Rattle.std.proofs.lemmas.Option.{same_Some}
 use Rattle.kw_words.specs.declared.layout.Name.TheVariants as name
 use Rattle.kw_model.specs.declared.call.Call.{Call}
 use Rattle.kw_model.specs.declared.call.Call.TheVariants.{Put, Del, Get, Scan}
 use Rattle.kw_world.specs.declared.activity.Activity.{Activity}
-use Rattle.kw_world.specs.declared.activity.Activity.TheVariants.{Idle, Enter, LookHelp, Stamp, PutClear, Leave}
+use Rattle.kw_world.specs.declared.activity.Activity.TheVariants.{Idle, Enter, ScanSettle, Look, LookHelp, ListFrom, ListKey, RestKey, RestVal, PutAdd, Stamp, PutClear, Leave}
 use Rattle.kw_world.specs.declared.local.Local.{Local}
 use Rattle.kw_world.specs.declared.event.Choice.{Choice}
 use Rattle.kw_world.specs.declared.event.Choice.TheVariants.{Begin}
@@ -18,9 +19,9 @@ use Rattle.kw_core.specs.HistoryLaws.{Makes as MakesPut}
 use Rattle.kw_core.specs.declared.history.Change.{Change}
 use Rattle.kw_core.specs.Noted.{noted}
 use Rattle.kw_core.specs.Step.{Keeps}
-use Rattle.kw_core.specs.Run.{Run, Origins, beginning, log_begun}
+use Rattle.kw_core.specs.Run.{Run, Origins, beginning, log_begun, seat_after}
 use Rattle.kw_core.specs.declared.seat_log.SeatLog.{SeatLog}
-use Rattle.kw_core.specs.Stages.{IsBusy, IsPutting, IsPublished, IsStamp, IsStamped, IsPutClear, IsDone, IsHelp, IsUnderway}
+use Rattle.kw_core.specs.Stages.{IsBalancing, IsBusy, IsPutting, IsPublished, IsStamp, IsStamped, IsPutClear, IsDone, IsHelp, IsUnderway}
 use Rattle.kw_shape.specs.Shape.{IsReadCall, IsKind}
 use Rattle.kw_puts.specs.Positions.{Calling}
 use Rattle.kw_puts.specs.Below.{Below}
@@ -29,7 +30,7 @@ use Rattle.kw_core.proofs.Attempts.{in_range}
 use Rattle.kw_core.proofs.NotedLaws.{called_set_same, called_push_old, called_push_new, called_same}
 use Rattle.kw_core.proofs.Steps.{old_call}
 use Rattle.kw_core.proofs.Changes.{Makes, made, makes_nothing, makes_begin, makes_add, makes_announce, makes_stamp, makes_help, makes_end, makes_lose}
-use Rattle.kw_core.proofs.Happens.{log_entry}
+use Rattle.kw_core.proofs.Happens.{found_at, log_entry}
 use Rattle.kw_puts.proofs.RelyEntry.{put_runs}
 use Rattle.kw_puts.proofs.RelyProof.{goes_on_by}
 use Rattle.kw_puts.proofs.Owners.{true_false}
@@ -38,7 +39,7 @@ use Rattle.kw_puts.proofs.Rely.{SameCall}
 use Rattle.kw_core.proofs.Happens.{Happens}
 use Rattle.kw_core.proofs.Arrows.{Arrow, IsNotOwn}
 use Rattle.kw_core.proofs.SeatLogs.{call_kept, own_kept}
-use Rattle.kw_shape.proofs.NextCalls.{arrow_call, arrow_published, arrow_done}
+use Rattle.kw_shape.proofs.NextCalls.{arrow_call, arrow_published, arrow_done, arrow_tidies, arrow_from}
 
 -- Where a seat is.
 
@@ -102,11 +103,23 @@ put_after h h' e z v s choice l g o a c (makes_help j m k) n w f r p q = absurd 
 put_after h h' e z v s choice l g o a c (makes_lose i cell j x m k) n w f r p q = inl (ap (λ (y : CallLog). y.put) (sym (called_same h h' g.call (ap (λ (y : History). y.calls) n))) ∙ q)
 put_after h h' e z v s choice l g o a c (makes_end answer) n w f r p q = inl (ap (λ (y : CallLog). y.put) (sym (called_set_same h h' g.call _ (ap (λ (y : History). y.calls) n) w)) ∙ q)
 
+-- a seat that rebalances keeps its own attempt
+own_balancing : (z : Sizes) (choice : Choice) (l : Local) (found : ℕ) (next : Activity) (g : SeatLog) (o : Origins) (h : History) (settled : ℕ) (a : Activity) → IsBalancing a → (seat_after z a choice l found next g o h settled).own ≡ g.own
+own_balancing z choice l found next g o h settled Idle u = absurd u
+own_balancing z choice l found next g o h settled ScanSettle u = absurd u
+own_balancing z choice l found next g o h settled (Look i) u = absurd u
+own_balancing z choice l found next g o h settled ListFrom u = absurd u
+own_balancing z choice l found next g o h settled ListKey u = absurd u
+own_balancing z choice l found next g o h settled RestKey u = absurd u
+own_balancing z choice l found next g o h settled RestVal u = absurd u
+own_balancing z choice l found next g o h settled PutAdd u = absurd u
+own_balancing z choice l found next g o h settled _ u = refl
+
 -- The call after the event.
 
 -- a call that begins
-pub calling_begins : (z : Sizes) (r r' : Run) (s : ℕ) (choice : Choice) (l l' : Local) (call : Call) → choice ≡ Begin call → l'.call ≡ Some call → l'.number ≡ l.number + 1 → l'.activity ≡ Enter → Happens z r r' s choice l l' Idle → Calling r'.history s l'.activity l' (r'.seats s)
-calling_begins z r r' s choice l l' call c f m a h = subst (λ q. Calling r'.history s l'.activity l' q) (sym log) (record {
+pub calling_begins : (z : Sizes) (r r' : Run) (s : ℕ) (choice : Choice) (l l' : Local) (call : Call) → choice ≡ Begin call → l'.call ≡ Some call → l'.number ≡ l.number + 1 → l'.activity ≡ Enter → (l'.tidies ≡ true → ⊥) → Happens z r r' s choice l l' Idle → Calling r'.history s l'.activity l' (r'.seats s)
+calling_begins z r r' s choice l l' call c f m a rests h = subst (λ q. Calling r'.history s l'.activity l' q) (sym log) (record {
   within = omega (arith, ap length calls, length-append r.history.calls (new ∷ []));
   seat = ap (λ (q : CallLog). q.seat) is_new;
   number = ap (λ (q : CallLog). q.number) is_new ∙ sym m;
@@ -114,9 +127,13 @@ calling_begins z r r' s choice l l' call c f m a h = subst (λ q. Calling r'.his
   runs = ap (λ (q : CallLog). q.end) is_new;
   own = λ p q. absurd (no_put p q);
   published = λ p q. absurd (no_put p q);
-  done = λ d. let x : IsDone Enter = subst IsDone a d in absurd x;
+  done = λ d. absurd (not_yet d);
 })
   where
+    not_yet : IsDone l'.activity ⊎ (l'.tidies ≡ true) → ⊥
+    not_yet (inl d) = let x : IsDone Enter = subst IsDone a d in x
+    not_yet (inr d) = rests d
+
     new : CallLog
     new = record { seat = s; number = l.number + 1; call = call; first = length r.history.log; end = None; put = None; answer = None; draw = None }
 
@@ -167,16 +184,31 @@ module _ (z : Sizes) (r r' : Run) (s : ℕ) (choice : Choice) (l : Local) (a : A
       stamp_puts Stamp y = tt
       stamp_puts _ y = absurd y
 
+  -- a seat that tidies rebalances its row
+  tidying : l.tidies ≡ true → IsBalancing a
+  tidying e = which (i.shape.tidies s l h.knows e)
+    where
+      which : IsBalancing l.activity ⊎ IsDone l.activity → IsBalancing a
+      which (inl y) = subst IsBalancing h.activity y
+      which (inr y) = absurd (done_ends a (subst IsDone h.activity y) u)
+
+  -- its attempt stays its own
+  own_stays : IsPublished a ⊎ IsBalancing a × (l.tidies ≡ true) → (seat_after z a choice l (found_at z (word z r.world) a s choice l) l'.activity (r.seats s) r.origin r.history (r.settled s)).own ≡ (r.seats s).own
+  own_stays (inl y) = own_kept z choice l _ l'.activity (r.seats s) r.origin r.history (r.settled s) a y
+  own_stays (inr y) = own_balancing z choice l _ l'.activity (r.seats s) r.origin r.history (r.settled s) a y.0
+
   -- a put of the call is the seat's own attempt, which was announced
-  is_published : (p : ℕ) → ((called r.history (r.seats s).call).put ≡ Some p) ⊎ IsStamp a × ((r.seats s).own ≡ p) → IsPublished a × ((r.seats s).own ≡ p)
+  is_published : (p : ℕ) → ((called r.history (r.seats s).call).put ≡ Some p) ⊎ IsStamp a × ((r.seats s).own ≡ p) → (IsPublished a ⊎ IsBalancing a × (l.tidies ≡ true)) × ((r.seats s).own ≡ p)
   is_published p (inl e) = (which (x.published p e), x.own p e)
     where
-      which : IsPublished l.activity ⊎ IsDone l.activity → IsPublished a
-      which (inl y) = subst IsPublished h.activity y
-      which (inr y) = absurd (done_ends a (subst IsDone h.activity y) u)
-  is_published p (inr e) = (stamp_published a e.0, e.1)
+      which : IsPublished l.activity ⊎ IsDone l.activity ⊎ (l.tidies ≡ true) → IsPublished a ⊎ IsBalancing a × (l.tidies ≡ true)
+      which (inl y) = inl (subst IsPublished h.activity y)
+      which (inr (inl y)) = absurd (done_ends a (subst IsDone h.activity y) u)
+      which (inr (inr y)) = inr (tidying y, y)
+  is_published p (inr e) = (inl (stamp_published a e.0), e.1)
 
-  -- an attempt that is the put of the call was not lost, so its seat finds its entry its own where it is about to stamp
+  -- an attempt that is the put of the call was not lost, so its seat finds its entry its own where
+  -- it is about to stamp
   not_lost : (p : ℕ) → (called r'.history (r.seats s).call).put ≡ Some p → (r.seats s).own ≡ p → a ≡ Stamp → IsNotOwn l.cell (word z r.world (name.Pend l.row s)) → ⊥
   not_lost p q e stamp n =
       let own = i.puts.owns s l h.knows (subst IsPutting (sym (h.activity ∙ stamp)) tt) in
@@ -192,6 +224,30 @@ module _ (z : Sizes) (r r' : Run) (s : ℕ) (choice : Choice) (l : Local) (a : A
       let put = i.history.laws.has_put (r.seats s).own (own.stamped (subst IsStamped (sym h.activity) c.1)) in
       (old_call r.history r'.history _ st (r.seats s).call x.within).put (r.seats s).own (subst (λ y. (called r.history y).put ≡ Some (r.seats s).own) own.call put)
 
+  -- it goes on so, is done, or tidies
+  goes : (IsNotOwn l.cell (word z r.world (name.Pend l.row s)) → a ≡ Stamp → ⊥) → IsPublished a ⊎ IsBalancing a × (l.tidies ≡ true) → IsPublished l'.activity ⊎ IsDone l'.activity ⊎ (l'.tidies ≡ true)
+  goes f (inl y) = which (arrow_published z (word z r.world) s choice l a l' b f y)
+    where
+      which : IsPublished l'.activity ⊎ IsDone l'.activity ⊎ IsBalancing l'.activity × (l'.tidies ≡ true) → IsPublished l'.activity ⊎ IsDone l'.activity ⊎ (l'.tidies ≡ true)
+      which (inl y) = inl y
+      which (inr (inl y)) = inr (inl y)
+      which (inr (inr y)) = inr (inr y.1)
+  goes f (inr y) = which (arrow_tidies z (word z r.world) s choice l a l' b y.0 y.1)
+    where
+      which : IsDone l'.activity ⊎ IsBalancing l'.activity × (l'.tidies ≡ true) → IsPublished l'.activity ⊎ IsDone l'.activity ⊎ (l'.tidies ≡ true)
+      which (inl y) = inr (inl y)
+      which (inr y) = inr (inr y.1)
+
+  -- where it is done or tidies now, it has cleared its entry, or tidied before
+  came : IsDone l'.activity ⊎ (l'.tidies ≡ true) → IsPutClear a ⊎ (l.tidies ≡ true)
+  came (inl d) = arrow_done z (word z r.world) s choice l a l' b kind d
+  came (inr e) = arrow_from z (word z r.world) s choice l a l' b e
+
+  -- and has a put
+  put_there : IsPutClear a ⊎ (l.tidies ≡ true) → (p : ℕ) × ((called r'.history (r.seats s).call).put ≡ Some p)
+  put_there (inl y) = ((r.seats s).own, done_put y)
+  put_there (inr e) = let d = x.done (inr e) in (d.0, (old_call r.history r'.history _ st (r.seats s).call x.within).put d.0 d.1)
+
   -- the call after the event
   pub calling_goes_on : Calling r'.history s l'.activity l' (r'.seats s)
   calling_goes_on =
@@ -204,9 +260,9 @@ module _ (z : Sizes) (r r' : Run) (s : ℕ) (choice : Choice) (l : Local) (a : A
         runs = rw same_call (runs_on r.history r'.history _ z (word z r.world) s choice l (r.seats s) r.origin a _ (made z (word z r.world) s choice l (r.seats s) r.origin a) u h.history (r.seats s).call x.within ∙ x.runs);
         own = λ p q.
             let y = is_published p (its_put p (subst (λ c. (called r'.history c).put ≡ Some p) same_call q)) in
-            ap (λ (q : SeatLog). q.own) h.log ∙ own_kept z choice l _ l'.activity (r.seats s) r.origin r.history (r.settled s) a y.0 ∙ y.1;
+            ap (λ (q : SeatLog). q.own) h.log ∙ own_stays y.0 ∙ y.1;
         published = λ p q.
             let y = is_published p (its_put p (subst (λ c. (called r'.history c).put ≡ Some p) same_call q)) in
-            arrow_published z (word z r.world) s choice l a l' b (λ n e. not_lost p (subst (λ c. (called r'.history c).put ≡ Some p) same_call q) y.1 e n) y.0;
-        done = λ d. ((r.seats s).own, rw same_call (done_put (arrow_done z (word z r.world) s choice l a l' b kind d)));
+            goes (λ n e. not_lost p (subst (λ c. (called r'.history c).put ≡ Some p) same_call q) y.1 e n) y.0;
+        done = λ d. rw same_call (put_there (came d));
       }

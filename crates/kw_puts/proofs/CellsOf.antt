@@ -1,5 +1,5 @@
--- What is in a cell that stands for an attempt, be it the attempt's own or a copy; and how the attempts of one row follow each other by their
--- cells.
+-- What is in a cell that stands for an attempt, be it the attempt's own or a copy; and how the
+-- attempts of one row follow each other by their cells.
 use Rattle.std.proofs.Common.{ℕ, ◌≡◌, ◌≢◌, ◌⊎◌, inl, inr, ◌<◌, ◌≤◌, true, Some, arith, sym, ◌∙◌, ap, length}
 use Rattle.std.proofs.lemmas.Bool.{cases_eq, cases_lt}
 use Rattle.kw_words.specs.declared.layout.Name.TheVariants as name
@@ -35,8 +35,9 @@ module _ {z : Sizes} {r : Run} (i : Puts z r) where
       (b.stamped m, rw (x.row, x.cell) at (b.version m))
   cell_version q c p (inr x) n = (x.stamped, x.version)
 
-  -- of two cells of a row whose attempts are of one key and one version, the attempt of the later cell was added later: copies stand before own
-  -- cells and rise, what is copied was stamped before the row was linked, and own cells are given one after the other
+  -- of two cells of a row whose attempts are of one key and one version, the attempt of the later
+  -- cell was added later: copies stand before own cells and rise, what is copied was stamped before
+  -- the row was linked, and own cells are given one after the other
   pub place_order : Keeps r.history → (q c d p p' : ℕ) → WasLinked r.ledger.rows q → c < d → d < z.cells → r.origin q c ≡ Some p → r.origin q d ≡ Some p' → (attempt r.history p).key ≡ (attempt r.history p').key → (attempt r.history p).version ≡ (attempt r.history p').version →
       (attempt r.history p).add < (attempt r.history p').add
   place_order k q c d p p' n o w e f x y = which (i.places.owner q c p n (omega (arith, o, w)) e) (i.places.owner q d p' n w f)

@@ -1,8 +1,10 @@
--- What the cells of new rows stand for, and which of them are listed, after each event of the seat that writes them, and after those of others.
+-- What the cells of new rows stand for, and which of them are listed, after each event of the seat
+-- that writes them, and after those of others.
 --
--- A row at hand has no listed cell when its count is written. A copy stands for the attempt of the cell at which it was gathered from the
--- event on that writes its version, and it is listed by the one that writes the link behind it. So of a row that is written whole all is
--- known, until it is linked or given back.
+-- A row at hand has no listed cell when its count is written. A copy stands for the attempt of the
+-- cell at which it was gathered from the event on that writes its version, and it is listed by the
+-- one that writes the link behind it. So of a row that is written whole all is known, until it is
+-- linked or given back.
 use Rattle.std.proofs.Common.{ℕ, ◌≡◌, ◌≢◌, ◌⊎◌, inl, inr, ◌+◌, ◌-◌, ◌<◌, ◌≤◌, true, false, List, Option, Some, None, arith, refl, sym, ◌∙◌, ap, subst, length, slice_get, slice_index}
 use Rattle.std.specs.Prelude.{All}
 use Rattle.std.proofs.lemmas.Bool.{cases_eq, cases_lt}
@@ -33,11 +35,11 @@ use Rattle.kw_core.specs.Step.{Step}
 use Rattle.kw_core.specs.Words.{Words}
 use Rattle.kw_core.proofs.Attempts.{in_range}
 use Rattle.kw_core.proofs.Arrows.{builds, Arrow, NextLook, looks, lists, NextRest, rests, answers, ends_scan, scans_on, meets_stamped, meets_neither, is_passed, helps, finds_stamped, finds_other, list_ends, key_above, rest_passed, gathers_rest}
-use Rattle.kw_core.proofs.Building.{Building, first_is_free, first_is_taken, sought_is_free, sought_is_taken, first_is_retired, sought_is_retired, pass_is_old, pass_is_young, frees_row, takes_row, loses_row, gives_one_back, gives_last_back, writes_link, begins_before, guesses_before, guess_before_fails, before_serves, before_is_above, takes_head_before, leads_to_full, leads_on_marked, leads_to_other, leads_nowhere, walks_before, walks_past, replaces_row, is_marked_before, is_replaced, makes_normal, makes_last_normal, draws_number, retires_row}
+use Rattle.kw_core.proofs.Building.{Building, first_is_free, first_is_taken, sought_is_free, sought_is_taken, first_is_retired, sought_is_retired, pass_is_old, pass_is_young, frees_row, takes_row, loses_row, gives_one_back, gives_last_back, writes_link, begins_before, guesses_before, guess_before_fails, before_serves, before_is_above, takes_head_before, leads_to_full, leads_on_marked, leads_to_other, leads_nowhere, walks_before, walks_past, replaces_row, is_marked_before, is_replaced, makes_normal, makes_last_normal, draws_number, retires_row, retires_and_leaves}
 use Rattle.kw_core.proofs.Building as built
 use Rattle.kw_core.proofs.Copies.{ChangesListed, ChangesOrigin, copy_listed, listed_stays, none_listed_yet, origin_copied, origin_stays, rest_unlisted}
 use Rattle.kw_core.proofs.Happens.{Happens, each_seat, log_entry}
-use Rattle.kw_core.proofs.NextBuilt.{GivenBack, is_refused_rows, moves_left, tries_again, NextBack, gives_back, has_none, NextBefore, is_behind, is_first, NextSeek, asks, has_asked, NextPass, has_looked, looks_on, NextTaken, has_enough, wants_more, NextNewCell, empties, fills, has_cells, NextNewEntry, has_entries, writes_idle, NextNewRow, has_written, writes_row}
+use Rattle.kw_core.proofs.NextBuilt.{GivenBack, is_refused_rows, moves_left, tries_again, NextBack, gives_back, has_none, NextBefore, is_behind, is_first, NextSeek, asks, has_asked, NextPass, has_looked, looks_on, NextTaken, has_enough, wants_more, NextNewCell, empties, fills, has_cells, NextNewEntry, has_entries, writes_idle, NextNewRow, has_written, writes_row, was_done, was_served}
 use Rattle.kw_core.proofs.Steps.{old_stays}
 use Rattle.kw_shape.specs.Infants.{HasCount, HasVersion, HasAfter, HasAtHand, Infants, IsInfantOf, IsNursed, IsWhole, IsWriting, Links, Nursing, Writes, nursing_of}
 use Rattle.kw_shape.specs.Shape.{Shape}
@@ -60,8 +62,8 @@ cell_lasts h h' e st c p x =
 
 -- Of one row.
 
--- what is known of a row stays where its cells and those of the full row stand for the same attempts, the same ones are listed, and no more is said
--- of it
+-- what is known of a row stays where its cells and those of the full row stand for the same
+-- attempts, the same ones are listed, and no more is said of it
 pub copied_goes : (z : Sizes) (h h' : History) (e : Logged) (o o' : Origins) (f f' : Listed) (a b : Activity) (l k : Local) (q : ℕ) → Step h h' e → infant_cells k ≡ infant_cells l → k.row ≡ l.row →
     ((j : ℕ) → j < z.cells → HasVersion b j → HasVersion a j) → ((j : ℕ) → j < length (infant_cells l) → HasAfter b j → HasAfter a j) → (HasCount b → HasCount a × ((j : ℕ) → HasAfter a j → HasAfter b j)) →
     ((j : ℕ) → o' q j ≡ o q j) → ((c : ℕ) → o' l.row c ≡ o l.row c) → ((j : ℕ) → f' q j ≡ f q j) → Copied z h o f a l q → Copied z h' o' f' b k q
@@ -114,7 +116,8 @@ module _ {z : Sizes} {r r' : Run} {s : ℕ} {choice : Choice} {l l' : Local} {e 
     unlisted = λ n j m. let x : true ≡ false = sym m ∙ none_listed_yet h j in absurd (cc);
   }
 
-  -- one more copy stands for the attempt of the cell at which it was gathered, or the place for none
+  -- one more copy stands for the attempt of the cell at which it was gathered, or the place for
+  -- none
   pub copies_version : (i : ℕ) → Happens z r r' s choice l l' (WriteVersion i) → (l.row ≡ infant l → ⊥) → All (IsGathered r.history r.origin l.row) (infant_cells l) → Copied z r.history r.origin r.listed (WriteVersion i) l (infant l) → Copied z r'.history r'.origin r'.listed (WriteAfter i) l (infant l)
   copies_version i h apart gathered x = record {
     origin = λ j c u m g. which j c u m g (cases_eq j i);
@@ -177,7 +180,8 @@ module _ {z : Sizes} {r r' : Run} {s : ℕ} {choice : Choice} {l l' : Local} {e 
 
 -- All rows that a seat took.
 
--- what the cells stand for of those that are written whole, and of the one at hand: two parts of what a seat that rebalances knows
+-- what the cells stand for of those that are written whole, and of the one at hand: two parts of
+-- what a seat that rebalances knows
 pub record Copying (z : Sizes) (h : History) (o : Origins) (f : Listed) (a : Activity) (l : Local) : Type 0 where
   pub whole : (i q : ℕ) → IsWhole (nursing_of a) l i → slice_get l.rebalance.taken i ≡ Some q → Copied z h o f Before (at_infant i l) q
   pub words : IsWriting (nursing_of a) → Copied z h o f a l (infant l)
@@ -214,8 +218,10 @@ module _ (z : Sizes) (h : History) (o : Origins) (f : Listed) where
   -- What follows where a part has no event of its own.
 
   copies_given : (c : Afterwards) (k next : Local) → GivenBack k c next → Copying z h o f next.activity next
-  copies_given c k next tries_again = copies_nowhere Again _ (λ i w. w) (λ w. w)
-  copies_given c k next is_refused_rows = copies_nowhere (Leave _) _ (λ i w. w) (λ w. w)
+  copies_given c k next (tries_again nd) = copies_nowhere Again _ (λ i w. w) (λ w. w)
+  copies_given c k next (was_done dn) = copies_nowhere (Leave _) _ (λ i w. w) (λ w. w)
+  copies_given c k next (is_refused_rows nd) = copies_nowhere (Leave _) _ (λ i w. w) (λ w. w)
+  copies_given c k next (was_served dn) = copies_nowhere (Leave _) _ (λ i w. w) (λ w. w)
   copies_given c k next moves_left = copies_nowhere BalClock _ (λ i w. w) (λ w. w)
 
   copies_back : (c : Afterwards) (k next : Local) → NextBack c k next → Copying z h o f next.activity next
@@ -267,7 +273,8 @@ module _ (z : Sizes) (h : History) (o : Origins) (f : Listed) where
     copies_entry n next (has_entries m u y) x = copies_cell 0 m y (record { whole = x.whole; words = copied_entries z h o f l (infant l) n x.words })
 
 module _ {z : Sizes} {r r' : Run} {s : ℕ} {choice : Choice} {l k : Local} {e : Logged} (st : Step r.history r'.history e) where
-  -- an event that writes a word of the row at hand, and changes no copy and no listed cell of another one
+  -- an event that writes a word of the row at hand, and changes no copy and no listed cell of
+  -- another one
   copies_on : (a b : Activity) → Happens z r r' s choice l k a → nursing_of a ≡ Writes → ((q c : ℕ) → (q ≡ infant l → ⊥) → ChangesOrigin a l q c → ⊥) → ((q c : ℕ) → (q ≡ infant l → ⊥) → ChangesListed a l q c → ⊥) →
       Infants z (word z r.world) r.ledger.rows s a l → (l.row ≡ infant l → ⊥) → Copying z r.history r.origin r.listed a l → (Copied z r.history r.origin r.listed a l (infant l) → Copied z r'.history r'.origin r'.listed b l (infant l)) → Copies z r'.history r'.origin r'.listed l b
   copies_on a b h w origins listed n row x f =
@@ -356,7 +363,8 @@ module _ {z : Sizes} {r r' : Run} {s : ℕ} {choice : Choice} {l : Local} {e : L
   copies_own a k (makes_normal o) h n p w x = copies_nowhere z r'.history r'.origin r'.listed Normalise _ (λ i w. w) (λ w. w)
   copies_own a k (makes_last_normal o) h n p w x = copies_nowhere z r'.history r'.origin r'.listed Number _ (λ i w. w) (λ w. w)
   copies_own a k draws_number h n p w x = copies_nowhere z r'.history r'.origin r'.listed Retire _ (λ i w. w) (λ w. w)
-  copies_own a k retires_row h n p w x = copies_nowhere z r'.history r'.origin r'.listed Again _ (λ i w. w) (λ w. w)
+  copies_own a k (retires_row nd) h n p w x = copies_nowhere z r'.history r'.origin r'.listed Again _ (λ i w. w) (λ w. w)
+  copies_own a k (retires_and_leaves dn) h n p w x = copies_nowhere z r'.history r'.origin r'.listed (Leave _) _ (λ i w. w) (λ w. w)
 
 -- Events of another seat.
 

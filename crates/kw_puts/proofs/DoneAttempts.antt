@@ -1,4 +1,5 @@
--- Every event keeps what holds of the entries, of the attempts that are done, and of the attempt that a reader is to help.
+-- Every event keeps what holds of the entries, of the attempts that are done, and of the attempt
+-- that a reader is to help.
 use Rattle.std.proofs.Common.{ℕ, ◌≡◌, ◌≢◌, ◌⊎◌, inl, inr, ◌<◌, Bool, true, false, arith, refl, sym, ◌∙◌, ap, subst, length, slice_get}
 use Rattle.std.proofs.lemmas.Bool.{cases_eq}
 use Rattle.std.proofs.lemmas.Option.{same_Some}
@@ -25,7 +26,7 @@ use Rattle.kw_core.specs.Step.{Step}
 use Rattle.kw_core.proofs.Happens.{log_entry}
 use Rattle.kw_core.proofs.Happens.{Happens, knows_next, knows_other, not_chosen}
 use Rattle.kw_core.proofs.Building.{IsBuilding}
-use Rattle.kw_core.proofs.Arrows.{builds, Arrow, takes_full, announces_full, stamps_full, IsNotOwn}
+use Rattle.kw_core.proofs.Arrows.{builds, Arrow, takes_full, announces_full, stamps_full, IsNotOwn, tidies}
 use Rattle.kw_core.proofs.Arrows.{takes_cell, stores_key, stores_value, announces, loads_clock, stamps, is_stamped, stores_version, meets_cell, meets_none, key_before, key_same, key_after, version_before, version_after, stores_after, inserts, loses, clears}
 use Rattle.kw_core.proofs.InfantFrames.{version_stays}
 use Rattle.kw_puts.proofs.Owners.{true_false}
@@ -79,7 +80,8 @@ building_puts Insert b p = absurd b
 building_puts PutClear b p = absurd b
 building_puts _ b p = absurd p
 
--- the attempt of a seat that puts stays its own, or the seat has cleared its entry, or it never gets a version
+-- the attempt of a seat that puts stays its own, or the seat has cleared its entry, or it never
+-- gets a version
 own_goes : (z : Sizes) (r r' : Run) (s : ℕ) (choice : Choice) (l : Local) (a : Activity) (l' : Local) → Arrow z (word z r.world) s choice l a l' → Happens z r r' s choice l l' a → Below z r → IsPutting a →
     IsPutting l'.activity × ((r'.seats s).own ≡ (r.seats s).own) ⊎ (a ≡ PutClear) ⊎ IsOver r'.history (r.seats s).own
 own_goes z r r' s choice l a l' (builds b next y t) h i p = building_puts b y p
@@ -103,6 +105,7 @@ own_goes z r r' s choice l a l' stores_after h i p = inl (tt, ap (λ g. g.own) h
 own_goes z r r' s choice l a l' (inserts y) h i p = inl (tt, ap (λ g. g.own) h.log)
 own_goes z r r' s choice l a l' (loses y) h i p = inl (tt, ap (λ g. g.own) h.log)
 own_goes z r r' s choice l a l' clears h i p = inr (inl refl)
+own_goes z r r' s choice l a l' (tidies rows e) h i p = inr (inl refl)
 own_goes z r r' s choice l a l' _ h i p = absurd p
 
 -- a seat that is given a cell puts it
@@ -151,7 +154,8 @@ module _ (z : Sizes) (r r' : Run) (s : ℕ) (choice : Choice) (l : Local) (a : A
       let stored = version_stays PutClear clearing l.row l.cell known.below.row known.ranges.cell (λ x. x) ∙ own.stored (subst IsStored (sym clearing.activity) tt) in
       record { stamped = g.0; version = λ x. rw (same.row, same.cell) (rw (own.row, own.cell) stored ∙ sym g.1) }
 
-  -- the own attempt of a seat that puts stays current, or its seat has cleared its entry, or it never gets a version: what holds of it then
+  -- the own attempt of a seat that puts stays current, or its seat has cleared its entry, or it
+  -- never gets a version: what holds of it then
   own_current : (P : ℕ → Type 0) → (a ≡ PutClear → P (r.seats s).own) → (IsOver r'.history (r.seats s).own → P (r.seats s).own) → (p : ℕ) → p < length r.history.attempts → (attempt r.history p).seat ≡ s → p ≡ (r.seats s).own → IsPutting a → IsCurrent (slice_get r'.world.locals) r'.seats r'.history p ⊎ P p
   own_current P cleared over p w e f m = met (own_goes z r r' s choice l a l' h.arrow h i m)
     where

@@ -1,4 +1,5 @@
--- Every event keeps what holds of the entries of a row, and of the attempt that a reader is to help.
+-- Every event keeps what holds of the entries of a row, and of the attempt that a reader is to
+-- help.
 use Rattle.std.proofs.Common.{ℕ, ◌≡◌, ◌≢◌, ◌⊎◌, inl, inr, ◌<◌, true, Some, arith, refl, sym, ◌∙◌, ap, subst, slice_get, length}
 use Rattle.std.proofs.lemmas.Bool.{cases_eq}
 use Rattle.std.proofs.lemmas.Option.{same_Some}
@@ -29,7 +30,7 @@ use Rattle.kw_core.proofs.Steps.{announced_within, new_stands}
 use Rattle.kw_core.proofs.Happens.{Happens, knows_next, knows_other, not_exchanged}
 use Rattle.kw_core.proofs.Building.{IsBuilding}
 use Rattle.kw_core.proofs.BuiltNext.{IsAfterBuilding, built_next}
-use Rattle.kw_core.proofs.Arrows.{builds, Arrow, NextLook, looks, lists, NextRest, rests, answers, ends_scan, scans_on, announces_full, stamps_full, IsNotOwn}
+use Rattle.kw_core.proofs.Arrows.{builds, Arrow, NextLook, looks, lists, NextRest, rests, answers, ends_scan, scans_on, announces_full, stamps_full, IsNotOwn, tidies}
 use Rattle.kw_core.proofs.Arrows.{meets_pending, meets_stamped, meets_neither, is_wanted, is_passed, loads_to_help, helps, finds_stamped, finds_other, list_ends, key_above, rest_passed, gathers_rest, announces, loads_clock, stamps, is_stamped, stores_version, meets_cell, meets_none, key_before, key_same, key_after, version_before, version_after, stores_after, inserts, loses, clears}
 use Rattle.kw_core.proofs.FreezeFrame.{entry_frozen, entry_left}
 use Rattle.kw_core.proofs.InfantFrames.{ChangesEntry, entry_stays, entry_written}
@@ -88,7 +89,8 @@ idle_stays z r r' s choice l (WritePend k) l' h i q j w o n e = which (cases_eq 
     which (inl f) (inr d) = inl (entry_stays (WritePend k) h q j w o (λ x. d x.1) ∙ e)
 idle_stays z r r' s choice l a l' h i q j w o n e = inl (entry_stays a h q j w o (λ x. x) ∙ e)
 
--- a frozen entry of a row that is or was linked stays so: a seat that is to clear its entry was stamped, and its entry says so
+-- a frozen entry of a row that is or was linked stays so: a seat that is to clear its entry was
+-- stamped, and its entry says so
 pub frozen_stays : (z : Sizes) (r r' : Run) (s : ℕ) (choice : Choice) (l : Local) (a : Activity) (l' : Local) → Happens z r r' s choice l l' a → Below z r → (q j : ℕ) → WasLinked r.ledger.rows q → j < z.seats → word z r.world (name.Pend q j) ≡ pend_word pend.Frozen → word z r'.world (name.Pend q j) ≡ pend_word pend.Frozen
 frozen_stays z r r' s choice l PutClear l' h i q j w o e = linked_frozen_entry PutClear h i.shape q j w o stamped e
   where
@@ -104,7 +106,8 @@ frozen_stays z r r' s choice l PutClear l' h i q j w o e = linked_frozen_entry P
         omega (arith, y)
 frozen_stays z r r' s choice l a l' h i q j w o e = linked_frozen_entry a h i.shape q j w o (λ x f g. x) e
 
--- an event of a seat that acts on its own row alone, which is or was linked, leaves a frozen entry of any row
+-- an event of a seat that acts on its own row alone, which is or was linked, leaves a frozen entry
+-- of any row
 frozen_at_row : (z : Sizes) (r r' : Run) (s : ℕ) (choice : Choice) (l : Local) (a : Activity) (l' : Local) → Happens z r r' s choice l l' a → Below z r → (q j : ℕ) → WasLinked r.ledger.rows l.row → q < r.world.rows → j < z.seats → (ChangesEntry a s l q j → q ≡ l.row) → word z r.world (name.Pend q j) ≡ pend_word pend.Frozen → (word z r'.world (name.Pend q j) ≡ pend_word pend.Idle) ⊎ (word z r'.world (name.Pend q j) ≡ pend_word pend.Frozen)
 frozen_at_row z r r' s choice l a l' h i q j k w o f e = which (was_or_not r.ledger.rows q)
   where
@@ -157,6 +160,7 @@ published_goes z r r' s choice l a l' stores_after h i p = inr (inr (tt, refl))
 published_goes z r r' s choice l a l' (inserts y) h i p = inr (inr (tt, refl))
 published_goes z r r' s choice l a l' (loses y) h i p = inr (inr (tt, refl))
 published_goes z r r' s choice l a l' clears h i p = inl h.changed.same
+published_goes z r r' s choice l a l' (tidies rows e) h i p = inl h.changed.same
 published_goes z r r' s choice l a l' _ h i p = absurd p
 
 -- an entry is idle or frozen, or its seat has announced a cell there

@@ -1,6 +1,7 @@
--- Every event keeps what holds of the rows that seats freeze: the count stays frozen, and each entry that was passed is settled. A settled
--- entry is never pending again: a frozen one stays so, a stamped one is cleared by its seat alone, and that seat gets no other cell of a
--- row whose count is frozen.
+-- Every event keeps what holds of the rows that seats freeze: the count stays frozen, and each
+-- entry that was passed is settled. A settled entry is never pending again: a frozen one stays so,
+-- a stamped one is cleared by its seat alone, and that seat gets no other cell of a row whose count
+-- is frozen.
 use Rattle.std.proofs.Common.{ℕ, ◌≡◌, ◌≢◌, ◌⊎◌, inl, inr, ◌+◌, ◌<◌, ◌≤◌, true, false, Option, Some, None, arith, refl, sym, ◌∙◌, subst, slice_get}
 use Rattle.std.proofs.lemmas.Bool.{cases_eq, cases_lt}
 use Rattle.std.proofs.lemmas.Option.{same_Some}
@@ -22,7 +23,7 @@ use Rattle.kw_world.specs.Step.{word}
 use Rattle.kw_core.specs.Run.{Run}
 use Rattle.kw_core.specs.Stages.{IsBalancing, IsFresh}
 use Rattle.kw_core.specs.Words.{Words}
-use Rattle.kw_core.proofs.Building.{Building, IsBuilding, makes_normal, makes_last_normal, draws_number, retires_row}
+use Rattle.kw_core.proofs.Building.{Building, IsBuilding, makes_normal, makes_last_normal, draws_number, retires_row, retires_and_leaves}
 use Rattle.kw_core.proofs.Arrows.{builds, Arrow, NextLook, looks, lists, NextRest, rests, answers, ends_scan, scans_on}
 use Rattle.kw_core.proofs.Arrows.{meets_stamped, meets_neither, is_passed, helps, finds_stamped, finds_other, list_ends, key_above, rest_passed, gathers_rest, takes_cell, stores_key, stores_value}
 use Rattle.kw_core.proofs.Arrows.{freezes_count, meets_idle, meets_unstamped, remembers, remembers_last, meets_frozen, meets_frozen_last, freezes_entry, freezes_last, looks_again, meets_quiet, meets_quiet_last, helps_scan, meets_drawn, meets_drawn_last, draws_for, settles_scan, settles_last, finds_drawn, finds_drawn_last, finds_no_scan, finds_no_scan_last}
@@ -171,7 +172,8 @@ pub built_frozen : (z : Sizes) (v : Words) (choice : Choice) (l : Local) (a : Ac
 built_frozen z v choice l a k (makes_normal o) x = absurd x
 built_frozen z v choice l a k (makes_last_normal o) x = absurd x
 built_frozen z v choice l a k draws_number x = absurd x
-built_frozen z v choice l a k retires_row x = absurd x
+built_frozen z v choice l a k (retires_row nd) x = absurd x
+built_frozen z v choice l a k (retires_and_leaves dn) x = absurd x
 built_frozen z v choice l a k _ x = tt
 
 -- and it has passed all entries
@@ -293,7 +295,8 @@ frozen_now z r r' s choice l l' h i = by _ refl (i.shape.sane.each (name.Count l
     by (Some c) e g = rw (freezes_given h c e) refl
     by None e g = absurd g
 
--- an entry that a seat looks at, and that reads neither idle nor pending, is settled after the event
+-- an entry that a seat looks at, and that reads neither idle nor pending, is settled after the
+-- event
 looked_settled : (z : Sizes) (r r' : Run) (s : ℕ) (choice : Choice) (l l' : Local) (m : ℕ) → Happens z r r' s choice l l' (FreezeLook m) → Below z r → m < z.seats → IsSettled (word z r.world) (slice_get r.world.locals) l.row m → IsSettled (word z r'.world) (slice_get r'.world.locals) l.row m
 looked_settled z r r' s choice l l' m h i o x = settled_stays z r r' s choice l (FreezeLook m) l' h i l.row m (its_row z r r' s choice l (FreezeLook m) l' h i tt) o (was_frozen z r r' s choice l (FreezeLook m) l' h i tt) x
 

@@ -1,5 +1,6 @@
--- What an event leaves of the cells of a row that is frozen and whose entries are all settled: each stands for the same attempt, or for none,
--- none of these attempts is stamped any more, and of its list all is left that a walk along it may lean on.
+-- What an event leaves of the cells of a row that is frozen and whose entries are all settled: each
+-- stands for the same attempt, or for none, none of these attempts is stamped any more, and of its
+-- list all is left that a walk along it may lean on.
 use Rattle.std.proofs.Common.{ℕ, ◌≡◌, ◌⊎◌, inl, inr, ◌<◌, true, false, Option, Some, arith, sym, ◌∙◌, ap, subst, length, slice_get}
 use Rattle.kw_words.specs.declared.layout.Name.TheVariants as name
 use Rattle.kw_words.specs.declared.pend.Pend.TheVariants as pend

@@ -1,4 +1,5 @@
--- The gathered cells, by their places: each is one that a row has, and one more is put among them where none of its place is there.
+-- The gathered cells, by their places: each is one that a row has, and one more is put among them
+-- where none of its place is there.
 use Rattle.std.proofs.Common.{ℕ, zero, suc, ◌≡◌, ◌⊎◌, inl, inr, ◌+◌, ◌<◌, ◌≤◌, ◌==◌, nat_lt, Bool, true, false, if◌then◌else◌, List, [], ◌∷◌, arith, refl, sym, ap, subst, length, All, eq-eqb}
 use Rattle.std.specs.Prelude.{insert}
 use Rattle.std.proofs.lemmas.Bool.Decides.{nat_tests}

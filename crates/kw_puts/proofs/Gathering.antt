@@ -1,4 +1,5 @@
--- What a seat that rebalances knows of the cells that it gathers of its frozen row, and of what it has gathered, lasts over every event.
+-- What a seat that rebalances knows of the cells that it gathers of its frozen row, and of what it
+-- has gathered, lasts over every event.
 use Rattle.std.proofs.Common.{ℕ, ◌≡◌, ◌⊎◌, inl, inr, ◌<◌, true, Some, List, refl, sym, ◌∙◌, subst, All, slice_get}
 use Rattle.std.proofs.lemmas.List.Elements.{All-weaker}
 use Rattle.kw_cells.specs.declared.cell.Cell.{Cell}

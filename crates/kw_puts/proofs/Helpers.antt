@@ -1,4 +1,5 @@
--- Seats that help scans: what becomes of the word of a scan over an event, and what a helper knows of it.
+-- Seats that help scans: what becomes of the word of a scan over an event, and what a helper knows
+-- of it.
 use Rattle.std.proofs.Common.{ℕ, ◌≡◌, ◌≢◌, ◌⊎◌, inl, inr, ◌<◌, ◌≤◌, Bool, true, false, Some, arith, refl, sym, ◌∙◌, ap, subst, length, slice_get, eq-eqb}
 use Rattle.std.proofs.lemmas.Bool.{cases_eq}
 use Rattle.std.proofs.lemmas.Option.{same_Some}
@@ -42,8 +43,9 @@ drawn_not c u e = omega (arith, e)
 quiet_not : (c : ℕ) → scan_word Quiet ≢ scan_word (Waiting c)
 quiet_not c e = omega (arith, e)
 
--- what becomes of the word of the scan of seat t over an event of seat s that knows l: it stays; or the seat's own scan begins to wait; or
--- it waits no more, and the clock has gone on since it waited
+-- what becomes of the word of the scan of seat t over an event of seat s that knows l: it stays; or
+-- the seat's own scan begins to wait; or it waits no more, and the clock has gone on since it
+-- waited
 pub data ScanStep (z : Sizes) (r r' : Run) (s : ℕ) (l : Local) (a : Activity) (t : ℕ) : Type 0 where
   is_kept : word z r'.world (name.Scan t) ≡ word z r.world (name.Scan t) → (t ≡ s → a ≢ ScanWait) → ScanStep z r r' s l a t
   begins_to_wait : t ≡ s → a ≡ ScanWait → word z r'.world (name.Scan t) ≡ scan_word (Waiting l.waiting) → ScanStep z r r' s l a t

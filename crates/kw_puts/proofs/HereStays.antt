@@ -1,5 +1,6 @@
--- Whether the row of an attempt was used again, over an event: an attempt whose row was not is none whose row was; a row that is freed leaves its attempts
--- behind for ever; and the row of an attempt at which a seat is at work is not freed, for the seat is in its pass.
+-- Whether the row of an attempt was used again, over an event: an attempt whose row was not is none
+-- whose row was; a row that is freed leaves its attempts behind for ever; and the row of an attempt
+-- at which a seat is at work is not freed, for the seat is in its pass.
 use Rattle.std.proofs.Common.{ℕ, ◌≡◌, ◌⊎◌, inl, inr, ◌<◌, ◌≤◌, true, Some, arith, refl, sym, ◌∙◌, ap, subst, length, slice_get}
 use Rattle.kw_rows.specs.Ledger.{Fate, IsFresh}
 use Rattle.kw_rows.specs.Rows.{WasLinked}
@@ -33,7 +34,8 @@ use Rattle.kw_puts.proofs.Owners.{puts_at_row, row_linked}
 use Rattle.kw_puts.proofs.Rely.{SameAttempt}
 use Rattle.kw_puts.proofs.RelyProof.{goes_on_by}
 
--- a seat that puts after an event put before, and its attempt is the same, or it was given its cell now
+-- a seat that puts after an event put before, and its attempt is the same, or it was given its cell
+-- now
 pub data PutsFrom (z : Sizes) (r r' : Run) (s : ℕ) (l : Local) (a : Activity) : Type 0 where
   puts_on : IsPutting a → (r'.seats s).own ≡ (r.seats s).own → PutsFrom z r r' s l a
   takes_now : a ≡ PutAdd → has_room z (count_of (word z r.world (name.Count l.row))) ≡ true → PutsFrom z r r' s l a
@@ -72,7 +74,8 @@ puts_from z r r' s choice l a l' (gathers_rest next n) h p = cell_puts _ next n 
 puts_from z r r' s choice l a l' _ h p = absurd p
 
 module _ {z : Sizes} {r r' : Run} {s : ℕ} {choice : Choice} {l l' : Local} where
-  -- an attempt that was there and whose row was not used again is one whose row was not before: a row that is linked now was linked later than all that was added
+  -- an attempt that was there and whose row was not used again is one whose row was not before: a
+  -- row that is linked now was linked later than all that was added
   pub here_was : (a : Activity) → Happens z r r' s choice l l' a → Below z r → Step r.history r'.history (log_entry z r a s choice l) → (p : ℕ) → p < length r.history.attempts → IsHere r'.ledger.rows r'.history p → IsHere r.ledger.rows r.history p
   here_was a h i st p w x = which (linked_before a h i.shape (attempt r.history p).row (subst (WasLinked r'.ledger.rows) same.row x.linked))
     where

@@ -1,5 +1,6 @@
--- What an event leaves of the list of a row: all that the list has is as it was, or a cell is linked in. Which of the two it is does not
--- hang on the seat that asks, so that this is what each seat may rely on.
+-- What an event leaves of the list of a row: all that the list has is as it was, or a cell is
+-- linked in. Which of the two it is does not hang on the seat that asks, so that this is what each
+-- seat may rely on.
 use Rattle.std.proofs.Common.{ℕ, ◌≡◌, ◌≢◌, ◌⊎◌, inl, inr, ◌<◌, Bool, true, false, nat_lt, if◌then◌else◌, Option, Some, None, length, refl, sym, ◌∙◌, ap, subst, eq-eqb, ne_eqb}
 use Rattle.std.proofs.lemmas.Bool.{cases_eq}
 use Rattle.std.proofs.lemmas.Option.{same_Some}
@@ -47,7 +48,8 @@ with_listed_else f r c q d = rw (ne_eqb q r d) refl
 without_listed_else : (f : Listed) (r q : ℕ) → q ≢ r → without_listed f r q ≡ f q
 without_listed_else f r q d = rw (ne_eqb q r d) refl
 
--- a list of n cells, over an event: as it was where it is listed, or one cell more is linked in, which might be
+-- a list of n cells, over an event: as it was where it is listed, or one cell more is linked in,
+-- which might be
 pub data ListStep (n : ℕ) (row row' : Row) : Type 0 where
   stays : Agree row row' → ListStep n row row'
   gains : (at : Option ℕ) (c : ℕ) → MayInsert row at c → c < n → Agree (inserted row at c) row' → ListStep n row row'
@@ -62,7 +64,8 @@ pub stays_sound : (n : ℕ) (row row' : Row) → ListStep n row row' → IsSound
 stays_sound n row row' (stays a) s = agreeing_sound row row' a n s
 stays_sound n row row' (gains at c m o a) s = agreeing_sound (inserted row at c) row' a n (inserted_sound row s.list at c m n o s)
 
--- The events that write a word of a cell whose key, version or link may be listed are those of a put whose own cell is not listed.
+-- The events that write a word of a cell whose key, version or link may be listed are those of a
+-- put whose own cell is not listed.
 
 writes_key_unlisted : (a : Activity) → WritesKey a → IsUnlisted a
 writes_key_unlisted PutKey x = tt
@@ -81,7 +84,8 @@ module _ (z : Sizes) (r r' : Run) (s : ℕ) (choice : Choice) (l : Local) (a : A
   pub not_listed : IsUnlisted a → (q c : ℕ) → r.listed q c ≡ true → q ≡ l.row → c ≡ l.cell → ⊥
   not_listed u q c t e f = true_false t (rw (e, f) ((i.lists.own s l h.knows).unlisted (subst IsUnlisted (sym h.activity) u)))
 
-  -- the words of a listed cell are what they were, and so are the words of another cell that is not the seat's
+  -- the words of a listed cell are what they were, and so are the words of another cell that is not
+  -- the seat's
   pub listed_words : (q c : ℕ) → WasLinked r.ledger.rows q → c < z.cells → (IsUnlisted a → q ≡ l.row → c ≡ l.cell → ⊥) → SameWords (word z r.world) (word z r'.world) q c
   listed_words q c k o d = record {
     key = linked_key a h i.shape q c k o (λ x e f. d (writes_key_unlisted a x) e f);
@@ -173,7 +177,8 @@ module _ (z : Sizes) (r r' : Run) (s : ℕ) (choice : Choice) (l : Local) (l' : 
           (stays (keeping_agrees (word z r.world) (word z r'.world) q (r.listed q) (list_kept z r r' s choice l Insert l' h i q k (λ at x u g. d u))))
       which (inr n) f = subst (λ f. ListStep z.cells (list_in (word z r.world) r.listed q) (row_in (word z r'.world) q f)) (sym (ap (λ f. f q) (lost_listed n))) (stays (keeping_agrees (word z r.world) (word z r'.world) q (r.listed q) (lost_list n q k)))
 
--- which cells of a row that is or was linked are listed changes by an insertion alone: new rows are none of them
+-- which cells of a row that is or was linked are listed changes by an insertion alone: new rows are
+-- none of them
 listed_same : (z : Sizes) (r r' : Run) (s : ℕ) (choice : Choice) (l : Local) (a : Activity) (l' : Local) → Happens z r r' s choice l l' a → Below z r → (q : ℕ) → WasLinked r.ledger.rows q → (a ≡ Insert → ⊥) → r'.listed q ≡ r.listed q
 listed_same z r r' s choice l Insert l' h i q k n = absurd (n refl)
 listed_same z r r' s choice l WriteCount l' h i q k n = ap (λ f. f q) h.listed ∙ without_listed_else r.listed (infant l) q (not_hand WriteCount h i.shape tt q k)
@@ -190,7 +195,8 @@ list_step z r r' s choice l Insert l' h i q k = insert_step z r r' s choice l l'
 list_step z r r' s choice l a l' h i q k = subst (λ f. ListStep z.cells (list_in (word z r.world) r.listed q) (row_in (word z r'.world) q f)) (sym (listed_same z r r' s choice l a l' h i q k (λ e. cc)))
     (stays (keeping_agrees (word z r.world) (word z r'.world) q (r.listed q) (list_kept z r r' s choice l a l' h i q k (λ at x e g. x))))
 
--- a cell of such a row that is listed after the event was listed, or it is that of a put which inserts it now
+-- a cell of such a row that is listed after the event was listed, or it is that of a put which
+-- inserts it now
 pub listed_was : (z : Sizes) (r r' : Run) (s : ℕ) (choice : Choice) (l : Local) (a : Activity) (l' : Local) → Happens z r r' s choice l l' a → Below z r → (q c : ℕ) → WasLinked r.ledger.rows q → r'.listed q c ≡ true → (r.listed q c ≡ true) ⊎ (a ≡ Insert) × (q ≡ l.row) × (c ≡ l.cell)
 listed_was z r r' s choice l Insert l' h i q c k t = which (cases_eq (word z r.world (link_name l.row l.link)) (cell_link_word l.held)) (cases_eq q l.row)
   where

@@ -1,4 +1,5 @@
--- Every event keeps what holds of the lists of the rows: the group, from one lemma for each part of it.
+-- Every event keeps what holds of the lists of the rows: the group, from one lemma for each part of
+-- it.
 use Rattle.std.proofs.Common.{ℕ, ◌≡◌, ◌≢◌, ◌⊎◌, inl, inr, ◌<◌, true, false, Some, None, arith, refl, sym, ◌∙◌, ap, subst, slice_get, length}
 use Rattle.kw_words.specs.declared.layout.Name.TheVariants as name
 use Rattle.kw_lists.proofs.Agreeing.{empty_sound}
@@ -43,7 +44,8 @@ module _ (z : Sizes) (r r' : Run) (s : ℕ) (choice : Choice) (l : Local) (a : A
   goes : GoesOn r.history r'.history r.origin r'.origin r.ledger.rows
   goes = goes_on_by z r r' s choice l a l' h i st
 
-  -- a cell of a row that is or was linked which is that of a stamped attempt, or a copy, with this version in it after the event
+  -- a cell of a row that is or was linked which is that of a stamped attempt, or a copy, with this
+  -- version in it after the event
   stamped_cell : (q c put : ℕ) → WasLinked r.ledger.rows q → WasLinked r'.ledger.rows q → c < z.cells → r.origin q c ≡ Some put → (attempt r.history put).is_stamped ≡ true → word z r'.world (name.Version q c) ≡ (attempt r.history put).version → IsListedCell (word z r'.world) r'.history r'.origin q c
   stamped_cell q c put k k' o origin stamped version =
       let within = in_range r.history put stamped in
@@ -58,7 +60,8 @@ module _ (z : Sizes) (r r' : Run) (s : ℕ) (choice : Choice) (l : Local) (a : A
         version = version ∙ sym g.1;
       }
 
-  -- a listed cell of a row that was linked before stays that of its attempt, and so is the one that is listed now
+  -- a listed cell of a row that was linked before stays that of its attempt, and so is the one that
+  -- is listed now
   cells_keep : (q c : ℕ) → WasLinked r.ledger.rows q → WasLinked r'.ledger.rows q → r'.listed q c ≡ true → IsListedCell (word z r'.world) r'.history r'.origin q c
   cells_keep q c k k' t = which (listed_was z r r' s choice l a l' h i q c k t)
     where
@@ -83,7 +86,8 @@ module _ (z : Sizes) (r r' : Run) (s : ℕ) (choice : Choice) (l : Local) (a : A
       let was = copy_was z r r' s choice l a l' h i st q k c put o e d in
       listed_stays z r r' s choice l a l' h i q c k (i.lists.copied q c put k o was.0 was.2)
 
-  -- an attempt is current, or its cell is listed unless its row was used again, or it never gets a version
+  -- an attempt is current, or its cell is listed unless its row was used again, or it never gets a
+  -- version
   old_listed : (p : ℕ) → p < length r'.history.attempts → IsCurrent (slice_get r'.world.locals) r'.seats r'.history p ⊎ (IsHere r'.ledger.rows r'.history p → r'.listed (attempt r'.history p).row (attempt r'.history p).cell ≡ true) ⊎ IsOver r'.history p
   old_listed p o = which (attempt_was a h p o)
     where
@@ -108,7 +112,8 @@ module _ (z : Sizes) (r r' : Run) (s : ℕ) (choice : Choice) (l : Local) (a : A
       which (inl w) = was w (i.lists.old p w)
       which (inr n) = inl (new_current z r r' s choice l a l' h i st p n)
 
-  -- the list of each row that is or was linked: of one that was before the event, and of one that the event links
+  -- the list of each row that is or was linked: of one that was before the event, and of one that
+  -- the event links
   list_at : (q : ℕ) → WasLinked r'.ledger.rows q → ListAt z (word z r'.world) r'.ledger.rows r'.history r'.origin r'.listed q
   list_at q k = which (was_or_not r.ledger.rows q)
     where

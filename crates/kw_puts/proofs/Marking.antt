@@ -1,5 +1,6 @@
--- Every event keeps what holds of the cells that a seat remembers of the row that it freezes: they are those of stamped attempts, and a
--- stamped attempt whose seat's entry was passed is remembered or listed. No later event stamps an attempt whose entry was passed.
+-- Every event keeps what holds of the cells that a seat remembers of the row that it freezes: they
+-- are those of stamped attempts, and a stamped attempt whose seat's entry was passed is remembered
+-- or listed. No later event stamps an attempt whose entry was passed.
 use Rattle.std.proofs.Common.{ℕ, ◌≡◌, ◌⊎◌, inl, inr, ◌+◌, ◌<◌, ◌≤◌, Bool, true, false, Some, None, List, ◌∷◌, [], ◌++◌, arith, refl, sym, ◌∙◌, ap, subst, length, slice_get}
 use Rattle.std.specs.Prelude.{All}
 use Rattle.std.proofs.lemmas.Bool.{cases_eq, cases_lt}
@@ -88,7 +89,8 @@ module _ (z : Sizes) (r : Run) (i : Below z r) where
           let puts = published_puts x.local.activity x.published in
           from (r.seats j).own own.within (rw (x.row, sym own.cell) at (own_origin i.puts j x.local x.knows puts)) (subst (λ y. word z r.world (name.Pend y j) ≡ entry_of (attempt r.history (r.seats j).own)) x.row (own.entry x.published)) _ _ refl refl
 
-  -- the entry of its seat says that an attempt whose row was not used again is stamped, or its cell is listed
+  -- the entry of its seat says that an attempt whose row was not used again is stamped, or its cell
+  -- is listed
   pub stamped_or_listed : (p : ℕ) → p < length r.history.attempts → IsHere r.ledger.rows r.history p → (attempt r.history p).is_stamped ≡ true →
       (word z r.world (name.Pend (attempt r.history p).row (attempt r.history p).seat) ≡ pend_word (pend.Stamped (attempt r.history p).cell (attempt r.history p).version)) ⊎ (r.listed (attempt r.history p).row (attempt r.history p).cell ≡ true)
   stamped_or_listed p w here x = which (i.lists.old p w)
@@ -186,7 +188,8 @@ module _ (z : Sizes) (r r' : Run) (s : ℕ) (choice : Choice) (l : Local) (a : A
     goes : GoesOn r.history r'.history r.origin r'.origin r.ledger.rows
     goes = goes_on_by z r r' s choice l a l' h i st
 
-    -- they are remembered or listed, if all that were stamped were and no entry that was passed was pending
+    -- they are remembered or listed, if all that were stamped were and no entry that was passed was
+    -- pending
     noted_still : (q n : ℕ) (marks : List Mark) → WasLinked r.ledger.rows q → ((j c : ℕ) → j < z.seats → j < n → IsStamping a → word z r.world (name.Pend q j) ≡ pend_word (pend.Pending c) → ⊥) →
         ((p : ℕ) → p < length r.history.attempts → IsMadeIn r.ledger.rows r.history q p → (attempt r.history p).is_stamped ≡ true → (attempt r.history p).seat < n → (is_marked (attempt r.history p).cell marks ≡ true) ⊎ (r.listed q (attempt r.history p).cell ≡ true)) →
         (p : ℕ) → p < length r'.history.attempts → IsMadeIn r'.ledger.rows r'.history q p → (attempt r'.history p).is_stamped ≡ true → (attempt r'.history p).seat < n → (is_marked (attempt r'.history p).cell marks ≡ true) ⊎ (r'.listed q (attempt r'.history p).cell ≡ true)
@@ -251,7 +254,8 @@ module _ (z : Sizes) (r r' : Run) (s : ℕ) (choice : Choice) (l : Local) (a : A
       noted = λ x. rw (e, f, (g x).1) (noted_still l.row (frozen_by z a) l.rebalance.marks (its_row p) (λ j c o w m y. n m) (was_noted (g x).0));
     }
 
-    -- where it passes the entry of one more seat: each stamped attempt of that seat is remembered or listed
+    -- where it passes the entry of one more seat: each stamped attempt of that seat is remembered
+    -- or listed
     passes_one : (b : Activity) (k : Local) (m n : ℕ) → k.row ≡ l.row → HasFrozen a → (IsStamping a → ⊥) → IsBeforeTaking a → m ≡ frozen_by z a → frozen_by z b ≡ n → n ≤ m + 1 →
         All (IsMarkOf r'.history r'.origin l.row) k.rebalance.marks → ((c : ℕ) → is_marked c l.rebalance.marks ≡ true → is_marked c k.rebalance.marks ≡ true) →
         ((p : ℕ) → p < length r.history.attempts → (attempt r.history p).is_stamped ≡ true → word z r.world (name.Pend l.row m) ≡ pend_word (pend.Stamped (attempt r.history p).cell (attempt r.history p).version) → is_marked (attempt r.history p).cell k.rebalance.marks ≡ true) →

@@ -1,5 +1,6 @@
--- What an event does to the attempts, the counts and the origins: a seat that is given a cell adds one attempt, one to the count of
--- its row, and one origin; every other event leaves the cells, and announces or stamps one attempt at most.
+-- What an event does to the attempts, the counts and the origins: a seat that is given a cell adds
+-- one attempt, one to the count of its row, and one origin; every other event leaves the cells, and
+-- announces or stamps one attempt at most.
 use Rattle.std.proofs.Common.{ℕ, ◌≡◌, ◌⊎◌, inl, inr, ◌+◌, ◌<◌, ◌≤◌, ◌==◌, ◌&&◌, Bool, true, false, nat_lt, if◌then◌else◌, Option, Some, None, [], ◌∷◌, ◌++◌, arith, refl, sym, ◌∙◌, ap, subst, length, length-append, length-set, eq-eqb}
 use Rattle.std.proofs.lemmas.Bool.{cases_eq, cases_lt, and_parts, lt-ltb}
 use Rattle.kw_words.specs.declared.layout.Name.TheVariants as name

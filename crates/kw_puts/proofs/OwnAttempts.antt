@@ -1,4 +1,5 @@
--- Every event keeps what holds of the attempts that seats are at work on, of their entries, and of the attempts that are done.
+-- Every event keeps what holds of the attempts that seats are at work on, of their entries, and of
+-- the attempts that are done.
 use Rattle.std.proofs.Common.{ℕ, ◌≡◌, ◌≢◌, ◌⊎◌, inl, inr, ◌<◌, ◌≤◌, Bool, true, false, Option, Some, None, arith, refl, sym, ◌∙◌, ap, subst, length, slice_get}
 use Rattle.std.proofs.lemmas.Option.{same_Some}
 use Rattle.kw_words.specs.declared.layout.Name.TheVariants as name

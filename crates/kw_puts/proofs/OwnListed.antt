@@ -1,4 +1,5 @@
--- Which cells are listed, for the seat that puts: its own cell is not before the exchange that inserts it, and is from then on.
+-- Which cells are listed, for the seat that puts: its own cell is not before the exchange that
+-- inserts it, and is from then on.
 use Rattle.std.proofs.Common.{ℕ, ◌≡◌, Bool, true, false, Some, None, arith, refl, sym, ◌∙◌, ap, subst}
 use Rattle.kw_words.specs.declared.layout.Name.TheVariants as name
 use Rattle.kw_words.specs.Count.{count_of}

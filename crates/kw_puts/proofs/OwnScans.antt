@@ -130,7 +130,8 @@ waits_from z v s choice l RestKey k b x = absurd (waiting_not_read k.activity x 
 waits_from z v s choice l RestVal k b x = absurd (waiting_not_read k.activity x (after_read z v s choice l RestVal k b tt))
 waits_from z v s choice l a k b x = absurd x
 
--- a scan that has its version had it, or has just settled it; and a seat on its way that is no scan began so
+-- a scan that has its version had it, or has just settled it; and a seat on its way that is no scan
+-- began so
 pub drawn_from : (z : Sizes) (v : Words) (s : ℕ) (choice : Choice) (l : Local) (a : Activity) (k : Local) → Arrow z v s choice l a k → is_scan k.call ≡ true → HasDrawn k.activity → HasDrawn a ⊎ IsSettling a
 drawn_from z v s choice l a k (builds b next y t) e x = after_drawn next.activity (built_next z v choice l b next t) x
 drawn_from z v s choice l Start k b e x = inl tt
@@ -300,7 +301,8 @@ module _ {z : Sizes} {r r' : Run} {s : ℕ} {choice : Choice} {l l' : Local} whe
   word_settled Replace h c x = absurd c
   word_settled a h c x = unwritten a h (name.Scan s) h.seat (λ e. cc)
 
-  -- the word is set where a scan begins to wait and where it settles; every other event keeps it or clears it
+  -- the word is set where a scan begins to wait and where it settles; every other event keeps it or
+  -- clears it
   word_next : (a : Activity) → Happens z r r' s choice l l' a → (IsSettling a → ⊥) → (IsWaiting l'.activity → ⊥) → (a ≡ ScanWait → IsWaiting l'.activity) → (SettlesScan s a → word z r.world (name.Scan s) ≡ scan_word Quiet) → (word z r'.world (name.Scan s) ≡ word z r.world (name.Scan s)) ⊎ (word z r'.world (name.Scan s) ≡ scan_word Quiet)
   word_next Walk h n w f q = met (is_stopped choice l) refl
     where
@@ -512,7 +514,8 @@ drawn_underway z v s choice l a k _ x = tt
 pub drawn_lasts : (h h' : History) → ((x : ℕ) (k : Kind) (c : ℕ) → Stands h x k c → Stands h' x k c) → {x version : ℕ} → IsDrawnAt h x version → IsDrawnAt h' x version
 drawn_lasts h h' lasts {x} {version} d = record { kind = d.kind; is_draw = d.is_draw; stands = lasts x d.kind version d.stands }
 
--- how a scan of seat s settles that knew l and knows k: by its own exchange, or for the version that another seat drew for it
+-- how a scan of seat s settles that knew l and knows k: by its own exchange, or for the version
+-- that another seat drew for it
 pub data Settles (z : Sizes) (r r' : Run) (s : ℕ) (l k : Local) : Type 0 where
   by_itself : k.version ≡ l.drawn → word z r'.world (name.Scan s) ≡ scan_word (Drawn l.drawn) → (r'.seats s).drawn ≡ (r.seats s).drawn → Settles z r r' s l k
   by_helper : (n : IsHelped (word z r.world) r.history s (r.ledger.waits s) (r.settled s)) → k.version ≡ n.version → word z r'.world (name.Scan s) ≡ scan_word (Drawn n.version) → (r'.seats s).drawn ≡ r.settled s → Settles z r r' s l k

@@ -1,4 +1,5 @@
--- Whose a cell is: the attempts that two seats are at work on have different cells, and an attempt whose row was not used again has its cell alone.
+-- Whose a cell is: the attempts that two seats are at work on have different cells, and an attempt
+-- whose row was not used again has its cell alone.
 use Rattle.std.proofs.Common.{ℕ, ◌≡◌, ◌≢◌, ◌⊎◌, inl, inr, arith, ◌<◌, ◌≤◌, Bool, true, false, Some, refl, sym, ◌∙◌, ap, subst, slice_get}
 use Rattle.std.proofs.lemmas.Bool.{cases_lt}
 use Rattle.std.proofs.lemmas.Option.{same_Some}
@@ -68,7 +69,8 @@ puts_busy Insert p = tt
 puts_busy PutClear p = tt
 puts_busy _ p = absurd p
 
--- a seat that is at the row of its key, one that puts, and one that rebalances are at a row that is or was linked
+-- a seat that is at the row of its key, one that puts, and one that rebalances are at a row that is
+-- or was linked
 pub row_linked : (z : Sizes) (r : Run) → Shape z r → (t : ℕ) (k : Local) → slice_get r.world.locals t ≡ Some k → IsAtRow k.activity → WasLinked r.ledger.rows k.row
 row_linked z r i t k g x = fresh_linked r.ledger.rows t k.row ((i.walks t k g).at x).fresh
 
@@ -118,7 +120,8 @@ is_here g h p = which (was_or_not g (attempt h p).row) (cases_lt (attempt h p).a
     which (inl k) (inr o) = inl (record { linked = k; born = o })
     which (inr n) o = inr (λ x. n x.linked)
 
--- an attempt that was made in a row which is or was linked, since it was linked, is one whose row was not
+-- an attempt that was made in a row which is or was linked, since it was linked, is one whose row
+-- was not
 pub made_here : (g : Ledger) (h : History) (r p : ℕ) → WasLinked g r → IsMadeIn g h r p → IsHere g h p
 made_here g h r p k x = record { linked = subst (WasLinked g) (sym x.row) k; born = subst (λ q. (g.fates q).born ≤ (attempt h p).add) (sym x.row) x.born }
 
@@ -163,7 +166,8 @@ module _ {z : Sizes} {r : Run} (i : Puts z r) where
   pub owns_apart : (t s : ℕ) (k l : Local) → t ≢ s → slice_get r.world.locals t ≡ Some k → slice_get r.world.locals s ≡ Some l → IsPutting k.activity → IsPutting l.activity → (r.seats t).own ≢ (r.seats s).own
   owns_apart t s k l d g m x y e = d (sym (i.owns t k g x).seat ∙ ap (λ q. (attempt r.history q).seat) e ∙ (i.owns s l m y).seat)
 
-  -- the seat of a pending entry: it has announced a cell of the row, this cell, and its attempt is neither stamped nor lost
+  -- the seat of a pending entry: it has announced a cell of the row, this cell, and its attempt is
+  -- neither stamped nor lost
   pub entry_owner : (q t c : ℕ) → q < r.world.rows → t < z.seats → word z r.world (name.Pend q t) ≡ pend_word (pend.Pending c) → IsPendingOf z r q t c
   entry_owner q t c w o e = which (i.entry q t w o)
     where

@@ -22,7 +22,7 @@ use Rattle.kw_core.specs.Run.{seat_after, log_begun, log_gathered, place_gathere
 use Rattle.kw_core.proofs.Happens.{found_at}
 use Rattle.std.proofs.lemmas.Option.{same_Some}
 use Rattle.kw_core.specs.History.{Draw}
-use Rattle.kw_core.specs.Stages.{IsBusy, IsPublished, IsUnstamped, IsDone, IsSettling, HasDrawn, IsReading, IsWaiting}
+use Rattle.kw_core.specs.Stages.{IsBalancing, IsBusy, IsPublished, IsUnstamped, IsDone, IsSettling, HasDrawn, IsReading, IsWaiting}
 use Rattle.kw_core.specs.Words.{Words}
 use Rattle.kw_shape.specs.Shape.{Shape}
 use Rattle.kw_puts.specs.Puts.{Puts}
@@ -66,11 +66,10 @@ unstamped_published PutClock x = tt
 unstamped_published Stamp x = tt
 unstamped_published _ x = absurd x
 
--- and is not done
-not_done : (a : Activity) → IsUnstamped a → IsDone a → ⊥
-not_done PutClock x d = d
-not_done Stamp x d = d
-not_done _ x d = x
+-- an idle seat does not tidy
+idle_rests : ⊥ ⊎ ⊥ → ⊥
+idle_rests (inl x) = x
+idle_rests (inr x) = x
 
 -- the call of a busy seat
 pub calling_stable : (z : Sizes) (r r' : Run) (t : ℕ) (k : Local) → Rely z r r' t k → IsBusy k.activity → Calling r.history t k.activity k (r.seats t) → Calling r'.history t k.activity k (r'.seats t)
@@ -92,14 +91,14 @@ calling_stable z r r' t k y b c = subst (λ g. Calling r'.history t k.activity k
     own c (is_helped version load x before after n f e put) p q = same_Some _ p (sym put ∙ q)
     own c (is_frozen e f u) p q = c.own p (sym u ∙ q)
 
-    published : Calling r.history t k.activity k (r.seats t) → RelyEntry (word z r.world) (word z r'.world) r.history r'.history t k.activity k (r.seats t) → (p : ℕ) → (called r'.history (r.seats t).call).put ≡ Some p → IsPublished k.activity ⊎ IsDone k.activity
+    published : Calling r.history t k.activity k (r.seats t) → RelyEntry (word z r.world) (word z r'.world) r.history r'.history t k.activity k (r.seats t) → (p : ℕ) → (called r'.history (r.seats t).call).put ≡ Some p → IsPublished k.activity ⊎ IsDone k.activity ⊎ (k.tidies ≡ true)
     published c (as_it_was e f u) p q = c.published p (sym (u b) ∙ q)
     published c (is_helped version load x before after n f e put) p q = inl (unstamped_published k.activity x)
     published c (is_frozen e f u) p q = c.published p (sym u ∙ q)
 
-    done : Calling r.history t k.activity k (r.seats t) → RelyEntry (word z r.world) (word z r'.world) r.history r'.history t k.activity k (r.seats t) → IsDone k.activity → (p : ℕ) × ((called r'.history (r.seats t).call).put ≡ Some p)
+    done : Calling r.history t k.activity k (r.seats t) → RelyEntry (word z r.world) (word z r'.world) r.history r'.history t k.activity k (r.seats t) → IsDone k.activity ⊎ (k.tidies ≡ true) → (p : ℕ) × ((called r'.history (r.seats t).call).put ≡ Some p)
     done c (as_it_was e f u) a = let x = c.done a in (x.0, u b ∙ x.1)
-    done c (is_helped version load x before after n f e put) a = absurd (not_done k.activity x a)
+    done c (is_helped version load x before after n f e put) a = (_, put)
     done c (is_frozen e f u) a = let x = c.done a in (x.0, u ∙ x.1)
 
 -- the numbers of a seat's calls
@@ -284,7 +283,7 @@ numbers_own z r r' s choice l a l' b h i st = λ x w e. which x w e (cases_lt x 
 -- the seat's call
 pub calling_own : (z : Sizes) (r r' : Run) (s : ℕ) (choice : Choice) (l : Local) (a : Activity) (l' : Local) → Arrow z (word z r.world) s choice l a l' → Happens z r r' s choice l l' a → Below z r → Step r.history r'.history (log_entry z r a s choice l) → Keeps r'.history → IsBusy l'.activity → Calling r'.history s l'.activity l' (r'.seats s)
 calling_own z r r' s choice l a l' (builds b next y t) h i st k p = calling_goes_on z r r' s choice l b next (builds b next y t) h i st k (building_underway b y)
-calling_own z r r' s choice l a l' (begins call e m) h i st k p = calling_begins z r r' s choice l _ call e refl refl refl h
+calling_own z r r' s choice l a l' (begins call e m) h i st k p = calling_begins z r r' s choice l _ call e refl refl refl (λ y. idle_rests (subst (λ c. IsBalancing c ⊎ IsDone c) h.activity (i.shape.tidies s l h.knows y))) h
 calling_own z r r' s choice l a l' (leaves answer) h i st k p = absurd p
 calling_own z r r' s choice l a l' b h i st k p = calling_goes_on z r r' s choice l _ l' b h i st k tt
 
@@ -296,7 +295,8 @@ scans_own z r r' s choice l a l' b h i = scan_is_set z r r' s choice l a l' b h 
 pub draws_own : (z : Sizes) (r r' : Run) (s : ℕ) (choice : Choice) (l : Local) (a : Activity) (l' : Local) → Arrow z (word z r.world) s choice l a l' → Happens z r r' s choice l l' a → Below z r → Step r.history r'.history (log_entry z r a s choice l) → Shape z r' → Draws (word z r'.world) r'.history s (r'.ledger.waits s) (r'.settled s) l'.activity l' (r'.seats s)
 draws_own z r r' s choice l a l' b h i st after = draws_after z r r' s choice l a l' b h i st
 
--- where each seat looked and drew last: a scan that settles does it by its own exchange, or has a draw of before
+-- where each seat looked and drew last: a scan that settles does it by its own exchange, or has a
+-- draw of before
 log_within : (z : Sizes) (a : Activity) (choice : Choice) (l : Local) (found : ℕ) (next : Activity) (g : SeatLog) (o : Origins) (h : History) (settled : ℕ) → (IsSettling a → (found ≡ scan_word (Waiting l.waiting)) ⊎ (settled ≤ length h.log)) → g.looked ≤ length h.log → g.drawn ≤ length h.log → ((seat_after z a choice l found next g o h settled).looked ≤ length h.log) × ((seat_after z a choice l found next g o h settled).drawn ≤ length h.log)
 log_within z Idle choice l found next g o h settled f x y = begun choice
   where

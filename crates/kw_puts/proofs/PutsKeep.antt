@@ -1,4 +1,5 @@
--- Every event keeps what holds of the attempts, their cells and their entries: the group, from one lemma for each part of it.
+-- Every event keeps what holds of the attempts, their cells and their entries: the group, from one
+-- lemma for each part of it.
 use Rattle.std.proofs.Common.{ℕ, slice_get}
 use Rattle.kw_world.specs.declared.activity.Activity.{Activity}
 use Rattle.kw_world.specs.declared.local.Local.{Local}

@@ -1,6 +1,8 @@
--- Where the full row is replaced: what holds from then on of each new row, whose cells are copies, all listed.
+-- Where the full row is replaced: what holds from then on of each new row, whose cells are copies,
+-- all listed.
 --
--- Of a row that is or was linked each lemma says what `Places` and `Lists` say of every one. What the seat knew of its new row makes it true.
+-- Of a row that is or was linked each lemma says what `Places` and `Lists` say of every one. What
+-- the seat knew of its new row makes it true.
 use Rattle.std.proofs.Common.{ℕ, ◌≡◌, ◌⊎◌, inl, inr, ◌<◌, ◌≤◌, true, Option, Some, None, arith, refl, sym, ◌∙◌, ap, subst, length, get_or, slice_get}
 use Rattle.std.specs.Prelude.{All}
 use Rattle.std.proofs.lemmas.Bool.{cases_lt}

@@ -1,6 +1,7 @@
--- What an event leaves to another seat of its entry, its attempt and its calls. A seat that helps may stamp the attempt of another
--- one: entry, attempt and call change at once, and nothing else of that seat. A seat that freezes the entry of another one loses its
--- attempt where the entry was pending.
+-- What an event leaves to another seat of its entry, its attempt and its calls. A seat that helps
+-- may stamp the attempt of another one: entry, attempt and call change at once, and nothing else of
+-- that seat. A seat that freezes the entry of another one loses its attempt where the entry was
+-- pending.
 use Rattle.std.proofs.Common.{ℕ, ◌≡◌, ◌≢◌, ◌⊎◌, inl, inr, ◌+◌, ◌<◌, ◌≤◌, Bool, true, false, Option, Some, arith, refl, sym, ◌∙◌, ap, subst, length, length-append, length-set, set, slice_get}
 use Rattle.std.proofs.lemmas.Bool.{cases_eq}
 use Rattle.std.proofs.lemmas.Option.{same_Some, slice_get_within}
@@ -56,7 +57,8 @@ put_runs h h' x y o n w = which (cases_eq x y)
     which (inl u) = subst (λ q. (called h' q).end ≡ (called h q).end) (sym u) (ap (λ q. q.end) (called_set_same h h' y _ n (subst (λ q. q < length h.calls) u w)))
     which (inr u) = ap (λ q. q.end) (called_set_other h h' y x _ n u)
 
--- what the change of the acting seat leaves to another one: new attempts, new calls and calls that end are its own
+-- what the change of the acting seat leaves to another one: new attempts, new calls and calls that
+-- end are its own
 pub change_apart : (h h' : History) (e : Logged) (z : Sizes) (v : Words) (s : ℕ) (choice : Choice) (l : Local) (g : SeatLog) (o : Origins) (a : Activity) (c : Change) → Makes z v s choice l g o a c → ((answer : Answer) → a ≡ Leave answer → (called h g.call).seat ≡ s) → h' ≡ noted h e c → (t : ℕ) → t ≢ s → RelyHistory h h' t
 change_apart h h' e z v s choice l g o a c (makes_nothing b) f n t d = record {
   fresh = λ p i w. none_new _ _ p (ap (λ x. length x.attempts) n) i w;
@@ -368,7 +370,8 @@ module _ (z : Sizes) (r r' : Run) (s : ℕ) (choice : Choice) (l l' : Local) (i 
       which (inr e) f = elsewhere (λ u w. e u)
       which (inl e) (inr f) = elsewhere (λ u w. f w)
 
-  -- an idle entry is frozen: no attempt is lost, and a seat whose entry it is has not announced its cell
+  -- an idle entry is frozen: no attempt is lost, and a seat whose entry it is has not announced its
+  -- cell
   idle : l.rebalance.entry ≡ pend.Idle → word z r.world (name.Pend l.row j) ≡ pend_word l.rebalance.entry → RelyEntry (word z r.world) (word z r'.world) r.history r'.history t k.activity k (r.seats t)
   idle e f = which (cases_eq k.row l.row) (cases_eq t j)
     where

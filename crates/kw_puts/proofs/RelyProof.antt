@@ -150,8 +150,8 @@ draw_stays z r r' s choice l (HelpSettle i) l' h t d f = ap (λ (g : ℕ → ℕ
     other false = refl
 draw_stays z r r' s choice l a l' h t d f = ap (λ (g : ℕ → ℕ). g t) h.settled
 
--- a scan that another seat settles which waits since the clock that this seat found: it gets the version that was drawn for it, after it
--- began to wait. Any other scan stays
+-- a scan that another seat settles which waits since the clock that this seat found: it gets the
+-- version that was drawn for it, after it began to wait. Any other scan stays
 helped_scan : (z : Sizes) (r r' : Run) (s : ℕ) (choice : Choice) (l : Local) (t : ℕ) (l' : Local) → Happens z r r' s choice l l' (HelpSettle t) → Below z r → Step r.history r'.history (log_entry z r (HelpSettle t) s choice l) → t < z.seats → RelyScan (word z r.world) (word z r'.world) r'.history t (r.ledger.waits t) (r.settled t) (r'.settled t)
 helped_scan z r r' s choice l t l' h i st o = which (cases_eq (word z r.world (name.Scan t)) (scan_word (Waiting l.rebalance.waiting)))
   where

@@ -1,5 +1,6 @@
--- A seat that rebalances gathers the cells of its frozen row: those that it meets in the list, and those that it remembers and did not meet. What it
--- knows of them after each event of its own, over the run before that event: the event loads a word, and changes nothing.
+-- A seat that rebalances gathers the cells of its frozen row: those that it meets in the list, and
+-- those that it remembers and did not meet. What it knows of them after each event of its own, over
+-- the run before that event: the event loads a word, and changes nothing.
 use Rattle.std.proofs.Common.{ℕ, ◌≡◌, ◌⊎◌, inl, inr, ◌<◌, ◌≤◌, Bool, true, false, Option, Some, None, List, [], arith, refl, sym, ◌∙◌, ap, subst, length, All, slice_get, unwrap_or}
 use Rattle.std.proofs.lemmas.Bool.{cases_eq}
 use Rattle.std.proofs.lemmas.Option.{same_Some}

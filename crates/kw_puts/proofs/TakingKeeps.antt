@@ -1,5 +1,6 @@
--- Every event keeps what a seat that rebalances knows of what it gathers: where it begins to gather each stamped cell of its row is remembered or
--- listed, and once it has its plan all of the row is gathered, and what is kept stands for attempts.
+-- Every event keeps what a seat that rebalances knows of what it gathers: where it begins to gather
+-- each stamped cell of its row is remembered or listed, and once it has its plan all of the row is
+-- gathered, and what is kept stands for attempts.
 use Rattle.std.proofs.Common.{ℕ, ◌≡◌, inl, inr, Some, None, [], refl, sym, subst, All, slice_get}
 use Rattle.std.proofs.lemmas.List.Elements.{All-nil}
 use Rattle.kw_words.specs.declared.layout.Name.TheVariants as name
@@ -21,7 +22,7 @@ use Rattle.kw_core.proofs.Arrows.{builds, Arrow}
 use Rattle.kw_core.proofs.Arrows.{meets_stamped, meets_neither, is_passed, helps, finds_stamped, finds_other, list_ends, key_above, rest_passed, gathers_rest}
 use Rattle.kw_core.proofs.Arrows.{meets_quiet_last, meets_drawn_last, settles_last, finds_drawn_last, finds_no_scan_last}
 use Rattle.kw_core.proofs.Arrows.{take_leads, takes_left, takes_no_more, takes_key, takes_version, keeps_taken, takes_left_key, keeps_left, keeps_no_more}
-use Rattle.kw_core.proofs.Building.{Building, replaces_row, makes_normal, makes_last_normal, draws_number, retires_row, IsBuilding}
+use Rattle.kw_core.proofs.Building.{Building, replaces_row, makes_normal, makes_last_normal, draws_number, retires_row, IsBuilding, retires_and_leaves}
 use Rattle.kw_core.proofs.BuiltNext.{BuiltKeeps, IsAfterBuilding, built_keeps, built_next}
 use Rattle.kw_core.proofs.Happens.{Happens, log_entry, each_seat}
 use Rattle.kw_rows.specs.Rows.{WasLinked}
@@ -45,7 +46,8 @@ was_planned z v choice l a k (replaces_row e) x = absurd x
 was_planned z v choice l a k (makes_normal o) x = absurd x
 was_planned z v choice l a k (makes_last_normal o) x = absurd x
 was_planned z v choice l a k draws_number x = absurd x
-was_planned z v choice l a k retires_row x = absurd x
+was_planned z v choice l a k (retires_row nd) x = absurd x
+was_planned z v choice l a k (retires_and_leaves dn) x = absurd x
 was_planned z v choice l a k _ x = tt
 
 -- a seat that has its plan builds

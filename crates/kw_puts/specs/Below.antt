@@ -1,5 +1,5 @@
--- All that every event keeps below the readers and the replies: what a lemma about attempts, entries, positions and scans may use
--- of the run before the event.
+-- All that every event keeps below the readers and the replies: what a lemma about attempts,
+-- entries, positions and scans may use of the run before the event.
 use Rattle.std.specs.Prelude.{◌≡◌, Some, slice_get}
 use Rattle.kw_world.specs.declared.event.Event.{Event}
 use Rattle.kw_world.specs.declared.local.Local.{Local}
@@ -21,7 +21,8 @@ pub record Below (z : Sizes) (r : Run) : Type 0 where
   pub lists : Lists z r
   pub positions : Positions z r
 
--- the record may note the event: what its laws ask of the change that the event makes holds where it comes
+-- the record may note the event: what its laws ask of the change that the event makes holds where
+-- it comes
 abbrev pub MayTake : Sizes → Run → Event → Type 0
 MayTake z r e = (l : Local) → slice_get r.world.locals e.seat ≡ Some l →
     MayNote r.history (logged_of (happening_at z r.world e l)) (change_of z l.activity e.seat (offered r.world.rows e.choice) l (found_by z r.world e l) (r.seats e.seat) r.origin)

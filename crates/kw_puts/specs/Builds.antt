@@ -1,4 +1,5 @@
--- What a seat that rebalances gathers of its frozen row, and what the cells of the rows that it writes stand for.
+-- What a seat that rebalances gathers of its frozen row, and what the cells of the rows that it
+-- writes stand for.
 use Rattle.std.specs.Prelude.{ℕ, ◌≡◌, ◌⊎◌, ◌<◌, ◌≤◌, ◌==◌, Bool, true, false, if◌then◌else◌, Some, None, List, [], ◌∷◌, All, length, slice_get}
 use Rattle.kw_cells.specs.declared.cell.Cell.{Cell}
 use Rattle.kw_lists.specs.Counts.{count_below}
@@ -91,7 +92,8 @@ IsToTake r TakeRestKey l c = c ≡ l.place
 IsToTake r TakeRestValue l c = c ≡ l.place
 IsToTake r _ l c = ⊥
 
--- the cell in hand is that of a stamped attempt, with the version and the key in hand, once they are
+-- the cell in hand is that of a stamped attempt, with the version and the key in hand, once they
+-- are
 pub record IsTakenOf (h : History) (o : Origins) (a : Activity) (l : Local) : Type 0 where
   pub put : ℕ
   pub origin : o l.row l.place ≡ Some put
@@ -99,7 +101,8 @@ pub record IsTakenOf (h : History) (o : Origins) (a : Activity) (l : Local) : Ty
   pub version : HasTakenVersion a → (attempt h put).version ≡ l.place_version
   pub key : HasTakenKey a → (attempt h put).key ≡ l.place_key
 
--- each cell of the row that stands for a stamped attempt is gathered, remembered, or to come; none is gathered twice
+-- each cell of the row that stands for a stamped attempt is gathered, remembered, or to come; none
+-- is gathered twice
 pub record Gathering (n : ℕ) (r : Row) (h : History) (o : Origins) (a : Activity) (l : Local) : Type 0 where
   pub on : IsTakeListing a → IsOn r l.link
   pub behind : HasTakenListed a → (r.listed l.place ≡ true) × IsBehind r l.link l.place
@@ -123,8 +126,9 @@ HasPlanned _ = Unit {0}
 abbrev pub HoldsRow : ℕ → History → Origins → Local → Type 0
 HoldsRow n h o l = (c p : ℕ) → c < n → o l.row c ≡ Some p → (attempt h p).is_stamped ≡ true → has_place c l.rebalance.gathered ≡ true
 
--- what the cells of row q stand for and which are listed, where it is the row at hand of a seat that knows l and is about to do this: a copy stands
--- for the attempt of the cell at which it was gathered
+-- what the cells of row q stand for and which are listed, where it is the row at hand of a seat
+-- that knows l and is about to do this: a copy stands for the attempt of the cell at which it was
+-- gathered
 pub record Copied (z : Sizes) (h : History) (o : Origins) (f : Listed) (a : Activity) (l : Local) (q : ℕ) : Type 0 where
   pub origin : (j : ℕ) (c : Cell) → j < z.cells → HasVersion a j → slice_get (infant_cells l) j ≡ Some c → (p : ℕ) × (o q j ≡ Some p) × IsCellOf h c p
   pub gathered : (j : ℕ) (c : Cell) → j < z.cells → HasVersion a j → slice_get (infant_cells l) j ≡ Some c → o q j ≡ o l.row c.place

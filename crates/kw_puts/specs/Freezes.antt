@@ -1,5 +1,5 @@
--- What holds of the rows that seats freeze: a count that is frozen gives no cell any more, an entry that was passed is never pending again,
--- and the stamped cells that are not listed are remembered.
+-- What holds of the rows that seats freeze: a count that is frozen gives no cell any more, an entry
+-- that was passed is never pending again, and the stamped cells that are not listed are remembered.
 use Rattle.std.specs.Prelude.{ℕ, ◌≡◌, ◌⊎◌, ◌<◌, true, Option, Some, All, length}
 use Rattle.kw_words.specs.declared.layout.Name.TheVariants as name
 use Rattle.kw_words.specs.declared.pend.Pend.{Pend}
@@ -44,8 +44,8 @@ IsToFreeze _ l = Unit {0}
 
 -- The row that a seat has frozen.
 
--- no put of seat j gets a version in row q any more: its entry is frozen, or is stamped already, or it is idle and the seat has no cell
--- of the row that it may announce
+-- no put of seat j gets a version in row q any more: its entry is frozen, or is stamped already, or
+-- it is idle and the seat has no cell of the row that it may announce
 pub data IsSettled (v : Words) (locals : ℕ → Option Local) (q j : ℕ) : Type 0 where
   settled_frozen : v (name.Pend q j) ≡ pend_word Frozen → IsSettled v locals q j
   settled_stamped : (cell version : ℕ) → v (name.Pend q j) ≡ pend_word (Stamped cell version) → IsSettled v locals q j
@@ -74,8 +74,9 @@ IsBeforeTaking (HelpDraw i) = Unit {0}
 IsBeforeTaking (HelpSettle i) = Unit {0}
 IsBeforeTaking _ = ⊥
 
--- what is remembered is the cells of stamped attempts. Each stamped attempt that was made in the row since it was linked, and whose seat's entry was
--- passed, is remembered, or its cell is listed, until the seat walks along the list
+-- what is remembered is the cells of stamped attempts. Each stamped attempt that was made in the
+-- row since it was linked, and whose seat's entry was passed, is remembered, or its cell is listed,
+-- until the seat walks along the list
 pub record Remembers (z : Sizes) (g : Ledger) (h : History) (o : Origins) (f : Listed) (a : Activity) (l : Local) : Type 0 where
   pub marks : HasFrozen a → All (IsMarkOf h o l.row) l.rebalance.marks
   pub noted : IsBeforeTaking a → (p : ℕ) → p < length h.attempts → IsMadeIn g h l.row p → (attempt h p).is_stamped ≡ true → (attempt h p).seat < frozen_by z a →

@@ -1,7 +1,9 @@
--- What holds of the lists of the rows: of the cells that are listed, of the links between them, and of the puts that insert a cell.
+-- What holds of the lists of the rows: of the cells that are listed, of the links between them, and
+-- of the puts that insert a cell.
 --
--- A cell is listed by the exchange that inserts it, after its version was stored and before its entry is cleared. So an attempt that no
--- seat is at work on any more is listed, and a walk along the list of its row meets it, unless it never gets a version, or its row was used again.
+-- A cell is listed by the exchange that inserts it, after its version was stored and before its
+-- entry is cleared. So an attempt that no seat is at work on any more is listed, and a walk along
+-- the list of its row meets it, unless it never gets a version, or its row was used again.
 use Rattle.std.specs.Prelude.{ℕ, ◌≡◌, ◌⊎◌, ◌<◌, true, false, Some, length, slice_get}
 use Rattle.kw_words.specs.declared.layout.Name.TheVariants as name
 use Rattle.kw_lists.specs.Rows.{Row, IsBehind, IsSound}
@@ -44,9 +46,10 @@ pub record IsOwnListed (f : Listed) (a : Activity) (l : Local) : Type 0 where
   pub unlisted : IsUnlisted a → f l.row l.cell ≡ false
   pub listed : IsPutClear a → f l.row l.cell ≡ true
 
--- what a put knows of the row's list, in a row of n cells. It stands at a link of the list before its own cell, which held nothing or a
--- listed cell when it was loaded; since then it holds the same, or fewer exchanges were lost than cells are listed. The cell of which it
--- asks the version has the own key. What it stores in its own link stands behind its own cell
+-- what a put knows of the row's list, in a row of n cells. It stands at a link of the list before
+-- its own cell, which held nothing or a listed cell when it was loaded; since then it holds the
+-- same, or fewer exchanges were lost than cells are listed. The cell of which it asks the version
+-- has the own key. What it stores in its own link stands behind its own cell
 abbrev pub Inserts : ℕ → Row → Activity → Local → Type 0
 Inserts n r InsFrom l = IsFrom n r l.cell l.lost l.link
 Inserts n r InsKey l = IsAt n r l.cell l.lost l.link l.held × (l.held ≡ Some l.place)
@@ -55,8 +58,9 @@ Inserts n r InsSet l = IsAt n r l.cell l.lost l.link l.held × IsAhead r l.cell 
 Inserts n r Insert l = IsSet n r l.cell l.lost l.link l.held
 Inserts n r _ l = Unit {0}
 
--- where a put's walk is: at its link, or at the cell that it has met, which is listed and stands behind the link. It has counted no more
--- cells than there are listed ones up to there, for it meets none twice
+-- where a put's walk is: at its link, or at the cell that it has met, which is listed and stands
+-- behind the link. It has counted no more cells than there are listed ones up to there, for it
+-- meets none twice
 abbrev pub WalksList : ℕ → Row → Activity → Local → Type 0
 WalksList n r InsFrom l = IsWalking n r l.link l.walked
 WalksList n r InsKey l = IsBehind r l.link l.place × IsWalking n r (Some l.place) l.walked
@@ -65,8 +69,9 @@ WalksList n r _ l = Unit {0}
 
 -- The group.
 
--- what holds of the listed cells, of the list of each row that is or was linked, and of the puts that are about to insert a cell; an attempt that no
--- seat is at work on is listed, unless its row was used again, or never gets a version
+-- what holds of the listed cells, of the list of each row that is or was linked, and of the puts
+-- that are about to insert a cell; an attempt that no seat is at work on is listed, unless its row
+-- was used again, or never gets a version
 pub record Lists (z : Sizes) (r : Run) : Type 0 where
   pub cells : (q c : ℕ) → WasLinked r.ledger.rows q → r.listed q c ≡ true → IsListedCell (word z r.world) r.history r.origin q c
   pub leads : (q : ℕ) → WasLinked r.ledger.rows q → IsSound z.cells (list_in (word z r.world) r.listed q)

@@ -1,4 +1,5 @@
--- What holds of the clock over the log, of the calls that run, and of where readers and scans looked and drew.
+-- What holds of the clock over the log, of the calls that run, and of where readers and scans
+-- looked and drew.
 use Rattle.std.specs.Prelude.{ℕ, ◌≡◌, ◌⊎◌, ◌<◌, ◌≤◌, true, Some, None, length, slice_get}
 use Rattle.kw_words.specs.declared.layout.Name.TheVariants as name
 use Rattle.kw_words.specs.declared.kind.Kind.{Kind}
@@ -22,7 +23,8 @@ use Rattle.kw_world.specs.Sane.{IsVersion}
 
 -- The clock.
 
--- no event of the log found the clock at 0 or later than it is, and what follows a draw found a later one
+-- no event of the log found the clock at 0 or later than it is, and what follows a draw found a
+-- later one
 pub record Clocked (v : Words) (h : History) : Type 0 where
   pub positive : (x : ℕ) (k : Kind) (c : ℕ) → Stands h x k c → 1 ≤ c
   pub past : (x : ℕ) (k : Kind) (c : ℕ) → Stands h x k c → c ≤ v name.Clock
@@ -31,8 +33,9 @@ pub record Clocked (v : Words) (h : History) : Type 0 where
 
 -- The calls that run.
 
--- the call of a busy seat is in the record and has not ended. If it has a put, this is the seat's own attempt, which is announced
--- or done; and it has one where the seat is done
+-- the call of a busy seat is in the record and has not ended. If it has a put, this is the seat's
+-- own attempt, which is announced or done, also where the seat tidies; and it has one where the
+-- seat is done or tidies
 pub record Calling (h : History) (t : ℕ) (a : Activity) (l : Local) (g : SeatLog) : Type 0 where
   pub within : g.call < length h.calls
   pub seat : (called h g.call).seat ≡ t
@@ -40,8 +43,8 @@ pub record Calling (h : History) (t : ℕ) (a : Activity) (l : Local) (g : SeatL
   pub call : l.call ≡ Some (called h g.call).call
   pub runs : (called h g.call).end ≡ None
   pub own : (p : ℕ) → (called h g.call).put ≡ Some p → g.own ≡ p
-  pub published : (p : ℕ) → (called h g.call).put ≡ Some p → IsPublished a ⊎ IsDone a
-  pub done : IsDone a → (p : ℕ) × ((called h g.call).put ≡ Some p)
+  pub published : (p : ℕ) → (called h g.call).put ≡ Some p → IsPublished a ⊎ IsDone a ⊎ (l.tidies ≡ true)
+  pub done : IsDone a ⊎ (l.tidies ≡ true) → (p : ℕ) × ((called h g.call).put ≡ Some p)
 
 -- no call of a seat has a greater number than the seat has begun calls
 abbrev pub Numbers : History → ℕ → Local → Type 0
@@ -59,8 +62,8 @@ pub record IsDrawnAt (h : History) (x version : ℕ) : Type 0 where
   pub is_draw : IsDraw kind
   pub stands : Stands h x kind version
 
--- another seat has drawn a version for the scan of seat t, which began to wait at `since`: the word says which, and the draw stands at
--- `at`, later
+-- another seat has drawn a version for the scan of seat t, which began to wait at `since`: the word
+-- says which, and the draw stands at `at`, later
 pub record IsHelped (v : Words) (h : History) (t since at : ℕ) : Type 0 where
   pub version : ℕ
   pub range : IsVersion version
@@ -79,9 +82,10 @@ abbrev pub IsToWait : Activity → Type 0
 IsToWait ScanWait = Unit {0}
 IsToWait _ = ⊥
 
--- a waiting scan, which began to wait at `since` in its call, has a word that says so, or it was helped. A scan drew in its call, at an event
--- that found its version, or was helped by such a draw; once it is settled its word names this version. A reader looked at its row in its
--- call, and a scan after its draw
+-- a waiting scan, which began to wait at `since` in its call, has a word that says so, or it was
+-- helped. A scan drew in its call, at an event that found its version, or was helped by such a
+-- draw; once it is settled its word names this version. A reader looked at its row in its call, and
+-- a scan after its draw
 pub record Draws (v : Words) (h : History) (t since at : ℕ) (a : Activity) (l : Local) (g : SeatLog) : Type 0 where
   pub waits : IsWaiting a → (v (name.Scan t) ≡ scan_word (Waiting l.waiting)) ⊎ IsHelped v h t since at
   pub began : IsWaiting a → ((called h g.call).first < since) × (since < length h.log)
@@ -109,8 +113,9 @@ abbrev pub HasDrawnFor : ℕ → Activity → Type 0
 HasDrawnFor t (HelpSettle i) = t ≡ i
 HasDrawnFor t _ = ⊥
 
--- a seat that helps the scan of seat t found that it waits since a clock. It still does, or the clock has gone on; it never waits since an
--- earlier one, and if it is about to wait again, this is since a later one. A version that was drawn for it was drawn after it began to wait
+-- a seat that helps the scan of seat t found that it waits since a clock. It still does, or the
+-- clock has gone on; it never waits since an earlier one, and if it is about to wait again, this is
+-- since a later one. A version that was drawn for it was drawn after it began to wait
 pub record Helping (z : Sizes) (r : Run) (t : ℕ) (a : Activity) (l : Local) (g : SeatLog) : Type 0 where
   pub waits : HelpsScan t a → (word z r.world (name.Scan t) ≡ scan_word (Waiting l.rebalance.waiting)) ⊎ (l.rebalance.waiting < word z r.world name.Clock)
   pub least : HelpsScan t a → (clock : ℕ) → word z r.world (name.Scan t) ≡ scan_word (Waiting clock) → l.rebalance.waiting ≤ clock
@@ -121,7 +126,8 @@ pub record Helping (z : Sizes) (r : Run) (t : ℕ) (a : Activity) (l : Local) (g
 
 -- The group.
 
--- what holds of the clock, the running calls and the scans; and no seat looked at a row, or drew, later than now
+-- what holds of the clock, the running calls and the scans; and no seat looked at a row, or drew,
+-- later than now
 pub record Positions (z : Sizes) (r : Run) : Type 0 where
   pub clocked : Clocked (word z r.world) r.history
   pub calling : (t : ℕ) (l : Local) → slice_get r.world.locals t ≡ Some l → IsBusy l.activity → Calling r.history t l.activity l (r.seats t)

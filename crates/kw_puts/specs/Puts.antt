@@ -1,11 +1,13 @@
 -- What holds of the attempts, their cells and their entries.
 --
--- An attempt is a put or a delete that was given a cell; it is named by its place in the record. An attempt is current while its
--- seat is at work on it. Of the others each is stamped and its version stored, or it never gets a version: its row was frozen before it
--- was announced or before it was stamped, and its seat has gone on.
+-- An attempt is a put or a delete that was given a cell; it is named by its place in the record. An
+-- attempt is current while its seat is at work on it. Of the others each is stamped and its version
+-- stored, or it never gets a version: its row was frozen before it was announced or before it was
+-- stamped, and its seat has gone on.
 --
--- A row may be used again once no seat can name it. Of an attempt that was made in an earlier use of its row nothing is said here but what it is of:
--- its cell may be another attempt's now, or a copy, even one of its own. A seat that is at work on an attempt is in its pass, so its row is not
+-- A row may be used again once no seat can name it. Of an attempt that was made in an earlier use
+-- of its row nothing is said here but what it is of: its cell may be another attempt's now, or a
+-- copy, even one of its own. A seat that is at work on an attempt is in its pass, so its row is not
 -- used again before it has done.
 use Rattle.std.specs.Prelude.{ℕ, ◌≡◌, ◌≢◌, ◌⊎◌, ◌<◌, ◌≤◌, true, false, if◌then◌else◌, Option, Some, None, length, slice_get}
 use Rattle.kw_words.specs.declared.layout.Name.TheVariants as name
@@ -40,7 +42,8 @@ pub record IsPlaced (z : Sizes) (rows : ℕ) (h : History) (p : ℕ) : Type 0 wh
   pub below : (attempt h p).row < rows
   pub cell : (attempt h p).cell < z.cells
 
--- the cell of an attempt is one that its row has given, to this attempt, and the row may hold the key
+-- the cell of an attempt is one that its row has given, to this attempt, and the row may hold the
+-- key
 pub record IsGivenCell (v : Words) (g : Ledger) (h : History) (o : Origins) (p : ℕ) : Type 0 where
   pub given : (attempt h p).cell < given_in v (attempt h p).row
   pub origin : o (attempt h p).row (attempt h p).cell ≡ Some p
@@ -65,8 +68,8 @@ key_in v r c = key_of_word (v (name.Key r c))
 abbrev pub value_in : Words → ℕ → ℕ → Option ℕ
 value_in v r c = value_of_word (v (name.Value r c))
 
--- the cell is a copy of that of an attempt which was made and stamped before this row was linked. The attempt may have been one of this row, in an
--- earlier use of it
+-- the cell is a copy of that of an attempt which was made and stamped before this row was linked.
+-- The attempt may have been one of this row, in an earlier use of it
 pub record IsCopyAt (v : Words) (g : Ledger) (h : History) (r c p : ℕ) : Type 0 where
   pub within : p < length h.attempts
   pub earlier : (attempt h p).add < (g.fates r).born
@@ -80,7 +83,8 @@ pub record IsCopyAt (v : Words) (g : Ledger) (h : History) (r c p : ℕ) : Type 
 abbrev pub RisesTo : History → ℕ → ℕ → Type 0
 RisesTo h p q = ((attempt h p).key < (attempt h q).key) ⊎ ((attempt h p).key ≡ (attempt h q).key) × ((attempt h p).version < (attempt h q).version)
 
--- each cell of a row that is or was linked is that of an attempt, which was made since, or a copy; the copies are the first, and rise
+-- each cell of a row that is or was linked is that of an attempt, which was made since, or a copy;
+-- the copies are the first, and rise
 pub record Places (z : Sizes) (v : Words) (g : Ledger) (h : History) (o : Origins) : Type 0 where
   pub owner : (r c p : ℕ) → WasLinked g r → c < z.cells → o r c ≡ Some p → HasCell g h r c p ⊎ IsCopyAt v g h r c p
   pub given : (r c : ℕ) → WasLinked g r → c < z.cells → c < given_in v r → ((p : ℕ) × (o r c ≡ Some p)) ⊎ IsFrozen v r
@@ -89,7 +93,8 @@ pub record Places (z : Sizes) (v : Words) (g : Ledger) (h : History) (o : Origin
   pub above : (r c d p q : ℕ) → WasLinked g r → c < z.cells → d < z.cells → o r c ≡ Some p → (attempt h p).add < (g.fates r).born → o r d ≡ Some q → (g.fates r).born ≤ (attempt h q).add → c < d
   pub rank : (r c d p q : ℕ) → WasLinked g r → c < d → d < z.cells → o r c ≡ Some p → (attempt h p).add < (g.fates r).born → o r d ≡ Some q → (attempt h q).add < (g.fates r).born → RisesTo h p q
 
--- the words of an attempt's cell: once it is announced its key and its value stand there, and a version that stands there is its own
+-- the words of an attempt's cell: once it is announced its key and its value stand there, and a
+-- version that stands there is its own
 pub record HasBody (v : Words) (h : History) (p : ℕ) : Type 0 where
   pub key : (attempt h p).is_announced ≡ true → key_in v (attempt h p).row (attempt h p).cell ≡ (attempt h p).key
   pub value : (attempt h p).is_announced ≡ true → value_in v (attempt h p).row (attempt h p).cell ≡ (attempt h p).value
@@ -102,10 +107,11 @@ pub record HasBody (v : Words) (h : History) (p : ℕ) : Type 0 where
 abbrev pub entry_of : Attempt → ℕ
 entry_of p = if p.is_lost then pend_word Frozen else if p.is_stamped then pend_word (Stamped p.cell p.version) else pend_word (Pending p.cell)
 
--- the seat's own attempt is one of this seat, this call, and the local's row, cell, key and value. It is not lost before it is
--- announced, nor once it is stamped. Until it is announced what the seat has stored of it stands in the cell; then the seat's entry
--- says how it is; a seat that is to stamp has loaded the clock after the announcement; then it is stamped with the seat's version, and
--- this is stored
+-- the seat's own attempt is one of this seat, this call, and the local's row, cell, key and value.
+-- It is not lost before it is announced, nor once it is stamped. Until it is announced what the
+-- seat has stored of it stands in the cell; then the seat's entry says how it is; a seat that is to
+-- stamp has loaded the clock after the announcement; then it is stamped with the seat's version,
+-- and this is stored
 pub record OwnsAttempt (v : Words) (h : History) (t : ℕ) (a : Activity) (l : Local) (g : SeatLog) : Type 0 where
   pub within : g.own < length h.attempts
   pub seat : (attempt h g.own).seat ≡ t
@@ -140,7 +146,8 @@ pub record IsOld (v : Words) (g : Ledger) (h : History) (p : ℕ) : Type 0 where
   pub stamped : (attempt h p).is_stamped ≡ true
   pub version : IsHere g h p → v (name.Version (attempt h p).row (attempt h p).cell) ≡ (attempt h p).version
 
--- the attempt never gets a version: it is lost, or its seat met a frozen entry before it was announced
+-- the attempt never gets a version: it is lost, or its seat met a frozen entry before it was
+-- announced
 pub record IsOver (h : History) (p : ℕ) : Type 0 where
   pub unstamped : (attempt h p).is_stamped ≡ false
   pub over : ((attempt h p).is_lost ≡ true) ⊎ ((attempt h p).is_announced ≡ false)
@@ -154,8 +161,9 @@ pub record IsPublishedAt (locals : ℕ → Option Local) (r i : ℕ) : Type 0 wh
 
 -- The attempt that a reader helps.
 
--- the entry that the reader met is that of an announced attempt of the seat looked at; once the reader is to help it, its key is
--- one that the reader reads, and the reader has loaded the clock after the announcement
+-- the entry that the reader met is that of an announced attempt of the seat looked at; once the
+-- reader is to help it, its key is one that the reader reads, and the reader has loaded the clock
+-- after the announcement
 pub record Helps (h : History) (o : Origins) (a : Activity) (l : Local) (g : SeatLog) : Type 0 where
   pub put : ℕ
   pub origin : o l.row l.met ≡ Some put

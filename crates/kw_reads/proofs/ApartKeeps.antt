@@ -1,4 +1,5 @@
--- A reader gathers no cell twice: what it met on its walk it has passed, and it remembers such a cell no more.
+-- A reader gathers no cell twice: what it met on its walk it has passed, and it remembers such a
+-- cell no more.
 use Rattle.std.proofs.Common.{ℕ, ◌≡◌, ◌⊎◌, inl, inr, ◌+◌, ◌<◌, ◌≤◌, Bool, true, false, Option, Some, [], arith, refl, sym, subst, length}
 use Rattle.std.specs.Prelude.{insert}
 use Rattle.kw_words.specs.Plain.{value_of_word}

@@ -1,7 +1,8 @@
 -- The attempt beside the best gathered cell: it is the latest of those that are gathered.
 --
--- Beside each gathered cell stands its attempt, and a cell of a row stands for one attempt; so the attempt that is found by the place of
--- a gathered cell is the one beside it. Of two cells of one key and one version the one further on stands for the later attempt.
+-- Beside each gathered cell stands its attempt, and a cell of a row stands for one attempt; so the
+-- attempt that is found by the place of a gathered cell is the one beside it. Of two cells of one
+-- key and one version the one further on stands for the later attempt.
 use Rattle.std.proofs.Common.{ℕ, zero, suc, ◌≡◌, ◌⊎◌, inl, inr, ◌<◌, ◌≤◌, ◌==◌, Bool, true, false, Option, Some, None, List, [], ◌∷◌, arith, refl, sym, ◌∙◌, ap, subst, length, get_or, All, Contains, if◌then◌else◌}
 use Rattle.std.proofs.lemmas.Bool.{cases_lt, cases_eq}
 use Rattle.std.proofs.lemmas.Bool.Decides.{nat_tests}
@@ -20,7 +21,8 @@ use Rattle.kw_reads.specs.Readers.{IsCopyOf, AreCopies}
 use Rattle.kw_core.proofs.Arrows.{eq_from, eq_not}
 use Rattle.kw_puts.proofs.CellsOf.{place_order}
 
--- what the attempt of a key is, of those gathered: it has at most this version, shows this, and none of the others is after it
+-- what the attempt of a key is, of those gathered: it has at most this version, shows this, and
+-- none of the others is after it
 pub record Gives (h : History) (key version : ℕ) (o : Option ℕ) (value : Option ℕ) (ids : List ℕ) : Type 0 where
   pub gap : IsGapOf h key o
   pub bound : HasVersionUpTo h o version

@@ -1,9 +1,10 @@
--- A seat that builds new rows, or has just done so, reads none: nothing is said of it that is said of readers, and its log is as it was.
+-- A seat that builds new rows, or has just done so, reads none: nothing is said of it that is said
+-- of readers, and its log is as it was.
 use Rattle.std.proofs.Common.{ℕ, ◌≡◌, ◌⊎◌, inl, inr}
 use Rattle.kw_lists.specs.Rows.{Row}
 use Rattle.kw_world.specs.declared.activity.Activity.{Activity}
 use Rattle.kw_world.specs.declared.activity.Activity.TheVariants.{Idle, Enter, ScanClock, ScanWait, ScanDraw, ScanSettle, Look, LookKey, LookClock, LookHelp, ListFrom, ListKey, ListVer, ListVal, RestKey, RestVal, ClearScan, PutAdd, PutClock, Leave, AgainEpoch, BalClock, HelpDraw}
-use Rattle.kw_world.specs.declared.answer.Answer.TheVariants.{NoRows}
+use Rattle.kw_world.specs.declared.answer.Answer.TheVariants.{Done, NoRows}
 use Rattle.kw_world.specs.declared.event.Choice.{Choice}
 use Rattle.kw_world.specs.declared.local.Local.{Local}
 use Rattle.kw_world.specs.Sizes.{Sizes}
@@ -70,6 +71,7 @@ after_enters _ b x = absurd x
 pub after_covered : (a : Activity) (h : History) (l : Local) (g : SeatLog) → IsAfterBuilding a → IsCovered a h l g
 after_covered (ClearScan answer) h l g b = absurd b
 after_covered (Leave NoRows) h l g b = tt
+after_covered (Leave Done) h l g b = tt
 after_covered (Leave answer) h l g b = absurd b
 after_covered _ h l g b = tt
 

@@ -1,8 +1,8 @@
--- A reader reads the cells of its row: each attempt that is due to it is gathered when its cell is met, or else as one of the cells
--- that are remembered.
+-- A reader reads the cells of its row: each attempt that is due to it is gathered when its cell is
+-- met, or else as one of the cells that are remembered.
 --
--- `ReadLeft` says it where the walk along the list is over, without an activity: so it holds where the reader goes on to a remembered
--- cell, and where the row is read.
+-- `ReadLeft` says it where the walk along the list is over, without an activity: so it holds where
+-- the reader goes on to a remembered cell, and where the row is read.
 use Rattle.std.proofs.Common.{ℕ, ◌≡◌, ◌⊎◌, inl, inr, ◌+◌, ◌<◌, ◌≤◌, nat_le, ◌&&◌, true, false, Option, Some, None, List, arith, refl, sym, ◌∙◌, ap, subst, unwrap_or}
 use Rattle.std.specs.Prelude.{All, Contains, insert}
 use Rattle.std.proofs.lemmas.Bool.{cases_eq}
@@ -50,7 +50,8 @@ use Rattle.kw_puts.proofs.CellsOf.{cell_key, cell_value, cell_within}
 use Rattle.kw_reads.proofs.LooksKeep.{goes, looks_by, marks_after, within}
 use Rattle.kw_reads.proofs.WalksKeep.{row_linked, row_linked_on, row_left, row_sound, walks_before, walks_after, link_loaded, cell_next}
 
--- the walk along the list is over: each attempt that is due is stamped, and is gathered, or the cell that stands for it is remembered still
+-- the walk along the list is over: each attempt that is due is stamped, and is gathered, or the
+-- cell that stands for it is remembered still
 pub record ReadLeft (h : History) (o : Origins) (l : Local) (looked : ℕ) (ids : List ℕ) : Type 0 where
   pub stamped : (c p : ℕ) → IsDue h o l.row l.call looked c p → (attempt h p).is_stamped ≡ true
   pub found : (c p : ℕ) → IsDue h o l.row l.call looked c p → Contains ids p ⊎ (is_marked c l.remembered ≡ true)
@@ -155,7 +156,8 @@ module _ {z : Sizes} {r : Run} (k : Below z r) where
           let from : 1 ≤ w = omega (arith, same, (version_ranges k cell.put cell.stamped).0) in
           ap (λ x. unwrap_or x 1) (number_of_word-number_word (Some w) from) ∙ same
 
--- where the reader begins with the list, each attempt that is due is stamped, and its cell is remembered or listed
+-- where the reader begins with the list, each attempt that is due is stamped, and its cell is
+-- remembered or listed
 reads_begin : {z : Sizes} {r : Run} (k : Below z r) (j : ℕ) (next : Activity) (l : Local) (g : SeatLog) → NextLook z j next → IsTaking next → Looks z r.listed r.history r.origin next (record l { activity = next }) g → l.link ≡ None → Reads (list_in (word z r.world) r.listed l.row) r.history r.origin next (record l { activity = next }) g
 reads_begin k j _ l g (looks w) x n e = absurd x
 reads_begin {z} {r} k j _ l g (lists w) x n e = record {

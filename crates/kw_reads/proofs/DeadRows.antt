@@ -1,5 +1,6 @@
--- What holds of the puts of dead rows. Each announced attempt of a dead row is lost or was stamped before it went, and so was each put of which it
--- has a cell; it shows for each of its keys what all puts show that were stamped before it went, at each version that is still needed.
+-- What holds of the puts of dead rows. Each announced attempt of a dead row is lost or was stamped
+-- before it went, and so was each put of which it has a cell; it shows for each of its keys what
+-- all puts show that were stamped before it went, at each version that is still needed.
 use Rattle.std.proofs.Common.{ℕ, ◌≡◌, ◌⊎◌, inl, inr, ◌<◌, Bool, true, false, arith, refl, sym, ◌∙◌, ap, subst, length, slice_get}
 use Rattle.std.proofs.lemmas.Bool.{cases_eq}
 use Rattle.kw_words.specs.declared.layout.Name.TheVariants as name

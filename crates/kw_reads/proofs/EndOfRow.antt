@@ -1,7 +1,9 @@
--- What a get or a scan knows that has read its row to the end: what it answers, and the pairs of the row's keys.
+-- What a get or a scan knows that has read its row to the end: what it answers, and the pairs of
+-- the row's keys.
 --
--- By the law of readers it knows a gap of each key that the row may hold, which shows what its best gathered cell shows: each attempt of the
--- key that was announced before the call began, or drew, is lost, or stamped and not after the gap.
+-- By the law of readers it knows a gap of each key that the row may hold, which shows what its best
+-- gathered cell shows: each attempt of the key that was announced before the call began, or drew,
+-- is lost, or stamped and not after the gap.
 use Rattle.std.proofs.Common.{ℕ, zero, suc, ◌≡◌, ◌⊎◌, inl, inr, ◌+◌, ◌<◌, ◌≤◌, true, Option, Some, None, List, [], ◌∷◌, ◌++◌, arith, refl, sym, ◌∙◌, ap, All, nat_le, ◌&&◌}
 use Rattle.std.proofs.lemmas.Bool.{cases_lt}
 use Rattle.std.proofs.lemmas.Option.{same_Some}
@@ -26,7 +28,7 @@ use Rattle.kw_kept.specs.Puts as kept
 use Rattle.kw_kept.specs.Puts.{Same}
 use Rattle.kw_kept.specs.Readers.{Knows}
 use Rattle.kw_shape.specs.Shape.{HoldsKey}
-use Rattle.kw_shape.proofs.RowsStay.{fresh_linked}
+use Rattle.kw_shape.proofs.LinkedRows.{fresh_linked}
 use Rattle.kw_puts.specs.Below.{Below}
 use Rattle.kw_reads.specs.Contents.{Contents, puts_of}
 use Rattle.kw_reads.specs.Replies.{AnswersGet, Covers, RisesBelow}

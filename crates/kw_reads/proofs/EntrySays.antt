@@ -1,5 +1,6 @@
--- What the entry of an attempt's seat says of a cell that stands for the attempt: the cell of an announced attempt is listed, or the entry
--- is its own, unless the attempt is lost; a copy is listed. So of an attempt that is not lost a frozen entry says that the cell is listed.
+-- What the entry of an attempt's seat says of a cell that stands for the attempt: the cell of an
+-- announced attempt is listed, or the entry is its own, unless the attempt is lost; a copy is
+-- listed. So of an attempt that is not lost a frozen entry says that the cell is listed.
 use Rattle.std.proofs.Common.{ℕ, ◌≡◌, ◌⊎◌, inl, inr, ◌<◌, ◌≤◌, Bool, true, false, Some, arith, refl, sym, ◌∙◌, ap, subst, length, slice_get, if◌then◌else◌}
 use Rattle.std.proofs.lemmas.Option.{same_Some}
 use Rattle.kw_words.specs.declared.layout.Name.TheVariants as name
@@ -26,8 +27,8 @@ use Rattle.kw_reads.specs.Readers.{IsReady, IsMarkOf}
 use Rattle.kw_puts.specs.Here.{IsHere}
 use Rattle.kw_puts.proofs.Owners.{true_false, published_puts, cell_here}
 
--- what the entry of the seat j in the row q says of a cell that stands for an attempt of this seat: the attempt is stamped and the cell is
--- listed, or the entry is the attempt's own
+-- what the entry of the seat j in the row q says of a cell that stands for an attempt of this seat:
+-- the attempt is stamped and the cell is listed, or the entry is the attempt's own
 pub data EntrySays (v : Words) (f : Listed) (h : History) (q j c p : ℕ) : Type 0 where
   is_listed : IsPut h p → f q c ≡ true → EntrySays v f h q j c p
   is_pending : pend_of (v (name.Pend q j)) ≡ Some (pend.Pending c) → EntrySays v f h q j c p
@@ -78,7 +79,8 @@ module _ {z : Sizes} {r : Run} (k : Below z r) where
           inr (s, ap pend_of x ∙ pend_of-Stamped (attempt r.history p).cell (attempt r.history p).version (omega (arith, cell, k.shape.sane.sized.few_cells)) y.0 y.1)
       met false s x = inl (ap pend_of x ∙ pend_of-Pending (attempt r.history p).cell (omega (arith, cell, k.shape.sane.sized.few_cells)))
 
-  -- what the entry of its seat says of an announced attempt that is not lost, and whose own cell this is
+  -- what the entry of its seat says of an announced attempt that is not lost, and whose own cell
+  -- this is
   own_says : (q j c p : ℕ) → WasLinked r.ledger.rows q → HasCell r.ledger.rows r.history q c p → r.origin q c ≡ Some p → (attempt r.history p).seat ≡ j → (attempt r.history p).is_announced ≡ true → (attempt r.history p).is_lost ≡ false → EntrySays (word z r.world) r.listed r.history q j c p
   own_says q j c p m w x f a n = which (k.lists.old p w.within)
     where

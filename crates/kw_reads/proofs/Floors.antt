@@ -1,4 +1,5 @@
--- The event from which on a call knows all that was announced lies before now, and stays the same as long as the call walks and reads.
+-- The event from which on a call knows all that was announced lies before now, and stays the same
+-- as long as the call walks and reads.
 use Rattle.std.proofs.Common.{ℕ, ◌≡◌, ◌<◌, Bool, true, false, Option, Some, None, refl, ◌∙◌, ap, length, slice_get, if◌then◌else◌}
 use Rattle.kw_model.specs.declared.call.Call.{Call}
 use Rattle.kw_model.specs.declared.call.Call.TheVariants.{Put, Del, Get, Scan}

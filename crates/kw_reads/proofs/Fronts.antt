@@ -1,5 +1,5 @@
--- What a reader knows of the puts that were stamped before it looked at its row, or before the row went: it is so at its first look, and
--- lasts over every event.
+-- What a reader knows of the puts that were stamped before it looked at its row, or before the row
+-- went: it is so at its first look, and lasts over every event.
 use Rattle.std.proofs.Common.{ℕ, ◌≡◌, ◌⊎◌, inl, inr, ◌≤◌, ◌<◌, Bool, true, false, Some, arith, refl, sym, ◌∙◌, ap, subst, length, slice_get, if◌then◌else◌}
 use Rattle.std.proofs.lemmas.Option.{slice_get_within}
 use Rattle.kw_words.specs.declared.layout.Name.TheVariants as name
@@ -26,13 +26,12 @@ use Rattle.kw_rows.specs.Rows.{WasLinked}
 use Rattle.kw_rows.proofs.Named.{one_row}
 use Rattle.kw_shape.specs.RowsIn.{rows_in}
 use Rattle.kw_shape.specs.Shape.{HoldsKey, IsAtItsRow}
-use Rattle.kw_shape.proofs.RowsStay.{holds_stays}
+use Rattle.kw_shape.proofs.LinkedRows.{holds_stays, BecomesNow, linked_fate, linked_keeps}
 use Rattle.kw_puts.specs.Here.{IsHere, IsMadeIn}
 use Rattle.kw_puts.proofs.Owners.{is_here}
 use Rattle.kw_puts.proofs.Rely.{GoesOn, SameAttempt}
 use Rattle.kw_reads.specs.Contents.{Contents, HasRow, InRow, IsFronted, IsGone, IsPast, IsSince, Needed, has_drawn, WasPut, floor_of, puts_of, version_of}
 use Rattle.kw_reads.specs.Inv.{Inv}
-use Rattle.kw_shape.proofs.LinkedRows.{BecomesNow, linked_fate, linked_keeps}
 use Rattle.kw_reads.proofs.PutsGoOn.{puts_go_on}
 use Rattle.kw_reads.proofs.Relying.{goes_on_by}
 

@@ -1,4 +1,5 @@
--- Every event keeps what each reader knows of the puts that were stamped before it looked at its row.
+-- Every event keeps what each reader knows of the puts that were stamped before it looked at its
+-- row.
 use Rattle.std.proofs.Common.{ℕ, zero, suc, ◌≡◌, ◌≢◌, ◌⊎◌, inl, inr, ◌≤◌, Some, arith, refl, sym, ◌∙◌, ap, subst, length, slice_get}
 use Rattle.kw_world.specs.declared.activity.Activity.{Activity}
 use Rattle.kw_world.specs.declared.activity.Activity.TheVariants.{Look, LookKey, LookClock, LookHelp, ListFrom, ListKey, ListVer, ListVal, RestKey, RestVal}
@@ -14,7 +15,7 @@ use Rattle.kw_core.specs.declared.seat_log.SeatLog.{SeatLog}
 use Rattle.kw_core.proofs.Arrows.{Arrow, NextRest, rests, answers, ends_scan, scans_on, builds, reads_last, reads_before, list_ends, key_above, rest_passed, gathers_rest}
 use Rattle.kw_core.proofs.Happens.{Happens, each_seat}
 use Rattle.kw_core.proofs.SeatLogs.{IsNoDraw}
-use Rattle.kw_shape.proofs.RowsStay.{fresh_linked}
+use Rattle.kw_shape.proofs.LinkedRows.{fresh_linked}
 use Rattle.kw_puts.proofs.OwnScans.{looked_kept}
 use Rattle.kw_reads.specs.Contents.{Contents, HasRow, IsFronted, floor_of, version_of}
 use Rattle.kw_reads.specs.Inv.{Inv, lower}
@@ -53,7 +54,8 @@ reading_way RestKey x = (tt, tt)
 reading_way RestVal x = (tt, tt)
 reading_way _ x = absurd x
 
--- a seat that reads has looked at its first entry now, or read before, and is at the row at which it was
+-- a seat that reads has looked at its first entry now, or read before, and is at the row at which
+-- it was
 record FromReading (l : Local) (a : Activity) (k : Local) : Type 0 where
   at : (a ≡ Look 0) ⊎ IsReading a
   row : k.row ≡ l.row

@@ -1,4 +1,5 @@
--- The record may note every event: what its laws ask of the log and of the change holds where the event happens.
+-- The record may note every event: what its laws ask of the log and of the change holds where the
+-- event happens.
 use Rattle.std.proofs.Common.{ℕ, suc, ◌≡◌, ◌⊎◌, inl, inr, ◌+◌, ◌<◌, List, [], ◌∷◌, Option, Some, None, true, false, arith, refl, sym, ◌∙◌, ap, subst, length, slice_get}
 use Rattle.kw_words.specs.declared.layout.Name.TheVariants as name
 use Rattle.kw_world.specs.declared.answer.Answer.{Answer}
@@ -24,7 +25,7 @@ use Rattle.kw_core.specs.History.{LoadClock}
 use Rattle.kw_core.specs.HistoryLaws.{Makes, Answers, DrawLogged, RisesWithin}
 use Rattle.kw_core.specs.Noted.{MayStamp}
 use Rattle.kw_core.specs.Step.{MayEnd}
-use Rattle.kw_core.specs.Stages.{IsBusy, IsPutting, IsFresh, IsStamp, HasMet, IsHelp, IsPublished, IsDone, HasDrawn}
+use Rattle.kw_core.specs.Stages.{IsBalancing, IsBusy, IsPutting, IsFresh, IsStamp, HasMet, IsHelp, IsPublished, IsDone, HasDrawn}
 use Rattle.kw_shape.specs.Shape.{IsPutCall, IsAnswerOf, IsKind}
 use Rattle.kw_reads.specs.Replies.{RisesBelow, IsCovered, IsAnswered, Covers}
 use Rattle.std.proofs.lemmas.Option.{same_Some}
@@ -193,15 +194,20 @@ may_make z r r' s choice l a l' c (makes_end answer) h i =
       x.within,
       x.runs,
       answers_call z r r' s choice l l' i (called r.history (r.seats s).call).call answer l.pairs (called r.history (r.seats s).call).put (subst (λ q. IsAnswerOf q answer) x.call kind)
-          (λ y. x.done (subst IsDone (sym h.activity) y))
-          (λ p y. leave_done answer (subst (λ q. IsPublished q ⊎ IsDone q) h.activity (x.published p y))),
+          (λ y. x.done (inl (subst IsDone (sym h.activity) y)))
+          (λ p y. leave_done (x.published p y)),
       λ d y. may_draw z r s l i h.knows answer h.activity d y,
       subst (λ q. MayEnd r.history (called r.history (r.seats s).call).call (called r.history (r.seats s).call).first (reply_of answer l.pairs) (answering q l (r.seats s)) (drawing answer l (r.seats s))) (sym x.call) (may_end z r s l i h.knows (called r.history (r.seats s).call).call answer h.activity x.call),
     )
   where
-    leave_done : (answer : Answer) → IsPublished (Leave answer) ⊎ IsDone (Leave answer) → IsDone (Leave answer)
-    leave_done answer (inl y) = absurd y
-    leave_done answer (inr y) = y
+    tidied : IsBalancing l.activity ⊎ IsDone l.activity → IsDone (Leave answer)
+    tidied (inl y) = let x : IsBalancing (Leave answer) = subst IsBalancing h.activity y in absurd x
+    tidied (inr y) = subst IsDone h.activity y
+
+    leave_done : IsPublished l.activity ⊎ IsDone l.activity ⊎ (l.tidies ≡ true) → IsDone (Leave answer)
+    leave_done (inl y) = let x : IsPublished (Leave answer) = subst IsPublished h.activity y in absurd x
+    leave_done (inr (inl y)) = subst IsDone h.activity y
+    leave_done (inr (inr y)) = tidied (i.shape.tidies s l h.knows y)
 
 pub may_note : (z : Sizes) (r r' : Run) (s : ℕ) (choice : Choice) (l : Local) (a : Activity) (l' : Local) → Happens z r r' s choice l l' a → Inv z r →
     MayNote r.history (log_entry z r a s choice l) (change_at z r a s choice l)

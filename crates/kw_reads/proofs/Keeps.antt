@@ -1,25 +1,44 @@
--- Every event keeps all of it, and so does every valid list.
+-- Every event keeps what the rows have kept of the stamped puts, with what a reader of a row may
+-- say of them, and it keeps all of the invariant; so does every valid list.
 use Rattle.std.proofs.Common.{ℕ, ◌≡◌, true, List, sym, subst}
 use Rattle.kw_world.specs.declared.activity.Activity.{Activity}
-use Rattle.kw_world.specs.declared.local.Local.{Local}
 use Rattle.kw_world.specs.declared.event.Choice.{Choice}
+use Rattle.kw_world.specs.declared.local.Local.{Local}
 use Rattle.kw_world.specs.Sizes.{Sizes}
+use Rattle.kw_core.specs.Run.{Run, goes_on, noted_by, history}
+use Rattle.kw_core.proofs.Happens.{Happens, happens}
+use Rattle.kw_puts.specs.Below.{Below}
+use Rattle.kw_reads.specs.Contents.{Contents}
+use Rattle.kw_reads.specs.Inv.{Inv, lower}
+use Rattle.kw_reads.proofs.FrontsKeep.{front_keeps}
+use Rattle.kw_reads.proofs.RowsKept.{borns_keeps, over_keeps, past_keeps, inside_keeps, older_keeps, kept_keeps, dead_keeps, needs_keeps}
+use Rattle.kw_reads.proofs.LaterKeeps.{later_keeps}
 use Rattle.kw_world.specs.declared.event.Event.{Event}
 use Rattle.kw_world.specs.declared.opening.Opening.{Opening}
 use Rattle.kw_world.specs.Opening.{IsOpening}
 use Rattle.kw_world.specs.WalkTransitions.{offered}
 use Rattle.kw_core.specs.Events.{may_step, is_valid}
-use Rattle.kw_core.specs.Run.{Run, goes_on, noted_by, history}
-use Rattle.kw_reads.specs.Inv.{Inv, lower}
 use Rattle.kw_core.proofs.Events.{may_come}
 use Rattle.kw_core.proofs.Runs.{goes_on-moved, holds_of_history}
-use Rattle.kw_core.proofs.Happens.{Happens, happens}
 use Rattle.kw_reads.proofs.HistoryKeeps.{may_note}
 use Rattle.kw_puts.proofs.PutsHold.{below_keeps}
-use Rattle.kw_reads.proofs.ContentsKeep.{contents_keep}
 use Rattle.kw_reads.proofs.ReadersKeep.{Before, readers_keep}
 use Rattle.kw_reads.proofs.RepliesKeep.{replies_keep}
 use Rattle.kw_reads.proofs.Opens.{inv_start}
+
+pub contents_keep : (z : Sizes) (r r' : Run) (s : ℕ) (choice : Choice) (l : Local) (a : Activity) (l' : Local) → Happens z r r' s choice l l' a → Inv z r → Below z r' → Contents z r'
+contents_keep z r r' s choice l a l' h i after = record {
+  borns = borns_keeps z r r' s choice l a l' h i after;
+  over = over_keeps z r r' s choice l a l' h i after;
+  past = past_keeps z r r' s choice l a l' h i after;
+  inside = inside_keeps z r r' s choice l a l' h i after;
+  older = older_keeps z r r' s choice l a l' h i after;
+  kept = kept_keeps z r r' s choice l a l' h i after;
+  dead = dead_keeps z r r' s choice l a l' h i after;
+  later = later_keeps z r r' s choice l a l' h i after i.contents;
+  needs = needs_keeps z r r' s choice l a l' h i after;
+  front = front_keeps z r r' s choice l a l' h i i.contents;
+}
 
 -- one event, over a free run
 pub inv_keeps : (z : Sizes) (r r' : Run) (s : ℕ) (choice : Choice) (l : Local) (a : Activity) (l' : Local) → Happens z r r' s choice l l' a → Inv z r → Inv z r'

@@ -1,5 +1,6 @@
--- Every event keeps that rows have kept what is needed of the stamped puts: a stamp, since what was stamped of its key elsewhere stands before it;
--- the replacing of the full row, since the new rows were built of it; and any other event, since no row has gained a key, nor lost a cell.
+-- Every event keeps that rows have kept what is needed of the stamped puts: a stamp, since what was
+-- stamped of its key elsewhere stands before it; the replacing of the full row, since the new rows
+-- were built of it; and any other event, since no row has gained a key, nor lost a cell.
 use Rattle.std.proofs.Common.{ℕ, ◌≡◌, ◌⊎◌, inl, inr, ◌<◌, ◌≤◌, Contains, Some, arith, sym, ◌∙◌, ap, subst, length, slice_get}
 use Rattle.std.proofs.lemmas.Bool.{cases_lt}
 use Rattle.kw_words.specs.declared.layout.Name.TheVariants as name
@@ -110,7 +111,8 @@ module _ (z : Sizes) (r r' : Run) (s : ℕ) (choice : Choice) (l : Local) (a : A
   module _ (c : Contents z r) where
     -- A stamp.
 
-    -- what was stamped of the key of the one that is stamped now has a cell in its row, or stands before it
+    -- what was stamped of the key of the one that is stamped now has a cell in its row, or stands
+    -- before it
     stands_before : (o p : ℕ) → StampsNow z r r' a o → IsPut r.history p → (attempt r'.history p).key ≡ (attempt r'.history o).key → InRow z r (attempt r.history o).row p ⊎ StandsBefore (puts_of r'.history) p o
     stands_before o p x m e = which (c.older (attempt r.history o).row p m (inl live) holds)
       where
@@ -180,7 +182,8 @@ module _ (z : Sizes) (r r' : Run) (s : ℕ) (choice : Choice) (l : Local) (a : A
 
     -- All events.
 
-    -- each row shows for each of its keys, at each version that is needed, what all stamped puts show
+    -- each row shows for each of its keys, at each version that is needed, what all stamped puts
+    -- show
     pub kept_keeps : Kept (puts_of r'.history) (rows_of z r') (Needed z r')
     kept_keeps q k u x m = which (stamp_step a h i)
       where

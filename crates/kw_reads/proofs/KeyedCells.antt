@@ -1,5 +1,5 @@
--- A row may hold the key of each attempt for which a cell of it stands: its own attempts were given their cells for such keys, and a copy is listed, so
--- that a link leads to it.
+-- A row may hold the key of each attempt for which a cell of it stands: its own attempts were given
+-- their cells for such keys, and a copy is listed, so that a link leads to it.
 use Rattle.std.proofs.Common.{ℕ, zero, suc, ◌≡◌, ◌⊎◌, inl, inr, ◌+◌, ◌<◌, true, Option, Some, None, arith, sym, ◌∙◌, ap, subst}
 use Rattle.kw_lists.specs.Rows.{IsBehind, IsOn, IsSound, Row, Stands}
 use Rattle.kw_lists.specs.Walks.{IsWalking}

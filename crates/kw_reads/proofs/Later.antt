@@ -1,5 +1,5 @@
--- The rows that a walk names were not gone when its call drew, or began: each is in the list when the walk comes to it, or follows one that
--- was not gone.
+-- The rows that a walk names were not gone when its call drew, or began: each is in the list when
+-- the walk comes to it, or follows one that was not gone.
 use Rattle.std.proofs.Common.{ℕ, ◌≡◌, inl, inr, ◌<◌, ◌≤◌, Some, None, arith, refl, sym, ◌∙◌, ap, subst}
 use Rattle.std.proofs.lemmas.Option.{same_Some}
 use Rattle.kw_world.specs.declared.activity.Activity.{Activity}

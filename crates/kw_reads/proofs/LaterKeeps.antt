@@ -1,7 +1,9 @@
--- Every event leaves the rows that a walk names such that they were not gone when its call drew, or began.
+-- Every event leaves the rows that a walk names such that they were not gone when its call drew, or
+-- began.
 --
--- A row that nobody may name is freed in the end, and then it is neither in the list nor dead. So this is said of rows that are linked after the event,
--- or were: as are those that a seat names then.
+-- A row that nobody may name is freed in the end, and then it is neither in the list nor dead. So
+-- this is said of rows that are linked after the event, or were: as are those that a seat names
+-- then.
 use Rattle.std.proofs.Common.{ℕ, ◌≡◌, ◌≢◌, inl, inr, ◌<◌, Some, arith, sym, ◌∙◌, ap, subst, length, slice_get}
 use Rattle.kw_world.specs.declared.activity.Activity.{Activity}
 use Rattle.kw_world.specs.declared.activity.Activity.TheVariants.{Start, Head, GuessMin, Walk, WalkMin}

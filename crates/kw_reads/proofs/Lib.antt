@@ -14,7 +14,6 @@ pub mod KeyedCells
 pub mod HistoryKeeps
 pub mod Ready
 pub mod Relying
-pub mod CellsWithin
 pub mod BuiltReads
 pub mod EntrySays
 pub mod StableReaders
@@ -32,7 +31,6 @@ pub mod Floors
 pub mod LaterKeeps
 pub mod Fronts
 pub mod FrontsKeep
-pub mod ContentsKeep
 pub mod ReadsRow
 pub mod EndOfRow
 pub mod OwnPairs

@@ -1,43 +1,49 @@
--- A reader looks at the entries of its row: each of its events makes the attempts of one more seat ready.
+-- A reader looks at the entries of its row: each of its events makes the attempts of one more seat
+-- ready.
 --
--- All is said of the world after the event, where the entry that the reader read, or stamped, tells what its seat's attempts are.
-use Rattle.std.proofs.Common.{ℕ, ◌≡◌, ◌≢◌, ◌⊎◌, inl, inr, ◌+◌, ◌<◌, true, false, Some, arith, refl, sym, ◌∙◌, ap, subst, ne_eqb}
-use Rattle.std.specs.Prelude.{All}
-use Rattle.std.proofs.lemmas.Bool.{cases_eq}
-use Rattle.std.proofs.lemmas.List.Elements.{All-nil, All-push}
+-- All is said of the world after the event, where the entry that the reader read, or stamped, tells
+-- what its seat's attempts are.
+use Rattle.std.proofs.Common.{ℕ, ◌≡◌, ◌<◌, ◌&&◌, ◌==◌, Bool, true, false, if◌then◌else◌, Option, Some, refl, sym, subst, length, slice_get, ◌≢◌, ◌⊎◌, inl, inr, ◌+◌, arith, ◌∙◌, ap, ne_eqb}
+use Rattle.std.proofs.lemmas.Bool.{and_parts, cases_eq}
 use Rattle.kw_words.specs.declared.layout.Name.TheVariants as name
+use Rattle.kw_words.specs.Count.{count_of}
+use Rattle.kw_world.specs.declared.activity.Activity.{Activity}
+use Rattle.kw_world.specs.declared.activity.Activity.TheVariants.{PutAdd, WriteVersion, Look, LookClock, LookHelp, ListFrom}
+use Rattle.kw_world.specs.declared.event.Choice.{Choice}
+use Rattle.kw_world.specs.declared.local.Local.{Local}
+use Rattle.kw_world.specs.PutTransitions.{given_of, has_room}
+use Rattle.kw_world.specs.Sane.{IsActivity, IsLocal}
+use Rattle.kw_world.specs.SeekTransitions.{infant}
+use Rattle.kw_world.specs.Sizes.{Sizes}
+use Rattle.kw_world.specs.Step.{word}
+use Rattle.kw_world.specs.WriteTransitions.{infant_cells}
+use Rattle.kw_core.specs.Run.{Origins, Run, copied, with_copy, with_origin}
+use Rattle.kw_core.proofs.Arrows.{eq_from, builds, NextLook, looks, lists, NextRest, rests, answers, ends_scan, scans_on, Arrow, reads_last, reads_before, meets_pending, meets_stamped, meets_neither, is_wanted, is_passed, loads_to_help, helps, finds_stamped, finds_other, list_leads, list_ends, key_below, key_within, key_above, loads_version, gathers_listed, rest_wanted, rest_passed, gathers_rest}
+use Rattle.kw_core.proofs.Happens.{Happens, exchanged, not_exchanged}
+use Rattle.kw_core.proofs.RoomBelow.{room_below}
+use Rattle.kw_reads.specs.Inv.{Inv, lower}
+use Rattle.std.specs.Prelude.{All}
+use Rattle.std.proofs.lemmas.List.Elements.{All-nil, All-push}
 use Rattle.kw_words.specs.declared.pend.Pend.TheVariants as pend
 use Rattle.kw_words.specs.Pend.{pend_of}
 use Rattle.kw_words.specs.Plain.{key_of_word}
 use Rattle.kw_words.proofs.PendWords.{pend_of-Pending, pend_of-Stamped, pend_word_of}
-use Rattle.kw_world.specs.declared.activity.Activity.{Activity}
-use Rattle.kw_world.specs.declared.activity.Activity.TheVariants.{Look, LookClock, LookHelp, ListFrom}
-use Rattle.kw_world.specs.declared.local.Local.{Local}
-use Rattle.kw_world.specs.declared.event.Choice.{Choice}
-use Rattle.kw_world.specs.Sizes.{Sizes}
 use Rattle.kw_world.specs.Calls.{is_in_range}
 use Rattle.kw_world.specs.declared.marks.Mark.{Mark}
 use Rattle.kw_world.specs.Marks.{mark_of}
 use Rattle.kw_world.specs.ReadTransitions.{remembering}
 use Rattle.kw_words.specs.declared.sizes.TheConstants.{MOST_CELLS}
-use Rattle.kw_world.specs.Sane.{IsActivity, IsLocal}
-use Rattle.kw_world.specs.Step.{word}
 use Rattle.kw_core.specs.History.{History, attempt}
-use Rattle.kw_core.specs.Run.{Origins, Run}
 use Rattle.kw_core.specs.declared.seat_log.SeatLog.{SeatLog}
 use Rattle.kw_core.specs.Stages.{IsLooking, IsTaking}
 use Rattle.kw_rows.specs.Rows.{WasLinked}
 use Rattle.kw_reads.specs.Readers.{IsDue, IsNoted, IsReady, IsMarkOf, Looks}
-use Rattle.kw_reads.specs.Inv.{Inv, lower}
 use Rattle.kw_puts.proofs.Owners.{true_false}
 use Rattle.kw_core.proofs.BuiltNext.{built_next}
-use Rattle.kw_core.proofs.Arrows.{builds, NextLook, looks, lists, NextRest, rests, answers, ends_scan, scans_on, Arrow, reads_last, reads_before, meets_pending, meets_stamped, meets_neither, is_wanted, is_passed, loads_to_help, helps, finds_stamped, finds_other, list_leads, list_ends, key_below, key_within, key_above, loads_version, gathers_listed, rest_wanted, rest_passed, gathers_rest}
-use Rattle.kw_core.proofs.Happens.{Happens, exchanged, not_exchanged}
 use Rattle.kw_core.proofs.InRange.{unmarked_in_range}
 use Rattle.kw_core.specs.Listed.{Listed}
 use Rattle.kw_puts.proofs.BuiltStages.{building_after}
 use Rattle.kw_reads.proofs.BuiltReads.{after_rests, looking_reads, reader_reads}
-use Rattle.kw_reads.proofs.CellsWithin.{within_keeps}
 use Rattle.kw_puts.proofs.CellsOf.{cell_key}
 use Rattle.kw_puts.proofs.ListSteps.{listed_stays}
 use Rattle.kw_reads.proofs.Relying.{record_stays}
@@ -46,6 +52,25 @@ use Rattle.kw_reads.proofs.Ready.{KeepsListed, RecordStays, looks_last, marks_la
 use Rattle.kw_reads.proofs.WalksKeep.{row_linked, row_linked_on}
 use Rattle.kw_puts.specs.Below.{Below}
 use Rattle.kw_reads.proofs.EntrySays.{EntrySays, is_listed, is_pending, is_stamped, listed_ready, entry_says, stamped_owner}
+
+-- where one cell more stands for an attempt, it is this one or one that did so before
+set_within : (n : ℕ) (o : Origins) (r c : ℕ) (x : Option ℕ) → c < n → ((q d p : ℕ) → o q d ≡ Some p → d < n) → (q d p : ℕ) → with_copy o r c x q d ≡ Some p → d < n
+set_within n o r c x w f q d p e = which ((q == r) && (d == c)) refl e
+  where
+    which : (b : Bool) → ((q == r) && (d == c)) ≡ b → (if b then x else o q d) ≡ Some p → d < n
+    which true g y = subst (λ u. u < n) (sym (eq_from d c (and_parts (q == r) (d == c) g).1)) w
+    which false g y = f q d p y
+
+module _ {z : Sizes} {r r' : Run} {s : ℕ} {choice : Choice} {l l' : Local} where
+  pub within_keeps : (a : Activity) → Happens z r r' s choice l l' a → Inv z r → (q c p : ℕ) → r'.origin q c ≡ Some p → c < z.cells
+  within_keeps PutAdd h i q c p e = which (has_room z (count_of (word z r.world (name.Count l.row)))) refl (subst (λ (o : Origins). o q c ≡ Some p) h.origin e)
+    where
+      which : (b : Bool) → has_room z (count_of (word z r.world (name.Count l.row))) ≡ b → (let o : Origins = if b then with_origin r.origin l.row (given_of (count_of (word z r.world (name.Count l.row)))) (length r.history.attempts) else r.origin in o) q c ≡ Some p → c < z.cells
+      which true m x = set_within z.cells r.origin l.row (given_of (count_of (word z r.world (name.Count l.row)))) (Some (length r.history.attempts)) (room_below z (count_of (word z r.world (name.Count l.row))) m) i.readers.within q c p x
+      which false m x = i.readers.within q c p x
+  within_keeps (WriteVersion j) h i q c p e =
+      set_within z.cells r.origin (infant l) j (copied r.origin l.row (slice_get (infant_cells l) j)) (subst (IsActivity z) h.activity (i.shape.sane.locals s l h.knows).ranges.activity) i.readers.within q c p (subst (λ (o : Origins). o q c ≡ Some p) h.origin e)
+  within_keeps a h i q c p e = i.readers.within q c p (subst (λ (o : Origins). o q c ≡ Some p) h.origin e)
 
 -- one more cell is remembered: what is noted stays so, and the cell is noted
 noted_more : (f : Listed) (l : Local) (c version d : ℕ) → IsNoted f l d → IsNoted f (remembering c version l) d
@@ -89,7 +114,8 @@ not_looking l _ (answers c e) x = x
 not_looking l _ (ends_scan c e n) x = x
 not_looking l _ (scans_on q c e n u) x = x
 
--- what the entry that was met says of a cell of its row that stands for an attempt of its seat which is due
+-- what the entry that was met says of a cell of its row that stands for an attempt of its seat
+-- which is due
 module _ {z : Sizes} {r : Run} (k : Below z r) (within : (q c p : ℕ) → r.origin q c ≡ Some p → c < z.cells) (l : Local) (linked : WasLinked r.ledger.rows l.row) (j looked c p : ℕ) (due : IsDue r.history r.origin l.row l.call looked c p) (f : (attempt r.history p).seat ≡ j) where
   says : EntrySays (word z r.world) r.listed r.history l.row j c p
   says = entry_says k l.row j c p linked (within l.row c p due.origin) due.origin f due.announced due.kept

@@ -1,6 +1,7 @@
--- Every event keeps what a rebalance knows of the versions that scans need: it begins to ask when all entries of its row are settled, at the clock
--- of that event; each scan that it looks at adds its version to the list, or needs none, or began to wait later; and what others do changes nothing
--- of it.
+-- Every event keeps what a rebalance knows of the versions that scans need: it begins to ask when
+-- all entries of its row are settled, at the clock of that event; each scan that it looks at adds
+-- its version to the list, or needs none, or began to wait later; and what others do changes
+-- nothing of it.
 use Rattle.std.proofs.Common.{ℕ, ◌≡◌, ◌≢◌, ◌⊎◌, inl, inr, ◌+◌, ◌<◌, ◌≤◌, Contains, Option, Some, None, List, [], ◌∷◌, ◌++◌, arith, refl, sym, ◌∙◌, ap, subst, length, slice_get, eq-eqb}
 use Rattle.std.proofs.lemmas.Bool.{cases_lt}
 use Rattle.std.proofs.lemmas.List.Elements.{Contains-append_left, Contains-push}
@@ -25,7 +26,7 @@ use Rattle.kw_core.specs.Stages.{IsBalancing}
 use Rattle.kw_core.specs.Step.{Step}
 use Rattle.kw_core.specs.Words.{Words}
 use Rattle.kw_core.proofs.Arrows.{builds, Arrow, meets_stamped, meets_neither, is_passed, helps, finds_stamped, finds_other, list_ends, key_above, rest_passed, gathers_rest, remembers_last, meets_frozen_last, freezes_last, meets_quiet, meets_quiet_last, helps_scan, meets_drawn, meets_drawn_last, draws_for, settles_scan, settles_last, finds_drawn, finds_drawn_last, finds_no_scan, finds_no_scan_last, IsNoScan, take_leads, takes_left, takes_no_more, takes_key, takes_version, keeps_taken, takes_left_key, keeps_left, keeps_no_more}
-use Rattle.kw_core.proofs.Building.{Building, IsBuilding, makes_normal, makes_last_normal, draws_number, retires_row}
+use Rattle.kw_core.proofs.Building.{Building, IsBuilding, makes_normal, makes_last_normal, draws_number, retires_row, retires_and_leaves}
 use Rattle.kw_core.proofs.Frame.{unwritten}
 use Rattle.kw_core.proofs.FreezeFrame.{clock_never_falls}
 use Rattle.kw_core.proofs.Happens.{Happens, exchanged, log_entry, not_exchanged}
@@ -122,7 +123,8 @@ module _ (z : Sizes) (r r' : Run) (s : ℕ) (choice : Choice) (l : Local) (a : A
   moves : Moves (word z r.world name.Clock) (word z r'.world name.Clock) r.ledger.waits r'.ledger.waits (Through z r) (Through z r')
   moves = scans_move z r r' s choice l a l' h i
 
-  -- what is known of a row whose entries are passed stays, whoever acts, where all is covered after the event
+  -- what is known of a row whose entries are passed stays, whoever acts, where all is covered after
+  -- the event
   needs_on : (b b' : Activity) (m m' : Local) → IsPassedRow z r m.row → m'.row ≡ m.row → (n : Needs z r b m) → IsCovered (Through z r') (scans_passed z b') (Contains m'.rebalance.needed) n.most →
       ((j clock : ℕ) → HelpsScan j b' → word z r'.world (name.Scan j) ≡ scan_word (Waiting clock) → (clock ≡ m'.rebalance.waiting) ⊎ (n.since < r'.ledger.waits j)) → Needs z r' b' m'
   needs_on b b' m m' x e n covered again = record {
@@ -170,7 +172,8 @@ module _ (z : Sizes) (r r' : Run) (s : ℕ) (choice : Choice) (l : Local) (a : A
 
   -- The acting seat.
 
-  -- after the event, where one more scan is passed that needs nothing but what is listed, or began to wait late
+  -- after the event, where one more scan is passed that needs nothing but what is listed, or began
+  -- to wait late
   passes_one : (b : Activity) (m : Local) (listed : List ℕ) (passed : ℕ → Type 0) (j : ℕ) (n : Needs z r b m) → ((q : ℕ) → passed q → (q ≡ j) ⊎ scans_passed z b q) → ((u : ℕ) → Contains m.rebalance.needed u → Contains listed u) → ((u : ℕ) → Through z r' j u → Contains listed u) ⊎ (n.since < r'.ledger.waits j) →
       IsCovered (Through z r') passed (Contains listed) n.most
   passes_one b m listed passed j n seat old looked = passes_covered n.since r'.ledger.waits (Through z r') (scans_passed z b) passed (Contains m.rebalance.needed) (Contains listed) n.most j
@@ -318,7 +321,8 @@ built_passed : {z : Sizes} {v : Words} {choice : Choice} {l : Local} (a : Activi
 built_passed a k (makes_normal o) x = absurd x
 built_passed a k (makes_last_normal o) x = absurd x
 built_passed a k draws_number x = absurd x
-built_passed a k retires_row x = absurd x
+built_passed a k (retires_row nd) x = absurd x
+built_passed a k (retires_and_leaves dn) x = absurd x
 built_passed a k b x = tt
 
 -- such a seat builds

@@ -1,4 +1,5 @@
--- The keys of new rows: each key of a new row is one that the full row holds, and all kept cells of the key are in that new row.
+-- The keys of new rows: each key of a new row is one that the full row holds, and all kept cells of
+-- the key are in that new row.
 use Rattle.std.proofs.Common.{ℕ, zero, suc, ◌≡◌, ◌⊎◌, inl, inr, ◌+◌, ◌-◌, ◌<◌, ◌≤◌, All, Contains, List, [], ◌∷◌, Option, Some, None, arith, refl, sym, ◌∙◌, ap, subst, drop, get_or, length, slice_get, slice_index, take}
 use Rattle.std.proofs.lemmas.Bool.{cases_lt, cases_order}
 use Rattle.std.proofs.lemmas.List.{get_or-drop, get_or-take, get_or_default, get_or_past, length-drop, length-take}
@@ -92,7 +93,8 @@ module _ (built : ℕ) (l : Local) (plan : IsPlan built l) where
         let y = subst (λ j. infant_least (at_infant (n + d) l) < infant_least (at_infant j l)) e x in
         omega (arith, y, least_later n d (omega (arith, o)))
 
-    -- a kept cell whose key is from the least one of a row on, and below that of the next, is in the row
+    -- a kept cell whose key is from the least one of a row on, and below that of the next, is in
+    -- the row
     pub cell_in_row : (n : ℕ) (c : Cell) → n < length l.rebalance.starts → Contains l.rebalance.kept c → infant_least (at_infant n l) ≤ c.key → (n + 1 < length l.rebalance.starts → c.key < infant_least (at_infant (n + 1) l)) → Contains (infant_cells (at_infant n l)) c
     cell_in_row n c o (m, u, e) low high = which (cases_order x.0 n)
       where

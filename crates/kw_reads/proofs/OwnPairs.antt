@@ -1,4 +1,5 @@
--- The pairs of a scan and the answer of a get over the seat's own event: they grow where a row has been read to its end.
+-- The pairs of a scan and the answer of a get over the seat's own event: they grow where a row has
+-- been read to its end.
 use Rattle.std.proofs.Common.{ℕ, ◌≡◌, ◌⊎◌, inl, inr, ◌+◌, ◌<◌, ◌≤◌, true, false, Option, Some, None, List, [], ◌++◌, arith, refl, sym, ◌∙◌, ap, subst, length}
 use Rattle.kw_cells.specs.Cells.{shown_at, pairs_of}
 use Rattle.kw_world.proofs.Replies.{reply_of-found}
@@ -31,7 +32,7 @@ use Rattle.kw_reads.proofs.Relying.{goes_on_by}
 use Rattle.kw_core.proofs.Frame.{WritesPass}
 use Rattle.kw_rows.specs.Ledger.{Ledger}
 use Rattle.kw_shape.proofs.RelyRows.{row_stable}
-use Rattle.kw_shape.proofs.OwnRows.{own_rely}
+use Rattle.kw_shape.proofs.RowsKeep.{own_rely}
 use Rattle.kw_core.proofs.Happens.{Happens, knows_next}
 use Rattle.kw_core.proofs.Arrows.{NextRest, rests, answers, ends_scan, scans_on, Arrow, not_below, below}
 use Rattle.kw_core.proofs.SeatLogs.{IsEnding, read_to_end}
@@ -65,7 +66,8 @@ ending_reads RestKey x = (tt, tt, tt, tt, tt)
 ending_reads RestVal x = (tt, tt, tt, tt, tt)
 ending_reads _ x = absurd x
 
--- a seat that has read one more word of its row: what it knows of its call, its row and its pairs is as it was
+-- a seat that has read one more word of its row: what it knows of its call, its row and its pairs
+-- is as it was
 pub record SameRead (l m : Local) : Type 0 where
   pub call : m.call ≡ l.call
   pub row : m.row ≡ l.row

@@ -1,6 +1,7 @@
--- What has become of the attempts whose row was used again: each that was announced is lost, or was stamped before each pass that is on. For what was
--- stamped of a row that is dead was stamped before the row went, and where the row is freed no pass is on that began before then. An attempt at
--- which a seat is at work, and one that is stamped now, is of a row that was not used again.
+-- What has become of the attempts whose row was used again: each that was announced is lost, or was
+-- stamped before each pass that is on. For what was stamped of a row that is dead was stamped
+-- before the row went, and where the row is freed no pass is on that began before then. An attempt
+-- at which a seat is at work, and one that is stamped now, is of a row that was not used again.
 use Rattle.std.proofs.Common.{ℕ, ◌≡◌, ◌⊎◌, inl, inr, ◌<◌, ◌≤◌, true, false, Some, None, arith, sym, ◌∙◌, ap, subst, length, slice_get}
 use Rattle.std.proofs.lemmas.Bool.{cases_eq, cases_lt}
 use Rattle.std.proofs.lemmas.Option.{same_Some}
@@ -51,7 +52,8 @@ pass_was {z} {r} {r'} {s} {choice} {l} {l'} Again h t since e = which (cases_eq 
 pass_was a h t since e = inl (sym (others_stay a h t (λ x f. x)) ∙ e)
 
 module _ (z : Sizes) (r r' : Run) (s : ℕ) (choice : Choice) (l : Local) (a : Activity) (l' : Local) (h : Happens z r r' s choice l l' a) (i : Below z r) (st : Step r.history r'.history (log_entry z r a s choice l)) (after : Below z r') (c : Contents z r) where
-  -- an attempt whose row was used again is stamped only if it was so before: what is stamped now is of a row of the list
+  -- an attempt whose row was used again is stamped only if it was so before: what is stamped now is
+  -- of a row of the list
   put_before : (p : ℕ) → IsPut r'.history p → (IsHere r'.ledger.rows r'.history p → ⊥) → IsPut r.history p
   put_before p m n = which (stamp_step a h i)
     where

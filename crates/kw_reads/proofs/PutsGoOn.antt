@@ -1,4 +1,5 @@
--- Over an event the stamped puts stay as they are, and so do the cells of a row that is or was linked; what is stamped anew is stamped now.
+-- Over an event the stamped puts stay as they are, and so do the cells of a row that is or was
+-- linked; what is stamped anew is stamped now.
 use Rattle.std.proofs.Common.{ℕ, ◌≡◌, ◌⊎◌, inl, inr, ◌≤◌, Option, arith, refl, length}
 use Rattle.kw_world.specs.declared.activity.Activity.{Activity}
 use Rattle.kw_world.specs.declared.event.Choice.{Choice}

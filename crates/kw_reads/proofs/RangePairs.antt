@@ -1,4 +1,5 @@
--- Pairs of a range, one row after the other: joined lists rise, and a key has the value that its row gives it.
+-- Pairs of a range, one row after the other: joined lists rise, and a key has the value that its
+-- row gives it.
 use Rattle.std.proofs.Common.{ℕ, zero, suc, ◌≡◌, ◌⊎◌, inl, inr, ◌+◌, ◌<◌, ◌≤◌, ◌==◌, Bool, true, false, Option, Some, None, List, [], ◌∷◌, ◌++◌, arith, refl, sym, ◌∙◌, ap, subst, All, if◌then◌else◌, ne_eqb}
 use Rattle.std.proofs.lemmas.Bool.{cases_lt}
 use Rattle.kw_model.specs.Map.{value_of}

@@ -1,6 +1,7 @@
 -- Every event keeps what holds of the readers.
 --
--- `Before` is all that a step of a reader may use: the whole invariant before the event, and the earlier groups after it.
+-- `Before` is all that a step of a reader may use: the whole invariant before the event, and the
+-- earlier groups after it.
 use Rattle.std.proofs.Common.{ℕ, ◌≡◌, ◌≢◌, ◌⊎◌, inl, Some, sym, ◌∙◌, ap, slice_get}
 use Rattle.kw_lists.specs.Rows.{Row}
 use Rattle.kw_world.specs.declared.activity.Activity.{Activity}
@@ -20,10 +21,9 @@ use Rattle.kw_reads.specs.Inv.{Inv}
 use Rattle.kw_core.proofs.Happens.{Happens, each_seat}
 use Rattle.kw_core.proofs.Arrows.{Arrow}
 use Rattle.kw_reads.proofs.BuiltReads.{looking_reads, reader_reads, taking_reads}
-use Rattle.kw_reads.proofs.CellsWithin.{within_keeps}
+use Rattle.kw_reads.proofs.LooksKeep.{within_keeps, keeps, marks_by, looks_by}
 use Rattle.kw_reads.proofs.Relying.{record_stays, rely}
 use Rattle.kw_puts.specs.Below.{Below}
-use Rattle.kw_reads.proofs.LooksKeep.{keeps, marks_by, looks_by}
 use Rattle.kw_reads.proofs.WalksKeep.{read_at_row, walks_by}
 use Rattle.kw_reads.proofs.ApartKeeps.{apart_by}
 use Rattle.kw_reads.proofs.CellsKeep.{reads_by}

@@ -1,5 +1,5 @@
--- A reader that has read its row to the end, as the law of what rows keep has it: what it has gathered, what the row has and what was stamped
--- before it looked.
+-- A reader that has read its row to the end, as the law of what rows keep has it: what it has
+-- gathered, what the row has and what was stamped before it looked.
 use Rattle.std.proofs.Common.{ℕ, zero, suc, ◌≡◌, ◌⊎◌, inl, inr, ◌<◌, ◌≤◌, ◌==◌, Bool, true, false, Option, Some, None, List, [], ◌∷◌, arith, refl, sym, ◌∙◌, ap, subst, length, get_or, if◌then◌else◌}
 use Rattle.std.specs.Prelude.{Contains}
 use Rattle.std.specs.List.{AllZip}
@@ -25,7 +25,7 @@ use Rattle.kw_kept.proofs.GreatestPut.{greatest_of_same}
 use Rattle.kw_kept.proofs.ReaderKnows.{reader_knows}
 use Rattle.kw_rows.specs.Rows.{WasLinked}
 use Rattle.kw_shape.specs.Shape.{HoldsKey, IsAtItsRow}
-use Rattle.kw_shape.proofs.RowsStay.{fresh_linked}
+use Rattle.kw_shape.proofs.LinkedRows.{fresh_linked}
 use Rattle.kw_puts.specs.Below.{Below}
 use Rattle.kw_puts.specs.Here.{IsMadeIn}
 use Rattle.kw_puts.specs.Puts.{HasCell, IsCopyAt}
@@ -34,7 +34,8 @@ use Rattle.kw_reads.specs.Contents.{Contents, InRow, IsFronted, IsOlder, IsStand
 use Rattle.kw_reads.specs.Readers.{AreCopies, IsCopyOf, IsDue}
 use Rattle.kw_reads.proofs.BestIds.{Gives, best_gives, copies_within}
 
--- a reader, at its row, has gathered each attempt that was due there; and it knows what the row has kept of what was stamped before
+-- a reader, at its row, has gathered each attempt that was due there; and it knows what the row has
+-- kept of what was stamped before
 pub record HasReadRow (z : Sizes) (r : Run) (t : ℕ) (m : Local) (g : SeatLog) (version floor : ℕ) : Type 0 where
   pub at : IsAtItsRow (word z r.world) r.ledger.rows t m
   pub copies : AreCopies r.history r.origin m.row m.call m.gathered g.ids

@@ -1,7 +1,8 @@
 -- What is due to a reader, and what is known of it, lasts over every event.
 --
--- The facts here ask only that the record goes on, that the cells of a row that is or was linked stand for what they did and stay listed,
--- and what an event leaves of a row's list; so they serve for the reader's own events and for those of every other seat.
+-- The facts here ask only that the record goes on, that the cells of a row that is or was linked
+-- stand for what they did and stay listed, and what an event leaves of a row's list; so they serve
+-- for the reader's own events and for those of every other seat.
 use Rattle.std.proofs.Common.{ℕ, ◌≡◌, ◌⊎◌, inl, inr, ◌<◌, ◌≤◌, Bool, true, false, Option, Some, List, arith, refl, sym, ◌∙◌, subst, length}
 use Rattle.std.specs.Prelude.{All, Contains}
 use Rattle.std.proofs.lemmas.List.Elements.{All-weaker}
@@ -35,8 +36,9 @@ use Rattle.kw_core.proofs.Marks.{zip_weaker}
 use Rattle.kw_puts.proofs.Owners.{true_false}
 use Rattle.kw_puts.proofs.Rely.{SameAttempt}
 
--- what a reader counts on of the record over an event: it goes on, attempts are of what they were of, and a cell of a row that is or was
--- linked stands for the attempt for which it stood, and for no other one that was there
+-- what a reader counts on of the record over an event: it goes on, attempts are of what they were
+-- of, and a cell of a row that is or was linked stands for the attempt for which it stood, and for
+-- no other one that was there
 pub record RecordStays (h h' : History) (o o' : Origins) (g : Ledger) : Type 0 where
   pub grows : Grows h h' (length h.log)
   pub more_attempts : length h.attempts ≤ length h'.attempts

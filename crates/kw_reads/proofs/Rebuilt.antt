@@ -1,5 +1,6 @@
--- A new row was built of the full row as the laws of what rows keep want it: its cells of a key are the kept ones, which show what the gathered
--- cells show at each listed version and at one that none is above, and all cells of the full row were gathered.
+-- A new row was built of the full row as the laws of what rows keep want it: its cells of a key are
+-- the kept ones, which show what the gathered cells show at each listed version and at one that
+-- none is above, and all cells of the full row were gathered.
 use Rattle.std.proofs.Common.{ℕ, zero, suc, ◌≡◌, ◌≢◌, ◌⊎◌, inl, inr, ◌+◌, ◌-◌, ◌<◌, ◌≤◌, All, Contains, Bool, true, false, List, [], ◌∷◌, Option, Some, None, arith, refl, sym, ◌∙◌, ap, subst, drop, get_or, length, slice_get, slice_index, take}
 use Rattle.std.proofs.lemmas.Bool.{cases_eq, cases_order}
 use Rattle.std.proofs.lemmas.List.{get_or-drop, get_or-take, length-drop, length-take}
@@ -165,7 +166,8 @@ module _ {z : Sizes} {r r' : Run} {s : ℕ} {choice : Choice} {l l' : Local} (h 
   in_order : AreInOrder r.history r.origin l.row l.rebalance.gathered
   in_order c d p e a b o x w k v = place_order i.puts i.history l.row c.place d.place p e full_linked o (gathered_below z l.rebalance.gathered (i.shape.sane.locals s l h.knows).ranges.rebalance.placed d.place (has_its_place l.rebalance.gathered d b)) x w k v
 
-  -- at a listed version, and at one that no gathered cell is above, the kept cells show what the gathered ones do
+  -- at a listed version, and at one that no gathered cell is above, the kept cells show what the
+  -- gathered ones do
   kept_shows : (k u : ℕ) → Contains l.rebalance.needed u ⊎ All (λ c. c.version ≤ u) l.rebalance.gathered → Shows (puts_of r.history) (IsPutIn r.origin l.row l.rebalance.kept) (IsPutIn r.origin l.row l.rebalance.gathered) k u
   kept_shows k u at = shown_cells r.history r.origin l.row l.rebalance.gathered l.rebalance.kept gathered in_order kept (λ c d p e a b. in_order c d p e (kept_given c a) (kept_given d b)) k u
       (shows_the_same l.rebalance.gathered l.rebalance.needed l.rebalance.kept apart list k u at)

@@ -1,4 +1,5 @@
--- What a seat may rely on over an event of another one, and what a reader counts on whoever acts, from the whole invariant before the event.
+-- What a seat may rely on over an event of another one, and what a reader counts on whoever acts,
+-- from the whole invariant before the event.
 use Rattle.std.proofs.Common.{ℕ, ◌≡◌, ◌≢◌, ◌⊎◌, inl, inr, ◌<◌, Some, arith, sym, ◌∙◌, length, slice_get}
 use Rattle.std.proofs.lemmas.Option.{same_Some}
 use Rattle.kw_world.specs.declared.activity.Activity.{Activity}
@@ -25,7 +26,8 @@ goes_on_by z r r' s choice l a l' h i = below.goes_on_by z r r' s choice l a l' 
 pub rely : (z : Sizes) (r r' : Run) (s : ℕ) (choice : Choice) (l : Local) (a : Activity) (l' : Local) → Happens z r r' s choice l l' a → Inv z r → (t : ℕ) (k : Local) → t ≢ s → slice_get r.world.locals t ≡ Some k → Rely z r r' t k
 rely z r r' s choice l a l' h i t k d g = below.rely z r r' s choice l a l' h (lower i) (history_step z r r' s choice l a l' h i) t k d g
 
--- a cell of a row that is or was linked stands for an attempt that was there only where it did so before the event
+-- a cell of a row that is or was linked stands for an attempt that was there only where it did so
+-- before the event
 cells_were : (z : Sizes) (r r' : Run) (s : ℕ) (choice : Choice) (l : Local) (a : Activity) (l' : Local) → Happens z r r' s choice l l' a → Inv z r → (q c p : ℕ) → WasLinked r.ledger.rows q → p < length r.history.attempts → r'.origin q c ≡ Some p → r.origin q c ≡ Some p
 cells_were z r r' s choice l a l' h i q c p k w e = which (origin_was a h i.shape q c k)
   where

@@ -27,7 +27,7 @@ use Rattle.kw_reads.specs.Inv.{Inv}
 use Rattle.kw_core.proofs.Lasts.{get_lasts}
 use Rattle.kw_core.proofs.Happens.{Happens, each_seat}
 use Rattle.kw_core.proofs.BuiltNext.{IsAfterBuilding, built_goes, built_next}
-use Rattle.kw_core.proofs.Arrows.{builds, Arrow}
+use Rattle.kw_core.proofs.Arrows.{builds, Arrow, ends_at_clock, ends_at_epoch, ends_at_state, ends_undecided}
 use Rattle.kw_puts.proofs.Rely.{Rely}
 use Rattle.kw_reads.proofs.BuiltReads.{after_enters, after_pairs}
 use Rattle.kw_shape.proofs.AfterBuilding.{built_kinds}
@@ -35,14 +35,14 @@ use Rattle.kw_reads.proofs.Relying.{rely}
 use Rattle.kw_reads.proofs.ReadersKeep.{Before}
 use Rattle.std.proofs.lemmas.Bool.{and_parts}
 use Rattle.kw_world.specs.Transition.{leave}
-use Rattle.kw_world.specs.EngageTransitions.{refuse}
+use Rattle.kw_core.proofs.NextBuilt.{over, refused}
 use Rattle.kw_world.specs.ScanTransitions.{answer_or_stopped}
 use Rattle.kw_core.specs.Stages.{IsEarly}
 use Rattle.kw_shape.specs.Shape.{IsKind, IsPutCall, IsReadCall, Kinds}
 use Rattle.kw_shape.proofs.NextCalls.{cell_call}
 use Rattle.kw_puts.proofs.Owners.{true_false}
 use Rattle.kw_reads.proofs.Relying.{goes_on_by}
-use Rattle.kw_core.proofs.Arrows.{NextLook, looks, lists, begins, enters, is_spent, settles_empty, settles, stops, meets_stamped, meets_neither, is_passed, helps, finds_stamped, finds_other, list_ends, key_above, rest_passed, gathers_rest, clears_scan, clears, leaves, NextRest, retries, clock_is_spent, epoch_is_spent}
+use Rattle.kw_core.proofs.Arrows.{NextLook, looks, lists, begins, enters, is_spent, settles_empty, settles, stops, meets_stamped, meets_neither, is_passed, helps, finds_stamped, finds_other, list_ends, key_above, rest_passed, gathers_rest, clears_scan, clears, leaves, NextRest, retries, clock_is_spent, epoch_is_spent, ends_at_clock, ends_at_epoch, tidies}
 use Rattle.kw_puts.proofs.OwnScans.{IsAfterRead, after_read}
 use Rattle.kw_reads.proofs.OwnPairs.{covers_last, stays, settled_pairs, no_pairs, leave_covered, cell_pairs, put_answered, scan_answered, scan_call_answered, cell_answered}
 
@@ -233,8 +233,12 @@ answers_own z r r' s choice l a l' (is_passed next e x) h i n w = look_answered 
 answers_own z r r' s choice l a l' (helps next e x) h i n w = look_answered z _ next x l.call r'.history _ (r'.seats s)
 answers_own z r r' s choice l a l' (finds_stamped c version next e x) h i n w = look_answered z _ next x l.call r'.history _ (r'.seats s)
 answers_own z r r' s choice l a l' (finds_other next e x) h i n w = look_answered z _ next x l.call r'.history _ (r'.seats s)
-answers_own z r r' s choice l a l' (clock_is_spent e) h i n w = put_answered l.call Spent r'.history (refuse Spent l).local (r'.seats s) (kind_of z r r' s choice l l' h i.inv)
-answers_own z r r' s choice l a l' (epoch_is_spent e) h i n w = put_answered l.call Spent r'.history (refuse Spent l).local (r'.seats s) (kind_of z r r' s choice l l' h i.inv)
+answers_own z r r' s choice l a l' (clock_is_spent e nd) h i n w = put_answered l.call Spent r'.history (refused Spent l).local (r'.seats s) (kind_of z r r' s choice l l' h i.inv)
+answers_own z r r' s choice l a l' (ends_at_clock dn) h i n w = put_answered l.call Done r'.history (over l).local (r'.seats s) (kind_of z r r' s choice l l' h i.inv)
+answers_own z r r' s choice l a l' (epoch_is_spent e nd) h i n w = put_answered l.call Spent r'.history (refused Spent l).local (r'.seats s) (kind_of z r r' s choice l l' h i.inv)
+answers_own z r r' s choice l a l' (ends_at_epoch dn) h i n w = put_answered l.call Done r'.history (over l).local (r'.seats s) (kind_of z r r' s choice l l' h i.inv)
+answers_own z r r' s choice l a l' (ends_at_state dn) h i n w = put_answered l.call Done r'.history (over l).local (r'.seats s) (kind_of z r r' s choice l l' h i.inv)
+answers_own z r r' s choice l a l' (ends_undecided count dn) h i n w = put_answered l.call Done r'.history (over l).local (r'.seats s) (kind_of z r r' s choice l l' h i.inv).0
 answers_own z r r' s choice l a l' b h i n w = tt
 
 -- The group.

@@ -1,5 +1,6 @@
--- Of which stamped puts a row that is or was linked has cells, over an event: of the same ones as before, and of the one that is stamped now, which
--- is of a row of the list. A row whose entries are all settled gets none.
+-- Of which stamped puts a row that is or was linked has cells, over an event: of the same ones as
+-- before, and of the one that is stamped now, which is of a row of the list. A row whose entries
+-- are all settled gets none.
 use Rattle.std.proofs.Common.{ℕ, ◌≡◌, ◌≢◌, ◌⊎◌, inl, inr, ◌<◌, ◌==◌, ◌&&◌, Bool, true, false, if◌then◌else◌, Option, Some, arith, refl, sym, ◌∙◌, ap, subst, length, slice_get}
 use Rattle.std.proofs.lemmas.Option.{same_Some}
 use Rattle.kw_words.specs.declared.layout.Name.TheVariants as name

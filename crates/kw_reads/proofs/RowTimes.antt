@@ -1,5 +1,6 @@
--- Every event keeps what holds of the positions and clocks of rows: a row was linked before it went, its clock was that of its link, and what was
--- stamped of a key that it holds has a cell in it, or was stamped before it was linked.
+-- Every event keeps what holds of the positions and clocks of rows: a row was linked before it
+-- went, its clock was that of its link, and what was stamped of a key that it holds has a cell in
+-- it, or was stamped before it was linked.
 use Rattle.std.proofs.Common.{ℕ, ◌≡◌, ◌⊎◌, inl, inr, ◌+◌, ◌≤◌, arith, refl, sym, ◌∙◌, ap, subst, length, eq-eqb}
 use Rattle.std.proofs.lemmas.Bool.{cases_eq}
 use Rattle.kw_words.specs.declared.kind.Kind.{Kind}
@@ -111,7 +112,8 @@ module _ (z : Sizes) (r r' : Run) (s : ℕ) (choice : Choice) (l : Local) (a : A
       which (inl y) = inr (y.0, omega (arith, x.1, ap (λ (f : Fate). f.gone) y.1, ap (λ (v : Put). v.at) (same_put z r r' s choice l a l' h i st p m)))
       which (inr y) = inl y.live
 
-  -- what was stamped of a key that a row holds has a cell in it, or was stamped before the row was linked
+  -- what was stamped of a key that a row holds has a cell in it, or was stamped before the row was
+  -- linked
   pub older_keeps : Contents z r → (q p : ℕ) → IsPut r'.history p → IsStanding r' q p → HoldsKey (word z r'.world) r'.ledger.rows q (attempt r'.history p).key → InRow z r' q p ⊎ IsOlder r' q p
   older_keeps c q p m x y = which (stamp_step a h i)
     where

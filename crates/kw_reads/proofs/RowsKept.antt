@@ -1,4 +1,5 @@
--- What rows have kept of the stamped puts, over every event and at the opening: each part of it from the whole invariant.
+-- What rows have kept of the stamped puts, over every event and at the opening: each part of it
+-- from the whole invariant.
 use Rattle.std.proofs.Common.{ℕ, zero, suc, ◌≡◌, ◌⊎◌, ◌<◌, true, inl, Option, Some, None, arith, refl, slice_get}
 use Rattle.kw_words.specs.declared.kind.Kind.{Kind}
 use Rattle.kw_words.specs.declared.layout.Name.TheVariants as name

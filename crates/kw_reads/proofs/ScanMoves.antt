@@ -1,5 +1,5 @@
--- What is needed through scans only shrinks: over any event a version is newly needed through a seat only if it has just been drawn, and a scan that
--- begins to wait needs none.
+-- What is needed through scans only shrinks: over any event a version is newly needed through a
+-- seat only if it has just been drawn, and a scan that begins to wait needs none.
 use Rattle.std.proofs.Common.{ℕ, ◌≡◌, ◌≢◌, ◌⊎◌, inl, inr, ◌<◌, ◌≤◌, Bool, true, false, Option, Some, None, arith, refl, sym, ◌∙◌, ap, subst, slice_get}
 use Rattle.std.proofs.lemmas.Bool.{cases_eq}
 use Rattle.std.proofs.lemmas.Option.{same_Some}

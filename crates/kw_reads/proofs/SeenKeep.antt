@@ -1,4 +1,5 @@
--- What a reader has gathered, and what it has seen of the row that it read, is kept by its own events; and that row is one that it may name.
+-- What a reader has gathered, and what it has seen of the row that it read, is kept by its own
+-- events; and that row is one that it may name.
 use Rattle.std.proofs.Common.{ℕ, ◌≡◌, ◌⊎◌, inl, inr, ◌+◌, ◌≤◌, Bool, true, false, if◌then◌else◌, Some, None, Option, [], arith, refl, sym, ◌∙◌, ap, subst, length, slice_get, unwrap_or, ne_eqb}
 use Rattle.std.specs.Prelude.{insert}
 use Rattle.std.proofs.lemmas.Bool.{cases_eq}
@@ -47,7 +48,7 @@ use Rattle.kw_reads.proofs.BuiltReads.{after_rests, building_keeping, building_l
 use Rattle.kw_shape.proofs.AfterBuilding.{built_pass}
 use Rattle.kw_shape.proofs.LinkedRows.{fresh_linked}
 use Rattle.kw_shape.proofs.NextCalls.{arrow_call}
-use Rattle.kw_shape.proofs.OwnRows.{own_rely}
+use Rattle.kw_shape.proofs.RowsKeep.{own_rely}
 use Rattle.kw_shape.proofs.RelyRows.{is_passing}
 use Rattle.kw_shape.specs.Passes.{Passes}
 use Rattle.kw_shape.specs.Shape.{IsKind, IsPutCall, IsReadCall}

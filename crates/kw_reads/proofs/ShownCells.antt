@@ -1,5 +1,5 @@
--- What gathered cells show is what their puts show: the best cell of a key at a version is that of the greatest put. So cells that show the same as
--- others have puts that show the same.
+-- What gathered cells show is what their puts show: the best cell of a key at a version is that of
+-- the greatest put. So cells that show the same as others have puts that show the same.
 use Rattle.std.proofs.Common.{ℕ, ◌≡◌, ◌⊎◌, inl, inr, ◌<◌, ◌≤◌, All, Contains, false, List, Option, Some, None, arith, refl, sym, ◌∙◌, ap, subst, get_or}
 use Rattle.std.proofs.lemmas.Bool.{cases_lt}
 use Rattle.std.proofs.lemmas.Bool.Decides.{nat_tests}
@@ -21,7 +21,8 @@ pub record IsPutIn (o : Origins) (row : ℕ) (cells : List Cell) (p : ℕ) : Typ
   pub among : Contains cells cell
   pub origin : o row cell.place ≡ Some p
 
--- of two cells of one key and version, the one at the lesser place is of the put that was added first
+-- of two cells of one key and version, the one at the lesser place is of the put that was added
+-- first
 abbrev pub AreInOrder : History → Origins → ℕ → List Cell → Type 0
 AreInOrder h o row cells = (c d : Cell) (p e : ℕ) → Contains cells c → Contains cells d → c.place < d.place → o row c.place ≡ Some p → o row d.place ≡ Some e → (attempt h p).key ≡ (attempt h e).key → (attempt h p).version ≡ (attempt h e).version → (attempt h p).add < (attempt h e).add
 

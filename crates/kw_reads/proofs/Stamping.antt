@@ -1,5 +1,5 @@
--- What an event does to the stamped puts: it stamps one attempt, whose entry was pending and whose row is in the list, or none. All that was stamped
--- stays as it was, and so do the cells of rows.
+-- What an event does to the stamped puts: it stamps one attempt, whose entry was pending and whose
+-- row is in the list, or none. All that was stamped stays as it was, and so do the cells of rows.
 use Rattle.std.proofs.Common.{ℕ, ◌≡◌, ◌≢◌, ◌⊎◌, inl, inr, ◌<◌, ◌≤◌, true, false, Some, arith, refl, sym, ◌∙◌, ap, subst, length, length-append, set}
 use Rattle.std.proofs.lemmas.Bool.{cases_eq, cases_lt}
 use Rattle.std.proofs.lemmas.Option.{same_Some}
@@ -39,7 +39,8 @@ put_stays h h' o o' g e p x = let y = e.grows.old p (in_range h p x) in let s = 
 
 -- What is stamped now.
 
--- the attempt o is stamped now, and no other one: its entry was pending, and its version was loaded after it was given its cell
+-- the attempt o is stamped now, and no other one: its entry was pending, and its version was loaded
+-- after it was given its cell
 pub record StampsNow (z : Sizes) (r r' : Run) (a : Activity) (o : ℕ) : Type 0 where
   pub within : o < length r.history.attempts
   -- its row was not used again

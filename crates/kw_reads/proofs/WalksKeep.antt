@@ -1,6 +1,8 @@
--- A reader walks along the list of its row: it meets a listed cell behind its link at each step, and so none twice.
+-- A reader walks along the list of its row: it meets a listed cell behind its link at each step,
+-- and so none twice.
 --
--- All is said of the list after the event: what the reader knew of the list before holds of it still.
+-- All is said of the list after the event: what the reader knew of the list before holds of it
+-- still.
 use Rattle.std.proofs.Common.{ℕ, ◌≡◌, ◌+◌, Option, Some, None, arith, refl, sym, ◌∙◌, ap, subst}
 use Rattle.kw_words.specs.Plain.{cell_of_link_word}
 use Rattle.kw_lists.specs.Rows.{Row, IsNext, IsSound}

@@ -46,7 +46,8 @@ pub record IsHolding (z : Sizes) (r : Run) (q k : ℕ) : Type 0 where
 abbrev pub rows_of : Sizes → Run → Rows
 rows_of z r = record { in_row = InRow z r; stamped = IsPut r.history; holds = IsHolding z r }
 
--- u is needed through the scan of seat i: it stands in its word, or somebody holds it for the wait that stands there
+-- u is needed through the scan of seat i: it stands in its word, or somebody holds it for the wait
+-- that stands there
 pub data Through (z : Sizes) (r : Run) (i u : ℕ) : Type 0 where
   has_drawn : i < z.seats → word z r.world (name.Scan i) ≡ scan_word (Drawn u) → Through z r i u
   is_held : (k : Local) → i < z.seats → slice_get r.world.locals i ≡ Some k → k.activity ≡ ScanSettle → k.drawn ≡ u → word z r.world (name.Scan i) ≡ scan_word (Waiting k.waiting) → Through z r i u
@@ -72,7 +73,8 @@ pub record IsOlder (r : Run) (q p : ℕ) : Type 0 where
 abbrev pub IsGone : Run → ℕ → Type 0
 IsGone r p = ((attempt r.history p).is_lost ≡ true) ⊎ WasPut r (attempt r.history p).row p
 
--- what an attempt has become whose row was used again: it is lost, or was stamped before each pass that is on
+-- what an attempt has become whose row was used again: it is lost, or was stamped before each pass
+-- that is on
 abbrev pub IsPast : Run → ℕ → Type 0
 IsPast r p = ((attempt r.history p).is_lost ≡ true) ⊎ IsPut r.history p × ((t since : ℕ) → r.ledger.rows.passes t ≡ Some since → (attempt r.history p).at < since)
 
@@ -80,7 +82,8 @@ IsPast r p = ((attempt r.history p).is_lost ≡ true) ⊎ IsPut r.history p × (
 abbrev pub IsSince : Ledger → ℕ → ℕ → Type 0
 IsSince g d q = IsLive g q ⊎ IsDead g q × (d < (g.fates q).gone)
 
--- the event from which on a call knows all that was announced: the draw of a scan, the first event of any other call
+-- the event from which on a call knows all that was announced: the draw of a scan, the first event
+-- of any other call
 abbrev pub floor_of : Run → ℕ → Local → ℕ
 floor_of r t l = if is_scan l.call then (r.seats t).drawn else (called r.history (r.seats t).call).first
 
@@ -88,8 +91,9 @@ floor_of r t l = if is_scan l.call then (r.seats t).drawn else (called r.history
 abbrev pub version_of : Local → ℕ
 version_of l = if is_scan l.call then l.version else NEWEST
 
--- what a reader of a row knows, at this version, of the puts that were stamped before it looked, or before the row went where this was before:
--- of all that was announced before the floor and was not made in this row since it was linked, each is lost, or was stamped by then
+-- what a reader of a row knows, at this version, of the puts that were stamped before it looked, or
+-- before the row went where this was before: of all that was announced before the floor and was not
+-- made in this row since it was linked, each is lost, or was stamped by then
 pub record IsFronted (z : Sizes) (r : Run) (row version floor looked : ℕ) : Type 0 where
   pub since : ℕ
   pub upto : since ≤ looked
@@ -126,7 +130,8 @@ HasPassedRow a = HasFrozen a
 abbrev pub scans_passed : Sizes → Activity → ℕ → Type 0
 scans_passed z a i = i < needed_by z a
 
--- of what the scans need that the seat has passed, all is listed, or at least `most`, which no cell of its row is above
+-- of what the scans need that the seat has passed, all is listed, or at least `most`, which no cell
+-- of its row is above
 pub record Needs (z : Sizes) (r : Run) (a : Activity) (l : Local) : Type 0 where
   pub most : ℕ
   pub since : ℕ
@@ -137,7 +142,8 @@ pub record Needs (z : Sizes) (r : Run) (a : Activity) (l : Local) : Type 0 where
   pub covered : IsCovered (Through z r) (scans_passed z a) (Contains l.rebalance.needed) most
   pub again : (i clock : ℕ) → HelpsScan i a → word z r.world (name.Scan i) ≡ scan_word (Waiting clock) → (clock ≡ l.rebalance.waiting) ⊎ (since < r.ledger.waits i)
 
--- what no event takes from a row: it was linked before it went, its clock was that of its link, and no wait is later than now
+-- what no event takes from a row: it was linked before it went, its clock was that of its link, and
+-- no wait is later than now
 pub record Borns (z : Sizes) (r : Run) : Type 0 where
   pub gone : (q : ℕ) → IsDead r.ledger.rows q → (r.ledger.rows.fates q).born ≤ (r.ledger.rows.fates q).gone
   pub clock : (q : ℕ) → WasLinked r.ledger.rows q → (r.ledger.rows.fates q).clock ≤ word z r.world name.Clock

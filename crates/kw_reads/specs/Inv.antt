@@ -1,5 +1,5 @@
--- All that every event keeps, in eight groups, of which the first five are `Below`. Each group may use the groups before it, before and
--- after the event.
+-- All that every event keeps, in eight groups, of which the first five are `Below`. Each group may
+-- use the groups before it, before and after the event.
 use Rattle.kw_world.specs.Sizes.{Sizes}
 use Rattle.kw_core.specs.Run.{Run}
 use Rattle.kw_core.specs.Step.{Keeps}

@@ -1,12 +1,14 @@
--- What holds of a get or a scan that reads a row: which attempts are due to it, that each of them is stamped and will be gathered,
--- where it is on its walk along the row's list, and what it has gathered.
+-- What holds of a get or a scan that reads a row: which attempts are due to it, that each of them
+-- is stamped and will be gathered, where it is on its walk along the row's list, and what it has
+-- gathered.
 --
--- A cell of a row stands for the attempt that is its origin: as the attempt's own cell, or as a copy, where the row has taken the place
--- of a full one. Of what is due to a reader each is named by the cell and the attempt.
+-- A cell of a row stands for the attempt that is its origin: as the attempt's own cell, or as a
+-- copy, where the row has taken the place of a full one. Of what is due to a reader each is named
+-- by the cell and the attempt.
 --
--- A row may be frozen while it is read, and then an attempt that was announced there may be lost: it is never stamped, and nothing is
--- due of it any more. So what is said here of each attempt that is due says of each one that was announced before the reader looked
--- that it is lost, or so.
+-- A row may be frozen while it is read, and then an attempt that was announced there may be lost:
+-- it is never stamped, and nothing is due of it any more. So what is said here of each attempt that
+-- is due says of each one that was announced before the reader looked that it is lost, or so.
 use Rattle.std.specs.Prelude.{ℕ, ◌≡◌, ◌⊎◌, ◌<◌, ◌≤◌, true, false, Option, Some, None, List, [], All, Contains, length, slice_get}
 use Rattle.std.specs.List.{AllZip}
 use Rattle.kw_cells.specs.declared.cell.Cell as kw_cell
@@ -34,9 +36,10 @@ use Rattle.kw_puts.specs.Lists.{list_in}
 
 -- What is due.
 
--- the attempt for which this cell stands is due to a reader of the row with this call that looked at this position: it was announced
--- before, its key is one that the call reads, and it is not lost. Of a row that is or was linked no later event makes an attempt due,
--- and none takes it away but the one that loses it
+-- the attempt for which this cell stands is due to a reader of the row with this call that looked
+-- at this position: it was announced before, its key is one that the call reads, and it is not
+-- lost. Of a row that is or was linked no later event makes an attempt due, and none takes it away
+-- but the one that loses it
 pub record IsDue (h : History) (o : Origins) (r : ℕ) (call : Option Call) (looked c p : ℕ) : Type 0 where
   pub origin : o r c ≡ Some p
   pub announced : (attempt h p).is_announced ≡ true
@@ -70,23 +73,24 @@ looked_by z LookClock l = l.looked
 looked_by z LookHelp l = l.looked
 looked_by z _ l = z.seats
 
--- each attempt that is due and whose seat's entry the reader is done with is ready; and where it met a pending entry, so is each
--- one of that seat, but for the one with the cell that it met
+-- each attempt that is due and whose seat's entry the reader is done with is ready; and where it
+-- met a pending entry, so is each one of that seat, but for the one with the cell that it met
 pub record Looks (z : Sizes) (f : Listed) (h : History) (o : Origins) (a : Activity) (l : Local) (g : SeatLog) : Type 0 where
   pub past : (c p : ℕ) → IsDue h o l.row l.call g.looked c p → (attempt h p).seat < looked_by z a l → IsReady f h l c p
   pub here : HasMet a → (c p : ℕ) → IsDue h o l.row l.call g.looked c p → (attempt h p).seat ≡ l.looked → (c ≡ l.met) ⊎ IsReady f h l c p
 
 -- Walking along the list.
 
--- a reader, in the list of a row of n cells, has met the cell in hand: this is listed, and stands behind the link of the list at which
--- the reader is
+-- a reader, in the list of a row of n cells, has met the cell in hand: this is listed, and stands
+-- behind the link of the list at which the reader is
 pub record HasMetCell (n : ℕ) (r : Row) (l : Local) : Type 0 where
   pub on : IsOn r l.link
   pub behind : IsBehind r l.link l.place
   pub walks : IsWalking n r (Some l.place) l.walked
 
--- where a reader is in the list of its row: at the first link while it looks at entries; then at its link, or at the cell that it has
--- met. It has counted no more cells than there are listed ones up to there, for it meets none twice
+-- where a reader is in the list of its row: at the first link while it looks at entries; then at
+-- its link, or at the cell that it has met. It has counted no more cells than there are listed ones
+-- up to there, for it meets none twice
 abbrev pub ReadsList : ℕ → Row → Activity → Local → Type 0
 ReadsList n r (Look i) l = (l.link ≡ None) × (l.walked ≡ 0)
 ReadsList n r LookKey l = (l.link ≡ None) × (l.walked ≡ 0)
@@ -102,8 +106,8 @@ ReadsList n r _ l = Unit {0}
 abbrev pub IsFromHand : Row → Local → ℕ → Type 0
 IsFromHand r l c = (r.listed c ≡ true) × ((c ≡ l.place) ⊎ Stands r l.place c)
 
--- the walk will meet the cell, or it is in hand: it is listed behind the reader's link, or from the cell in hand on; of the cells that
--- were not met it is the one in hand
+-- the walk will meet the cell, or it is in hand: it is listed behind the reader's link, or from the
+-- cell in hand on; of the cells that were not met it is the one in hand
 abbrev pub IsToCome : Row → Activity → Local → ℕ → Type 0
 IsToCome r ListFrom l c = (r.listed c ≡ true) × IsBehind r l.link c
 IsToCome r ListKey l c = IsFromHand r l c
@@ -113,7 +117,8 @@ IsToCome r RestKey l c = c ≡ l.place
 IsToCome r RestVal l c = c ≡ l.place
 IsToCome r _ l c = ⊥
 
--- the cell in hand is that of an attempt that is stamped, with the version in hand and with the key in hand, once they are
+-- the cell in hand is that of an attempt that is stamped, with the version in hand and with the key
+-- in hand, once they are
 pub record IsInHand (h : History) (o : Origins) (a : Activity) (l : Local) : Type 0 where
   pub put : ℕ
   pub origin : o l.row l.place ≡ Some put
@@ -122,7 +127,8 @@ pub record IsInHand (h : History) (o : Origins) (a : Activity) (l : Local) : Typ
   pub key : HasCellKey a → (attempt h put).key ≡ l.place_key
   pub in_range : HasCellKey a → is_in_range l.call l.place_key ≡ true
 
--- each attempt that is due is stamped: it is gathered, or the cell that stands for it is remembered or still to come
+-- each attempt that is due is stamped: it is gathered, or the cell that stands for it is remembered
+-- or still to come
 pub record Reads (r : Row) (h : History) (o : Origins) (a : Activity) (l : Local) (g : SeatLog) : Type 0 where
   pub stamped : (c p : ℕ) → IsDue h o l.row l.call g.looked c p → (attempt h p).is_stamped ≡ true
   pub found : (c p : ℕ) → IsDue h o l.row l.call g.looked c p → Contains g.ids p ⊎ (is_marked c l.remembered ≡ true) ⊎ IsToCome r a l c
@@ -130,8 +136,8 @@ pub record Reads (r : Row) (h : History) (o : Origins) (a : Activity) (l : Local
 
 -- What was gathered.
 
--- a gathered cell stands for this attempt: this is stamped, the row's cell at that place stands for it, with its key, version and
--- value, and its key is one that the call reads
+-- a gathered cell stands for this attempt: this is stamped, the row's cell at that place stands for
+-- it, with its key, version and value, and its key is one that the call reads
 pub record IsCopyOf (h : History) (o : Origins) (r : ℕ) (call : Option Call) (c : kw_cell.Cell) (p : ℕ) : Type 0 where
   pub within : p < length h.attempts
   pub stamped : (attempt h p).is_stamped ≡ true
@@ -145,16 +151,17 @@ pub record IsCopyOf (h : History) (o : Origins) (r : ℕ) (call : Option Call) (
 abbrev pub AreCopies : History → Origins → ℕ → Option Call → List kw_cell.Cell → List ℕ → Type 0
 AreCopies h o row call cells ids = AllZip (IsCopyOf h o row call) cells ids
 
--- nothing is gathered while the reader looks at entries; while it reads the cells, and after that until the next row, what it
--- gathered are cells of the row that stand for attempts
+-- nothing is gathered while the reader looks at entries; while it reads the cells, and after that
+-- until the next row, what it gathered are cells of the row that stand for attempts
 pub record Gathers (h : History) (o : Origins) (a : Activity) (l : Local) (g : SeatLog) : Type 0 where
   pub empty : IsLooking a → l.gathered ≡ []
   pub no_ids : HasLooked a → g.ids ≡ []
   pub taking : IsTaking a → AreCopies h o l.row l.call l.gathered g.ids
   pub kept : IsKeeping a → (r : ℕ) → g.read ≡ Some r → AreCopies h o r l.call l.gathered g.ids
 
--- no cell is gathered twice: no more are gathered than places of the row are, none that is still remembered is, and the one in hand is
--- neither; what is gathered on the walk is listed, and the walk has passed it
+-- no cell is gathered twice: no more are gathered than places of the row are, none that is still
+-- remembered is, and the one in hand is neither; what is gathered on the walk is listed, and the
+-- walk has passed it
 pub record Apart (z : Sizes) (r : Row) (a : Activity) (l : Local) : Type 0 where
   pub few : length l.gathered ≤ count_below z.cells (λ c. has_place c l.gathered)
   pub unmarked : (c : ℕ) → is_marked c l.remembered ≡ true → has_place c l.gathered ≡ false
@@ -163,8 +170,8 @@ pub record Apart (z : Sizes) (r : Row) (a : Activity) (l : Local) : Type 0 where
   pub fresh : IsResting a → has_place l.place l.gathered ≡ false
   pub hand : HasPlace a → is_marked l.place l.remembered ≡ false
 
--- no row counts as read while the reader looks at entries or reads cells; of the row that it has read each attempt that was due is
--- stamped and gathered
+-- no row counts as read while the reader looks at entries or reads cells; of the row that it has
+-- read each attempt that was due is stamped and gathered
 pub record HasSeen (h : History) (o : Origins) (a : Activity) (l : Local) (g : SeatLog) : Type 0 where
   pub unread : IsReading a → g.read ≡ None
   pub stamped : IsKeeping a → (r : ℕ) → g.read ≡ Some r → (c p : ℕ) → IsDue h o r l.call g.looked c p → (attempt h p).is_stamped ≡ true
@@ -172,8 +179,9 @@ pub record HasSeen (h : History) (o : Origins) (a : Activity) (l : Local) (g : S
 
 -- The row that was read.
 
--- a row that counts as read: the call is a get or a scan, its pass is on, and the seat may name the row. So the row is not used again while
--- what was gathered of it is there. A put has read no row: it ends its pass to try again, and would keep the row beyond that
+-- a row that counts as read: the call is a get or a scan, its pass is on, and the seat may name the
+-- row. So the row is not used again while what was gathered of it is there. A put has read no row:
+-- it ends its pass to try again, and would keep the row beyond that
 pub record IsReadRow (g : Ledger) (t : ℕ) (a : Activity) (l : Local) (q : ℕ) : Type 0 where
   pub call : IsReadCall l.call
   pub passing : IsPassing a
@@ -183,7 +191,8 @@ pub record IsReadRow (g : Ledger) (t : ℕ) (a : Activity) (l : Local) (q : ℕ)
 
 -- what holds of the readers
 pub record Readers (z : Sizes) (r : Run) : Type 0 where
-  -- what stands for an attempt is a cell of its row, and a row that was read is one that the seat may name
+  -- what stands for an attempt is a cell of its row, and a row that was read is one that the seat
+  -- may name
   pub within : (q c p : ℕ) → r.origin q c ≡ Some p → c < z.cells
   pub read : (t : ℕ) (l : Local) → slice_get r.world.locals t ≡ Some l → IsKeeping l.activity → (q : ℕ) → (r.seats t).read ≡ Some q → IsReadRow r.ledger.rows t l.activity l q
   pub remembers : (t : ℕ) (l : Local) → slice_get r.world.locals t ≡ Some l → IsLooking l.activity ⊎ IsTaking l.activity → All (IsMarkOf r.history r.origin l.row) l.remembered

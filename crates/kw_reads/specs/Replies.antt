@@ -34,8 +34,8 @@ IsCovered (ClearScan Pairs) h l g = Covers h (first_key l.call) l.version g.draw
 IsCovered (Leave Pairs) h l g = Covers h (first_key l.call) l.version g.drawn (last_key l.call + 1) l.pairs
 IsCovered _ h l g = Unit {0}
 
--- a call that has read no row has no pairs. A scan on its way or at a row has the pairs of the keys below the wanted one, which is
--- in its range; and in the end those of its range
+-- a call that has read no row has no pairs. A scan on its way or at a row has the pairs of the keys
+-- below the wanted one, which is in its range; and in the end those of its range
 pub record HasPairs (h : History) (a : Activity) (l : Local) (g : SeatLog) : Type 0 where
   pub early : IsEarly a → l.pairs ≡ []
   pub from : is_scan l.call ≡ true → IsCovering a → first_key l.call ≤ l.want
@@ -43,8 +43,8 @@ pub record HasPairs (h : History) (a : Activity) (l : Local) (g : SeatLog) : Typ
   pub covers : is_scan l.call ≡ true → IsCovering a → Covers h (first_key l.call) l.version g.drawn l.want l.pairs
   pub covered : IsCovered a h l g
 
--- a get that is about to answer knows what it answers: what a gap of its key shows; and where this is a value, the gap is behind the
--- attempt beside its best gathered cell
+-- a get that is about to answer knows what it answers: what a gap of its key shows; and where this
+-- is a value, the gap is behind the attempt beside its best gathered cell
 pub record AnswersGet (h : History) (key first : ℕ) (reply : Reply) (best : Option ℕ) : Type 0 where
   pub gap : Option ℕ
   pub knows : GetKey h key first reply gap

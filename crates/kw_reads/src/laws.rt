@@ -1,6 +1,7 @@
 //! What every valid list of events keeps: the whole invariant.
 //!
-//! Nothing runs here: the function's clauses are the statements. `kw_laws` draws from the invariant what stands above needs.
+//! Nothing runs here: the function's clauses are the statements. `kw_laws` draws from the invariant
+//! what stands above needs.
 ghost use Rattle.std.specs.Prelude.{◌≡◌, true, List};
 ghost use Rattle.kw_world.specs.declared.event.Event.{Event};
 ghost use Rattle.kw_world.specs.declared.opening.Opening.{Opening};
@@ -11,9 +12,9 @@ ghost use Rattle.kw_core.specs.Run.{Run, history};
 ghost use Rattle.kw_puts.specs.Below.{MayTake};
 ghost use Rattle.kw_reads.specs.Inv.{Inv};
 
-/// The record may note every event that may come, and every valid list of events from an opening keeps the invariant: the groups
-/// below, what is due to each reader and what it has gathered, what the rows have kept of the stamped puts, the pairs of scans, and what
-/// a get is going to answer.
+/// The record may note every event that may come, and every valid list of events from an opening
+/// keeps the invariant: the groups below, what is due to each reader and what it has gathered, what
+/// the rows have kept of the stamped puts, the pairs of scans, and what a get is going to answer.
 pub fn reads_laws()
     ensures notes { (z : Sizes) (o : Opening) (r : Run) (e : Event) → Inv z r → may_step o r.world e
         ≡ true → MayTake z r e }

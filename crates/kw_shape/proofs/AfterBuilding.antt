@@ -1,5 +1,5 @@
--- What is so at each of the activities that take, write and link new rows, and at each that may follow them: the seat stays in its pass, for its put,
--- and is at no row of a walk.
+-- What is so at each of the activities that take, write and link new rows, and at each that may
+-- follow them: the seat stays in its pass, for its put, and is at no row of a walk.
 use Rattle.std.proofs.Common.{ℕ, ◌≡◌, Option, Some, None, refl}
 use Rattle.kw_model.specs.declared.call.Call.{Call}
 use Rattle.kw_model.specs.declared.call.Call.TheVariants.{Put, Del, Get, Scan}
@@ -113,11 +113,6 @@ after_passes Enter x = absurd x
 after_passes AgainEpoch x = absurd x
 after_passes _ x = (tt, tt)
 
--- its put is not done
-pub after_not_done : (a : Activity) → IsAfterBuilding a → IsDone a → ⊥
-after_not_done (Leave Done) x d = x
-after_not_done _ x d = d
-
 -- a put may be refused for want of rows
 no_rows : (c : Option Call) → IsPutCall c → IsAnswerOf c NoRows
 no_rows (Some (Put key value)) k = tt
@@ -125,6 +120,14 @@ no_rows (Some (Del key)) k = tt
 no_rows (Some (Get key)) k = k
 no_rows (Some (Scan from upto)) k = k
 no_rows None k = k
+
+-- or done
+is_served : (c : Option Call) → IsPutCall c → IsAnswerOf c Done
+is_served (Some (Put key value)) k = tt
+is_served (Some (Del key)) k = tt
+is_served (Some (Get key)) k = k
+is_served (Some (Scan from upto)) k = k
+is_served None k = k
 
 -- its activity is one of its put
 pub after_kinds : (a : Activity) (l : Local) → IsAfterBuilding a → IsPutCall l.call → Kinds a l
@@ -155,6 +158,7 @@ after_kinds Retire l x p = record { kind = p; range = λ u. absurd u }
 after_kinds Again l x p = record { kind = p; range = λ u. absurd u }
 after_kinds BalClock l x p = record { kind = p; range = λ u. absurd u }
 after_kinds (Leave NoRows) l x p = record { kind = no_rows l.call p; range = λ u. absurd u }
+after_kinds (Leave Done) l x p = record { kind = is_served l.call p; range = λ u. absurd u }
 after_kinds _ l x p = absurd x
 
 -- it is at no row of a walk
@@ -185,6 +189,7 @@ after_walks v g t Number l x = record { on = tt; lower = λ u. absurd u; at = λ
 after_walks v g t Retire l x = record { on = tt; lower = λ u. absurd u; at = λ u. absurd u; begins = λ u. absurd u; wants = λ u. absurd u }
 after_walks v g t Again l x = record { on = tt; lower = λ u. absurd u; at = λ u. absurd u; begins = λ u. absurd u; wants = λ u. absurd u }
 after_walks v g t BalClock l x = record { on = tt; lower = λ u. absurd u; at = λ u. absurd u; begins = λ u. absurd u; wants = λ u. absurd u }
+after_walks v g t (Leave Done) l x = record { on = tt; lower = λ u. absurd u; at = λ u. absurd u; begins = λ u. absurd u; wants = λ u. absurd u }
 after_walks v g t (Leave NoRows) l x = record { on = tt; lower = λ u. absurd u; at = λ u. absurd u; begins = λ u. absurd u; wants = λ u. absurd u }
 after_walks v g t _ l x = absurd x
 
@@ -193,4 +198,5 @@ pub frozen_builds : (a : Activity) → IsAfterBuilding a → HasFrozen a → IsB
 frozen_builds Again b x = absurd x
 frozen_builds BalClock b x = absurd x
 frozen_builds (Leave NoRows) b x = absurd x
+frozen_builds (Leave Done) b x = absurd x
 frozen_builds _ b x = b

@@ -8,7 +8,7 @@ use Rattle.kw_rows.proofs.Named.{held_by}
 use Rattle.kw_rows.proofs.Views.{alone, leads, opens}
 use Rattle.kw_world.specs.declared.activity.Activity.{Activity}
 use Rattle.kw_world.specs.declared.activity.Activity.TheVariants.{Leave, Again, BalClock, BalEpoch, BalState, BalNormal, Engage, MarkLink, Decide, FreezeCount, FreezeLook, Freeze, ScanLook, HelpDraw, HelpSettle, TakeFrom, TakeKey, TakeVersion, TakeValue, TakeRestKey, TakeRestValue, SeekFirst, Seek, SeekPass, Reclaim, TakeRow, GiveBack, WriteCount, WriteMin, WriteNext, WriteFirst, WritePend, WriteKey, WriteValue, WriteVersion, WriteAfter, Before, BeforeGuess, BeforeHead, BeforeLink, BeforeMin, Replace, Normalise, Number, Retire}
-use Rattle.kw_world.specs.declared.answer.Answer.TheVariants.{NoRows}
+use Rattle.kw_world.specs.declared.answer.Answer.TheVariants.{Done, NoRows}
 use Rattle.kw_world.specs.declared.event.Choice.{Choice}
 use Rattle.kw_world.specs.declared.local.Local.{Local}
 use Rattle.kw_world.specs.EngageTransitions.{to_rebalance}
@@ -19,16 +19,15 @@ use Rattle.kw_core.specs.declared.stage.Stage.{Stage}
 use Rattle.kw_core.specs.declared.stage.Stage.TheVariants.{Rebalancing}
 use Rattle.kw_core.specs.Stages.{stage_of, IsAtRow, IsBalancingStage, IsPassingStage, IsBalancing, IsPassing}
 use Rattle.kw_core.specs.Words.{Words, least_in}
-use Rattle.kw_core.proofs.Arrows.{Arrow, NextLook, NextRest, answers, clock_serves, decides, ends_scan, engages, epoch_serves, finds_infant, finds_leader, finds_normal, finds_other, finds_stamped, gathers_rest, helps, is_engaged, is_passed, key_above, list_ends, lists, looks, marks_link, marks_led, meets_neither, meets_stamped, normalises, rest_passed, rests, scans_on, finds_full, takes_full, announces_full, stamps_full, freezes_count, meets_idle, meets_unstamped, remembers, remembers_last, meets_frozen, meets_frozen_last, freezes_entry, freezes_last, looks_again, meets_quiet, meets_quiet_last, helps_scan, meets_drawn, meets_drawn_last, draws_for, settles_scan, settles_last, finds_drawn, finds_drawn_last, finds_no_scan, finds_no_scan_last, take_leads, takes_left, takes_key, takes_version, keeps_taken, takes_left_key, keeps_left, takes_no_more, keeps_no_more, builds}
-use Rattle.kw_core.proofs.Building.{Building, IsBuilding, draws_number, makes_last_normal, makes_normal, retires_row}
+use Rattle.kw_core.proofs.Arrows.{Arrow, NextLook, NextRest, answers, clock_serves, decides, ends_scan, engages, epoch_serves, finds_infant, finds_leader, finds_normal, finds_other, finds_stamped, gathers_rest, helps, is_engaged, is_passed, key_above, list_ends, lists, looks, marks_link, marks_led, meets_neither, meets_stamped, normalises, rest_passed, rests, scans_on, finds_full, takes_full, announces_full, stamps_full, freezes_count, meets_idle, meets_unstamped, remembers, remembers_last, meets_frozen, meets_frozen_last, freezes_entry, freezes_last, looks_again, meets_quiet, meets_quiet_last, helps_scan, meets_drawn, meets_drawn_last, draws_for, settles_scan, settles_last, finds_drawn, finds_drawn_last, finds_no_scan, finds_no_scan_last, take_leads, takes_left, takes_key, takes_version, keeps_taken, takes_left_key, keeps_left, takes_no_more, keeps_no_more, builds, tidies}
+use Rattle.kw_core.proofs.Building.{Building, IsBuilding, draws_number, makes_last_normal, makes_normal, retires_row, retires_and_leaves}
 use Rattle.kw_core.proofs.BuiltNext.{IsAfterBuilding, built_keeps, built_next}
 use Rattle.kw_core.proofs.Frame.{WritesPass}
 use Rattle.kw_core.proofs.Happens.{Happens}
 use Rattle.kw_shape.proofs.AfterBuilding.{built_balancing, built_pass, built_passes}
 use Rattle.kw_shape.proofs.LinkedRows.{fresh_linked, linked_keeps, search_at}
-use Rattle.kw_shape.proofs.OwnRows.{own_rely}
+use Rattle.kw_shape.proofs.RowsKeep.{own_rely, balance_at, decided_state, engaged_state, freezing, group_keeps, kinds_at, others_kept, read_state, rely_rows, row_marked, row_next, structure_keeps}
 use Rattle.kw_shape.proofs.RelyRows.{RelyRows, is_passing}
-use Rattle.kw_shape.proofs.RowsKeep.{balance_at, decided_state, engaged_state, freezing, group_keeps, kinds_at, others_kept, read_state, rely_rows, row_marked, row_next, structure_keeps}
 use Rattle.kw_shape.proofs.Walking.{past}
 use Rattle.kw_shape.proofs.WonKeep.{head_open, moves_by}
 use Rattle.kw_shape.specs.Balances.{Balances, HasFrozen, view_of}
@@ -118,7 +117,8 @@ frozen_balances BeforeMin x = tt
 frozen_balances Replace x = tt
 frozen_balances _ x = absurd x
 
--- as long as it builds new rows it goes on with its row alone, and once it has linked them it knows nothing more of the group
+-- as long as it builds new rows it goes on with its row alone, and once it has linked them it knows
+-- nothing more of the group
 built_group : (v : Words) (g : kw_rows.Ledger) (c : Activity) (k : Local) → IsBuilding c → (HasFrozen c → Group (rows_in v) g (Alone k.row k.rebalance.after)) → Group (rows_in v) g (view_of c k)
 built_group v g SeekFirst k x f = f tt
 built_group v g Seek k x f = f tt
@@ -178,7 +178,8 @@ built_frozen : (z : Sizes) (v : Words) (choice : Choice) (l : Local) (a : Activi
 built_frozen z v choice l a k (makes_normal o) x = x
 built_frozen z v choice l a k (makes_last_normal o) x = x
 built_frozen z v choice l a k draws_number x = x
-built_frozen z v choice l a k retires_row x = x
+built_frozen z v choice l a k (retires_row nd) x = x
+built_frozen z v choice l a k (retires_and_leaves dn) x = x
 built_frozen z v choice l a k _ x = tt
 
 -- a seat that does not rebalance knows nothing
@@ -214,6 +215,12 @@ module _ (z : Sizes) (r r' : Run) (s : ℕ) (choice : Choice) (l : Local) (a : A
   -- a put at its row rebalances it
   meets_full : IsAtRow a → IsPassing a → (WritesPass a → ⊥) → Balances (word z r'.world) r'.ledger.rows s BalClock (to_rebalance l).local
   meets_full x p n =
+      let w = subst (λ b. Walks (word z r.world) r.ledger.rows s b l) h.activity (i.walks s l h.knows) in
+      stays BalClock _ p n (w.at x).fresh (w.lower (past a x)) refl refl tt (λ x. absurd x)
+
+  -- so does one that tidies, which has put its cell there
+  tidies_row : IsAtRow a → IsPassing a → (WritesPass a → ⊥) → Balances (word z r'.world) r'.ledger.rows s BalClock (to_rebalance (record l { tidies = true })).local
+  tidies_row x p n =
       let w = subst (λ b. Walks (word z r.world) r.ledger.rows s b l) h.activity (i.walks s l h.knows) in
       stays BalClock _ p n (w.at x).fresh (w.lower (past a x)) refl refl tt (λ x. absurd x)
 
@@ -257,6 +264,7 @@ module _ (z : Sizes) (r r' : Run) (s : ℕ) (choice : Choice) (l : Local) (a : A
   builds_next : IsBuilding a → Building z (word z r.world) choice l a l' → (c : Activity) → l'.activity ≡ c → IsAfterBuilding c → Balances (word z r'.world) r'.ledger.rows s c l'
   builds_next x t Again e o = outside _ _ s Again l' (λ u. u) tt
   builds_next x t (Leave NoRows) e o = outside _ _ s (Leave NoRows) l' (λ u. u) tt
+  builds_next x t (Leave Done) e o = outside _ _ s (Leave Done) l' (λ u. u) tt
   builds_next x t BalClock e o =
       let m = moves_by (word z r.world) r.ledger.rows s l z choice a l' t (head_open z r i l.row) (search_at a h i) e in
       let rely = own_rely z r r' s choice l a l' h i (built_passes a x).0 (built_pass a x) in
@@ -270,6 +278,7 @@ balances_own z r r' s choice l a l' (finds_full e) h i = meets_full z r r' s cho
 balances_own z r r' s choice l a l' (takes_full e) h i = meets_full z r r' s choice l _ l' h i tt tt (λ x. x)
 balances_own z r r' s choice l a l' (announces_full e) h i = meets_full z r r' s choice l _ l' h i tt tt (λ x. x)
 balances_own z r r' s choice l a l' (stamps_full e) h i = meets_full z r r' s choice l _ l' h i tt tt (λ x. x)
+balances_own z r r' s choice l a l' (tidies rows e) h i = tidies_row z r r' s choice l _ l' h i tt tt (λ x. x)
 balances_own z r r' s choice l a l' (clock_serves e) h i = goes_on z r r' s choice l _ l' h i BalEpoch _ tt tt (λ x. x) refl refl tt (λ u. absurd u)
 balances_own z r r' s choice l a l' (epoch_serves e) h i = goes_on z r r' s choice l _ l' h i BalState _ tt tt (λ x. x) refl refl tt (λ u. absurd u)
 balances_own z r r' s choice l a l' (finds_infant seat e) h i = goes_on z r r' s choice l _ l' h i (BalNormal seat) _ tt tt (λ x. x) refl refl tt (λ u. absurd u)

@@ -1,8 +1,10 @@
--- Which event of the rows it is when a seat takes a row, frees a retired one, gives one back, writes one, makes one normal, draws a number, or
--- retires the row that it replaced: each is one of those of `kw_rows`, whose laws say what it keeps.
+-- Which event of the rows it is when a seat takes a row, frees a retired one, gives one back,
+-- writes one, makes one normal, draws a number, or retires the row that it replaced: each is one of
+-- those of `kw_rows`, whose laws say what it keeps.
 --
--- What is needed beside the words stands as a premise: that states go with what has become of the rows, that the row at hand is an infant of
--- the seat or a row that it may name, and that the number was drawn after the row went.
+-- What is needed beside the words stands as a premise: that states go with what has become of the
+-- rows, that the row at hand is an infant of the seat or a row that it may name, and that the
+-- number was drawn after the row went.
 use Rattle.std.proofs.Common.{ℕ, ◌≡◌, ◌≢◌, ◌⊎◌, inl, inr, ◌<◌, ◌≤◌, Option, Some, None, arith, refl, sym, ◌∙◌, ap, subst, length}
 use Rattle.std.proofs.lemmas.Bool.{cases_eq, cases_lt}
 use Rattle.kw_words.specs.declared.layout.Name.{Name}

@@ -1,4 +1,5 @@
--- How a seat comes to the activities that take, write and link new rows: by an event of these, or it has gathered its row and begins to seek rows.
+-- How a seat comes to the activities that take, write and link new rows: by an event of these, or
+-- it has gathered its row and begins to seek rows.
 use Rattle.std.proofs.Common.{ℕ, ◌≡◌, [], refl}
 use Rattle.kw_rows.specs.Ledger.{Ledger}
 use Rattle.kw_world.specs.declared.activity.Activity.{Activity}

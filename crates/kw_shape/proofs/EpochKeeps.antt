@@ -1,4 +1,5 @@
--- The epoch has room for the numbers that are drawn: each seat that may still draw one asked it, and draws one alone.
+-- The epoch has room for the numbers that are drawn: each seat that may still draw one asked it,
+-- and draws one alone.
 use Rattle.std.proofs.Common.{ℕ, zero, suc, ◌≡◌, ◌+◌, ◌≤◌, Some, None, List, [], ◌∷◌, arith, refl, ap, length, length-set, slice_get, slice_set}
 use Rattle.std.proofs.lemmas.Option.{same_Some}
 use Rattle.kw_words.specs.declared.layout.Name.TheVariants as name
@@ -12,11 +13,11 @@ use Rattle.kw_world.specs.Sizes.{Sizes}
 use Rattle.kw_world.specs.Step.{word}
 use Rattle.kw_core.specs.Run.{Run}
 use Rattle.kw_core.specs.Words.{Words}
-use Rattle.kw_core.proofs.Arrows.{Arrow, meets_stamped, meets_neither, is_passed, helps, finds_stamped, finds_other, list_ends, key_above, rest_passed, gathers_rest, NextLook, looks, lists, NextRest, rests, answers, ends_scan, scans_on, epoch_is_spent, epoch_serves, builds}
-use Rattle.kw_core.proofs.Building.{Building, gives_one_back, gives_last_back, draws_number, retires_row}
+use Rattle.kw_core.proofs.Arrows.{Arrow, meets_stamped, meets_neither, is_passed, helps, finds_stamped, finds_other, list_ends, key_above, rest_passed, gathers_rest, NextLook, looks, lists, NextRest, rests, answers, ends_scan, scans_on, epoch_is_spent, epoch_serves, builds, ends_at_epoch}
+use Rattle.kw_core.proofs.Building.{Building, gives_one_back, gives_last_back, draws_number, retires_row, retires_and_leaves}
 use Rattle.kw_core.proofs.Happens.{Happens}
 use Rattle.kw_core.proofs.InfantFrames.{epoch_stays, number_drawn}
-use Rattle.kw_core.proofs.NextBuilt.{GivenBack, tries_again, is_refused_rows, moves_left}
+use Rattle.kw_core.proofs.NextBuilt.{GivenBack, tries_again, is_refused_rows, moves_left, was_done, was_served}
 use Rattle.kw_shape.specs.Epochs.{numberers, numbering}
 use Rattle.kw_shape.specs.Shape.{Shape}
 
@@ -48,14 +49,17 @@ cell_numbers l k (ends_scan o y n) = refl
 cell_numbers l k (scans_on r o y n w) = refl
 
 given_numbers : (a : Afterwards) (l k : Local) → GivenBack l a k → numbering k.activity ≡ 0
-given_numbers a l k tries_again = refl
-given_numbers a l k is_refused_rows = refl
+given_numbers a l k (tries_again nd) = refl
+given_numbers a l k (was_done dn) = refl
+given_numbers a l k (is_refused_rows nd) = refl
+given_numbers a l k (was_served dn) = refl
 given_numbers a l k moves_left = refl
 
 built_numbers : (z : Sizes) (v : Words) (choice : Choice) (l : Local) (a : Activity) (k : Local) → Building z v choice l a k → numbering k.activity ≤ numbering a
 built_numbers z v choice l a k (gives_one_back o) = omega arith
 built_numbers z v choice l a k (gives_last_back next o n) = omega (arith, given_numbers _ l next n)
-built_numbers z v choice l a k retires_row = omega arith
+built_numbers z v choice l a k (retires_row nd) = omega arith
+built_numbers z v choice l a k (retires_and_leaves dn) = omega arith
 built_numbers z v choice l a k _ = numbering_at_most k.activity
 
 abbrev AsksEpoch : Activity → Type 0
@@ -85,6 +89,7 @@ epoch_built z r r' s choice l a l' t h i = omega (arith, i.epoch, epoch_stays _ 
 -- the epoch has room for the numbers that are drawn
 pub epoch_keeps : (z : Sizes) (r r' : Run) (s : ℕ) (choice : Choice) (l : Local) (a : Activity) (l' : Local) → Arrow z (word z r.world) s choice l a l' → Happens z r r' s choice l l' a → Shape z r → word z r'.world name.Epoch + numberers r'.world.locals ≤ SPENT + z.seats
 epoch_keeps z r r' s choice l a l' (epoch_serves e) h i = omega (arith, e, epoch_stays BalEpoch h (λ c. c), numberers_at_most r'.world.locals, ap length h.locals, length-set r.world.locals s l', i.sane.seats)
-epoch_keeps z r r' s choice l a l' (epoch_is_spent e) h i = omega (arith, i.epoch, epoch_stays BalEpoch h (λ c. c), numberers-set r.world.locals s l l' h.knows, ap numberers h.locals)
+epoch_keeps z r r' s choice l a l' (epoch_is_spent e nd) h i = omega (arith, i.epoch, epoch_stays BalEpoch h (λ c. c), numberers-set r.world.locals s l l' h.knows, ap numberers h.locals)
+epoch_keeps z r r' s choice l a l' (ends_at_epoch dn) h i = omega (arith, i.epoch, epoch_stays BalEpoch h (λ c. c), numberers-set r.world.locals s l l' h.knows, ap numberers h.locals)
 epoch_keeps z r r' s choice l a l' (builds b next y t) h i = epoch_built z r r' s choice l b next t h i
 epoch_keeps z r r' s choice l a l' b h i = omega (arith, i.epoch, epoch_stays _ h (λ c. c), numbers_next z (word z r.world) s choice l _ l' b (λ x. x), ap numbering h.activity, numberers-set r.world.locals s l l' h.knows, ap numberers h.locals)

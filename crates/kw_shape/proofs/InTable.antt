@@ -99,7 +99,8 @@ value_known : (x : Option ℕ) → IsValue x → IsValueWord (value_word x)
 value_known (Some v) i = inr (omega arith, omega (arith, i))
 value_known None i = inl refl
 
--- one more is in range: a version or a number drawn, and a cell asked for; and the seat is one of the table's
+-- one more is in range: a version or a number drawn, and a cell asked for; and the seat is one of
+-- the table's
 pub record HasMore (z : Sizes) (rows s : ℕ) (v : Words) : Type 0 where
   pub seat : s < z.seats
   pub clock : v name.Clock + 1 < VERSION_END
@@ -129,7 +130,8 @@ module _ (z : Sizes) (rows : ℕ) (v : Words) (s : ℕ) (choice : Choice) (l : L
   set_state : (q : ℕ) (x y : State) → IsState y → IsRowState z (Some y) → IsStateBelow rows (Some y) → q < rows → IsRowState z (state_of (word_after (Exchange (state_word x) (state_word y)) (v (name.State q)))) × IsStateBelow rows (state_of (word_after (Exchange (state_word x) (state_word y)) (v (name.State q))))
   set_state q x y i e b o = (exchanges (λ u. IsRowState z (state_of u)) (v (name.State q)) _ _ (w.each (name.State q) o) (state_known z y i e), exchanges (λ u. IsStateBelow rows (state_of u)) (v (name.State q)) _ _ (w.led (name.State q) o) (state_below rows y i b))
 
-  -- a search for free rows, and one for the row before the full one, each from the row that the seat chooses
+  -- a search for free rows, and one for the row before the full one, each from the row that the
+  -- seat chooses
   seeks : (c : Choice) → IsWithin z.seats z.cells rows (seek_first_transition c l).operation.name → Writes (seek_first_transition c l)
   seeks (Begin call) n = loaded (name.State l.rebalance.sought) n
   seeks Go n = loaded (name.State l.rebalance.sought) n

@@ -1,5 +1,5 @@
--- The rows that a seat took are rows of the table, and what it writes of them fits its words: so a sane world gives what `InfantsOwn`
--- and `ReplaceEvent` ask for.
+-- The rows that a seat took are rows of the table, and what it writes of them fits its words: so a
+-- sane world gives what `InfantsOwn` and `ReplaceEvent` ask for.
 use Rattle.std.proofs.Common.{ℕ, ◌≡◌, ◌+◌, ◌-◌, ◌<◌, ◌≤◌, All, List, Option, Some, None, arith, refl, subst, drop, length, slice_get, slice_index, take}
 use Rattle.std.proofs.lemmas.List.{length-drop, length-take}
 use Rattle.std.proofs.lemmas.List.Elements.{All-get_or}

@@ -1,4 +1,5 @@
--- What a seat knows of its infants after each event of its own that takes, writes, links or gives back rows.
+-- What a seat knows of its infants after each event of its own that takes, writes, links or gives
+-- back rows.
 use Rattle.std.proofs.Common.{ℕ, ◌≡◌, ◌⊎◌, inl, inr, ◌<◌, ◌≤◌, ◌++◌, List, [], ◌∷◌, Some, arith, refl, sym, ◌∙◌, ap, subst, length, length-append, slice_get, get_or}
 use Rattle.std.proofs.lemmas.Bool.{cases_eq, cases_lt}
 use Rattle.std.proofs.lemmas.List.{get_or_append_left}
@@ -12,7 +13,7 @@ use Rattle.kw_world.specs.declared.rebalance.Afterwards.{Afterwards}
 use Rattle.kw_world.specs.SeekTransitions.{at_infant, infant}
 use Rattle.kw_world.specs.Sizes.{Sizes}
 use Rattle.kw_core.specs.Words.{Words}
-use Rattle.kw_core.proofs.NextBuilt.{GivenBack, is_refused_rows, moves_left, tries_again, NextBack, gives_back, has_none, NextPass, has_looked, looks_on, NextSeek, asks, has_asked, NextTaken, has_enough, wants_more, NextNewCell, empties, fills, has_cells, NextNewEntry, has_entries, writes_idle, NextNewRow, has_written, writes_row}
+use Rattle.kw_core.proofs.NextBuilt.{GivenBack, is_refused_rows, moves_left, tries_again, NextBack, gives_back, has_none, NextPass, has_looked, looks_on, NextSeek, asks, has_asked, NextTaken, has_enough, wants_more, NextNewCell, empties, fills, has_cells, NextNewEntry, has_entries, writes_idle, NextNewRow, has_written, writes_row, was_done, was_served}
 use Rattle.kw_shape.proofs.InfantsStay.{infant_at}
 use Rattle.kw_shape.proofs.InfantsWritten.{cells_done, cells_end, entries_done, written_like}
 use Rattle.kw_shape.specs.Infants.{HasNone, Takes, Writes, Links, HasAtHand, HasAll, Infants, IsInfantOf, IsNursed, IsWhole, IsWriting, Written, nursing_of}
@@ -118,8 +119,10 @@ module _ (z : Sizes) (v : Words) (g : Ledger) (t : ℕ) where
   -- What follows where a part has no event of its own.
 
   pub given_on : (c : Afterwards) (k next : Local) → GivenBack k c next → Infants z v g t next.activity next
-  given_on c k next tries_again = nowhere Again _ refl
-  given_on c k next is_refused_rows = nowhere (Leave _) _ refl
+  given_on c k next (tries_again nd) = nowhere Again _ refl
+  given_on c k next (was_done dn) = nowhere (Leave _) _ refl
+  given_on c k next (is_refused_rows nd) = nowhere (Leave _) _ refl
+  given_on c k next (was_served dn) = nowhere (Leave _) _ refl
   given_on c k next moves_left = nowhere BalClock _ refl
 
   pub back_on : (c : Afterwards) (k next : Local) → NextBack c k next → Own g t k.rebalance.taken → Infants z v g t next.activity next

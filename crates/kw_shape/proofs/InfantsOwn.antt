@@ -1,7 +1,8 @@
--- What a seat knows of its infants after each event of its own that takes, writes, links or gives back rows.
+-- What a seat knows of its infants after each event of its own that takes, writes, links or gives
+-- back rows.
 --
--- Of the structure of the rows no more is asked than that a state goes with what has become of its row (`States`); of the world, that
--- the taken rows are rows of the table.
+-- Of the structure of the rows no more is asked than that a state goes with what has become of its
+-- row (`States`); of the world, that the taken rows are rows of the table.
 use Rattle.std.proofs.Common.{ℕ, ◌≡◌, ◌≢◌, ◌⊎◌, inl, inr, ◌+◌, ◌<◌, Bool, false, true, [], ◌∷◌, Option, Some, None, arith, refl, sym, ◌∙◌, ap, subst, length, length-append, slice_get}
 use Rattle.std.proofs.lemmas.Bool.{cases_eq}
 use Rattle.kw_words.specs.declared.layout.Name.{Name}
@@ -16,7 +17,7 @@ use Rattle.kw_rows.specs.Ledger.{Fate, Ledger}
 use Rattle.kw_rows.specs.RowState as row
 use Rattle.kw_rows.specs.States.{HasState, States}
 use Rattle.kw_world.specs.declared.activity.Activity.{Activity}
-use Rattle.kw_world.specs.declared.activity.Activity.TheVariants.{SeekFirst, Seek, SeekPass, Reclaim, TakeRow, GiveBack, WriteCount, WriteMin, WriteNext, WriteFirst, WritePend, WriteKey, WriteValue, WriteVersion, WriteAfter, Before, BeforeGuess, BeforeHead, BeforeLink, BeforeMin, Replace, Normalise, Number, Retire, Again}
+use Rattle.kw_world.specs.declared.activity.Activity.TheVariants.{Leave, SeekFirst, Seek, SeekPass, Reclaim, TakeRow, GiveBack, WriteCount, WriteMin, WriteNext, WriteFirst, WritePend, WriteKey, WriteValue, WriteVersion, WriteAfter, Before, BeforeGuess, BeforeHead, BeforeLink, BeforeMin, Replace, Normalise, Number, Retire, Again}
 use Rattle.kw_world.specs.declared.event.Choice.{Choice}
 use Rattle.kw_world.specs.declared.event.Choice.TheVariants.{Begin, Go, Guess, Stop}
 use Rattle.kw_world.specs.declared.local.Local.{Local}
@@ -29,7 +30,7 @@ use Rattle.kw_world.specs.WriteTransitions.{unmarked_link}
 use Rattle.kw_core.specs.Ledger as ledger
 use Rattle.kw_core.specs.Run.{Run}
 use Rattle.kw_core.specs.Words.{Words}
-use Rattle.kw_core.proofs.Building.{Building, first_is_free, first_is_retired, first_is_taken, sought_is_free, sought_is_retired, sought_is_taken, pass_is_old, pass_is_young, frees_row, takes_row, loses_row, gives_one_back, gives_last_back, writes_link, begins_before, guesses_before, guess_before_fails, before_serves, before_is_above, takes_head_before, leads_to_full, leads_on_marked, leads_to_other, leads_nowhere, walks_before, walks_past, replaces_row, is_marked_before, is_replaced, makes_normal, makes_last_normal, draws_number, retires_row, marked_link}
+use Rattle.kw_core.proofs.Building.{Building, first_is_free, first_is_retired, first_is_taken, sought_is_free, sought_is_retired, sought_is_taken, pass_is_old, pass_is_young, frees_row, takes_row, loses_row, gives_one_back, gives_last_back, writes_link, begins_before, guesses_before, guess_before_fails, before_serves, before_is_above, takes_head_before, leads_to_full, leads_on_marked, leads_to_other, leads_nowhere, walks_before, walks_past, replaces_row, is_marked_before, is_replaced, makes_normal, makes_last_normal, draws_number, retires_row, marked_link, retires_and_leaves}
 use Rattle.kw_core.proofs.Building as built
 use Rattle.kw_core.proofs.Fates.{ChangesFate, fate_of_taken, fate_stays, none_freed, none_replaced, none_taken}
 use Rattle.kw_core.proofs.Happens.{Happens}
@@ -238,4 +239,5 @@ module _ {z : Sizes} {r r' : Run} {s : ℕ} {choice : Choice} {l : Local} where
   infants_own a k (makes_normal o) h states small inside x = nowhere z (word z r'.world) r'.ledger.rows s Normalise _ refl
   infants_own a k (makes_last_normal o) h states small inside x = nowhere z (word z r'.world) r'.ledger.rows s Number _ refl
   infants_own a k draws_number h states small inside x = nowhere z (word z r'.world) r'.ledger.rows s Retire _ refl
-  infants_own a k retires_row h states small inside x = nowhere z (word z r'.world) r'.ledger.rows s Again _ refl
+  infants_own a k (retires_row nd) h states small inside x = nowhere z (word z r'.world) r'.ledger.rows s Again _ refl
+  infants_own a k (retires_and_leaves dn) h states small inside x = nowhere z (word z r'.world) r'.ledger.rows s (Leave _) _ refl

@@ -1,5 +1,5 @@
--- An event of one seat leaves the infants of every other: the rows on which it acts were linked, or are its own infants, or are free,
--- or retired.
+-- An event of one seat leaves the infants of every other: the rows on which it acts were linked, or
+-- are its own infants, or are free, or retired.
 use Rattle.std.proofs.Common.{ℕ, suc, ◌≡◌, ◌≢◌, ◌⊎◌, inl, inr, false, true, List, [], ◌∷◌, Some, arith, refl, sym, ◌∙◌, ap, subst, slice_get}
 use Rattle.std.proofs.lemmas.Bool.{cases_eq}
 use Rattle.std.proofs.lemmas.Option.{same_Some}
@@ -50,7 +50,8 @@ pub no_state : {A : Type 0} (q : ℕ) (n : Name) → is_state n ≡ false → So
 no_state q n f e = let x : true ≡ false = ap is_state (same_Some (name.State q) n e) ∙ f in absurd (cc)
 
 module _ {z : Sizes} {r r' : Run} {s : ℕ} {choice : Choice} {l l' : Local} where
-  -- the word of an infant of the seat t is none that the event writes, where the row of the acting seat, and the one before it, were linked
+  -- the word of an infant of the seat t is none that the event writes, where the row of the acting
+  -- seat, and the one before it, were linked
   words_kept : (a : Activity) → Happens z r r' s choice l l' a → (t : ℕ) → t ≢ s → Infants z (word z r.world) r.ledger.rows s a l → (target_of a ≡ OwnRow → WasLinked r.ledger.rows l.row) → (target_of a ≡ RowBefore → (p : ℕ) → l.rebalance.before ≡ Some p → WasLinked r.ledger.rows p) →
       (q : ℕ) → IsInfantOf r.ledger.rows t q → (n : Name) → row_in n ≡ Some q → is_state n ≡ false → IsWithin z.seats z.cells r.world.rows n → word z r'.world n ≡ word z r.world n
   words_kept TakeRow h t d x own before q y n e f i = unwritten TakeRow h n i (no_state l.rebalance.sought n f)

@@ -1,5 +1,5 @@
--- What an event of another seat leaves to a seat of its infants and of the row before its full one: they are its infants still, each word
--- that it wrote stands, and the row before is as it was.
+-- What an event of another seat leaves to a seat of its infants and of the row before its full one:
+-- they are its infants still, each word that it wrote stands, and the row before is as it was.
 use Rattle.std.proofs.Common.{ℕ, ◌≡◌, inl, inr, ◌<◌, Bool, false, true, Some, arith, refl, sym, ◌∙◌, ap, length, slice_get}
 use Rattle.std.proofs.lemmas.Option.{slice_get-get_or}
 use Rattle.kw_words.specs.declared.layout.Name.{Name}
@@ -22,8 +22,8 @@ abbrev pub is_state : Name → Bool
 is_state (name.State q) = true
 is_state _ = false
 
--- what stays of the infants of seat t, in a table of so many rows: their fates, and their words but for their states, of which the laws of rows say what they
--- are
+-- what stays of the infants of seat t, in a table of so many rows: their fates, and their words but
+-- for their states, of which the laws of rows say what they are
 pub record RelyInfants (z : Sizes) (rows : ℕ) (v v' : Words) (g g' : Ledger) (t : ℕ) : Type 0 where
   pub fates : (q : ℕ) → IsInfantOf g t q → g'.fates q ≡ g.fates q
   pub words : (q : ℕ) → IsInfantOf g t q → q < rows → (n : Name) → row_in n ≡ Some q → is_state n ≡ false → IsWithin z.seats z.cells rows n → v' n ≡ v n
@@ -86,7 +86,8 @@ measured Replace l m = tt
 measured GiveBack l m = m
 measured _ l m = absurd m
 
--- the row before the full one stays: it and the full row may be named still, their least keys are as they were, and a dead full row is dead
+-- the row before the full one stays: it and the full row may be named still, their least keys are
+-- as they were, and a dead full row is dead
 pub search_stable : (v v' : Words) (g g' : Ledger) (t : ℕ) (a : Activity) (l : Local) → RelyRows v v' g g' t → (IsMeasured a l → IsDead g l.row → IsDead g' l.row) → Search v g t a l → Search v' g' t a l
 search_stable v v' g g' t a l y dead x = record {
   some = x.some;

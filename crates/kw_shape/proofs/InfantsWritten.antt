@@ -1,5 +1,5 @@
--- What is written of a row at hand: how each event that writes a word of it adds that word and leaves the others, and what follows where the
--- entries or the cells are all written.
+-- What is written of a row at hand: how each event that writes a word of it adds that word and
+-- leaves the others, and what follows where the entries or the cells are all written.
 use Rattle.std.proofs.Common.{ℕ, ◌≡◌, ◌⊎◌, inl, inr, ◌+◌, ◌<◌, ◌≤◌, List, Some, None, arith, sym, ◌∙◌, ap, subst, length, slice_get}
 use Rattle.std.proofs.lemmas.Bool.{cases_eq}
 use Rattle.std.proofs.lemmas.Option.{same_Some}

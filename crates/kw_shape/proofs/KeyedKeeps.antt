@@ -1,8 +1,8 @@
--- The cells of a row that an entry names, or to which a link leads, have keys that the row may hold: so it stays at every event, and so it
--- is of the rows that are linked now.
+-- The cells of a row that an entry names, or to which a link leads, have keys that the row may
+-- hold: so it stays at every event, and so it is of the rows that are linked now.
 --
--- A key is stored once, by a put whose key the row may hold. An entry that comes to name a cell, and a link that comes to lead to one, do so
--- by a seat that knows this of the cell.
+-- A key is stored once, by a put whose key the row may hold. An entry that comes to name a cell,
+-- and a link that comes to lead to one, do so by a seat that knows this of the cell.
 use Rattle.std.proofs.Common.{ℕ, ◌≡◌, ◌≢◌, ◌⊎◌, inl, inr, ◌<◌, ◌≤◌, Option, Some, None, arith, refl, sym, ◌∙◌, ap, subst, length}
 use Rattle.std.proofs.lemmas.Bool.{cases_eq}
 use Rattle.std.proofs.lemmas.Option.{same_Some}
@@ -29,10 +29,9 @@ use Rattle.kw_core.specs.Run.{Run}
 use Rattle.kw_core.proofs.Happens.{Happens, exchanged, not_exchanged}
 use Rattle.kw_core.proofs.InRange.{first_in_range}
 use Rattle.kw_shape.proofs.Known.{AreSane, link_below, linked_below}
-use Rattle.kw_shape.proofs.LinkedRows.{ComesNow, linked_before, linked_keeps, was_below}
+use Rattle.kw_shape.proofs.LinkedRows.{ComesNow, linked_before, linked_keeps, was_below, holds_put, holds_stays}
 use Rattle.kw_shape.proofs.LinkedWords.{linked_entry, linked_key, linked_link}
 use Rattle.kw_shape.proofs.NewRowsKeyed.{new_rows_keyed}
-use Rattle.kw_shape.proofs.RowsStay.{holds_put, holds_stays}
 use Rattle.kw_shape.specs.Keyed.{HoldsCell, IsLinkOf, IsOfCell, Keyed, Keys}
 use Rattle.kw_shape.specs.RowsIn.{rows_in}
 use Rattle.kw_shape.specs.Shape.{Shape}

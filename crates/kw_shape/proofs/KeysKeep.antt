@@ -1,5 +1,6 @@
--- What each seat knows of the keys of its row stays so, and what comes to it is so: a cell to which a link leads, or that an entry names, has
--- a key that the row may hold, and so has one that was gathered.
+-- What each seat knows of the keys of its row stays so, and what comes to it is so: a cell to which
+-- a link leads, or that an entry names, has a key that the row may hold, and so has one that was
+-- gathered.
 use Rattle.std.proofs.Common.{ℕ, ◌≡◌, ◌⊎◌, inl, inr, ◌<◌, ◌++◌, All, Bool, true, false, nat_lt, if◌then◌else◌, List, [], ◌∷◌, Option, Some, None, refl, sym, ◌∙◌, ap, subst, length, slice_get}
 use Rattle.std.proofs.lemmas.List.Elements.{All-append, All-cons, All-nil}
 use Rattle.std.proofs.lemmas.Option.{same_Some}
@@ -15,7 +16,7 @@ use Rattle.kw_rows.specs.Rows as rows
 use Rattle.kw_rows.specs.Rows.{WasLinked}
 use Rattle.kw_world.specs.declared.activity.Activity.{Activity}
 use Rattle.kw_world.specs.declared.activity.Activity.TheVariants.{PutCount, PutKey, PutValue, InsFrom, InsKey, FreezeLook, TakeFrom, TakeKey, TakeVersion, Again, Leave, BalClock}
-use Rattle.kw_world.specs.declared.answer.Answer.TheVariants.{NoRows}
+use Rattle.kw_world.specs.declared.answer.Answer.TheVariants.{Done, NoRows}
 use Rattle.kw_world.specs.declared.event.Choice.{Choice}
 use Rattle.kw_world.specs.declared.local.Local.{Local}
 use Rattle.kw_world.specs.declared.marks.Mark.{Mark}
@@ -30,7 +31,7 @@ use Rattle.kw_core.specs.Run.{Run}
 use Rattle.kw_core.specs.Stages.{IsAtRow, IsBalancing}
 use Rattle.kw_core.specs.Words.{Words}
 use Rattle.kw_core.proofs.Arrows.{Arrow, NextLook, looks, lists, NextRest, rests, answers, ends_scan, scans_on, meets_stamped, meets_neither, is_passed, helps, finds_stamped, finds_other, list_ends, key_above, rest_passed, gathers_rest, stores_key, stores_value, announces, loads_clock, stamps, is_stamped, stores_version, meets_cell, meets_none, key_before, key_same, key_after, version_before, version_after, stores_after, loses, freezes_count, meets_idle, meets_unstamped, remembers, remembers_last, meets_frozen, meets_frozen_last, freezes_entry, freezes_last, looks_again, meets_quiet, meets_quiet_last, helps_scan, meets_drawn, meets_drawn_last, draws_for, settles_scan, settles_last, finds_drawn, finds_drawn_last, finds_no_scan, finds_no_scan_last, take_leads, takes_left, takes_no_more, takes_key, takes_version, keeps_taken, takes_left_key, keeps_left, keeps_no_more, builds}
-use Rattle.kw_core.proofs.Building.{Building, IsBuilding, makes_normal, makes_last_normal, draws_number, retires_row}
+use Rattle.kw_core.proofs.Building.{Building, IsBuilding, makes_normal, makes_last_normal, draws_number, retires_row, retires_and_leaves}
 use Rattle.kw_core.proofs.BuiltNext.{IsAfterBuilding, built_keeps, built_next}
 use Rattle.kw_core.proofs.Happens.{Happens}
 use Rattle.kw_core.proofs.InRange.{least_holds, unmarked_in_range, with_cell_in_range}
@@ -92,6 +93,7 @@ after_gathered : (a : Activity) → IsAfterBuilding a → HasGathered a → IsBu
 after_gathered Again b x = absurd x
 after_gathered BalClock b x = absurd x
 after_gathered (Leave NoRows) b x = absurd x
+after_gathered (Leave Done) b x = absurd x
 after_gathered _ b x = b
 
 -- and they were known before
@@ -99,7 +101,8 @@ gathered_before : (z : Sizes) (v : Words) (choice : Choice) (l : Local) (a : Act
 gathered_before z v choice l a k (makes_normal o) x = absurd x
 gathered_before z v choice l a k (makes_last_normal o) x = absurd x
 gathered_before z v choice l a k draws_number x = absurd x
-gathered_before z v choice l a k retires_row x = absurd x
+gathered_before z v choice l a k (retires_row nd) x = absurd x
+gathered_before z v choice l a k (retires_and_leaves dn) x = absurd x
 gathered_before z v choice l a k _ x = tt
 
 -- a held cell is one of the row's

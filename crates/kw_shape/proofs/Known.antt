@@ -17,14 +17,15 @@ use Rattle.kw_words.specs.Plain.{IsValue, key_of_word, value_of_word, cell_of_li
 use Rattle.kw_words.proofs.PlainWords.{key_of_word-below}
 use Rattle.kw_cells.specs.declared.cell.Cell as kw_cell
 use Rattle.kw_cells.specs.Cells.{pairs_of}
-use Rattle.kw_cells.specs.Cuts.{starts_from, starts_of}
+use Rattle.kw_cells.specs.Cuts.{starts_of}
+use Rattle.kw_cells.proofs.Even.{starts_some}
 use Rattle.kw_cells.specs.Kept.{kept_of}
 use Rattle.kw_cells.specs.declared.cell.Cell.{Cell}
 use Rattle.kw_cells.proofs.KeptOf.{kept_of-all, kept_of-length}
 use Rattle.kw_words.specs.declared.link.Link.{Link}
 use Rattle.kw_world.specs.declared.answer.Answer.{Answer}
-use Rattle.kw_world.specs.declared.answer.Answer.TheVariants.{NoRows, Spent}
-use Rattle.kw_world.specs.EngageTransitions.{again, followed_by, refuse, to_rebalance}
+use Rattle.kw_world.specs.declared.answer.Answer.TheVariants.{Done, NoRows, Spent}
+use Rattle.kw_world.specs.EngageTransitions.{followed_by, to_rebalance}
 use Rattle.kw_world.specs.declared.activity.Activity.{Activity}
 use Rattle.kw_world.specs.declared.activity.Activity.TheVariants.{Idle, Walk, WalkMin, Look, PutCount, Again, BalClock, FreezeLook, Freeze, ScanLook, HelpDraw, HelpSettle, TakeFrom, TakeRestKey, SeekFirst}
 use Rattle.kw_world.specs.declared.limits.TheConstants.{NEWEST}
@@ -52,10 +53,10 @@ use Rattle.kw_core.proofs.Events.{IsBegun}
 use Rattle.kw_core.proofs.RoomBelow.{room_below}
 use Rattle.kw_core.proofs.InRange.{unmarked_in_range, unmarked_few, least_holds, version_in_hand, gathered_in_range, gathered_few, version_of_scan, answer_in_range, pairs_in_range, value_in_range, first_in_range, last_in_range, linked_in_range, stopped_in_range, with_cell_in_range}
 use Rattle.kw_cells.proofs.InOrder.{length-with_cell}
-use Rattle.kw_core.proofs.Arrows.{Arrow, begins, enters, is_spent, waits, draws, settles_empty, settles, starts_at_head, guesses, takes_head, guess_serves, stops, puts_in_last, reads_last, meets_next, walks_on, puts_before, reads_before, meets_pending, meets_stamped, meets_neither, is_passed, loads_to_help, helps, finds_stamped, finds_other, list_leads, list_ends, key_below, key_within, key_above, loads_version, gathers_listed, rest_wanted, rest_passed, gathers_rest, clears_scan, takes_cell, loads_clock, is_stamped, stores_version, meets_cell, meets_none, key_before, version_before, loses, clears, leaves, enters_again, clock_is_spent, epoch_is_spent, finds_infant, finds_leader, finds_other_state, engages, marks_link, marks_led, decides, decides_not, finds_full, takes_full, announces_full, stamps_full, NextLook, looks, lists, NextRest, rests, answers, ends_scan, scans_on, freezes_count, meets_idle, meets_unstamped, remembers, remembers_last, meets_frozen, meets_frozen_last, freezes_entry, freezes_last, looks_again, meets_quiet, meets_quiet_last, helps_scan, meets_drawn, meets_drawn_last, draws_for, settles_scan, settles_last, finds_drawn, finds_drawn_last, finds_no_scan, finds_no_scan_last, take_leads, takes_left, takes_no_more, takes_key, takes_version, keeps_taken, takes_left_key, keeps_left, keeps_no_more, below, builds}
-use Rattle.kw_core.proofs.Building.{Building, IsBuilding, first_is_free, first_is_taken, sought_is_free, sought_is_taken, first_is_retired, sought_is_retired, pass_is_old, pass_is_young, frees_row, takes_row, loses_row, gives_one_back, gives_last_back, writes_count, writes_least, writes_link, writes_first, writes_entry, writes_key, writes_value, writes_version, writes_after, begins_before, guesses_before, guess_before_fails, before_serves, before_is_above, takes_head_before, leads_to_full, leads_on_marked, leads_to_other, leads_nowhere, walks_before, walks_past, replaces_row, is_marked_before, is_replaced, makes_normal, makes_last_normal, draws_number, retires_row}
+use Rattle.kw_core.proofs.Arrows.{Arrow, begins, enters, is_spent, waits, draws, settles_empty, settles, starts_at_head, guesses, takes_head, guess_serves, stops, puts_in_last, reads_last, meets_next, walks_on, puts_before, reads_before, meets_pending, meets_stamped, meets_neither, is_passed, loads_to_help, helps, finds_stamped, finds_other, list_leads, list_ends, key_below, key_within, key_above, loads_version, gathers_listed, rest_wanted, rest_passed, gathers_rest, clears_scan, takes_cell, loads_clock, is_stamped, stores_version, meets_cell, meets_none, key_before, version_before, loses, clears, leaves, enters_again, clock_is_spent, epoch_is_spent, finds_infant, finds_leader, finds_other_state, engages, marks_link, marks_led, decides, decides_not, finds_full, takes_full, announces_full, stamps_full, NextLook, looks, lists, NextRest, rests, answers, ends_scan, scans_on, freezes_count, meets_idle, meets_unstamped, remembers, remembers_last, meets_frozen, meets_frozen_last, freezes_entry, freezes_last, looks_again, meets_quiet, meets_quiet_last, helps_scan, meets_drawn, meets_drawn_last, draws_for, settles_scan, settles_last, finds_drawn, finds_drawn_last, finds_no_scan, finds_no_scan_last, take_leads, takes_left, takes_no_more, takes_key, takes_version, keeps_taken, takes_left_key, keeps_left, keeps_no_more, below, builds, ends_at_state, ends_at_clock, ends_at_epoch, ends_undecided, tidies}
+use Rattle.kw_core.proofs.Building.{Building, IsBuilding, first_is_free, first_is_taken, sought_is_free, sought_is_taken, first_is_retired, sought_is_retired, pass_is_old, pass_is_young, frees_row, takes_row, loses_row, gives_one_back, gives_last_back, writes_count, writes_least, writes_link, writes_first, writes_entry, writes_key, writes_value, writes_version, writes_after, begins_before, guesses_before, guess_before_fails, before_serves, before_is_above, takes_head_before, leads_to_full, leads_on_marked, leads_to_other, leads_nowhere, walks_before, walks_past, replaces_row, is_marked_before, is_replaced, makes_normal, makes_last_normal, draws_number, retires_row, retires_and_leaves}
 use Rattle.kw_core.proofs.NextBuilt as following
-use Rattle.kw_core.proofs.NextBuilt.{GivenBack, is_refused_rows, moves_left, NextBack, gives_back, has_none, NextSeek, asks, has_asked, looks_on, has_looked, NextTaken, wants_more, has_enough, NextNewRow, writes_row, has_written, NextNewCell, fills, empties, has_cells, NextNewEntry, writes_idle, has_entries, NextBefore, is_first, is_behind}
+use Rattle.kw_core.proofs.NextBuilt.{begun_anew, refused, GivenBack, is_refused_rows, moves_left, NextBack, gives_back, has_none, NextSeek, asks, has_asked, looks_on, has_looked, NextTaken, wants_more, has_enough, NextNewRow, writes_row, has_written, NextNewCell, fills, empties, has_cells, NextNewEntry, writes_idle, has_entries, NextBefore, is_first, is_behind, was_served}
 
 -- all words of a table are in range
 pub record AreSane (z : Sizes) (rows : ℕ) (v : Words) : Type 0 where
@@ -195,7 +196,7 @@ module _ (z : Sizes) (rows : ℕ) (l : Local) (sized : IsSized z.seats z.cells r
       assumption (k, b, u, g, x, p, t, zero_key)
 
   -- a seat that forgets what it knew of a rebalance: it is refused, tries again, or begins one
-  is_refusing : (answer : Answer) → IsAnswer answer → IsLocal z l → IsLocalBelow rows l → length l.remembered ≤ z.seats → length l.gathered ≤ z.cells → IsKnown z rows (refuse answer l).local
+  is_refusing : (answer : Answer) → IsAnswer answer → IsLocal z l → IsLocalBelow rows l → length l.remembered ≤ z.seats → length l.gathered ≤ z.cells → IsKnown z rows (refused answer l).local
   is_refusing answer y k b m g =
       let o : 0 < rows = omega (arith, sized.some_rows) in
       let zero_key : 0 < KEY_END = omega arith in
@@ -204,8 +205,8 @@ module _ (z : Sizes) (rows : ℕ) (l : Local) (sized : IsSized z.seats z.cells r
       let q = none_room z Idle (λ t. t) in
       assumption (k, b, y, m, g, o, zero_key, n, p, q)
 
-  tries_again : IsLocal z l → IsLocalBelow rows l → length l.remembered ≤ z.seats → length l.gathered ≤ z.cells → IsKnown z rows (again l).local
-  tries_again k b m g =
+  tries_anew : IsLocal z l → IsLocalBelow rows l → length l.remembered ≤ z.seats → length l.gathered ≤ z.cells → IsKnown z rows (begun_anew l).local
+  tries_anew k b m g =
       let o : 0 < rows = omega (arith, sized.some_rows) in
       let zero_key : 0 < KEY_END = omega arith in
       let n = none_ranges z in
@@ -215,6 +216,14 @@ module _ (z : Sizes) (rows : ℕ) (l : Local) (sized : IsSized z.seats z.cells r
 
   is_balancing : IsLocal z l → IsLocalBelow rows l → length l.remembered ≤ z.seats → length l.gathered ≤ z.cells → IsKnown z rows (to_rebalance l).local
   is_balancing k b m g =
+      let n = none_ranges z in
+      let p = none_below rows (omega (arith, sized.some_rows)) in
+      let q = none_room z BalClock (λ t. t) in
+      assumption (k, b, m, g, n, p, q)
+
+  -- so it is where the put is done
+  is_tidying : IsLocal z l → IsLocalBelow rows l → length l.remembered ≤ z.seats → length l.gathered ≤ z.cells → IsKnown z rows (to_rebalance (record l { tidies = true })).local
+  is_tidying k b m g =
       let n = none_ranges z in
       let p = none_below rows (omega (arith, sized.some_rows)) in
       let q = none_room z BalClock (λ t. t) in
@@ -299,15 +308,6 @@ pub record IsSoughtIn (rows : ℕ) (l : Local) : Type 0 where
   pub sought : l.rebalance.sought < rows
   pub asked : l.rebalance.asked ≤ rows
 
--- some row starts where cells are kept, and where none is
-starts_some : (built : ℕ) (kept : List Cell) → 0 < length (starts_of built kept)
-unfolding starts_of
-starts_some built kept = which (length kept + 1) (omega arith)
-  where
-    which : (n : ℕ) → 0 < n → 0 < length (starts_from n built kept 0)
-    which zero o = absurd (omega (arith, o))
-    which (suc n) o = omega arith
-
 -- all cells are gathered, and the search for new rows begins
 seeks_rows : (z : Sizes) (rows : ℕ) (l : Local) → IsSized z.seats z.cells rows → IsLocal z l → IsLocalBelow rows l → length l.remembered ≤ z.seats → length l.gathered ≤ z.cells → length l.rebalance.marks ≤ z.seats → length l.rebalance.needed ≤ z.seats → length l.rebalance.gathered ≤ z.cells →
     IsKnown z rows (record (planned z l) { activity = SeekFirst })
@@ -338,8 +338,10 @@ chosen_below rows choice q r i o (inr e) = omega (arith, o, e)
 module _ (z : Sizes) (rows : ℕ) (sized : IsSized z.seats z.cells rows) where
   -- nothing is taken any more
   given_known : (a : Afterwards) (l next : Local) → GivenBack l a next → IsLocal z l → IsLocalBelow rows l → length l.remembered ≤ z.seats → length l.gathered ≤ z.cells → IsKnown z rows next
-  given_known a l next following.tries_again k b m g = tries_again z rows l sized k b m g
-  given_known a l next is_refused_rows k b m g = is_refusing z rows l sized NoRows tt k b m g
+  given_known a l next (following.tries_again nd) k b m g = tries_anew z rows l sized k b m g
+  given_known a l next (following.was_done dn) k b m g = is_refusing z rows l sized Done tt k b m g
+  given_known a l next (is_refused_rows nd) k b m g = is_refusing z rows l sized NoRows tt k b m g
+  given_known a l next (was_served dn) k b m g = is_refusing z rows l sized Done tt k b m g
   given_known a l next moves_left k b m g =
       let o : row_or_first l.rebalance.before < rows = before_below rows l.rebalance.before (omega (arith, sized.some_rows)) b.rebalance.before in
       is_balancing z rows (moved_left l) sized (assumption k) (assumption (b, o)) m g
@@ -438,7 +440,8 @@ built_known z rows v choice l a next w c i k (is_replaced other d y) s = back_kn
 built_known z rows v choice l a next w c i k (makes_normal o) s = let n : l.rebalance.at + 1 ≤ length l.rebalance.taken = omega (arith, o) in assumption (k, n)
 built_known z rows v choice l a next w c i k (makes_last_normal o) s = assumption k
 built_known z rows v choice l a next w c i k draws_number s = let y = w.each name.Epoch tt in assumption (k, y)
-built_known z rows v choice l a next w c i k retires_row s = tries_again z rows l w.sized k.ranges k.below k.remembered k.gathered
+built_known z rows v choice l a next w c i k (retires_row nd) s = tries_anew z rows l w.sized k.ranges k.below k.remembered k.gathered
+built_known z rows v choice l a next w c i k (retires_and_leaves dn) s = is_refusing z rows l w.sized Done tt k.ranges k.below k.remembered k.gathered
 
 -- by the arrow that the seat takes
 pub known_by : (z : Sizes) (rows : ℕ) (v : Words) (s : ℕ) (choice : Choice) (l : Local) (a : Activity) (l' : Local) → Arrow z v s choice l a l' → AreSane z rows v → row_or_first (row_linked (link_of (v name.Head))) < rows → s < z.seats → IsBegun a choice → IsOffered rows choice → IsKnownAt z rows a l → (IsBuilding a → IsSoughtIn rows l') → IsKnown z rows l'
@@ -498,6 +501,7 @@ known_by z rows v s choice l a l' (announces_full y) w c t b i k sought = is_bal
 known_by z rows v s choice l a l' loads_clock w c t b i k sought = let u = w.each name.Clock tt in assumption (k, u)
 known_by z rows v s choice l a l' (is_stamped version y) w c t b i k sought = let u = (entry z rows v l w s (pend.Stamped l.cell version) k.below.row t y).1 in assumption (k, u)
 known_by z rows v s choice l a l' (stamps_full y) w c t b i k sought = is_balancing z rows l w.sized k.ranges k.below k.remembered k.gathered
+known_by z rows v s choice l a l' (tidies own e) w c t b i k sought = is_tidying z rows l w.sized k.ranges k.below k.remembered k.gathered
 known_by z rows v s choice l a l' stores_version w c t b i k sought = let o : 0 ≤ z.cells = omega arith in assumption (k, o)
 known_by z rows v s choice l a l' (meets_cell x y) w c t b i k sought =
     let u : x < z.cells = linked_below (v (link_name l.row l.link)) x z.cells y (link_below z rows v w l.row l.link k.ranges.link k.below.row) in
@@ -510,11 +514,14 @@ known_by z rows v s choice l a l' (loses y) w c t b i k sought = let o = min-le_
 known_by z rows v s choice l a l' clears w c t b i k sought = is_leaving z rows l w.sized _ tt k.ranges k.below k.remembered k.gathered (lists_of z _ l.rebalance k.activity k.rebalance)
 known_by z rows v s choice l a l' (leaves answer) w c t b i k sought = rests_known z rows l.number w.sized
 known_by z rows v s choice l a l' enters_again w c t b i k sought = let y = w.each name.Epoch tt in assumption (k, y)
-known_by z rows v s choice l a l' (clock_is_spent e) w c t b i k sought = is_refusing z rows l w.sized Spent tt k.ranges k.below k.remembered k.gathered
-known_by z rows v s choice l a l' (epoch_is_spent e) w c t b i k sought = is_refusing z rows l w.sized Spent tt k.ranges k.below k.remembered k.gathered
+known_by z rows v s choice l a l' (clock_is_spent e nd) w c t b i k sought = is_refusing z rows l w.sized Spent tt k.ranges k.below k.remembered k.gathered
+known_by z rows v s choice l a l' (ends_at_clock dn) w c t b i k sought = is_refusing z rows l w.sized Done tt k.ranges k.below k.remembered k.gathered
+known_by z rows v s choice l a l' (epoch_is_spent e nd) w c t b i k sought = is_refusing z rows l w.sized Spent tt k.ranges k.below k.remembered k.gathered
+known_by z rows v s choice l a l' (ends_at_epoch dn) w c t b i k sought = is_refusing z rows l w.sized Done tt k.ranges k.below k.remembered k.gathered
 known_by z rows v s choice l a l' (finds_infant seat e) w c t b i k sought = let o : seat < z.seats = subst (IsRowState z) e (w.each (name.State l.row) k.below.row) in assumption (k, o)
 known_by z rows v s choice l a l' (finds_leader count e o) w c t b i k sought = let u : count ≤ MOST_GROUP = omega (arith, o) in assumption (k, u)
-known_by z rows v s choice l a l' finds_other_state w c t b i k sought = tries_again z rows l w.sized k.ranges k.below k.remembered k.gathered
+known_by z rows v s choice l a l' (finds_other_state nd) w c t b i k sought = tries_anew z rows l w.sized k.ranges k.below k.remembered k.gathered
+known_by z rows v s choice l a l' (ends_at_state dn) w c t b i k sought = is_refusing z rows l w.sized Done tt k.ranges k.below k.remembered k.gathered
 known_by z rows v s choice l a l' (engages e) w c t b i k sought = let u : 0 ≤ MOST_GROUP = omega arith in assumption (k, u)
 known_by z rows v s choice l a l' (marks_link count e) w c t b i k sought =
     let u : 1 ≤ MOST_GROUP = omega arith in
@@ -524,7 +531,8 @@ known_by z rows v s choice l a l' (marks_led count e) w c t b i k sought =
     let f = follows_known z rows (row_linked (link_of (v (name.Next l.row)))) l (row_below rows (link_of (v (name.Next l.row))) (w.led (name.Next l.row) k.below.row)) k.ranges k.below in
     assumption (f, k)
 known_by z rows v s choice l a l' (decides count m e o) w c t b i k sought = assumption k
-known_by z rows v s choice l a l' (decides_not count) w c t b i k sought = tries_again z rows l w.sized k.ranges k.below k.remembered k.gathered
+known_by z rows v s choice l a l' (decides_not count nd) w c t b i k sought = tries_anew z rows l w.sized k.ranges k.below k.remembered k.gathered
+known_by z rows v s choice l a l' (ends_undecided count dn) w c t b i k sought = is_refusing z rows l w.sized Done tt k.ranges k.below k.remembered k.gathered
 known_by z rows v s choice l a l' freezes_count w c t b i k sought = let o : 0 < z.seats = omega (arith, w.sized.some_seats) in let n : 0 ≤ 0 = omega arith in assumption (k, o, n, All-nil (IsMark z))
 known_by z rows v s choice l a l' (meets_idle j e) w c t b i k sought = let u : IsEntry z (Some pend.Idle) = tt in assumption (k, u)
 known_by z rows v s choice l a l' (meets_unstamped j x e) w c t b i k sought = let u : x < z.cells = entry z rows v l w j (pend.Pending x) k.below.row k.activity e in assumption (k, u)

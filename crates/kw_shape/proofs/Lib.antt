@@ -1,6 +1,7 @@
 pub mod NextCalls
 pub mod Counts
 pub mod EpochKeeps
+mod Offered
 pub mod RelyRows
 pub mod AfterBuilding
 pub mod RowsKeep
@@ -13,12 +14,8 @@ pub mod InTable
 pub mod ShapeKeeps
 pub mod LinkedRows
 pub mod LinkedWords
-pub mod RowsStay
 pub mod ShapeOpens
-pub mod ShapeHolds
-pub mod FollowRows
 mod BalancesKeep
-pub mod OwnRows
 pub mod InfantsStay
 pub mod InfantsWritten
 pub mod InfantsKeep
@@ -39,3 +36,4 @@ pub mod MayReplace
 pub mod NewRowsKeyed
 pub mod KeyedKeeps
 pub mod KeysKeep
+pub mod Worlds

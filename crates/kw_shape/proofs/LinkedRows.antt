@@ -1,10 +1,10 @@
--- What an event leaves of the rows that were linked: no fate of theirs changes but that of a full row that is replaced, which is dead from
--- now on, and that of a dead row that nobody may name and that is freed. And which words of them an event may change that takes, writes or
--- links new rows.
+-- What an event leaves of the rows that were linked: no fate of theirs changes but that of a full
+-- row that is replaced, which is dead from now on, and that of a dead row that nobody may name and
+-- that is freed. And which words of them an event may change that takes, writes or links new rows.
 --
--- The rows on which such an event acts are free, or retired and named by nobody, or infants of the seat, or the full row, or the row before
--- that one.
-use Rattle.std.proofs.Common.{ℕ, ◌≡◌, ◌≢◌, ◌⊎◌, inl, inr, ◌<◌, ◌≤◌, true, false, Option, Some, None, arith, refl, sym, ◌∙◌, ap, subst, length}
+-- The rows on which such an event acts are free, or retired and named by nobody, or infants of the
+-- seat, or the full row, or the row before that one.
+use Rattle.std.proofs.Common.{ℕ, ◌≡◌, ◌≢◌, ◌⊎◌, inl, inr, ◌<◌, ◌≤◌, true, false, Option, Some, None, arith, refl, sym, ◌∙◌, ap, subst, length, slice_get, zero, suc, ◌+◌}
 use Rattle.std.proofs.lemmas.Bool.{cases_eq, cases_lt}
 use Rattle.kw_words.specs.declared.layout.Name.{Name}
 use Rattle.kw_words.specs.declared.layout.Name.TheVariants as name
@@ -17,7 +17,7 @@ use Rattle.kw_words.specs.State.{state_word}
 use Rattle.kw_words.proofs.LinkWords.{link_of-link_word}
 use Rattle.kw_rows.specs.Events.{IsIn}
 use Rattle.kw_rows.specs.Ledger.{Dead, Fate, Free, IsDead, IsFresh, IsHeld, IsLive, Ledger, Live}
-use Rattle.kw_rows.specs.Rows.{WasLinked}
+use Rattle.kw_rows.specs.Rows.{WasLinked, IsBefore, Chain}
 use Rattle.kw_rows.specs.RowState as row
 use Rattle.kw_rows.proofs.Chains.{IsLink, leads_live}
 use Rattle.kw_rows.proofs.Framed.{retired_no}
@@ -51,8 +51,14 @@ use Rattle.kw_shape.specs.Balances.{Balances}
 use Rattle.kw_shape.specs.Infants.{GivesBack, Writes, HasAtHand, Infants, IsInfantOf, IsNursed, Nursing, nursing_of}
 use Rattle.kw_shape.specs.RowsIn.{has_frozen, has_mark, rows_in}
 use Rattle.kw_shape.specs.Search.{Search}
-use Rattle.kw_shape.specs.Shape.{Shape}
+use Rattle.kw_shape.specs.Shape.{Shape, HoldsKey, IsAtItsRow, IsPutCall, IsKind}
 use Rattle.kw_shape.specs.Sought.{Sought}
+use Rattle.std.proofs.lemmas.Option.{same_Some}
+use Rattle.kw_model.specs.declared.call.Call.{Call}
+use Rattle.kw_model.specs.declared.call.Call.TheVariants.{Put, Del, Get, Scan}
+use Rattle.kw_world.specs.Calls.{first_key, is_scan}
+use Rattle.kw_core.specs.Stages.{IsAtRow, IsPastStart}
+use Rattle.kw_shape.specs.MetRows.{IsMet, is_first, is_next}
 
 -- a row that was linked is not free
 pub linked_not_free : {A : Type 0} (g : Ledger) (q : ℕ) → WasLinked g q → (g.fates q).status ≡ Free → A
@@ -72,14 +78,16 @@ was_below z r i q k = which (cases_lt q r.world.rows)
     which (inl o) = o
     which (inr o) = linked_not_free r.ledger.rows q k (i.beyond q o)
 
--- The row is dead, and nobody may name it; it is free from now on. All else that is recorded of it stays until it is taken again.
+-- The row is dead, and nobody may name it; it is free from now on. All else that is recorded of it
+-- stays until it is taken again.
 pub record FreesNow (g g' : Ledger) (q : ℕ) : Type 0 where
   pub dead : IsDead g q
   pub unheld : IsHeld g q → ⊥
   pub fate : g'.fates q ≡ fate_free (g.fates q)
 
--- what stays of a row that was linked: the events that took and linked it, its range, its clock, and that it gives no more cells. And, unless
--- it is freed, that it was linked, and what has become of it if it is dead
+-- what stays of a row that was linked: the events that took and linked it, its range, its clock,
+-- and that it gives no more cells. And, unless it is freed, that it was linked, and what has become
+-- of it if it is dead
 pub record StaysLinked (v v' : Words) (g g' : Ledger) (q : ℕ) : Type 0 where
   pub linked : WasLinked g' q ⊎ FreesNow g g' q
   pub dead : IsDead g q → WasLinked g' q → g'.fates q ≡ g.fates q
@@ -348,8 +356,8 @@ module _ {z : Sizes} {r r' : Run} {s : ℕ} {choice : Choice} {l l' : Local} whe
 
   -- The words.
 
-  -- an event that takes, writes or links new rows, or retires the full one, writes no word of a row that was linked but a state, and the
-  -- link of the row before
+  -- an event that takes, writes or links new rows, or retires the full one, writes no word of a row
+  -- that was linked but a state, and the link of the row before
   pub built_leaves : (a : Activity) → IsBuilding a → Happens z r r' s choice l l' a → Shape z r → (n : Name) (q : ℕ) → WasLinked r.ledger.rows q → row_in n ≡ Some q → IsWithin z.seats z.cells r.world.rows n → is_state n ≡ false → (a ≡ Replace → l.rebalance.before ≡ Some q → ⊥) →
       word z r'.world n ≡ word z r.world n
   built_leaves TakeRow b h i n q k e o f c = unwritten TakeRow h n o (no_state l.rebalance.sought n f)
@@ -377,3 +385,68 @@ module _ {z : Sizes} {r r' : Run} {s : ℕ} {choice : Choice} {l l' : Local} whe
   built_leaves BeforeMin b h i n q k e o f c = row_stays BeforeMin h n q e o (λ x. x)
   built_leaves Number b h i n q k e o f c = row_stays Number h n q e o (λ x. x)
   built_leaves _ b h i n q k e o f c = absurd b
+
+-- What an event leaves of a row that was linked, and of the keys that it may hold; a put's row may
+-- hold its key.
+
+-- a row may hold the keys that it might, as long as the ends of its range are as they were
+pub holds_stays : (v v' : Words) (g g' : Ledger) (q key : ℕ) → (g'.fates q).upper ≡ (g.fates q).upper → least_in v' q ≡ least_in v q → HoldsKey v g q key → HoldsKey v' g' q key
+holds_stays v v' g g' q key e f h = record { from = omega (arith, h.from, f); below = λ u x. h.below u (sym e ∙ x) }
+
+-- a put or a delete is no scan
+put_scans : {A : Type 0} (c : Option Call) → IsPutCall c → is_scan c ≡ true → A
+put_scans (Some (Put key value)) h e = let x : false ≡ true = e in absurd (cc)
+put_scans (Some (Del key)) h e = let x : false ≡ true = e in absurd (cc)
+put_scans (Some (Get key)) h e = absurd h
+put_scans (Some (Scan from upto)) h e = absurd h
+put_scans None h e = absurd h
+
+-- a row at which a seat has arrived may hold the wanted key
+pub holds_wanted : (v : Words) (g : Ledger) (t : ℕ) (l : Local) → IsAtItsRow v g t l → HoldsKey v g l.row l.want
+holds_wanted v g t l at = record { from = at.from; below = λ u e. which l.next refl u e }
+  where
+    which : (n : Option ℕ) → l.next ≡ n → (u : ℕ) → (g.fates l.row).upper ≡ Some u → l.want < u
+    which None f u e = let x : None ≡ Some u = sym (at.last f) ∙ e in absurd (cc)
+    which (Some n) f u e = let k = at.next n f in omega (arith, k.below, same_Some l.upper u (sym k.ends ∙ e))
+
+-- the row of a put or a delete may hold its key
+pub holds_put : (z : Sizes) (r : Run) (s : ℕ) (l : Local) (a : Activity) → Shape z r → slice_get r.world.locals s ≡ Some l → l.activity ≡ a → IsAtRow a → IsPastStart a → (IsKind a l → IsPutCall l.call) → HoldsKey (word z r.world) r.ledger.rows l.row (first_key l.call)
+holds_put z r s l a y k e row past put = wanted ((y.walks s l k).at (subst IsAtRow (sym e) row)) ((y.walks s l k).wants (subst IsPastStart (sym e) past))
+  where
+    kind : IsPutCall l.call
+    kind = put (subst (λ b. IsKind b l) e (y.kinds s l k).kind)
+
+    wanted : IsAtItsRow (word z r.world) r.ledger.rows s l → (l.want ≡ first_key l.call) ⊎ (is_scan l.call ≡ true) × (least_in (word z r.world) l.row ≡ l.want) → HoldsKey (word z r.world) r.ledger.rows l.row (first_key l.call)
+    wanted at (inl x) = subst (HoldsKey (word z r.world) r.ledger.rows l.row) x (holds_wanted (word z r.world) r.ledger.rows s l at)
+    wanted at (inr x) = put_scans l.call kind x.0
+
+-- so may that of a seat that asks for a cell
+pub holds_first : (z : Sizes) (r : Run) (s : ℕ) (l : Local) → Shape z r → slice_get r.world.locals s ≡ Some l → l.activity ≡ PutAdd → HoldsKey (word z r.world) r.ledger.rows l.row (first_key l.call)
+holds_first z r s l y k e = holds_put z r s l PutAdd y k e tt tt (λ x. x)
+
+-- The rows of the list are those that are met from Head along links.
+
+-- a row that is met is in the list
+pub met_live : (v : Words) (g : Ledger) → Chain (rows_in v) g → (q : ℕ) → IsMet v q → IsLive g q
+met_live v g c _ (is_first q e) = subst (IsLive g) (same_Some c.first q (sym c.leads ∙ e)) c.first_live
+met_live v g c _ (is_next p q m e) = c.linked p q (met_live v g c p m) e
+
+-- from a row that is met one comes to every row of the list whose minimum is not below: at most as
+-- many links as minima between them
+along : (v : Words) (g : Ledger) → Chain (rows_in v) g → (n p q : ℕ) → least_in v q ≤ least_in v p + n → least_in v p ≤ least_in v q → IsLive g p → IsLive g q → IsMet v p → IsMet v q
+along v g c zero p q o f a b m = which (c.apart p q a b)
+  where
+    which : (p ≡ q) ⊎ IsBefore (rows_in v) p q ⊎ IsBefore (rows_in v) q p → IsMet v q
+    which (inl e) = subst (IsMet v) e m
+    which (inr (inl x)) = absurd (omega (arith, x.above, c.rises p x.next a x.follows, o))
+    which (inr (inr x)) = absurd (omega (arith, x.above, c.rises q x.next b x.follows, f))
+along v g c (suc n) p q o f a b m = which (λ y k u d i. along v g c n y q k u d b i) (c.apart p q a b)
+  where
+    which : ((y : ℕ) → least_in v q ≤ least_in v y + n → least_in v y ≤ least_in v q → IsLive g y → IsMet v y → IsMet v q) → (p ≡ q) ⊎ IsBefore (rows_in v) p q ⊎ IsBefore (rows_in v) q p → IsMet v q
+    which go (inl e) = subst (IsMet v) e m
+    which go (inr (inl x)) = go x.next (omega (arith, o, c.rises p x.next a x.follows)) x.above (c.linked p x.next a x.follows) (is_next p x.next m x.follows)
+    which go (inr (inr x)) = absurd (omega (arith, x.above, c.rises q x.next b x.follows, f))
+
+-- a row of the list is met
+pub live_met : (v : Words) (g : Ledger) → Chain (rows_in v) g → (q : ℕ) → IsLive g q → IsMet v q
+live_met v g c q a = along v g c (least_in v q) c.first q (omega (arith, c.first_least)) (omega (arith, c.first_least)) c.first_live a (is_first c.first c.leads)

@@ -1,6 +1,7 @@
--- Which words of a row that was linked an event may change, whatever its activity: as in `Frame` and `FreezeFrame` of `kw_core`, but said
--- of rows that were linked. Nobody writes such a row anew, so a word is written where a put, a reader that helps or a seat that freezes
--- does so, and the link to the next row where it is marked or exchanged.
+-- Which words of a row that was linked an event may change, whatever its activity: as in `Frame`
+-- and `FreezeFrame` of `kw_core`, but said of rows that were linked. Nobody writes such a row anew,
+-- so a word is written where a put, a reader that helps or a seat that freezes does so, and the
+-- link to the next row where it is marked or exchanged.
 use Rattle.std.proofs.Common.{ℕ, ◌≡◌, ◌<◌, ◌≤◌, true, Option, Some, refl, ◌∙◌}
 use Rattle.kw_words.specs.declared.count.Count.{Count as Counted}
 use Rattle.kw_words.specs.declared.layout.Name.TheVariants as name

@@ -1,4 +1,5 @@
--- A seat that exchanges the link to its full row knows all that its event must, by the shape of the world before it.
+-- A seat that exchanges the link to its full row knows all that its event must, by the shape of the
+-- world before it.
 use Rattle.std.proofs.Common.{ℕ, suc, ◌≡◌, ◌+◌, ◌<◌, ◌≤◌, All, List, [], ◌∷◌, Some, arith, refl, sym, ◌∙◌, subst, length, slice_get}
 use Rattle.std.proofs.lemmas.Option.{slice_get-get_or, slice_get_within}
 use Rattle.kw_words.specs.declared.sizes.TheConstants.{KEY_END}

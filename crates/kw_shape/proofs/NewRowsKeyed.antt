@@ -109,7 +109,8 @@ module _ {z : Sizes} {r r' : Run} {s : ℕ} {choice : Choice} {l l' : Local} (h 
       by None m x = last l.rebalance.after refl x
       by (Some p) m x = subst (λ y. All (λ c. c.key < y) (infant_cells (at_infant k l))) (sym (least_of_new h i (k + 1) p m) ∙ same_Some (least_in (word z r.world) p) u x) (cells_below z.built l (is_plan h i) k (has_start h i (k + 1) p m))
 
-  -- where the seat finds the unmarked link to its full row, the new rows may hold their keys from then on
+  -- where the seat finds the unmarked link to its full row, the new rows may hold their keys from
+  -- then on
   pub new_rows_keyed : word z r.world (replaced_link l.rebalance.before) ≡ link_word (unmarked_link (Some l.row)) → (q : ℕ) → IsIn l.rebalance.taken q → Keyed z (word z r'.world) r'.ledger.rows q
   new_rows_keyed won q m = new_row_keyed z (word z r'.world) r'.ledger.rows (at_infant k l) q written fits few i.sane.sized.few_cells held
     where

@@ -1,5 +1,5 @@
--- What a seat writes of a new row is in range: its cells are kept ones, which are in range, and no more than a row has; and the rows that it
--- links are those of the table.
+-- What a seat writes of a new row is in range: its cells are kept ones, which are in range, and no
+-- more than a row has; and the rows that it links are those of the table.
 use Rattle.std.proofs.Common.{ℕ, ◌≡◌, ◌⊎◌, inl, inr, ◌+◌, ◌-◌, ◌<◌, ◌≤◌, All, Bool, true, false, nat_le, nat_lt, ◌==◌, ◌&&◌, if◌then◌else◌, List, [], ◌∷◌, Option, Some, None, arith, refl, sym, subst, count_by, drop, length, slice_get, slice_index}
 use Rattle.std.proofs.lemmas.Bool.{cases_lt}
 use Rattle.std.proofs.lemmas.List.{get_or_past}

@@ -1,7 +1,9 @@
--- No seat loses a row that it took: each row that is its infant is one of those that it has, after every event.
+-- No seat loses a row that it took: each row that is its infant is one of those that it has, after
+-- every event.
 --
--- A row becomes an infant of a seat where the seat takes it, and is put behind the others. It is none any more where it is given back, which is
--- the one that the seat steps past, or where all are linked in place of the full row.
+-- A row becomes an infant of a seat where the seat takes it, and is put behind the others. It is
+-- none any more where it is given back, which is the one that the seat steps past, or where all are
+-- linked in place of the full row.
 use Rattle.std.proofs.Common.{ℕ, ◌≡◌, ◌≢◌, ◌⊎◌, inl, inr, ◌+◌, ◌<◌, ◌++◌, List, [], ◌∷◌, Some, arith, refl, sym, ◌∙◌, ap, subst, length, length-append, slice_get}
 use Rattle.std.proofs.lemmas.Bool.{cases_eq}
 use Rattle.std.proofs.lemmas.List.{get_or_append_left}
@@ -27,7 +29,7 @@ use Rattle.kw_world.specs.WriteTransitions.{unmarked_link}
 use Rattle.kw_core.specs.Ledger as ledger
 use Rattle.kw_core.specs.Run.{Run}
 use Rattle.kw_core.proofs.Arrows.{Arrow, builds}
-use Rattle.kw_core.proofs.Building.{Building, IsBuilding, first_is_free, first_is_retired, first_is_taken, sought_is_free, sought_is_retired, sought_is_taken, pass_is_old, pass_is_young, frees_row, takes_row, loses_row, gives_one_back, gives_last_back, writes_link, begins_before, guesses_before, guess_before_fails, before_serves, before_is_above, takes_head_before, leads_to_full, leads_on_marked, leads_to_other, leads_nowhere, walks_before, walks_past, replaces_row, is_marked_before, is_replaced, makes_normal, makes_last_normal, draws_number, retires_row}
+use Rattle.kw_core.proofs.Building.{Building, IsBuilding, first_is_free, first_is_retired, first_is_taken, sought_is_free, sought_is_retired, sought_is_taken, pass_is_old, pass_is_young, frees_row, takes_row, loses_row, gives_one_back, gives_last_back, writes_link, begins_before, guesses_before, guess_before_fails, before_serves, before_is_above, takes_head_before, leads_to_full, leads_on_marked, leads_to_other, leads_nowhere, walks_before, walks_past, replaces_row, is_marked_before, is_replaced, makes_normal, makes_last_normal, draws_number, retires_row, retires_and_leaves}
 use Rattle.kw_core.proofs.Building as built
 use Rattle.kw_core.proofs.Fates.{fate_of_freed, fate_of_full, fate_of_given, fate_of_new, fate_of_taken, fate_stays, none_freed, none_replaced, none_taken}
 use Rattle.kw_core.proofs.Happens.{Happens}
@@ -57,7 +59,8 @@ got_new xs x = slice_get-get_or (xs ++ x ∷ []) (length xs) 0 (omega (arith, le
 abbrev IsTaken : Local → ℕ → Type 0
 IsTaken k q = (i : ℕ) × (slice_get k.rebalance.taken i ≡ Some q)
 
--- taken rows are given back from the first on, so all are there still; where none was taken there is none
+-- taken rows are given back from the first on, so all are there still; where none was taken there
+-- is none
 on_back : (c : Afterwards) (k next : Local) (q : ℕ) → NextBack c k next → IsTaken k q → IsNursedRow next.activity next q
 on_back c k next q (gives_back o) y = (y.0, omega arith, y.1)
 on_back c k next q (has_none m e n) y = absurd (omega (arith, e, slice_get_within k.rebalance.taken y.0 q y.1))
@@ -220,7 +223,8 @@ module _ {z : Sizes} {r r' : Run} {s : ℕ} {choice : Choice} {l : Local} where
   built_own a k (makes_normal o) h hand x = λ q i. absurd ((x q (was_infant Normalise h s q (λ c. cc) i)).1)
   built_own a k (makes_last_normal o) h hand x = λ q i. absurd ((x q (was_infant Normalise h s q (λ c. cc) i)).1)
   built_own a k draws_number h hand x = λ q i. absurd ((x q (was_infant Number h s q (λ c. cc) i)).1)
-  built_own a k retires_row h hand x = λ q i. absurd ((x q (was_infant Retire h s q (λ c. cc) i)).1)
+  built_own a k (retires_row nd) h hand x = λ q i. absurd ((x q (was_infant Retire h s q (λ c. cc) i)).1)
+  built_own a k (retires_and_leaves dn) h hand x = λ q i. absurd ((x q (was_infant Retire h s q (λ c. cc) i)).1)
 
 module _ {z : Sizes} {r r' : Run} {s : ℕ} {choice : Choice} {l : Local} where
   -- what the acting seat has at its activity

@@ -23,9 +23,8 @@ use Rattle.kw_shape.proofs.InfantsOwn.{infants_own}
 use Rattle.kw_shape.proofs.InfantsRely.{rely_infants}
 use Rattle.kw_shape.proofs.InfantsStay.{infants_stable, measured, search_stable}
 use Rattle.kw_shape.proofs.LinkedRows.{balance_at, fresh_linked, held_dead, infants_at, linked_keeps, search_at}
-use Rattle.kw_shape.proofs.OwnRows.{own_rely}
+use Rattle.kw_shape.proofs.RowsKeep.{own_rely, others_kept, rely_rows}
 use Rattle.kw_shape.proofs.RelyRows.{is_passing}
-use Rattle.kw_shape.proofs.RowsKeep.{others_kept, rely_rows}
 use Rattle.kw_shape.proofs.SearchKeep.{search_by}
 use Rattle.kw_shape.proofs.WonKeep.{head_open}
 use Rattle.kw_shape.specs.Infants.{Infants}

@@ -1,5 +1,5 @@
--- Every event keeps what holds of the passes of seats and of the numbers: a seat stores the epoch of its call as it enters, and clears it
--- as it leaves.
+-- Every event keeps what holds of the passes of seats and of the numbers: a seat stores the epoch
+-- of its call as it enters, and clears it as it leaves.
 use Rattle.std.proofs.Common.{ℕ, ◌≡◌, ◌≢◌, ◌⊎◌, inl, inr, ◌<◌, ◌≤◌, Some, None, arith, refl, sym, ◌∙◌, ap, subst, length, slice_get}
 use Rattle.std.proofs.lemmas.Bool.{cases_eq}
 use Rattle.std.proofs.lemmas.Option.{same_Some, slice_get_within}

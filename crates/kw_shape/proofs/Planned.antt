@@ -1,18 +1,19 @@
--- The new rows of a plan: their least keys rise, and each cell of a new row has a key from the row's least one on, and below that of the next.
+-- The new rows of a plan: their least keys rise, and each cell of a new row has a key from the
+-- row's least one on, and below that of the next.
 --
--- Nothing here reads a world: a plan is one of the cells that are kept, and of where the new rows start among them.
+-- Nothing here reads a world: a plan is one of the cells that are kept, and of where the new rows
+-- start among them.
 use Rattle.std.proofs.Common.{ℕ, zero, suc, ◌≡◌, ◌⊎◌, inl, inr, ◌+◌, ◌-◌, ◌<◌, ◌≤◌, ◌==◌, All, false, List, [], ◌∷◌, arith, refl, sym, ◌∙◌, ap, subst, drop, get_or, length}
 use Rattle.std.proofs.lemmas.Bool.{cases_lt}
 use Rattle.std.proofs.lemmas.Bool.Decides.{nat_tests}
 use Rattle.std.proofs.lemmas.List.{get_or-drop, get_or-take, get_or_default, get_or_past, length-drop, length-take}
 use Rattle.kw_cells.specs.declared.cell.Cell.{Cell}
-use Rattle.kw_cells.specs.Cuts.{AreFilled, AreStarts, end_of}
+use Rattle.kw_cells.specs.Cuts.{AreCuts, end_of}
 use Rattle.kw_cells.specs.Kept.{AreRising, HasFew, kept_of}
+use Rattle.kw_cells.proofs.Even.{are_cuts}
 use Rattle.kw_cells.proofs.Few.{few_of_kept, few_within}
 use Rattle.kw_cells.proofs.KeptOf.{kept_of-rising}
 use Rattle.kw_cells.proofs.Rising.{any_cell, keys_rise}
-use Rattle.kw_cells.proofs.Starts.{are_filled}
-use Rattle.kw_cells.proofs.StartsMade.{starts_of-are}
 use Rattle.kw_world.specs.declared.activity.Activity.{Activity}
 use Rattle.kw_world.specs.declared.local.Local.{Local}
 use Rattle.kw_world.specs.SeekTransitions.{at_infant}
@@ -22,14 +23,14 @@ use Rattle.kw_shape.specs.Infants.{nursing_of}
 use Rattle.kw_shape.specs.Keyed.{IsPlanned}
 use Rattle.kw_shape.specs.Plans.{Plans}
 
--- the kept cells rise, and the new rows start among them as they should
+-- the kept cells rise, and are cut into the new rows
 pub record IsPlan (built : ℕ) (l : Local) : Type 0 where
   pub rising : AreRising l.rebalance.kept
-  pub starts : AreStarts built l.rebalance.kept l.rebalance.starts
+  pub starts : AreCuts built l.rebalance.kept l.rebalance.starts
 
 -- a seat has such a plan where a new row has room for the cells of one key
 pub plan_of : (z : Sizes) (a : Activity) (l : Local) → Plans z a l → IsPlanned (nursing_of a) → z.seats < z.built → length l.rebalance.needed ≤ z.seats → IsPlan z.built l
-plan_of z a l p x b n = record { rising = rising; starts = subst (AreStarts z.built l.rebalance.kept) (sym (p.starts x)) (starts_of-are z.built l.rebalance.kept rising few) }
+plan_of z a l p x b n = record { rising = rising; starts = subst (AreCuts z.built l.rebalance.kept) (sym (p.starts x)) (are_cuts z.built l.rebalance.kept rising few) }
   where
     rising : AreRising l.rebalance.kept
     rising = subst AreRising (sym (p.kept x)) (kept_of-rising l.rebalance.gathered l.rebalance.needed)
@@ -43,10 +44,6 @@ first_key_is [] d o = absurd (omega (arith, o))
 first_key_is (c ∷ cells) d o = refl
 
 module _ (built : ℕ) (l : Local) (plan : IsPlan built l) where
-  -- the rows are filled as they should be
-  filled : AreFilled built l.rebalance.kept l.rebalance.starts
-  filled = are_filled built l.rebalance.kept l.rebalance.starts plan.rising plan.starts
-
   -- where a row starts
   abbrev start : ℕ → ℕ
   start i = get_or l.rebalance.starts i 0
@@ -80,13 +77,13 @@ module _ (built : ℕ) (l : Local) (plan : IsPlan built l) where
   )
     where
       within : start (i + 1) < length l.rebalance.kept
-      within = let n = plan.starts.next i o in let a = n.fits in let b = n.within in omega (arith, a, b)
+      within = plan.starts.within i o
 
       w : start (i + 1) < end_of l.rebalance.kept l.rebalance.starts (i + 1)
       w = which (cases_lt (i + 2) (length l.rebalance.starts))
         where
           which : ((i + 2 < length l.rebalance.starts) ⊎ (length l.rebalance.starts ≤ i + 2)) → start (i + 1) < end_of l.rebalance.kept l.rebalance.starts (i + 1)
-          which (inl p) = let a = (plan.starts.next (i + 1) (omega (arith, p))).later in let e = ends_before (i + 1) (omega (arith, p)) in omega (arith, a, e)
+          which (inl p) = let a = plan.starts.later (i + 1) (omega (arith, p)) in let e = ends_before (i + 1) (omega (arith, p)) in omega (arith, a, e)
           which (inr p) = let e : end_of l.rebalance.kept l.rebalance.starts (i + 1) ≡ length l.rebalance.kept = get_or_past l.rebalance.starts (i + 1 + 1) (length l.rebalance.kept) (omega (arith, p)) in omega (arith, e, within)
 
   -- its least key is that of the kept cell at which it starts
@@ -104,7 +101,7 @@ module _ (built : ℕ) (l : Local) (plan : IsPlan built l) where
   cells_below i o j d p =
       let w = (cell_within i j p).0 in
       let e = ends_before i o in
-      let b = filled.between (i + 1) (start i + j) (start (i + 1)) d o (omega (arith, w, e)) (omega arith) (has_cell i o).1 in
+      let b = plan.starts.between (i + 1) (start i + j) (start (i + 1)) d o (omega (arith, w, e)) (omega arith) (has_cell i o).1 in
       let x : (get_or (infant_cells (at_infant i l)) j d).key ≡ (get_or l.rebalance.kept (start i + j) d).key = ap (λ (c : Cell). c.key) (cell_is i j d p) in
       omega (arith, b, x, least_is i d o)
 
@@ -128,20 +125,20 @@ module _ (built : ℕ) (l : Local) (plan : IsPlan built l) where
     -- the least keys of the rows rise
     pub leasts_rise : (i : ℕ) → i + 1 < length l.rebalance.starts → infant_least (at_infant i l) < infant_least (at_infant (i + 1) l)
     leasts_rise zero o =
-        let n = plan.starts.next 0 o in
-        let s = n.later in
+        let s = plan.starts.later 0 o in
         let f = plan.starts.first in
-        let a = n.first 0 any_cell (omega (arith, s, f)) in
+        let a = plan.starts.between 1 0 (start 1) any_cell o (omega (arith, s, f)) (omega arith) (has_cell 0 o).1 in
         let b = from 0 any_cell (omega (arith, (has_cell 0 o).1)) in
         let c : infant_least (at_infant 0 l) ≡ l.lower = refl in
         omega (arith, a, b, c, least_is 0 any_cell o)
     leasts_rise (suc i) o =
         let m : i + 1 ≡ suc i = omega arith in
         let e : infant_least (at_infant (suc i) l) ≡ (get_or l.rebalance.kept (start (suc i)) any_cell).key = subst (λ x. infant_least (at_infant x l) ≡ (get_or l.rebalance.kept (start x) any_cell).key) m (least_is i any_cell (omega (arith, o))) in
-        let b = filled.between (suc i + 1) (start (suc i)) (start (suc i + 1)) any_cell o (plan.starts.next (suc i) o).later (omega arith) (has_cell (suc i) o).1 in
+        let b = plan.starts.between (suc i + 1) (start (suc i)) (start (suc i + 1)) any_cell o (plan.starts.later (suc i) o) (omega arith) (has_cell (suc i) o).1 in
         omega (arith, b, e, least_is (suc i) any_cell o)
 
-  -- the least key of each row is below a number that is above all kept keys and that of the full row
+  -- the least key of each row is below a number that is above all kept keys and that of the full
+  -- row
   pub leasts_below : (u : ℕ) → l.lower < u → All (λ c. c.key < u) l.rebalance.kept → (i : ℕ) → i < length l.rebalance.starts → infant_least (at_infant i l) < u
   leasts_below u o all zero p = o
   leasts_below u o all (suc i) p =

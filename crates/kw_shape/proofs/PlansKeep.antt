@@ -1,4 +1,5 @@
--- Every event keeps what each seat has planned: the plan is made as the search for new rows begins, and nothing changes it until they are linked.
+-- Every event keeps what each seat has planned: the plan is made as the search for new rows begins,
+-- and nothing changes it until they are linked.
 use Rattle.std.proofs.Common.{ℕ, ◌≡◌, ◌+◌, ◌<◌, ◌≤◌, [], ◌∷◌, arith, length, length-append, refl, sym, subst}
 use Rattle.kw_world.specs.declared.activity.Activity.{Activity}
 use Rattle.kw_world.specs.declared.event.Choice.{Choice}
@@ -13,9 +14,9 @@ use Rattle.kw_cells.specs.Kept.{kept_of}
 use Rattle.kw_core.specs.Run.{Run}
 use Rattle.kw_core.specs.Words.{Words}
 use Rattle.kw_core.proofs.Arrows.{Arrow, NextLook, NextRest, answers, builds, ends_scan, finds_other, finds_stamped, gathers_rest, helps, is_passed, keeps_no_more, key_above, list_ends, lists, looks, meets_neither, meets_stamped, rest_passed, rests, scans_on, takes_no_more}
-use Rattle.kw_core.proofs.Building.{Building, first_is_retired, sought_is_retired, pass_is_old, pass_is_young, frees_row, before_is_above, before_serves, begins_before, draws_number, first_is_free, first_is_taken, gives_last_back, gives_one_back, guess_before_fails, guesses_before, is_marked_before, is_replaced, leads_nowhere, leads_on_marked, leads_to_full, leads_to_other, loses_row, makes_last_normal, makes_normal, replaces_row, retires_row, sought_is_free, sought_is_taken, takes_head_before, takes_row, walks_before, walks_past, writes_after, writes_count, writes_entry, writes_first, writes_key, writes_least, writes_link, writes_value, writes_version}
+use Rattle.kw_core.proofs.Building.{Building, first_is_retired, sought_is_retired, pass_is_old, pass_is_young, frees_row, before_is_above, before_serves, begins_before, draws_number, first_is_free, first_is_taken, gives_last_back, gives_one_back, guess_before_fails, guesses_before, is_marked_before, is_replaced, leads_nowhere, leads_on_marked, leads_to_full, leads_to_other, loses_row, makes_last_normal, makes_normal, replaces_row, retires_row, sought_is_free, sought_is_taken, takes_head_before, takes_row, walks_before, walks_past, writes_after, writes_count, writes_entry, writes_first, writes_key, writes_least, writes_link, writes_value, writes_version, retires_and_leaves}
 use Rattle.kw_core.proofs.Happens.{Happens}
-use Rattle.kw_core.proofs.NextBuilt.{GivenBack, is_refused_rows, moves_left, tries_again, NextBack, gives_back, has_none, NextSeek, asks, has_asked, NextPass, looks_on, has_looked, NextTaken, has_enough, wants_more, NextNewCell, empties, fills, has_cells, NextNewEntry, has_entries, writes_idle, NextNewRow, has_written, writes_row, NextBefore, is_behind, is_first}
+use Rattle.kw_core.proofs.NextBuilt.{GivenBack, is_refused_rows, moves_left, tries_again, NextBack, gives_back, has_none, NextSeek, asks, has_asked, NextPass, looks_on, has_looked, NextTaken, has_enough, wants_more, NextNewCell, empties, fills, has_cells, NextNewEntry, has_entries, writes_idle, NextNewRow, has_written, writes_row, NextBefore, is_behind, is_first, was_done, was_served}
 use Rattle.kw_shape.specs.Infants.{HasAll, HasNone, nursing_of}
 use Rattle.kw_shape.specs.Keyed.{IsPlanned}
 use Rattle.kw_shape.specs.Plans.{Plans}
@@ -48,10 +49,13 @@ module _ (z : Sizes) where
   rest_unplanned l next (ends_scan o y n) = unplanned z _ _ refl
   rest_unplanned l next (scans_on q o y n w) = unplanned z _ _ refl
 
-  -- one that has given its rows back has planned nothing; as long as it has rows or seeks them, it has its plan
+  -- one that has given its rows back has planned nothing; as long as it has rows or seeks them, it
+  -- has its plan
   given_on : (c : Afterwards) (k next : Local) → GivenBack k c next → Plans z next.activity next
-  given_on c k next tries_again = unplanned z _ _ refl
-  given_on c k next is_refused_rows = unplanned z _ _ refl
+  given_on c k next (tries_again nd) = unplanned z _ _ refl
+  given_on c k next (was_done dn) = unplanned z _ _ refl
+  given_on c k next (is_refused_rows nd) = unplanned z _ _ refl
+  given_on c k next (was_served dn) = unplanned z _ _ refl
   given_on c k next moves_left = unplanned z _ _ refl
 
   back_on : (c : Afterwards) (k next : Local) → NextBack c k next → HasPlan z k → Plans z next.activity next
@@ -87,7 +91,8 @@ module _ (z : Sizes) where
   first_on q k next (is_first o) f p = record { kept = λ x. p.kept; starts = λ x. p.starts; few = λ x. f }
   first_on q k next (is_behind o) f p = record { kept = λ x. p.kept; starts = λ x. p.starts; few = λ x. f }
 
-  -- where new rows are taken, written and linked: a row more is taken only as long as there are starts for it
+  -- where new rows are taken, written and linked: a row more is taken only as long as there are
+  -- starts for it
   plans_built : (v : Words) (choice : Choice) (l : Local) (a : Activity) (k : Local) → Building z v choice l a k → (IsTakingRows a → length l.rebalance.taken < length l.rebalance.starts) → Plans z a l → Plans z k.activity k
   plans_built v choice l a k (first_is_free q f e) o p = record { kept = p.kept; starts = p.starts; few = λ x. absurd x }
   plans_built v choice l a k (first_is_taken q rows next f n y) o p = seek_on rows (seeking q l) k y (record { kept = p.kept tt; starts = p.starts tt })
@@ -129,7 +134,8 @@ module _ (z : Sizes) where
   plans_built v choice l a k (makes_normal n) o p = unplanned z _ _ refl
   plans_built v choice l a k (makes_last_normal n) o p = unplanned z _ _ refl
   plans_built v choice l a k draws_number o p = unplanned z _ _ refl
-  plans_built v choice l a k retires_row o p = unplanned z _ _ refl
+  plans_built v choice l a k (retires_row nd) o p = unplanned z _ _ refl
+  plans_built v choice l a k (retires_and_leaves dn) o p = unplanned z _ _ refl
 
 -- by the arrow that the seat takes
 plans_by : (z : Sizes) (v : Words) (s : ℕ) (choice : Choice) (l : Local) (a : Activity) (l' : Local) → Arrow z v s choice l a l' → (IsTakingRows a → length l.rebalance.taken < length l.rebalance.starts) → Plans z a l → Plans z l'.activity l'

@@ -1,5 +1,5 @@
--- What an event leaves to a seat of the rows that it may name: it may name them still, and their ranges are as they were. So where a
--- seat is along the rows survives.
+-- What an event leaves to a seat of the rows that it may name: it may name them still, and their
+-- ranges are as they were. So where a seat is along the rows survives.
 use Rattle.std.proofs.Common.{ℕ, ◌≡◌, ◌⊎◌, inl, inr, true, Some, arith, sym, ◌∙◌, ap}
 use Rattle.kw_rows.specs.Ledger.{Ledger, IsFresh}
 use Rattle.kw_world.specs.declared.activity.Activity.{Activity}

@@ -1,7 +1,9 @@
--- A won exchange of the link to the full row is the event of the rows that replaces it (`kw_rows`): the full row is dead, and the taken ones are live.
+-- A won exchange of the link to the full row is the event of the rows that replaces it (`kw_rows`):
+-- the full row is dead, and the taken ones are live.
 --
--- What it needs beside the words is a premise: that the seat knows its group, that the link is one of a row that it may name, that the full
--- row is frozen, what is written of the new rows, and that their least keys rise and are below that of the row after them.
+-- What it needs beside the words is a premise: that the seat knows its group, that the link is one
+-- of a row that it may name, that the full row is frozen, what is written of the new rows, and that
+-- their least keys rise and are below that of the row after them.
 use Rattle.std.proofs.Common.{ℕ, suc, ◌≡◌, ◌≢◌, ◌⊎◌, inl, inr, ◌+◌, ◌<◌, true, List, [], ◌∷◌, Option, Some, None, arith, refl, sym, ◌∙◌, ap, subst, length, slice_get, slice_index}
 use Rattle.std.proofs.lemmas.Bool.{cases_eq}
 use Rattle.std.proofs.lemmas.Option.{same_Some}

@@ -1,7 +1,8 @@
--- What an event does to the rows and to the ledger: a seat that enters begins its pass, one that leaves or tries again ends it; a seat
--- that rebalances its row exchanges the row's state, marks its link and freezes its count, and then takes, writes and links new rows in its
--- place, as `BuildEvents` and `ReplaceEvent` say. Nothing else of either changes. So every event is one of those of `kw_rows`, whose laws say
--- what it keeps.
+-- What an event does to the rows and to the ledger: a seat that enters begins its pass, one that
+-- leaves or tries again ends it; a seat that rebalances its row exchanges the row's state, marks
+-- its link and freezes its count, and then takes, writes and links new rows in its place, as
+-- `BuildEvents` and `ReplaceEvent` say. Nothing else of either changes. So every event is one of
+-- those of `kw_rows`, whose laws say what it keeps.
 use Rattle.std.proofs.Common.{ℕ, suc, ◌≡◌, ◌≢◌, ◌⊎◌, inl, inr, ◌+◌, ◌≤◌, ◌∷◌, [], true, Option, Some, None, arith, refl, sym, ◌∙◌, ap, subst, length, length-append, bit_or}
 use Rattle.std.proofs.lemmas.Bool.{cases_eq}
 use Rattle.kw_words.specs.declared.layout.Name.TheVariants as name
@@ -47,14 +48,16 @@ use Rattle.kw_shape.proofs.BuildEvents.{count_word, freeing, giving_back, least_
 use Rattle.kw_shape.proofs.MayReplace.{may_replace}
 use Rattle.kw_shape.proofs.InfantsFit.{row_link}
 use Rattle.kw_shape.proofs.InfantsStay.{infant_at}
-pub use Rattle.kw_shape.proofs.LinkedRows.{balance_at}
-use Rattle.kw_shape.proofs.LinkedRows.{all_young, fresh_linked, hand_infant, linked_keeps}
+pub use Rattle.kw_shape.proofs.LinkedRows.{balance_at, all_young, fresh_linked, hand_infant, linked_keeps}
 use Rattle.kw_shape.proofs.RelyRows.{RelyRows}
 use Rattle.kw_shape.proofs.ReplaceEvent.{replace_event}
 use Rattle.kw_shape.specs.Balances.{Balances}
 use Rattle.kw_shape.specs.RowsIn.{has_frozen, has_mark, rows_in, state_met}
 use Rattle.kw_shape.specs.Shape.{Kinds, Shape}
 use Rattle.kw_shape.specs.Won.{Won}
+use Rattle.kw_core.specs.Stages.{IsPassing}
+use Rattle.kw_core.proofs.Frame.{WritesPass}
+use Rattle.kw_shape.specs.Passes.{Passes as InPasses}
 
 -- a marked link leads where it led
 marked_link : (w : ℕ) (x : Option Link) → link_of w ≡ x → IsKnownWord x → (row_linked (link_of (bit_or w MARK_BIT)) ≡ row_linked (link_of w)) × (has_mark (link_of (bit_or w MARK_BIT)) ≡ true)
@@ -69,7 +72,8 @@ frozen_next w None e g = absurd g
 module _ {z : Sizes} {r r' : Run} {s : ℕ} {choice : Choice} {l l' : Local} where
   -- The words.
 
-  -- the head, the links and the least keys are as they were where a cell is asked for, and no count thaws or freezes
+  -- the head, the links and the least keys are as they were where a cell is asked for, and no count
+  -- thaws or freezes
   more_given : Happens z r r' s choice l l' PutAdd → IsSane z r.world → SameLinks (rows_in (word z r.world)) (rows_in (word z r'.world))
   more_given h sane = record {
     head = ap (λ w. row_linked (link_of w)) (head_stays PutAdd h (λ c. c));
@@ -294,7 +298,8 @@ module _ {z : Sizes} {r r' : Run} {s : ℕ} {choice : Choice} {l l' : Local} whe
 
   -- What a seat may name.
 
-  -- a seat that is in one pass before and after the event may name the rows that it might, and they are as they were
+  -- a seat that is in one pass before and after the event may name the rows that it might, and they
+  -- are as they were
   pub rely_rows : (a : Activity) → Happens z r r' s choice l l' a → Shape z r → (t since : ℕ) → r.ledger.rows.passes t ≡ Some since → r'.ledger.rows.passes t ≡ Some since →
       RelyRows (word z r.world) (word z r'.world) r.ledger.rows r'.ledger.rows t
   rely_rows a h i t since before after =
@@ -310,3 +315,11 @@ module _ {z : Sizes} {r r' : Run} {s : ℕ} {choice : Choice} {l l' : Local} whe
   -- what a seat knows of the row that it rebalances stays known
   pub group_keeps : (a : Activity) → Happens z r r' s choice l l' a → Shape z r → (t : ℕ) (view : View) → Named r.ledger.rows t view → Group (rows_in (word z r.world)) r.ledger.rows view → Group (rows_in (word z r'.world)) r'.ledger.rows view
   group_keeps a h i t view n g = (kept (rows_in (word z r.world)) (rows_in (word z r'.world)) r.ledger.rows r'.ledger.rows (length r.history.log) i.rows (row_event a h i)).group t view n g
+
+-- What an event leaves to the acting seat of the rows that it may name.
+
+-- a seat that goes on in its pass may name the rows that it might
+pub own_rely : (z : Sizes) (r r' : Run) (s : ℕ) (choice : Choice) (l : Local) (a : Activity) (l' : Local) → Happens z r r' s choice l l' a → Shape z r → IsPassing a → (WritesPass a → ⊥) → RelyRows (word z r.world) (word z r'.world) r.ledger.rows r'.ledger.rows s
+own_rely z r r' s choice l a l' h i x n =
+    let p = (subst (λ q. InPasses (word z r.world) r.ledger.rows s q l) h.activity (i.passes s l h.knows)).in_pass x in
+    rely_rows a h i s p.since p.passes (others_stay a h s (λ x e. n x) ∙ p.passes)

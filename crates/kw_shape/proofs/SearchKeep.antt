@@ -1,5 +1,5 @@
--- What a seat knows of the row before its full one, by the arrow that it takes. The words and the ledger are those before the event; that
--- what is so known stays over it is `search_stable`.
+-- What a seat knows of the row before its full one, by the arrow that it takes. The words and the
+-- ledger are those before the event; that what is so known stays over it is `search_stable`.
 use Rattle.std.proofs.Common.{ℕ, ◌≡◌, ◌≢◌, ◌⊎◌, inl, inr, ◌+◌, ◌<◌, ◌≤◌, Option, Some, None, arith, refl, sym, ◌∙◌, ap, subst}
 use Rattle.std.proofs.lemmas.Bool.{cases_lt}
 use Rattle.std.proofs.lemmas.Option.{same_Some}
@@ -19,8 +19,8 @@ use Rattle.kw_world.specs.ReplaceTransitions.{replaced_link}
 use Rattle.kw_world.specs.Sizes.{Sizes}
 use Rattle.kw_world.specs.Transition.{row_linked, row_or_first}
 use Rattle.kw_core.specs.Words.{Words, least_in, next_in}
-use Rattle.kw_core.proofs.Building.{Building, first_is_free, first_is_retired, first_is_taken, sought_is_free, sought_is_retired, sought_is_taken, pass_is_old, pass_is_young, frees_row, takes_row, loses_row, gives_one_back, gives_last_back, writes_count, writes_least, writes_link, writes_first, writes_entry, writes_key, writes_value, writes_version, writes_after, begins_before, guesses_before, guess_before_fails, before_serves, before_is_above, takes_head_before, leads_to_full, leads_on_marked, leads_to_other, leads_nowhere, walks_before, walks_past, replaces_row, is_marked_before, is_replaced, makes_normal, makes_last_normal, draws_number, retires_row, marked_link}
-use Rattle.kw_core.proofs.NextBuilt.{GivenBack, is_refused_rows, moves_left, tries_again, NextBack, gives_back, has_none, NextPass, has_looked, looks_on, NextSeek, asks, has_asked, NextTaken, has_enough, wants_more, NextNewCell, empties, fills, has_cells, NextNewEntry, has_entries, writes_idle, NextNewRow, has_written, writes_row, NextBefore, is_behind, is_first}
+use Rattle.kw_core.proofs.Building.{Building, first_is_free, first_is_retired, first_is_taken, sought_is_free, sought_is_retired, sought_is_taken, pass_is_old, pass_is_young, frees_row, takes_row, loses_row, gives_one_back, gives_last_back, writes_count, writes_least, writes_link, writes_first, writes_entry, writes_key, writes_value, writes_version, writes_after, begins_before, guesses_before, guess_before_fails, before_serves, before_is_above, takes_head_before, leads_to_full, leads_on_marked, leads_to_other, leads_nowhere, walks_before, walks_past, replaces_row, is_marked_before, is_replaced, makes_normal, makes_last_normal, draws_number, retires_row, marked_link, retires_and_leaves}
+use Rattle.kw_core.proofs.NextBuilt.{GivenBack, is_refused_rows, moves_left, tries_again, NextBack, gives_back, has_none, NextPass, has_looked, looks_on, NextSeek, asks, has_asked, NextTaken, has_enough, wants_more, NextNewCell, empties, fills, has_cells, NextNewEntry, has_entries, writes_idle, NextNewRow, has_written, writes_row, NextBefore, is_behind, is_first, was_done, was_served}
 use Rattle.kw_shape.specs.RowsIn.{rows_in, state_met}
 use Rattle.kw_shape.specs.Search.{HasBefore, HasMetNext, IsLeft, IsMeasured, IsSearching, Search}
 
@@ -34,8 +34,10 @@ module _ (v : Words) (g : Ledger) (t : ℕ) where
   stays_back k c e n = elsewhere GiveBack k (λ x. n (sym e ∙ x)) (λ x. n (sym e ∙ x)) (λ x. n (sym e ∙ x)) (λ x. x)
 
   given_on : (c : Afterwards) (k next : Local) → GivenBack k c next → Search v g t next.activity next
-  given_on c k next tries_again = elsewhere _ _ (λ x. x) (λ x. x) (λ x. x) (λ x. x)
-  given_on c k next is_refused_rows = elsewhere _ _ (λ x. x) (λ x. x) (λ x. x) (λ x. x)
+  given_on c k next (tries_again nd) = elsewhere _ _ (λ x. x) (λ x. x) (λ x. x) (λ x. x)
+  given_on c k next (was_done dn) = elsewhere _ _ (λ x. x) (λ x. x) (λ x. x) (λ x. x)
+  given_on c k next (is_refused_rows nd) = elsewhere _ _ (λ x. x) (λ x. x) (λ x. x) (λ x. x)
+  given_on c k next (was_served dn) = elsewhere _ _ (λ x. x) (λ x. x) (λ x. x) (λ x. x)
   given_on c k next moves_left = elsewhere _ _ (λ x. x) (λ x. x) (λ x. x) (λ x. x)
 
   -- rows are given back, and the seat does not move
@@ -153,4 +155,5 @@ module _ (v : Words) (g : Ledger) (t now : ℕ) (i : Structure (rows_in v) g now
   search_by z choice a k (makes_normal o) head x = elsewhere v g t _ _ (λ y. y) (λ y. y) (λ y. y) (λ y. y)
   search_by z choice a k (makes_last_normal o) head x = elsewhere v g t _ _ (λ y. y) (λ y. y) (λ y. y) (λ y. y)
   search_by z choice a k draws_number head x = elsewhere v g t _ _ (λ y. y) (λ y. y) (λ y. y) (λ y. y)
-  search_by z choice a k retires_row head x = elsewhere v g t _ _ (λ y. y) (λ y. y) (λ y. y) (λ y. y)
+  search_by z choice a k (retires_row nd) head x = elsewhere v g t _ _ (λ y. y) (λ y. y) (λ y. y) (λ y. y)
+  search_by z choice a k (retires_and_leaves dn) head x = elsewhere v g t _ _ (λ y. y) (λ y. y) (λ y. y) (λ y. y)

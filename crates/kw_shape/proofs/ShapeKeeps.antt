@@ -52,9 +52,8 @@ use Rattle.kw_shape.proofs.InfantsRely.{place_of_row}
 use Rattle.kw_shape.proofs.InfantsStay.{infant_at}
 use Rattle.kw_shape.proofs.LinkedRows.{infants_at}
 use Rattle.kw_shape.proofs.PlansKeep.{plans_own}
-use Rattle.kw_shape.proofs.OwnRows.{own_rely}
+use Rattle.kw_shape.proofs.RowsKeep.{own_rely, others_kept, rely_rows, structure_keeps}
 use Rattle.kw_shape.proofs.RelyRows.{is_passing, walks_outside, walks_stable}
-use Rattle.kw_shape.proofs.RowsKeep.{others_kept, rely_rows, structure_keeps}
 use Rattle.kw_core.proofs.Happens.{Happens, each_seat, knows_next}
 use Rattle.kw_core.proofs.Frame.{WritesPass}
 use Rattle.kw_shape.proofs.Walking.{walks_by}
@@ -72,7 +71,7 @@ use Rattle.kw_world.specs.declared.event.Choice.TheVariants.{Stop}
 use Rattle.kw_world.specs.Calls.{last_key}
 use Rattle.kw_world.specs.ScanTransitions.{answer_or_stopped}
 use Rattle.kw_world.specs.WalkTransitions.{is_stop}
-use Rattle.kw_core.specs.Stages.{IsPassing, is_put}
+use Rattle.kw_core.specs.Stages.{IsPassing, is_put, IsBalancing, IsDone}
 use Rattle.kw_shape.specs.Shape.{IsSomeCall, IsPutCall, IsReadCall, IsScanCall, IsAnswerOf, IsPairs}
 use Rattle.kw_core.proofs.BuiltNext.{built_goes, built_next}
 use Rattle.kw_core.proofs.InfantFrames.{count_stays, count_written}
@@ -83,8 +82,11 @@ use Rattle.kw_shape.proofs.KeyedKeeps.{keyed_keeps}
 use Rattle.kw_shape.proofs.KeysKeep.{keys_own, keys_stay}
 use Rattle.kw_shape.specs.Keyed.{Keys}
 use Rattle.kw_shape.proofs.NewWords.{cells_few}
+use Rattle.kw_shape.proofs.NextCalls.{arrow_tidied}
+use Rattle.kw_shape.proofs.Offered.{offered_own, offered_other}
+use Rattle.kw_world.specs.declared.limits.TheConstants.{TIDY_SHARE}
 use Rattle.kw_shape.proofs.AfterBuilding.{after_kinds, built_kinds, built_pass, built_passes}
-use Rattle.kw_core.proofs.Arrows.{Arrow, begins, enters, enters_scan, is_spent, waits, stores_waiting, draws, settles_empty, settles, starts_at_head, guesses, guess_fails, takes_head, guess_serves, guess_is_above, stops, puts_in_last, reads_last, meets_next, walks_on, puts_before, reads_before, meets_pending, meets_stamped, meets_neither, is_wanted, is_passed, loads_to_help, helps, finds_stamped, finds_other, list_leads, list_ends, key_below, key_within, key_above, loads_version, gathers_listed, rest_wanted, rest_passed, gathers_rest, clears_scan, finds_room, takes_cell, stores_key, stores_value, announces, loads_clock, stamps, is_stamped, stores_version, meets_cell, meets_none, key_before, key_same, key_after, version_before, version_after, stores_after, inserts, loses, clears, leaves, retries, enters_again, clock_is_spent, clock_serves, epoch_is_spent, epoch_serves, finds_infant, finds_normal, finds_leader, finds_other_state, normalises, engages, is_engaged, marks_link, marks_led, decides, decides_not, finds_full, takes_full, announces_full, stamps_full, NextLook, looks, lists, NextRest, rests, answers, ends_scan, scans_on, not_below, freezes_count, meets_idle, meets_unstamped, remembers, remembers_last, meets_frozen, meets_frozen_last, freezes_entry, freezes_last, looks_again, meets_quiet, meets_quiet_last, helps_scan, meets_drawn, meets_drawn_last, draws_for, settles_scan, settles_last, finds_drawn, finds_drawn_last, finds_no_scan, finds_no_scan_last, take_leads, takes_left, takes_no_more, takes_key, takes_version, keeps_taken, takes_left_key, keeps_left, keeps_no_more, builds}
+use Rattle.kw_core.proofs.Arrows.{Arrow, begins, enters, enters_scan, is_spent, waits, stores_waiting, draws, settles_empty, settles, starts_at_head, guesses, guess_fails, takes_head, guess_serves, guess_is_above, stops, puts_in_last, reads_last, meets_next, walks_on, puts_before, reads_before, meets_pending, meets_stamped, meets_neither, is_wanted, is_passed, loads_to_help, helps, finds_stamped, finds_other, list_leads, list_ends, key_below, key_within, key_above, loads_version, gathers_listed, rest_wanted, rest_passed, gathers_rest, clears_scan, finds_room, takes_cell, stores_key, stores_value, announces, loads_clock, stamps, is_stamped, stores_version, meets_cell, meets_none, key_before, key_same, key_after, version_before, version_after, stores_after, inserts, loses, clears, leaves, retries, enters_again, clock_is_spent, clock_serves, epoch_is_spent, epoch_serves, finds_infant, finds_normal, finds_leader, finds_other_state, normalises, engages, is_engaged, marks_link, marks_led, decides, decides_not, finds_full, takes_full, announces_full, stamps_full, NextLook, looks, lists, NextRest, rests, answers, ends_scan, scans_on, not_below, freezes_count, meets_idle, meets_unstamped, remembers, remembers_last, meets_frozen, meets_frozen_last, freezes_entry, freezes_last, looks_again, meets_quiet, meets_quiet_last, helps_scan, meets_drawn, meets_drawn_last, draws_for, settles_scan, settles_last, finds_drawn, finds_drawn_last, finds_no_scan, finds_no_scan_last, take_leads, takes_left, takes_no_more, takes_key, takes_version, keeps_taken, takes_left_key, keeps_left, keeps_no_more, builds, ends_at_state, ends_at_clock, ends_at_epoch, ends_undecided, tidies}
 use Rattle.kw_core.proofs.Building.{IsBuilding}
 
 -- The acting seat.
@@ -143,7 +145,8 @@ room_add z r r' s choice l l' h i q f o = which (cases_eq q l.row)
         omega (arith, i.room q o, y, f, part, chosen {A = ℕ} l.row q 1 0 (sym u), adders-set q r.world.locals s l l' h.knows, ap (adders q) h.locals)
     which (inr d) = room_plain z r r' s choice l PutAdd l' h i q (ap (λ w. given_of (count_of w)) (count_stays PutAdd h q o d)) f o
 
--- an event that writes or links new rows: a new row has no more cells than a row has, and the seat asks for none
+-- an event that writes or links new rows: a new row has no more cells than a row has, and the seat
+-- asks for none
 room_built : (z : Sizes) (r r' : Run) (s : ℕ) (choice : Choice) (l : Local) (a : Activity) (l' : Local) → IsBuilding a → {q : ℕ} → adding l'.activity l'.row q ≡ 0 → Happens z r r' s choice l l' a → Shape z r → q < r.world.rows → given_in (word z r'.world) q + adders q r'.world.locals < z.cells + z.seats
 room_built z r r' s choice l PutAdd l' b {q} f h i o = absurd b
 room_built z r r' s choice l FreezeCount l' b {q} f h i o = absurd b
@@ -205,7 +208,8 @@ clock_keeps z r r' s choice l a l' (builds b next y t) h i = omega (arith, i.clo
 clock_keeps z r r' s choice l a l' (waits e) h i = omega (arith, e, clock_stays ScanClock h (λ x. x), drawers_few z.seats r'.world.locals i.sane.sized.some_seats (omega (arith, ap length h.locals, length-set r.world.locals s l', i.sane.seats)))
 clock_keeps z r r' s choice l a l' (clock_serves e) h i = omega (arith, e, clock_stays BalClock h (λ x. x), drawers_few z.seats r'.world.locals i.sane.sized.some_seats (omega (arith, ap length h.locals, length-set r.world.locals s l', i.sane.seats)))
 clock_keeps z r r' s choice l a l' (is_spent e) h i = omega (arith, i.clock, clock_stays ScanClock h (λ x. x), drawers-set z.seats r.world.locals s l l' h.knows, ap (drawers z.seats) h.locals)
-clock_keeps z r r' s choice l a l' (clock_is_spent e) h i = omega (arith, i.clock, clock_stays BalClock h (λ x. x), drawers-set z.seats r.world.locals s l l' h.knows, ap (drawers z.seats) h.locals)
+clock_keeps z r r' s choice l a l' (clock_is_spent e nd) h i = omega (arith, i.clock, clock_stays BalClock h (λ x. x), drawers-set z.seats r.world.locals s l l' h.knows, ap (drawers z.seats) h.locals)
+clock_keeps z r r' s choice l a l' (ends_at_clock dn) h i = omega (arith, i.clock, clock_stays BalClock h (λ x. x), drawers-set z.seats r.world.locals s l l' h.knows, ap (drawers z.seats) h.locals)
 clock_keeps z r r' s choice l a l' draws h i = omega (arith, i.clock, h.changed.same, ap (drawing z.seats) h.activity, drawers-set z.seats r.world.locals s l l' h.knows, ap (drawers z.seats) h.locals)
 clock_keeps z r r' s choice l a l' (draws_for j) h i =
     let o : j < z.seats = subst (IsActivity z) h.activity (i.sane.locals s l h.knows).ranges.activity in
@@ -366,6 +370,7 @@ kinds_by z v s choice l a l' loads_clock k = record { kind = k.kind; range = λ 
 kinds_by z v s choice l a l' (stamps y) k = record { kind = k.kind; range = λ x. absurd x }
 kinds_by z v s choice l a l' (is_stamped version y) k = record { kind = k.kind; range = λ x. absurd x }
 kinds_by z v s choice l a l' (stamps_full y) k = record { kind = k.kind; range = λ x. absurd x }
+kinds_by z v s choice l a l' (tidies rows y) k = record { kind = k.kind; range = λ x. absurd x }
 kinds_by z v s choice l a l' stores_version k = record { kind = k.kind; range = λ x. absurd x }
 kinds_by z v s choice l a l' (meets_cell c y) k = record { kind = k.kind; range = λ x. absurd x }
 kinds_by z v s choice l a l' (meets_none y) k = record { kind = k.kind; range = λ x. absurd x }
@@ -381,21 +386,25 @@ kinds_by z v s choice l a l' clears k = record { kind = put_done l.call k.kind; 
 kinds_by z v s choice l a l' (leaves answer) k = record { kind = tt; range = λ x. absurd x }
 kinds_by z v s choice l a l' retries k = record { kind = k.kind; range = λ x. absurd x }
 kinds_by z v s choice l a l' enters_again k = record { kind = some_put l.call k.kind; range = λ x. absurd x }
-kinds_by z v s choice l a l' (clock_is_spent e) k = record { kind = put_spent l.call k.kind; range = λ x. absurd x }
+kinds_by z v s choice l a l' (clock_is_spent e nd) k = record { kind = put_spent l.call k.kind; range = λ x. absurd x }
+kinds_by z v s choice l a l' (ends_at_clock dn) k = record { kind = put_done l.call k.kind; range = λ x. absurd x }
 kinds_by z v s choice l a l' (clock_serves e) k = record { kind = k.kind; range = λ x. absurd x }
-kinds_by z v s choice l a l' (epoch_is_spent e) k = record { kind = put_spent l.call k.kind; range = λ x. absurd x }
+kinds_by z v s choice l a l' (epoch_is_spent e nd) k = record { kind = put_spent l.call k.kind; range = λ x. absurd x }
+kinds_by z v s choice l a l' (ends_at_epoch dn) k = record { kind = put_done l.call k.kind; range = λ x. absurd x }
 kinds_by z v s choice l a l' (epoch_serves e) k = record { kind = k.kind; range = λ x. absurd x }
 kinds_by z v s choice l a l' (finds_infant seat e) k = record { kind = k.kind; range = λ x. absurd x }
 kinds_by z v s choice l a l' (finds_normal e) k = record { kind = k.kind; range = λ x. absurd x }
 kinds_by z v s choice l a l' (finds_leader count e o) k = record { kind = (k.kind, o); range = λ x. absurd x }
-kinds_by z v s choice l a l' finds_other_state k = record { kind = k.kind; range = λ x. absurd x }
+kinds_by z v s choice l a l' (finds_other_state nd) k = record { kind = k.kind; range = λ x. absurd x }
+kinds_by z v s choice l a l' (ends_at_state dn) k = record { kind = put_done l.call k.kind; range = λ x. absurd x }
 kinds_by z v s choice l a l' (normalises seat) k = record { kind = k.kind; range = λ x. absurd x }
 kinds_by z v s choice l a l' (engages e) k = record { kind = (k.kind, omega arith); range = λ x. absurd x }
 kinds_by z v s choice l a l' (is_engaged e) k = record { kind = k.kind; range = λ x. absurd x }
 kinds_by z v s choice l a l' (marks_link count e) k = record { kind = (k.kind.0, refl); range = λ x. absurd x }
 kinds_by z v s choice l a l' (marks_led count e) k = record { kind = k.kind.0; range = λ x. absurd x }
 kinds_by z v s choice l a l' (decides count n e o) k = record { kind = k.kind.0; range = λ x. absurd x }
-kinds_by z v s choice l a l' (decides_not count) k = record { kind = k.kind.0; range = λ x. absurd x }
+kinds_by z v s choice l a l' (decides_not count nd) k = record { kind = k.kind.0; range = λ x. absurd x }
+kinds_by z v s choice l a l' (ends_undecided count dn) k = record { kind = put_done l.call k.kind.0; range = λ x. absurd x }
 kinds_by z v s choice l a l' freezes_count k = record { kind = k.kind; range = λ x. absurd x }
 kinds_by z v s choice l a l' (meets_idle j e) k = record { kind = k.kind; range = λ x. absurd x }
 kinds_by z v s choice l a l' (meets_unstamped j c e) k = record { kind = k.kind; range = λ x. absurd x }
@@ -437,7 +446,8 @@ walks_in_pass : (z : Sizes) (r r' : Run) (s : ℕ) (choice : Choice) (l : Local)
 walks_in_pass z r r' s choice l a l' b h i x n =
     walks_stable _ _ _ _ s (own_rely z r r' s choice l a l' h i x n) l'.activity l' (walks_by z (word z r.world) r.ledger.rows s choice l a l' b i.rows (subst (λ q. Walks (word z r.world) r.ledger.rows s q l) h.activity (i.walks s l h.knows)))
 
--- the acting seat is where its call has it: as it enters and leaves it is nowhere along the rows, and else it goes on in its pass
+-- the acting seat is where its call has it: as it enters and leaves it is nowhere along the rows,
+-- and else it goes on in its pass
 pub walks_own : (z : Sizes) (r r' : Run) (s : ℕ) (choice : Choice) (l : Local) (a : Activity) (l' : Local) → Arrow z (word z r.world) s choice l a l' → Happens z r r' s choice l l' a → Shape z r → Walks (word z r'.world) r'.ledger.rows s l'.activity l'
 walks_own z r r' s choice l a l' (builds b next y t) h i = walks_in_pass z r r' s choice l b l' (builds b next y t) h i (built_passes b y).0 (built_pass b y)
 walks_own z r r' s choice l a l' (begins call e b) h i = walks_outside _ _ s Enter l' (λ x. x)
@@ -486,6 +496,8 @@ shape_keeps z r r' s choice l a l' h i = record {
   keyed = keyed_keeps a h i sane;
   epoch = epoch_keeps z r r' s choice l a l' h.arrow h i;
   numbers = numbers_keep z r r' s choice l a l' h i;
+  tidies = each_seat h (λ t k. k.tidies ≡ true → IsBalancing k.activity ⊎ IsDone k.activity) (λ e. arrow_tidied z (word z r.world) s choice l a l' h.arrow (λ f. subst (λ c. IsBalancing c ⊎ IsDone c) h.activity (i.tidies s l h.knows f)) e) (λ t k d g. i.tidies t k g);
+  offered = each_seat h (λ t k. k.tidies ≡ true → r'.world.rows < TIDY_SHARE * k.epoch) (λ e. offered_own a h i e) (λ t k d g e. offered_other a h i t k g e);
   kinds = each_seat h (λ t k. Kinds k.activity k) (kinds_own z r r' s choice l a l' h.arrow h i) (λ t k d g. i.kinds t k g);
   passes = each_seat h (λ t k. Passes (word z r'.world) r'.ledger.rows t k.activity k) (passes_own z r r' s choice l a l' h.arrow h i) (passes_other z r r' s choice l a l' h i);
   outside = outside_stays a h i;

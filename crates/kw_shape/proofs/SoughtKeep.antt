@@ -1,8 +1,9 @@
--- Every event keeps what each seat knows of the retired row that it asks for, and that the full row which a seat has replaced is not retired
--- before the seat does so.
+-- Every event keeps what each seat knows of the retired row that it asks for, and that the full row
+-- which a seat has replaced is not retired before the seat does so.
 --
--- A dead row that stays dead keeps its state, unless it is retired now: each exchange of a state expects one that no dead row has, but for the
--- one that frees a retired row, after which the row is not dead.
+-- A dead row that stays dead keeps its state, unless it is retired now: each exchange of a state
+-- expects one that no dead row has, but for the one that frees a retired row, after which the row
+-- is not dead.
 use Rattle.std.proofs.Common.{ℕ, ◌≡◌, ◌≢◌, ◌⊎◌, inl, inr, ◌+◌, ◌<◌, ◌≤◌, Option, Some, None, arith, refl, sym, ◌∙◌, ap, subst, length, length-set, get_or, slice_get}
 use Rattle.std.proofs.lemmas.Bool.{cases_eq, cases_lt}
 use Rattle.std.proofs.lemmas.Option.{same_Some, slice_get-get_or, slice_get_within}
@@ -42,7 +43,7 @@ use Rattle.kw_core.proofs.Building.{Building, IsBuilding, IsYoung, first_is_free
 use Rattle.kw_core.proofs.Fates.{ChangesFate, DrawsNumber, fate_of_freed, fate_stays, none_freed, numbers_stay, others_stay}
 use Rattle.kw_core.proofs.Happens.{Happens, not_exchanged}
 use Rattle.kw_core.proofs.InfantFrames.{ChangesState, normal_lost, not_freed, taken_lost}
-use Rattle.kw_core.proofs.NextBuilt.{GivenBack, is_refused_rows, moves_left, tries_again, NextBack, gives_back, has_none, has_looked, looks_on, NextSeek, asks, has_asked, NextTaken, has_enough, wants_more, NextNewCell, empties, fills, has_cells, NextNewEntry, has_entries, writes_idle, NextNewRow, has_written, writes_row, NextBefore, is_behind, is_first}
+use Rattle.kw_core.proofs.NextBuilt.{GivenBack, is_refused_rows, moves_left, tries_again, NextBack, gives_back, has_none, has_looked, looks_on, NextSeek, asks, has_asked, NextTaken, has_enough, wants_more, NextNewCell, empties, fills, has_cells, NextNewEntry, has_entries, writes_idle, NextNewRow, has_written, writes_row, NextBefore, is_behind, is_first, was_done, was_served}
 use Rattle.kw_shape.proofs.BuildEvents.{dead_by_state, free_by_state, seat_fits, state_kept, states_still, word_says}
 use Rattle.kw_shape.proofs.Comings.{Comes, comes, goes_on, seeks, stays_out, won_builds}
 use Rattle.kw_shape.proofs.InfantsRely.{linked_not_infant}
@@ -108,8 +109,10 @@ pub unsought : (z : Sizes) (v : Words) (g : Ledger) (t : ℕ) (a : Activity) (l 
 unsought z v g t a l n = record { drawn = λ x. absurd (n.0 x); young = λ j since at o x. absurd (n.0 (looking_asks a j x)); asked = λ x. absurd (n.0 x); taken = λ x. absurd (n.1 x) }
 
 given_elsewhere : (c : Afterwards) (k next : Local) → GivenBack k c next → IsElsewhere next.activity
-given_elsewhere c k next tries_again = (λ x. x, λ x. x)
-given_elsewhere c k next is_refused_rows = (λ x. x, λ x. x)
+given_elsewhere c k next (tries_again nd) = (λ x. x, λ x. x)
+given_elsewhere c k next (was_done dn) = (λ x. x, λ x. x)
+given_elsewhere c k next (is_refused_rows nd) = (λ x. x, λ x. x)
+given_elsewhere c k next (was_served dn) = (λ x. x, λ x. x)
 given_elsewhere c k next moves_left = (λ x. x, λ x. x)
 
 back_elsewhere : (c : Afterwards) (k next : Local) → NextBack c k next → IsElsewhere next.activity
@@ -190,7 +193,8 @@ module _ {z : Sizes} {r r' : Run} {s : ℕ} {choice : Choice} {l l' : Local} whe
       let after : IsDead r'.ledger.rows q = ap (λ (f : Fate). f.status) (held_dead _ _ r.ledger.rows r'.ledger.rows q held d (linked_keeps a h i q (inr d))) ∙ d in
       subst IsEngaged (sym (dead_state a h i q d after n)) e
 
-  -- what its winner has not retired is not retired: of two winners of one row the owner tells that they are one
+  -- what its winner has not retired is not retired: of two winners of one row the owner tells that
+  -- they are one
   pub unretired_other : (a : Activity) → Happens z r r' s choice l l' a → Shape z r → (t : ℕ) (k : Local) → t ≢ s → slice_get r.world.locals t ≡ Some k → HasWon k.activity → IsEngaged ((rows_in (word z r'.world)).state k.row)
   unretired_other a h i t k d g x =
       let w = i.won t k g in
@@ -245,7 +249,8 @@ module _ {z : Sizes} {r r' : Run} {s : ℕ} {choice : Choice} {l l' : Local} whe
 
   -- The pass of the next seat.
 
-  -- a seat that is in no pass, or whose word says an epoch above the number, has none that began before the number was drawn
+  -- a seat that is in no pass, or whose word says an epoch above the number, has none that began
+  -- before the number was drawn
   pub looked : (j : ℕ) → Happens z r r' s choice l l' (SeekPass j) → Shape z r → IsYoung l.rebalance.number (pass_of_word (word z r.world (name.Pass j))) → (since at : ℕ) → r.ledger.rows.passes j ≡ Some since → r.ledger.rows.numbered l.rebalance.number ≡ Some at → at < since
   looked j h i young since at p n = which (cases_lt j (length r.world.locals))
     where
@@ -274,7 +279,8 @@ module _ {z : Sizes} {r r' : Run} {s : ℕ} {choice : Choice} {l l' : Local} whe
     before = omega (arith, i.rows.past.begun t since p, ap (λ (f : Fate). f.gone) y.fate);
   }
 
-  -- the row, if it is dead, is retired with the number or went in the pass of the seat: so it is after the event
+  -- the row, if it is dead, is retired with the number or went in the pass of the seat: so it is
+  -- after the event
   asked_after : (a : Activity) → Happens z r r' s choice l l' a → Shape z r → (t q m since : ℕ) → r.ledger.rows.passes t ≡ Some since → r'.ledger.rows.passes t ≡ r.ledger.rows.passes t →
       (IsDead r.ledger.rows q → ((rows_in (word z r.world)).state q ≡ row.Retired m) ⊎ WasHeld r.ledger.rows t q) → IsDead r'.ledger.rows q → ((rows_in (word z r'.world)).state q ≡ row.Retired m) ⊎ WasHeld r'.ledger.rows t q
   asked_after a h i t q m since p same was d = which (dead_before a h i q d)
@@ -299,7 +305,8 @@ module _ {z : Sizes} {r r' : Run} {s : ℕ} {choice : Choice} {l l' : Local} whe
       which (inl x) = held_still r.ledger.rows r'.ledger.rows t q (was x.0) x.1 same
       which (inr y) = goes_held t q a h i since p (same ∙ p) y
 
-  -- a pass that is on after the event was on before, or begins now, after all numbers that were drawn
+  -- a pass that is on after the event was on before, or begins now, after all numbers that were
+  -- drawn
   pass_now : (a : Activity) → Happens z r r' s choice l l' a → Shape z r → (j since m at : ℕ) → r'.ledger.rows.passes j ≡ Some since → r.ledger.rows.numbered m ≡ Some at → (r.ledger.rows.passes j ≡ Some since → at < since) → at < since
   pass_now Enter h i j since m at p n f = which (cases_eq j s)
     where
@@ -318,7 +325,8 @@ module _ {z : Sizes} {r r' : Run} {s : ℕ} {choice : Choice} {l l' : Local} whe
       which (inr d) = f (sym (others_kept Again h j d) ∙ p)
   pass_now a h i j since m at p n f = f (sym (others_stay a h j (λ x e. x)) ∙ p)
 
-  -- What a seat knows that is in its pass before and after the event, and whose row and number stay.
+  -- What a seat knows that is in its pass before and after the event, and whose row and number
+  -- stay.
   stays_known : (a : Activity) → Happens z r r' s choice l l' a → Shape z r → (t since : ℕ) (b : Activity) (k : Local) → r.ledger.rows.passes t ≡ Some since → r'.ledger.rows.passes t ≡ r.ledger.rows.passes t → Sought z (word z r.world) r.ledger.rows t b k → Sought z (word z r'.world) r'.ledger.rows t b k
   stays_known a h i t since b k p same x = record {
     drawn = λ o. let y = x.drawn o in (y.0, kept o ∙ y.1);

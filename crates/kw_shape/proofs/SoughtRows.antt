@@ -19,16 +19,18 @@ use Rattle.kw_world.specs.Step.{word}
 use Rattle.kw_world.specs.Transition.{Outcome}
 use Rattle.kw_core.specs.Run.{Run}
 use Rattle.kw_core.specs.Words.{Words}
-use Rattle.kw_core.proofs.Building.{Building, IsBuilding, first_is_free, first_is_taken, sought_is_free, sought_is_taken, first_is_retired, sought_is_retired, pass_is_old, pass_is_young, frees_row, takes_row, loses_row, gives_last_back, writes_first, writes_entry, writes_after, begins_before, takes_head_before, leads_on_marked, leads_nowhere, walks_past, is_marked_before, is_replaced, retires_row, building}
+use Rattle.kw_core.proofs.Building.{Building, IsBuilding, first_is_free, first_is_taken, sought_is_free, sought_is_taken, first_is_retired, sought_is_retired, pass_is_old, pass_is_young, frees_row, takes_row, loses_row, gives_last_back, writes_first, writes_entry, writes_after, begins_before, takes_head_before, leads_on_marked, leads_nowhere, walks_past, is_marked_before, is_replaced, retires_row, building, retires_and_leaves}
 use Rattle.kw_core.proofs.Happens.{Happens}
-use Rattle.kw_core.proofs.NextBuilt.{GivenBack, tries_again, is_refused_rows, moves_left, NextBack, gives_back, has_none, NextSeek, asks, has_asked, NextPass, looks_on, has_looked, NextTaken, wants_more, has_enough, NextNewRow, writes_row, has_written, NextNewCell, fills, empties, has_cells, NextNewEntry, writes_idle, has_entries, NextBefore, is_first, is_behind, next_pass, next_seek, next_taken}
+use Rattle.kw_core.proofs.NextBuilt.{GivenBack, tries_again, is_refused_rows, moves_left, NextBack, gives_back, has_none, NextSeek, asks, has_asked, NextPass, looks_on, has_looked, NextTaken, wants_more, has_enough, NextNewRow, writes_row, has_written, NextNewCell, fills, empties, has_cells, NextNewEntry, writes_idle, has_entries, NextBefore, is_first, is_behind, next_pass, next_seek, next_taken, was_done, was_served}
 use Rattle.kw_shape.proofs.Known.{IsSoughtIn}
 
 module _ (rows : ℕ) (some : 0 < rows) where
   -- nothing is sought any more
   given_sought : (a : Afterwards) (l k : Local) → GivenBack l a k → IsSoughtIn rows k
-  given_sought a l k tries_again = record { sought = some; asked = omega arith }
-  given_sought a l k is_refused_rows = record { sought = some; asked = omega arith }
+  given_sought a l k (tries_again nd) = record { sought = some; asked = omega arith }
+  given_sought a l k (was_done dn) = record { sought = some; asked = omega arith }
+  given_sought a l k (is_refused_rows nd) = record { sought = some; asked = omega arith }
+  given_sought a l k (was_served dn) = record { sought = some; asked = omega arith }
   given_sought a l k moves_left = record { sought = some; asked = omega arith }
 
   back_sought : (a : Afterwards) (l k : Local) → NextBack a l k → IsSoughtIn rows l → IsSoughtIn rows k
@@ -96,7 +98,8 @@ module _ (rows : ℕ) (some : 0 < rows) where
   kept_sought z v choice l a k (walks_past next o y) n i = back_sought _ l next y i
   kept_sought z v choice l a k (is_marked_before next e y) n i = back_sought _ l next y i
   kept_sought z v choice l a k (is_replaced next d y) n i = back_sought _ l next y i
-  kept_sought z v choice l a k retires_row n i = record { sought = some; asked = omega arith }
+  kept_sought z v choice l a k (retires_row nd) n i = record { sought = some; asked = omega arith }
+  kept_sought z v choice l a k (retires_and_leaves dn) n i = record { sought = some; asked = omega arith }
   kept_sought z v choice l a k _ n i = assumption i
 
   -- a search that meets a state

@@ -1,5 +1,6 @@
--- Where a seat goes along the rows, by the arrow that it takes: from a row that it may name to the one after it, until it is at the row
--- of its wanted key. The words and the ledger are those before the event.
+-- Where a seat goes along the rows, by the arrow that it takes: from a row that it may name to the
+-- one after it, until it is at the row of its wanted key. The words and the ledger are those before
+-- the event.
 use Rattle.std.proofs.Common.{ℕ, ◌≡◌, ◌⊎◌, inl, inr, ◌<◌, ◌≤◌, true, Some, None, arith, refl, sym, ◌∙◌, ap, subst}
 use Rattle.std.proofs.lemmas.Option.{same_Some}
 use Rattle.kw_words.specs.declared.layout.Name.TheVariants as name

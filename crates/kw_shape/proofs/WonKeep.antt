@@ -1,4 +1,5 @@
--- What a seat knows once it has replaced its full row, and where it moves when it finds the row before its full one marked.
+-- What a seat knows once it has replaced its full row, and where it moves when it finds the row
+-- before its full one marked.
 use Rattle.std.proofs.Common.{ℕ, zero, suc, ◌≡◌, ◌≢◌, ◌⊎◌, inl, inr, ◌+◌, ◌<◌, false, true, List, [], ◌∷◌, Option, Some, None, arith, refl, sym, ◌∙◌, ap, subst, length, slice_get}
 use Rattle.std.proofs.lemmas.Option.{same_Some}
 use Rattle.kw_words.specs.declared.layout.Name.TheVariants as name
@@ -30,13 +31,12 @@ use Rattle.kw_core.proofs.Arrows.{Arrow}
 use Rattle.kw_core.proofs.Building.{Building, first_is_taken, sought_is_taken, pass_is_old, pass_is_young, takes_row, loses_row, gives_last_back, writes_first, writes_entry, writes_after, begins_before, takes_head_before, leads_on_marked, leads_nowhere, walks_past, replaces_row, is_marked_before, is_replaced, makes_normal, makes_last_normal, draws_number, marked_link}
 use Rattle.kw_core.proofs.Fates.{fate_of_full, fate_of_new, number_of_drawn}
 use Rattle.kw_core.proofs.Happens.{Happens}
-use Rattle.kw_core.proofs.NextBuilt.{GivenBack, is_refused_rows, moves_left, tries_again, NextBack, gives_back, has_none, NextPass, has_looked, looks_on, NextSeek, asks, has_asked, NextTaken, has_enough, wants_more, NextNewCell, empties, fills, has_cells, NextNewEntry, has_entries, writes_idle, NextNewRow, has_written, writes_row, NextBefore, is_behind, is_first}
+use Rattle.kw_core.proofs.NextBuilt.{GivenBack, is_refused_rows, moves_left, tries_again, NextBack, gives_back, has_none, NextPass, has_looked, looks_on, NextSeek, asks, has_asked, NextTaken, has_enough, wants_more, NextNewCell, empties, fills, has_cells, NextNewEntry, has_entries, writes_idle, NextNewRow, has_written, writes_row, NextBefore, is_behind, is_first, was_done, was_served}
 use Rattle.kw_shape.proofs.Comings.{Comes, comes, goes_on, seeks, stays_out, won_builds}
 use Rattle.kw_shape.proofs.InfantsRely.{linked_not_infant}
 use Rattle.kw_shape.proofs.LinkedRows.{balance_at, fresh_linked, held_dead, infants_at, linked_keeps}
-use Rattle.kw_shape.proofs.OwnRows.{own_rely}
+use Rattle.kw_shape.proofs.RowsKeep.{own_rely, others_kept, rely_rows, won_at}
 use Rattle.kw_shape.proofs.PassesKeep.{old_number}
-use Rattle.kw_shape.proofs.RowsKeep.{others_kept, rely_rows, won_at}
 use Rattle.kw_shape.specs.Infants.{Infants}
 use Rattle.kw_shape.specs.RowsIn.{has_mark}
 use Rattle.kw_shape.specs.Search.{Search}
@@ -55,8 +55,10 @@ IsPlain a = (IsClock a → ⊥) × (HasWon a → ⊥)
 -- Where a part of the building has no event of its own, a seat that is not to move does neither.
 
 given_plain : (c : Afterwards) (k next : Local) → (c ≡ MoveLeft → ⊥) → GivenBack k c next → IsPlain next.activity
-given_plain c k next n tries_again = (λ x. x, λ x. x)
-given_plain c k next n is_refused_rows = (λ x. x, λ x. x)
+given_plain c k next n (tries_again nd) = (λ x. x, λ x. x)
+given_plain c k next n (was_done dn) = (λ x. x, λ x. x)
+given_plain c k next n (is_refused_rows nd) = (λ x. x, λ x. x)
+given_plain c k next n (was_served dn) = (λ x. x, λ x. x)
 given_plain c k next n moves_left = absurd (n refl)
 
 back_plain : (c : Afterwards) (k next : Local) → (c ≡ MoveLeft → ⊥) → NextBack c k next → IsPlain next.activity
@@ -94,8 +96,10 @@ before_plain q k next (is_behind d) = (λ x. x, λ x. x)
 
 -- a seat that has given all rows back to move has not replaced its row
 given_unwon : (c : Afterwards) (k next : Local) → GivenBack k c next → HasWon next.activity → ⊥
-given_unwon c k next tries_again x = x
-given_unwon c k next is_refused_rows x = x
+given_unwon c k next (tries_again nd) x = x
+given_unwon c k next (was_done dn) x = x
+given_unwon c k next (is_refused_rows nd) x = x
+given_unwon c k next (was_served dn) x = x
 given_unwon c k next moves_left x = x
 
 back_unwon : (c : Afterwards) (k next : Local) → NextBack c k next → HasWon next.activity → ⊥
@@ -119,8 +123,10 @@ module _ (v : Words) (g : Ledger) (t : ℕ) (l : Local) where
   back_moves p e f m next (has_none k o y) x = arrives p e f m next y
 
   given_moves : (c : Afterwards) → l.rebalance.afterwards ≡ c → (next : Local) → GivenBack l c next → IsClock next.activity → (c ≡ MoveLeft → Moves v g t next) → Moves v g t next
-  given_moves c e next tries_again x f = absurd x
-  given_moves c e next is_refused_rows x f = absurd x
+  given_moves c e next (tries_again nd) x f = absurd x
+  given_moves c e next (was_done dn) x f = absurd x
+  given_moves c e next (is_refused_rows nd) x f = absurd x
+  given_moves c e next (was_served dn) x f = absurd x
   given_moves c e next moves_left x f = f refl
 
   -- a mark in the link of the head is met nowhere

@@ -1,8 +1,8 @@
--- What a seat knows of the full row that it rebalances: it may name the row and knows its least key, and it knows how far the row's group
--- is, in the words of the laws of rows (`kw_rows`).
+-- What a seat knows of the full row that it rebalances: it may name the row and knows its least
+-- key, and it knows how far the row's group is, in the words of the laws of rows (`kw_rows`).
 --
--- A rebalance replaces one row, so the group is that row alone. Once the row is decided, what the seat knows of it stays so whatever
--- others do, also when somebody else has replaced the row.
+-- A rebalance replaces one row, so the group is that row alone. Once the row is decided, what the
+-- seat knows of it stays so whatever others do, also when somebody else has replaced the row.
 use Rattle.std.specs.Prelude.{ℕ, ◌≡◌, true}
 use Rattle.kw_world.specs.declared.activity.Activity.{Activity}
 use Rattle.kw_world.specs.declared.activity.Activity.TheVariants.{MarkLink, Decide, FreezeCount, FreezeLook, Freeze, ScanLook, HelpDraw, HelpSettle, TakeFrom, TakeKey, TakeVersion, TakeValue, TakeRestKey, TakeRestValue, SeekFirst, Seek, SeekPass, Reclaim, TakeRow, GiveBack, WriteCount, WriteMin, WriteNext, WriteFirst, WritePend, WriteKey, WriteValue, WriteVersion, WriteAfter, Before, BeforeGuess, BeforeHead, BeforeLink, BeforeMin, Replace}
@@ -13,8 +13,8 @@ use Rattle.kw_rows.specs.Ledger.{Ledger, IsFresh}
 use Rattle.kw_rows.specs.Group.{View, Elsewhere, Marking, Opened, Alone, Group}
 use Rattle.kw_shape.specs.RowsIn.{rows_in}
 
--- how far the seat is with its row, which goes alone: it marks its link; it knows the row after it, and decides; it is decided, until the
--- row is replaced by this seat or the seat gives up
+-- how far the seat is with its row, which goes alone: it marks its link; it knows the row after it,
+-- and decides; it is decided, until the row is replaced by this seat or the seat gives up
 abbrev pub view_of : Activity → Local → View
 view_of (MarkLink count) l = Marking l.row count
 view_of (Decide count) l = Opened l.row l.rebalance.after

@@ -1,8 +1,10 @@
--- What a seat knows of the rows that it takes for a rebalance: they are its own, and the words that it has written of them stand.
+-- What a seat knows of the rows that it takes for a rebalance: they are its own, and the words that
+-- it has written of them stand.
 --
--- A row is an infant of the seat that took it until it is linked or given back, and nobody else writes a word of it. They are written one
--- after the other, each from its count to the link behind its last cell. Once all are written, every word of each stands, until they are linked. Taken rows are given back
--- from the first on.
+-- A row is an infant of the seat that took it until it is linked or given back, and nobody else
+-- writes a word of it. They are written one after the other, each from its count to the link behind
+-- its last cell. Once all are written, every word of each stands, until they are linked. Taken rows
+-- are given back from the first on.
 use Rattle.std.specs.Prelude.{ℕ, ◌≡◌, ◌<◌, ◌≤◌, Some, length, slice_get}
 use Rattle.kw_words.specs.declared.layout.Name.TheVariants as name
 use Rattle.kw_words.specs.declared.pend.Pend.TheVariants as pend
@@ -27,7 +29,8 @@ pub record IsInfantOf (g : Ledger) (t q : ℕ) : Type 0 where
 
 -- Where a seat is with its infants.
 
--- how far: it seeks and takes rows, it gives them back, it writes them, or all are written and are to be linked; elsewhere it has none
+-- how far: it seeks and takes rows, it gives them back, it writes them, or all are written and are
+-- to be linked; elsewhere it has none
 pub data Nursing : Type 0 where
   HasNone : Nursing
   Takes : Nursing
@@ -90,8 +93,9 @@ abbrev pub IsWriting : Nursing → Type 0
 IsWriting Writes = Unit {0}
 IsWriting _ = ⊥
 
--- What is written of a row, where the seat is about to make the event of an activity. The words come in the order of the activities: its count, its
--- least key, its link, its first cell, its entries, and of each cell the key, the value, the version and the link behind it. A place for
+-- What is written of a row, where the seat is about to make the event of an activity. The words
+-- come in the order of the activities: its count, its least key, its link, its first cell, its
+-- entries, and of each cell the key, the value, the version and the link behind it. A place for
 -- which the row has no cell gets a version and a link alone.
 
 abbrev pub HasCount : Activity → Type 0
@@ -172,7 +176,8 @@ HasAfter (WriteVersion k) j = j < k
 HasAfter (WriteAfter k) j = j < k
 HasAfter _ j = Unit {0}
 
--- the words of row q that stand, where it is the row at hand of a seat that knows l and is about to do this
+-- the words of row q that stand, where it is the row at hand of a seat that knows l and is about to
+-- do this
 pub record Written (z : Sizes) (v : Words) (a : Activity) (l : Local) (q : ℕ) : Type 0 where
   pub count : HasCount a → v (name.Count q) ≡ count_word (infant_count l)
   pub least : HasLeast a → v (name.Min q) ≡ key_word (infant_least l)
@@ -186,9 +191,10 @@ pub record Written (z : Sizes) (v : Words) (a : Activity) (l : Local) (q : ℕ) 
 
 -- The rows of a seat.
 
--- the rows that the seat took are its infants, and differ; one is at hand where rows are written or given back, and there is one for each
--- start once they are written; and the words that were written stand: all of each row before the one at hand, what was written of that one,
--- and all of all rows while the row before the full one is sought
+-- the rows that the seat took are its infants, and differ; one is at hand where rows are written or
+-- given back, and there is one for each start once they are written; and the words that were
+-- written stand: all of each row before the one at hand, what was written of that one, and all of
+-- all rows while the row before the full one is sought
 pub record Infants (z : Sizes) (v : Words) (g : Ledger) (t : ℕ) (a : Activity) (l : Local) : Type 0 where
   pub owned : (i q : ℕ) → IsNursed (nursing_of a) l i → slice_get l.rebalance.taken i ≡ Some q → IsInfantOf g t q
   pub apart : (i j q : ℕ) → IsNursed (nursing_of a) l i → IsNursed (nursing_of a) l j → slice_get l.rebalance.taken i ≡ Some q → slice_get l.rebalance.taken j ≡ Some q → i ≡ j
@@ -201,6 +207,7 @@ pub record Infants (z : Sizes) (v : Words) (g : Ledger) (t : ℕ) (a : Activity)
 abbrev pub IsNursedRow : Activity → Local → ℕ → Type 0
 IsNursedRow a l q = (i : ℕ) × IsNursed (nursing_of a) l i × (slice_get l.rebalance.taken i ≡ Some q)
 
--- the seat has lost none: each row that it took, and that is neither linked nor given back, is one of those that it has
+-- the seat has lost none: each row that it took, and that is neither linked nor given back, is one
+-- of those that it has
 abbrev pub HasLostNone : Ledger → ℕ → Activity → Local → Type 0
 HasLostNone g t a l = (q : ℕ) → IsInfantOf g t q → IsNursedRow a l q

@@ -1,4 +1,5 @@
--- Which keys stand in the cells of rows: the cells that an entry names, or to which a link leads, have keys that their row may hold.
+-- Which keys stand in the cells of rows: the cells that an entry names, or to which a link leads,
+-- have keys that their row may hold.
 use Rattle.std.specs.Prelude.{ℕ, ◌≡◌, ◌<◌, All, Option, Some, None}
 use Rattle.kw_words.specs.declared.layout.Name.TheVariants as name
 use Rattle.kw_words.specs.declared.pend.Pend.{Pend}

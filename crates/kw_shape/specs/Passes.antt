@@ -1,7 +1,9 @@
--- What holds of the passes of seats and of the numbers of retired rows: the words and the ledger agree.
+-- What holds of the passes of seats and of the numbers of retired rows: the words and the ledger
+-- agree.
 --
--- A seat is in a pass from the event that stores its epoch to the one that clears it. A number is drawn at the epoch, which rises with
--- it: so a number below the epoch of a pass that is on was drawn before the pass began.
+-- A seat is in a pass from the event that stores its epoch to the one that clears it. A number is
+-- drawn at the epoch, which rises with it: so a number below the epoch of a pass that is on was
+-- drawn before the pass began.
 use Rattle.std.specs.Prelude.{ℕ, ◌≡◌, ◌<◌, ◌≤◌, Some, None}
 use Rattle.kw_words.specs.declared.layout.Name.TheVariants as name
 use Rattle.kw_words.specs.Plain.{pass_word}
@@ -22,7 +24,8 @@ pub record IsInNone (v : Words) (g : Ledger) (t : ℕ) : Type 0 where
   pub passes : g.passes t ≡ None
   pub word : v (name.Pass t) ≡ pass_word None
 
--- the pass of a seat: it is in one as long as its call says so, and the epoch that it loaded is not above the present one
+-- the pass of a seat: it is in one as long as its call says so, and the epoch that it loaded is not
+-- above the present one
 pub record Passes (v : Words) (g : Ledger) (t : ℕ) (a : Activity) (l : Local) : Type 0 where
   pub in_pass : IsPassing a → IsInPass v g t l
   pub in_none : (IsPassing a → ⊥) → IsInNone v g t

@@ -1,4 +1,5 @@
--- Counts over all seats: how many are about to ask a row for a cell, and how many versions they may still draw.
+-- Counts over all seats: how many are about to ask a row for a cell, and how many versions they may
+-- still draw.
 use Rattle.std.specs.Prelude.{ℕ, ◌+◌, ◌-◌, ◌==◌, if◌then◌else◌, List, [], ◌∷◌}
 use Rattle.kw_world.specs.declared.activity.Activity.{Activity}
 use Rattle.kw_world.specs.declared.activity.Activity.TheVariants.{ScanWait, ScanDraw, PutAdd, BalEpoch, BalState, BalNormal, Engage, MarkLink, Decide, FreezeCount, FreezeLook, Freeze, ScanLook, HelpDraw, HelpSettle}
@@ -14,8 +15,9 @@ abbrev pub adders : ℕ → List Local → ℕ
 adders r [] = 0
 adders r (l ∷ locals) = adding l.activity l.row r + adders r locals
 
--- how many versions a seat may still draw before it asks the clock anew, where there are n seats: 1 for one that is about to draw, or to wait
--- and then draw; and one for each scan that a seat which rebalances has still to look at
+-- how many versions a seat may still draw before it asks the clock anew, where there are n seats: 1
+-- for one that is about to draw, or to wait and then draw; and one for each scan that a seat which
+-- rebalances has still to look at
 abbrev pub drawing : ℕ → Activity → ℕ
 drawing n ScanWait = 1
 drawing n ScanDraw = 1

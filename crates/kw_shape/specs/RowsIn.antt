@@ -1,6 +1,7 @@
--- The rows of a world as the laws of rows see them (`kw_rows`): where the head and each link lead, what is marked and frozen, the least
--- keys, and the states. A word that stands for nothing reads as that of a free row with no next one; a row that the table does not
--- have has words of 0, and so reads as one too.
+-- The rows of a world as the laws of rows see them (`kw_rows`): where the head and each link lead,
+-- what is marked and frozen, the least keys, and the states. A word that stands for nothing reads
+-- as that of a free row with no next one; a row that the table does not have has words of 0, and so
+-- reads as one too.
 use Rattle.std.specs.Prelude.{Bool, false, Option, Some, None}
 use Rattle.kw_words.specs.declared.layout.Name.TheVariants as name
 use Rattle.kw_words.specs.declared.count.Count.{Count}

@@ -1,7 +1,9 @@
--- What a seat knows of the row before its full one, while it seeks that row and until it exchanges the link there.
+-- What a seat knows of the row before its full one, while it seeks that row and until it exchanges
+-- the link there.
 --
--- The walk to it goes along rows whose least keys are below that of the full row. Where that is not so, the full row is the first of the
--- list, or was and is in it no more: a row of least key 0 has none before it.
+-- The walk to it goes along rows whose least keys are below that of the full row. Where that is not
+-- so, the full row is the first of the list, or was and is in it no more: a row of least key 0 has
+-- none before it.
 use Rattle.std.specs.Prelude.{ℕ, ◌≡◌, ◌⊎◌, ◌<◌, Some}
 use Rattle.kw_rows.specs.Ledger.{Ledger, IsDead, IsFresh}
 use Rattle.kw_world.specs.declared.activity.Activity.{Activity}
@@ -10,7 +12,8 @@ use Rattle.kw_world.specs.declared.local.Local.{Local}
 use Rattle.kw_world.specs.declared.rebalance.Afterwards.TheVariants.{MoveLeft}
 use Rattle.kw_core.specs.Words.{Words, least_in}
 
--- the seat knows a row before its own, if it knows one: on its walk and at its end, and where it is about to move there
+-- the seat knows a row before its own, if it knows one: on its walk and at its end, and where it is
+-- about to move there
 abbrev pub IsSearching : Activity → Local → Type 0
 IsSearching BeforeGuess l = Unit {0}
 IsSearching BeforeLink l = Unit {0}
@@ -27,7 +30,8 @@ IsMeasured Replace l = Unit {0}
 IsMeasured GiveBack l = l.rebalance.afterwards ≡ MoveLeft
 IsMeasured _ l = ⊥
 
--- it knows one: only the walk's end may find that there is none before the full row, which is the first then
+-- it knows one: only the walk's end may find that there is none before the full row, which is the
+-- first then
 abbrev pub HasBefore : Activity → Local → Type 0
 HasBefore BeforeGuess l = Unit {0}
 HasBefore BeforeLink l = Unit {0}
@@ -40,11 +44,13 @@ abbrev pub HasMetNext : Activity → Type 0
 HasMetNext BeforeMin = Unit {0}
 HasMetNext _ = ⊥
 
--- the row is before the full one: its least key is below that one's, or the full row is dead and its least key is 0
+-- the row is before the full one: its least key is below that one's, or the full row is dead and
+-- its least key is 0
 abbrev pub IsLeft : Words → Ledger → Local → ℕ → Type 0
 IsLeft v g l p = (least_in v p < l.lower) ⊎ IsDead g l.row × (l.lower ≡ 0)
 
--- the seat may name the row, knows its least key, and it is before the full one; the seat may name the row that it has met behind it
+-- the seat may name the row, knows its least key, and it is before the full one; the seat may name
+-- the row that it has met behind it
 pub record Search (v : Words) (g : Ledger) (t : ℕ) (a : Activity) (l : Local) : Type 0 where
   pub some : HasBefore a l → (p : ℕ) × (l.rebalance.before ≡ Some p)
   pub fresh : (p : ℕ) → IsSearching a l → l.rebalance.before ≡ Some p → IsFresh g t p

@@ -1,5 +1,6 @@
--- What holds of the rows and of where each seat is: the rows as a list, the room in the counts, which activities a call has, and at
--- which row a seat walks. A seat names rows that are in the list, or were so in its pass (`IsFresh`, of `kw_rows`).
+-- What holds of the rows and of where each seat is: the rows as a list, the room in the counts,
+-- which activities a call has, and at which row a seat walks. A seat names rows that are in the
+-- list, or were so in its pass (`IsFresh`, of `kw_rows`).
 --
 -- The words are a function of names here, so that a fact says what it reads.
 use Rattle.std.specs.Prelude.{ℕ, ◌≡◌, ◌⊎◌, ◌+◌, ◌*◌, ◌<◌, ◌≤◌, true, Option, Some, None, length, slice_get}
@@ -11,6 +12,7 @@ use Rattle.kw_world.specs.declared.answer.Answer.{Answer}
 use Rattle.kw_world.specs.declared.answer.Answer.TheVariants.{Done, Value, Absent, Pairs, NoRows, Spent, Stopped}
 use Rattle.kw_world.specs.declared.activity.Activity.{Activity}
 use Rattle.kw_world.specs.declared.activity.Activity.TheVariants.{Idle, ScanClock, ScanWait, ScanDraw, ScanSettle, GuessMin, Walk, WalkMin, Look, LookKey, LookClock, LookHelp, ListFrom, ListKey, ListVer, ListVal, RestKey, RestVal, ClearScan, PutCount, PutAdd, PutKey, PutValue, Announce, PutClock, Stamp, PutVersion, InsFrom, InsKey, InsVer, InsSet, Insert, PutClear, Leave, AgainEpoch, MarkLink, Decide}
+use Rattle.kw_world.specs.declared.limits.TheConstants.{TIDY_SHARE}
 use Rattle.kw_world.specs.declared.local.Local.{Local}
 use Rattle.kw_world.specs.Sizes.{Sizes}
 use Rattle.kw_world.specs.Calls.{first_key, last_key, is_scan}
@@ -19,7 +21,7 @@ use Rattle.kw_world.specs.Step.{word}
 pub use Rattle.kw_core.specs.Words.{Words, next_in, least_in, given_in}
 use Rattle.kw_core.specs.declared.stage.Stage.{Stage}
 use Rattle.kw_core.specs.declared.stage.Stage.TheVariants.{Rebalancing, Retrying}
-use Rattle.kw_core.specs.Stages.{stage_of, IsStarting, IsCovering, IsAtRow, IsPastStart}
+use Rattle.kw_core.specs.Stages.{stage_of, IsBalancing, IsDone, IsStarting, IsCovering, IsAtRow, IsPastStart}
 use Rattle.kw_core.specs.Run.{Run}
 use Rattle.kw_rows.specs.Ledger.{Ledger, Free, IsFresh}
 use Rattle.kw_rows.specs.RowState.{IsEngaged}
@@ -46,7 +48,8 @@ HoldsKey v g q key = rows.HoldsKey (rows_in v) g q key
 
 -- Where a seat is.
 
--- the row n stands after the one of the seat, which knows its minimum: the range of its row ends there, above the wanted key
+-- the row n stands after the one of the seat, which knows its minimum: the range of its row ends
+-- there, above the wanted key
 pub record IsAfterRow (v : Words) (g : Ledger) (t : ℕ) (l : Local) (n : ℕ) : Type 0 where
   pub fresh : IsFresh g t n
   pub least : l.upper ≡ least_in v n
@@ -60,16 +63,18 @@ pub record IsAtItsRow (v : Words) (g : Ledger) (t : ℕ) (l : Local) : Type 0 wh
   pub last : l.next ≡ None → (g.fates l.row).upper ≡ None
   pub next : (n : ℕ) → l.next ≡ Some n → IsAfterRow v g t l n
 
--- the seat may name the row that its walk is on, whose minimum is at most the wanted key, and the candidate, where the row's range ends
+-- the seat may name the row that its walk is on, whose minimum is at most the wanted key, and the
+-- candidate, where the row's range ends
 abbrev pub IsOnWalk : Activity → Words → Ledger → ℕ → Local → Type 0
 IsOnWalk GuessMin v g t l = IsFresh g t l.row
 IsOnWalk Walk v g t l = IsFresh g t l.row × (least_in v l.row ≤ l.want)
 IsOnWalk WalkMin v g t l = IsFresh g t l.row × (least_in v l.row ≤ l.want) × IsFresh g t l.candidate × ((g.fates l.row).upper ≡ Some (least_in v l.candidate))
 IsOnWalk _ v g t l = Unit {0}
 
--- what a seat's walk is at. A put, a delete or a get wants its key throughout; a scan wants its first key, or the minimum of the
--- row to which it went on. From the first row on the seat knows the minimum of the row that it is at; as minima rise along the
--- links, so does what it knows from row to row, and the walk ends
+-- what a seat's walk is at. A put, a delete or a get wants its key throughout; a scan wants its
+-- first key, or the minimum of the row to which it went on. From the first row on the seat knows
+-- the minimum of the row that it is at; as minima rise along the links, so does what it knows from
+-- row to row, and the walk ends
 pub record Walks (v : Words) (g : Ledger) (t : ℕ) (a : Activity) (l : Local) : Type 0 where
   pub on : IsOnWalk a v g t l
   pub lower : IsPastStart a → l.lower ≡ least_in v l.row
@@ -172,16 +177,18 @@ pub record Kinds (a : Activity) (l : Local) : Type 0 where
 
 -- The group.
 
--- what holds of a run, whatever its record says of calls: the world is sane, each row has room for the cells that are asked for, the
--- clock for the versions that are drawn, the rows have the structure of a list whose rows come and go, and each seat is where its call
--- has it
+-- what holds of a run, whatever its record says of calls: the world is sane, each row has room for
+-- the cells that are asked for, the clock for the versions that are drawn, the rows have the
+-- structure of a list whose rows come and go, and each seat is where its call has it
 pub record Shape (z : Sizes) (r : Run) : Type 0 where
   pub sane : IsSane z r.world
-  -- of one key a row that is built has room for more cells than scans may need at once, so the new rows of one full row differ in their least keys
+  -- of one key a row that is built has room for more cells than scans may need at once, so the new
+  -- rows of one full row differ in their least keys
   pub built : z.seats < z.built
   pub room : (q : ℕ) → q < r.world.rows → given_in (word z r.world) q + adders q r.world.locals < z.cells + z.seats
   pub clock : word z r.world name.Clock + drawers z.seats r.world.locals ≤ SPENT + z.seats * z.seats
-  -- the live rows are one list, rows that a seat may name lead to such rows, and states and marks go with the fates
+  -- the live rows are one list, rows that a seat may name lead to such rows, and states and marks
+  -- go with the fates
   pub rows : Structure (rows_in (word z r.world)) r.ledger.rows (length r.history.log)
   -- a row that the table does not have is free
   pub beyond : (q : ℕ) → r.world.rows ≤ q → (r.ledger.rows.fates q).status ≡ Free
@@ -191,13 +198,18 @@ pub record Shape (z : Sizes) (r : Run) : Type 0 where
   pub epoch : word z r.world name.Epoch + numberers r.world.locals ≤ SPENT + z.seats
   pub numbers : Numbers (word z r.world) r.ledger.rows
   pub kinds : (t : ℕ) (l : Local) → slice_get r.world.locals t ≡ Some l → Kinds l.activity l
+  -- a seat that tidies, since its put was done before, rebalances its row, or is about to leave
+  pub tidies : (t : ℕ) (l : Local) → slice_get r.world.locals t ≡ Some l → l.tidies ≡ true → IsBalancing l.activity ⊎ IsDone l.activity
+  -- no seat tidies before so many rows were retired that the table has few for each number of the
+  -- seat's pass
+  pub offered : (t : ℕ) (l : Local) → slice_get r.world.locals t ≡ Some l → l.tidies ≡ true → r.world.rows < TIDY_SHARE * l.epoch
   pub passes : (t : ℕ) (l : Local) → slice_get r.world.locals t ≡ Some l → Passes (word z r.world) r.ledger.rows t l.activity l
   -- a seat that the table does not have is in no pass
   pub outside : (t : ℕ) → length r.world.locals ≤ t → r.ledger.rows.passes t ≡ None
   pub walks : (t : ℕ) (l : Local) → slice_get r.world.locals t ≡ Some l → Walks (word z r.world) r.ledger.rows t l.activity l
   pub balances : (t : ℕ) (l : Local) → slice_get r.world.locals t ≡ Some l → Balances (word z r.world) r.ledger.rows t l.activity l
-  -- each seat knows keys of its row, what it has planned, the rows that it took, of which none is lost, the row before its full one, and what it has
-  -- replaced
+  -- each seat knows keys of its row, what it has planned, the rows that it took, of which none is
+  -- lost, the row before its full one, and what it has replaced
   pub keys : (t : ℕ) (l : Local) → slice_get r.world.locals t ≡ Some l → Keys (word z r.world) r.ledger.rows l.activity l
   pub plans : (t : ℕ) (l : Local) → slice_get r.world.locals t ≡ Some l → Plans z l.activity l
   pub infants : (t : ℕ) (l : Local) → slice_get r.world.locals t ≡ Some l → Infants z (word z r.world) r.ledger.rows t l.activity l

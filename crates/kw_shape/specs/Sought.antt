@@ -1,9 +1,12 @@
--- What a seat knows of the retired row that it asks for, until it tries to take it: the number of the row was drawn, and each pass that it has
--- looked at and that is on began after that. So once it has looked at all, no pass is on in which the row may be named, unless the row was
--- used again meanwhile; and then it went in the seat's own pass, or has another state, and the exchange is lost.
+-- What a seat knows of the retired row that it asks for, until it tries to take it: the number of
+-- the row was drawn, and each pass that it has looked at and that is on began after that. So once
+-- it has looked at all, no pass is on in which the row may be named, unless the row was used again
+-- meanwhile; and then it went in the seat's own pass, or has another state, and the exchange is
+-- lost.
 --
--- A number is drawn after the rows that get it went, and passes are compared by where they began, not by their epochs: a seat that enters
--- after the look, with whatever epoch, begins its pass after the number was drawn.
+-- A number is drawn after the rows that get it went, and passes are compared by where they began,
+-- not by their epochs: a seat that enters after the look, with whatever epoch, begins its pass
+-- after the number was drawn.
 use Rattle.std.specs.Prelude.{ℕ, ◌≡◌, ◌⊎◌, ◌<◌, Some}
 use Rattle.kw_rows.specs.Ledger.{Ledger, IsDead, WasHeld}
 use Rattle.kw_rows.specs.RowState.{Retired}

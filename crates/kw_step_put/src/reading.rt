@@ -1,7 +1,7 @@
 //! What a reader learns from its events along a row's list, one function for each thing.
 //!
-//! None of these takes memory or changes what the seat does next: `resume_cells` puts the events together from them, and so
-//! does the running map, which makes each event by itself.
+//! None of these takes memory or changes what the seat does next: `resume_cells` puts the events
+//! together from them, and so does the running map, which makes each event by itself.
 ghost use Rattle.std.specs.Prelude.{◌≡◌, ◌≤◌, ◌<◌, true, false, length, remove, unwrap_or, IfSome, IfNone, None};
 ghost use Rattle.kw_words.specs.Plain.{value_of_word, version_of_word};
 ghost use Rattle.kw_words.specs.declared.sizes.TheConstants.{CELLS};
@@ -35,7 +35,8 @@ pub fn pass_cell(local: &mut Local)
     local.link = Some(local.place);
 }
 
-/// The reader was told the version of the cell that it met. A cell without one counts as one of version 1; no list has such a cell.
+/// The reader was told the version of the cell that it met. A cell without one counts as one of
+/// version 1; no list has such a cell.
 #[inline(always)]
 pub fn hold_version(local: &mut Local, found: u64)
     ensures { local.new ≡ record local.old { place_version = unwrap_or (version_of_word found) 1 } }
@@ -43,7 +44,8 @@ pub fn hold_version(local: &mut Local, found: u64)
     local.place_version = unpack_version(found).unwrap_or(1);
 }
 
-/// The reader was told the value of the cell in hand, and gathers the cell. The answer is the place at which it was put.
+/// The reader was told the value of the cell in hand, and gathers the cell. The answer is the place
+/// at which it was put.
 #[inline(always)]
 pub fn gather(local: &mut Local, found: u64) -> Option<usize>
     ensures gathered { local.new ≡ gathering product (value_of_word found) local.old }
@@ -59,7 +61,8 @@ pub fn gather(local: &mut Local, found: u64) -> Option<usize>
     })
 }
 
-/// Takes a remembered cell of the least place in hand, whose key is to be loaded next. Whether there is one.
+/// Takes a remembered cell of the least place in hand, whose key is to be loaded next. Whether
+/// there is one.
 pub fn take_remembered(local: &mut Local) -> bool
     ensures taken { result ≡ true → record local.new { activity = Activity.RestKey }
         ≡ (to_rest local.old).local }

@@ -1,8 +1,8 @@
 //! What a seat knows after its event.
 //!
-//! The operation tells the seat a word, and nothing for a store. `put_resume` makes of that what the table says: the
-//! fields that the event's line names change, and the activity. Where a scan's pairs find no memory the local stays as it
-//! was, so a step that answers so has done nothing.
+//! The operation tells the seat a word, and nothing for a store. `put_resume` makes of that what
+//! the table says: the fields that the event's line names change, and the activity. Where a scan's
+//! pairs find no memory the local stays as it was, so a step that answers so has done nothing.
 ghost use Rattle.std.specs.Prelude.{◌≡◌, ◌<◌, ◌==◌, ℕ, if◌then◌else◌, IfOk, OnErr};
 ghost use Rattle.kw_world.specs.Sizes.{product};
 ghost use Rattle.kw_world.specs.Parts.{part_of};
@@ -16,7 +16,7 @@ ghost use Rattle.kw_world.specs.RowEnd.{MayEndRow};
 use crate::resume_cells::{list_from, list_key, list_value, list_version, rest_key, rest_value};
 use crate::resume_entries::{help, look, look_key};
 use crate::resume_insert::{insert, insert_from, insert_key, insert_version, start_insert};
-use crate::resume_put::{add, announce, count, stamp};
+use crate::resume_put::{add, announce, clear, count, stamp};
 use crate::resume_scan::{begin, clock, enter, settle};
 use kw_model::memory::Memory;
 use kw_world::activity::Activity;
@@ -24,17 +24,24 @@ use kw_world::answer::Answer;
 use kw_world::event::{Choice, StepDone};
 use kw_world::local::Local;
 
-/// What a seat knows after its event, where the operation told it this. However many rows there are, it is the same.
+/// What a seat knows after its event, where the table has so many rows and the operation told it
+/// this.
 ///
-/// Takes memory only where a scan has read a row to its end, for the row's pairs: no other call wants any, and a scan does
-/// at none but the last events of a row. Without it the local is as it was.
+/// A put that is done and may tidy its row alone asks for the number of rows. Takes memory only
+/// where a scan has read a row to its end, for the row's pairs: no other call wants any, and a scan
+/// does at none but the last events of a row. Without it the local is as it was.
 #[tactic(auto, unfolding(kw_world::specs::Step::transition_of))]
-pub fn put_resume(local: &mut Local, choice: Choice, told: u64) -> Result<StepDone, Memory>
+pub fn put_resume(
+    local: &mut Local,
+    rows: u32,
+    choice: Choice,
+    told: u64,
+) -> Result<StepDone, Memory>
     requires ranges { IsLocal product local.old }
     requires room { HasRoom product local.old }
     requires part { part_of choice local.old ≡ Part.Put }
     requires begin { CanBegin choice local.old }
-    ensures ok { IfOk result (λ done. (rows : ℕ) → outcome local.new done ≡ next_of product rows
+    ensures ok { IfOk result (λ done. outcome local.new done ≡ next_of product rows
         choice local.old told) }
     ensures err { OnErr result (local.new ≡ local.old) }
     ensures memory { OnErr result (MayEndRow local.old) }
@@ -80,7 +87,7 @@ pub fn put_resume(local: &mut Local, choice: Choice, told: u64) -> Result<StepDo
         Activity::InsVer => Ok(insert_version(local, told)),
         Activity::InsSet => Ok(to(local, Activity::Insert)),
         Activity::Insert => Ok(insert(local, told)),
-        Activity::PutClear => Ok(leave(local, Answer::Done)),
+        Activity::PutClear => Ok(clear(local, rows, choice)),
         Activity::Leave(answer) => Ok(end_call(local, answer)),
         _ => unreachable!(),
     }

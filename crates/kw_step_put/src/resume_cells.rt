@@ -1,8 +1,9 @@
 //! What a reader knows after its events along the row's list, and after the last of them.
 //!
-//! `reading` has what the events themselves tell. The end of a row's cells has no event of its own: it follows from the event that
-//! ends the walk, or from that on the last remembered cell that was not met. A get has its answer then. A scan adds the pairs of the
-//! row to its own, the one place of a step that takes memory, and goes on to the next row or ends.
+//! `reading` has what the events themselves tell. The end of a row's cells has no event of its own:
+//! it follows from the event that ends the walk, or from that on the last remembered cell that was
+//! not met. A get has its answer then. A scan adds the pairs of the row to its own, the one place
+//! of a step that takes memory, and goes on to the next row or ends.
 ghost use Rattle.std.specs.Prelude.{◌≡◌, ◌+◌, ◌<◌, ◌≤◌, ◌++◌, true, length, remove, IfOk, IfSome, IfNone, OnOk, OnErr};
 ghost use Rattle.kw_words.specs.Plain.{key_of_word, value_of_word, version_of_word, cell_of_link_word};
 ghost use Rattle.kw_words.specs.declared.sizes.TheConstants.{CELLS};
@@ -199,7 +200,8 @@ fn go_on(local: &mut Local, upto: u32) -> StepDone
     }
 }
 
-// Adds the pairs that the cells, which are in order, show at this version in a range of keys, or none of them.
+// Adds the pairs that the cells, which are in order, show at this version in a range of keys, or
+// none of them.
 fn add_pairs(
     pairs: &mut PairList,
     cells: &[Cell],

@@ -1,6 +1,7 @@
 //! What a reader knows after its looks at the entries of a row.
 //!
-//! The running map makes a look by a step of its own, and calls `look` for what follows; a pending entry that it meets is rare.
+//! The running map makes a look by a step of its own, and calls `look` for what follows; a pending
+//! entry that it meets is rare.
 ghost use Rattle.std.specs.Prelude.{◌≡◌, ◌+◌, ◌<◌, length, if◌then◌else◌};
 ghost use Rattle.kw_words.specs.Pend.{pend_of};
 ghost use Rattle.kw_words.specs.Plain.{key_of_word};

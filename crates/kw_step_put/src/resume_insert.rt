@@ -1,8 +1,8 @@
 //! What a put knows after its events along the row's list.
 //!
-//! Once the version stands in the cell, the put walks from link to link past every cell that stands before its own, stores
-//! what the last link holds in its own one, and exchanges that link for one to its cell. Where another put was there first,
-//! it walks again from the row's first link.
+//! Once the version stands in the cell, the put walks from link to link past every cell that stands
+//! before its own, stores what the last link holds in its own one, and exchanges that link for one
+//! to its cell. Where another put was there first, it walks again from the row's first link.
 ghost use Rattle.std.specs.Prelude.{◌≡◌, ◌==◌, ◌≤◌, unwrap_or};
 ghost use Rattle.kw_words.specs.Plain.{key_of_word, version_of_word, cell_link_word, cell_of_link_word};
 ghost use Rattle.kw_words.specs.declared.sizes.TheConstants.{CELLS};

@@ -1,19 +1,23 @@
 //! What a seat knows after the events of a put or a delete.
-ghost use Rattle.std.specs.Prelude.{◌≡◌, ◌==◌, if◌then◌else◌, Some, None};
+ghost use Rattle.std.specs.Prelude.{◌*◌, ◌≡◌, ◌==◌, nat_lt, if◌then◌else◌, Some, None};
 ghost use Rattle.kw_words.specs.Count.{count_of};
 ghost use Rattle.kw_words.specs.Pend.{pend_of, pend_word};
 ghost use Rattle.kw_world.specs.Sizes.{product};
 ghost use Rattle.kw_world.specs.Local.{resting};
 ghost use Rattle.kw_world.specs.Transition.{outcome, to};
 ghost use Rattle.kw_world.specs.EngageTransitions.{to_rebalance};
-ghost use Rattle.kw_world.specs.PutTransitions.{has_room, given_of, stamp_met};
+ghost use Rattle.kw_world.specs.PutTransitions.{cleared, has_room, given_of, stamp_met, tidies_row};
+ghost use Rattle.kw_world.specs.Sane.{IsNumber};
+ghost use Rattle.kw_world.specs.declared.limits.TheConstants.{TIDY_SHARE};
 
-use crate::resume::to;
+use crate::resume::{leave, to};
 use kw_words::count::Count;
 use kw_words::pend::Pend;
 use kw_words::sizes::CELL_COUNT;
 use kw_world::activity::Activity;
-use kw_world::event::StepDone;
+use kw_world::answer::Answer;
+use kw_world::event::{Choice, StepDone};
+use kw_world::limits::TIDY_SHARE;
 use kw_world::local::Local;
 
 // The row is full: it is rebalanced, and nothing is known of an earlier rebalance.
@@ -24,7 +28,8 @@ fn full(local: &mut Local) -> StepDone
     to(local, Activity::BalClock)
 }
 
-/// The cell that a row with this count gives, if it gives one more. What is recorded of a put's attempt asks it too.
+/// The cell that a row with this count gives, if it gives one more. What is recorded of a put's
+/// attempt asks it too.
 pub fn room(found: u64) -> Option<u32>
     ensures value { result ≡ (if has_room product (count_of found) then Some (given_of (count_of found))
         else None) }
@@ -84,5 +89,37 @@ pub fn stamp(local: &mut Local, found: u64) -> StepDone
             to(local, Activity::PutVersion)
         }
         _ => full(local),
+    }
+}
+
+// Whether so many rows are few for this epoch: so many were retired that puts may tidy.
+fn is_late(rows: u32, epoch: u64) -> bool
+    requires { IsNumber epoch }
+    ensures { result ≡ nat_lt rows (TIDY_SHARE * epoch) }
+{
+    u64::from(rows) < u64::from(TIDY_SHARE) * epoch
+}
+
+// Whether the choice names the put's own row, and the put may tidy it in a table of so many rows.
+fn tidies_row(local: &Local, rows: u32, choice: Choice) -> bool
+    requires { IsNumber local.now.epoch }
+    ensures { result ≡ tidies_row rows choice local.now }
+{
+    match choice {
+        Choice::Guess(row) => row == local.row && is_late(rows, local.epoch),
+        _ => false,
+    }
+}
+
+/// The seat has cleared its entry: the put is done, and leaves; or it tidies its row first.
+pub fn clear(local: &mut Local, rows: u32, choice: Choice) -> StepDone
+    requires { IsNumber local.old.epoch }
+    ensures { outcome local.new result ≡ cleared rows choice local.old }
+{
+    if tidies_row(local, rows, choice) {
+        local.tidies = true;
+        full(local)
+    } else {
+        leave(local, Answer::Done)
     }
 }

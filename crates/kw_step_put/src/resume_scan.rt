@@ -1,6 +1,7 @@
 //! What a seat knows after the events by which a call begins and a scan gets its version.
 //!
-//! The running map makes each of these events by a step of its own, and calls the functions here for what follows.
+//! The running map makes each of these events by a step of its own, and calls the functions here
+//! for what follows.
 ghost use Rattle.std.specs.Prelude.{◌≡◌};
 ghost use Rattle.kw_words.specs.Scan.{scan_of};
 ghost use Rattle.kw_world.specs.Transition.{outcome};
@@ -17,7 +18,8 @@ use kw_world::calls::{first_key, is_range_empty};
 use kw_world::event::{Choice, StepDone};
 use kw_world::local::Local;
 
-/// An idle seat begins a call, and was told the epoch. With another choice it begins none, and nothing changes.
+/// An idle seat begins a call, and was told the epoch. With another choice it begins none, and
+/// nothing changes.
 pub fn begin(local: &mut Local, choice: Choice, epoch: u64) -> StepDone
     requires { CanBeginAt Activity.Idle choice local.old }
     ensures { outcome local.new result ≡ begun choice epoch local.old }
@@ -33,7 +35,8 @@ pub fn begin(local: &mut Local, choice: Choice, epoch: u64) -> StepDone
     }
 }
 
-/// The seat has announced its epoch: a scan is to load the clock, and every other call to begin its walk.
+/// The seat has announced its epoch: a scan is to load the clock, and every other call to begin its
+/// walk.
 pub fn enter(local: &mut Local) -> StepDone
     ensures { outcome local.new result ≡ entered local.old.call local.old }
 {

@@ -16,8 +16,8 @@ use kw_world::world::World;
 
 /// Makes one event of the world, which is any but one of a walk along the rows or of a rebalance.
 ///
-/// `Skipped` comes exactly where the seat is idle and begins nothing. The world is as it was after it, and without memory,
-/// which only the pairs of a scan take, at the end of a row.
+/// `Skipped` comes exactly where the seat is idle and begins nothing. The world is as it was after
+/// it, and without memory, which only the pairs of a scan take, at the end of a row.
 #[tactic(auto, unfolding(kw_world::specs::Step::step))]
 pub fn put_step(world: &mut World, event: Event) -> Result<StepDone, Memory>
     requires sane { IsSane product world.old }
@@ -34,13 +34,14 @@ pub fn put_step(world: &mut World, event: Event) -> Result<StepDone, Memory>
     if local.activity.skips(event.choice) {
         return Ok(StepDone::Skipped);
     }
-    let choice = event.choice.offered(world.rows());
+    let rows = world.rows();
+    let choice = event.choice.offered(rows);
     let operation = put_operation(event.seat, local, choice);
-    let place = Layout::<SEATS, CELLS>::place(world.rows(), operation.name);
+    let place = Layout::<SEATS, CELLS>::place(rows, operation.name);
     let found = world.word(place);
     let word = operation.action.after(found);
     let told = operation.action.told(found);
-    let done = put_resume(world.local_mut(event.seat), choice, told)?;
+    let done = put_resume(world.local_mut(event.seat), rows, choice, told)?;
     world.set_word(place, word);
     Ok(done)
 }

@@ -8,7 +8,8 @@ use Rattle.kw_cells.specs.Kept.{is_below, AreRising}
 use Rattle.kw_cells.proofs.CutAt.{IsCut, cut_is, passing}
 use Rattle.kw_cells.proofs.Rising.{any_cell, keys_rise}
 
--- where the cell before a place has no greater key, and none from it on has such a one, so many cells have no greater key
+-- where the cell before a place has no greater key, and none from it on has such a one, so many
+-- cells have no greater key
 pub key_ends : (cells : List Cell) → AreRising cells → (key place : ℕ) → 0 < place → place ≤ length cells → ((d : Cell) → (get_or cells (place - 1) d).key ≡ key) → (place < length cells → key < (get_or cells place any_cell).key) → place ≡ count_by (λ c. nat_le c.key key) cells
 key_ends cells rising key place some within last next = omega (arith, least (cases_lt (place - 1) count), most (cases_lt place count))
   where

@@ -1,5 +1,6 @@
--- The families of activities of a rebalance, as the code tells them apart: up to the last cell that is gathered of the full row; then new
--- rows are sought, taken and written; and then they are linked in its place.
+-- The families of activities of a rebalance, as the code tells them apart: up to the last cell that
+-- is gathered of the full row; then new rows are sought, taken and written; and then they are
+-- linked in its place.
 use Rattle.kw_world.specs.declared.activity.Activity.{Activity}
 use Rattle.kw_world.specs.declared.activity.Activity.TheVariants.{SeekFirst, Seek, SeekPass, Reclaim, TakeRow, GiveBack, WriteCount, WriteMin, WriteNext, WriteFirst, WritePend, WriteKey, WriteValue, WriteVersion, WriteAfter, Before, BeforeGuess, BeforeHead, BeforeLink, BeforeMin, Replace, Normalise, Number, Retire}
 

@@ -1,8 +1,9 @@
 //! What is written into a new row.
 //!
-//! The kept cells are cut at the starts, and each taken row gets one part of them. A row's list goes by rising key, then by
-//! falling version, while the part stands by rising key and version: so the first link leads to the last cell of the least key,
-//! and behind a cell stands the one before it, if that has the same key, and else the last cell of the next key.
+//! The kept cells are cut at the starts, and each taken row gets one part of them. A row's list
+//! goes by rising key, then by falling version, while the part stands by rising key and version: so
+//! the first link leads to the last cell of the least key, and behind a cell stands the one before
+//! it, if that has the same key, and else the last cell of the next key.
 ghost use Rattle.std.specs.Prelude.{◌≡◌, ◌<◌, ◌≤◌, ◌+◌, ◌-◌, length, take, drop, count_by, nat_le, All, slice_get, slice_index_or, nat_lt, ◌&&◌, if◌then◌else◌, Some};
 ghost use Rattle.kw_words.specs.declared.sizes.TheConstants.{CELLS};
 ghost use Rattle.kw_world.specs.Sane.{IsCellBelow, IsCopy, IsLocal};
@@ -83,7 +84,8 @@ pub fn infant_count(local: &Local) -> Count
     }
 }
 
-/// The least key of that row: that of the full row for the first new one, and that of its first cell for every other.
+/// The least key of that row: that of the full row for the first new one, and that of its first
+/// cell for every other.
 pub fn infant_least(local: &Local) -> u32
     requires { IsLocal product local.now }
     ensures { result ≡ infant_least local.now }
@@ -97,7 +99,8 @@ pub fn infant_least(local: &Local) -> u32
     }
 }
 
-/// The row after that row: the next new row, and after the last one the row that stood after the full one.
+/// The row after that row: the next new row, and after the last one the row that stood after the
+/// full one.
 pub fn infant_next(local: &Local) -> Option<u32>
     requires { local.now.rebalance.at ≤ length local.now.rebalance.taken }
     ensures { result ≡ row_or (slice_get local.now.rebalance.taken (local.now.rebalance.at + 1))
@@ -157,7 +160,8 @@ pub fn listed_after(cells: &[Cell], place: u32) -> Option<u32>
     }
 }
 
-// The same of a cell of this key: the one before it, if that has the same key, and else the last one of the next key.
+// The same of a cell of this key: the one before it, if that has the same key, and else the last
+// one of the next key.
 fn behind(cells: &[Cell], place: u32, key: u32) -> Option<u32>
     requires few { length cells.now ≤ CELLS }
     requires at { place < length cells.now }

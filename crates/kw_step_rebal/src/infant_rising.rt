@@ -1,6 +1,7 @@
 //! The links of a new row whose cells rise by key and version.
 //!
-//! The cells that a rebalance keeps always rise, so whoever knows that finds the cell behind another one by looks at the cells of two keys.
+//! The cells that a rebalance keeps always rise, so whoever knows that finds the cell behind
+//! another one by looks at the cells of two keys.
 ghost use Rattle.std.specs.Prelude.{◌≡◌, ◌<◌, ◌≤◌, ◌-◌, true, length, count_by, nat_le, nat_lt, slice_get, ◌&&◌, if◌then◌else◌, Some};
 ghost use Rattle.kw_cells.specs.Kept.{AreRising};
 ghost use Rattle.kw_words.specs.declared.sizes.TheConstants.{CELLS};
@@ -9,7 +10,8 @@ ghost use Rattle.kw_world.specs.WriteTransitions.{has_key, last_with, listed_aft
 
 use kw_cells::cell::Cell;
 
-/// The cell that stands behind the one at this place in the list of a row with these cells, which rise: the same as without that.
+/// The cell that stands behind the one at this place in the list of a row with these cells, which
+/// rise: the same as without that.
 #[inline(always)]
 pub fn listed_after_rising(cells: &[Cell], place: u32) -> Option<u32>
     requires few { length cells.now ≤ CELLS }
@@ -45,7 +47,8 @@ fn behind(cells: &[Cell], place: u32, key: u32) -> Option<u32>
     }
 }
 
-// The first place behind this one, of a cell of this key, whose cell has another key, or the end: so many cells have no greater key.
+// The first place behind this one, of a cell of this key, whose cell has another key, or the end:
+// so many cells have no greater key.
 #[inline(always)]
 fn key_end(cells: &[Cell], at: usize, key: u32) -> usize
     requires rising { AreRising cells.now }

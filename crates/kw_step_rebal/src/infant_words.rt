@@ -1,7 +1,7 @@
 //! The words of a new row, each by itself.
 //!
-//! They follow from what the seat knows: its kept cells, cut at the starts, and the rows that it took. Each function takes the new row at
-//! hand. Takes no memory.
+//! They follow from what the seat knows: its kept cells, cut at the starts, and the rows that it
+//! took. Each function takes the new row at hand. Takes no memory.
 ghost use Rattle.std.specs.Prelude.{◌≡◌, slice_get};
 ghost use Rattle.kw_cells.specs.Cells.{value_in};
 ghost use Rattle.kw_cells.specs.Kept.{AreRising};
@@ -104,7 +104,8 @@ pub fn after_word(local: &Local, cell: u32) -> u64
     pack_cell_link(listed_after(infant_cells(local), cell))
 }
 
-/// The same word where the kept cells rise, as they always do where a row is written: it is found by looks at the cells of two keys.
+/// The same word where the kept cells rise, as they always do where a row is written: it is found
+/// by looks at the cells of two keys.
 #[inline(always)]
 pub fn rising_after_word(local: &Local, cell: u32) -> u64
     requires ranges { IsLocal product local.now }

@@ -1,7 +1,7 @@
 //! Which operation a seat makes in its rebalance.
 //!
-//! The operation depends on what the seat knows and on its choice, and on no word. `operation_write` has those that store what a
-//! new row holds.
+//! The operation depends on what the seat knows and on its choice, and on no word.
+//! `operation_write` has those that store what a new row holds.
 ghost use Rattle.std.specs.Prelude.{◌≡◌, Some};
 ghost use Rattle.kw_step_rebal.specs.Families.{IsBuilding, IsLinking};
 ghost use Rattle.kw_words.specs.Link.{link_word};
@@ -77,7 +77,8 @@ pub fn rebalance_operation(seat: u32, local: &Local, choice: Choice) -> Operatio
     }
 }
 
-// The operation of an event by which new rows are sought, taken and written, or linked in place of the full row.
+// The operation of an event by which new rows are sought, taken and written, or linked in place of
+// the full row.
 #[tactic(auto, unfolding(kw_world::specs::Step::transition_of))]
 fn build_operation(seat: u32, local: &Local, choice: Choice) -> Operation
     requires ranges { IsLocal product local.now }
@@ -115,7 +116,8 @@ fn build_operation(seat: u32, local: &Local, choice: Choice) -> Operation
     }
 }
 
-// The operation of an event by which the new rows are linked in place of the full one, which is retired.
+// The operation of an event by which the new rows are linked in place of the full one, which is
+// retired.
 #[tactic(auto, unfolding(kw_world::specs::Step::transition_of))]
 fn link_operation(seat: u32, local: &Local, choice: Choice) -> Operation
     requires ranges { IsLocal product local.now }

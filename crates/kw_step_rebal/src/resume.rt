@@ -1,7 +1,8 @@
 //! What a seat knows after an event of its rebalance.
 //!
-//! The operation tells the seat a word, and nothing for a store. `rebalance_resume` makes of that what the table says: the fields
-//! that the event's line names change, and the activity. One file for each topic has the lines that need more than a sentence.
+//! The operation tells the seat a word, and nothing for a store. `rebalance_resume` makes of that
+//! what the table says: the fields that the event's line names change, and the activity. One file
+//! for each topic has the lines that need more than a sentence.
 ghost use Rattle.std.specs.Prelude.{◌≡◌};
 ghost use Rattle.kw_step_rebal.specs.Families.{IsBuilding};
 ghost use Rattle.kw_world.specs.Parts.{part_of};
@@ -25,7 +26,8 @@ use kw_world::activity::Activity;
 use kw_world::event::{Choice, StepDone};
 use kw_world::local::Local;
 
-/// What a seat knows after its event, where the table has so many rows and the operation told it this.
+/// What a seat knows after its event, where the table has so many rows and the operation told it
+/// this.
 ///
 /// The search for free rows alone asks for the number of rows. Takes no memory.
 #[tactic(auto, unfolding(kw_world::specs::Step::transition_of))]
@@ -67,7 +69,8 @@ pub fn rebalance_resume(local: &mut Local, rows: u32, choice: Choice, told: u64)
     }
 }
 
-// What it knows after an event by which new rows are sought, taken and written, or linked in place of the full row.
+// What it knows after an event by which new rows are sought, taken and written, or linked in place
+// of the full row.
 #[tactic(auto, unfolding(kw_world::specs::Step::transition_of))]
 fn build_resume(local: &mut Local, rows: u32, choice: Choice, told: u64) -> StepDone
     requires ranges { IsLocal product local.old }

@@ -3,7 +3,7 @@ ghost use Rattle.std.specs.Prelude.{◌≡◌, ◌==◌};
 ghost use Rattle.kw_words.specs.Link.{link_of};
 ghost use Rattle.kw_words.specs.State.{state_of, state_word};
 ghost use Rattle.kw_words.specs.declared.state.State.{State};
-ghost use Rattle.kw_world.specs.EngageTransitions.{to_rebalance, again, refuse, balance_clock, balance_epoch, is_alone, state_met, engaged, link_marked, decided};
+ghost use Rattle.kw_world.specs.EngageTransitions.{to_rebalance, retrying, refusal, again, refuse, balance_clock, balance_epoch, is_alone, state_met, engaged, link_marked, decided};
 ghost use Rattle.kw_world.specs.Transition.{outcome, row_linked};
 
 use crate::resume::to;
@@ -23,22 +23,43 @@ pub(crate) fn to_rebalance(local: &mut Local) -> StepDone
     to(local, Activity::BalClock)
 }
 
-// The put tries again: it takes its announced epoch back first, and forgets every row.
+// Where a rebalance that is over leads: the put tries again; one that was done before leaves.
+fn retrying(local: &Local) -> Activity
+    ensures { result ≡ retrying local.now }
+{
+    if local.tidies {
+        Activity::Leave(Answer::Done)
+    } else {
+        Activity::Again
+    }
+}
+
+// What a put answers that can't rebalance its row; one that was done before is refused nothing.
+fn refusal(local: &Local, answer: Answer) -> Answer
+    ensures { result ≡ refusal answer local.now }
+{
+    if local.tidies { Answer::Done } else { answer }
+}
+
+// The rebalance is over, and every row is forgotten. A put that tries again takes its announced
+// epoch back first.
 pub(crate) fn again(local: &mut Local) -> StepDone
     ensures { outcome local.new result ≡ again local.old }
 {
+    let next = retrying(local);
     local.rebalance.forget();
     local.forget_rows();
-    to(local, Activity::Again)
+    to(local, next)
 }
 
-// The put is refused with this answer.
+// The rebalance can't be made: the put is refused with this answer, unless it was done before.
 pub(crate) fn refuse(local: &mut Local, answer: Answer) -> StepDone
     ensures { outcome local.new result ≡ refuse answer local.old }
 {
+    let told = refusal(local, answer);
     local.rebalance.forget();
     local.forget_rows();
-    to(local, Activity::Leave(answer))
+    to(local, Activity::Leave(told))
 }
 
 // The seat was told the clock.
@@ -93,7 +114,8 @@ pub(crate) fn engage(local: &mut Local, found: u64) -> StepDone
     }
 }
 
-// The seat has marked the link of the full row, which leads so many rows, and was told the link found.
+// The seat has marked the link of the full row, which leads so many rows, and was told the link
+// found.
 pub(crate) fn link_marked(local: &mut Local, count: u32, found: u64) -> StepDone
     ensures { outcome local.new result ≡ link_marked count (row_linked (link_of found)) local.old }
 {

@@ -58,7 +58,8 @@ fn freeze(local: &mut Local, entry: u32, found: Pend) -> StepDone
     to(local, Activity::Freeze(entry))
 }
 
-/// The seat was told the entry of this seat in the full row. An idle or a pending one is frozen next, and a stamped cell is remembered.
+/// The seat was told the entry of this seat in the full row. An idle or a pending one is frozen
+/// next, and a stamped cell is remembered.
 #[inline(always)]
 pub fn look(local: &mut Local, entry: u32, found: u64) -> StepDone
     requires entry { entry < SEATS }
@@ -76,7 +77,8 @@ pub fn look(local: &mut Local, entry: u32, found: u64) -> StepDone
     }
 }
 
-/// The seat has tried to freeze the entry, and was told the entry found. Where it was another one, it is looked at once more.
+/// The seat has tried to freeze the entry, and was told the entry found. Where it was another one,
+/// it is looked at once more.
 #[inline(always)]
 pub fn entry_tried(local: &mut Local, entry: u32, found: u64) -> StepDone
     requires entry { entry < SEATS }
@@ -112,7 +114,8 @@ fn need(local: &mut Local, version: u64)
     local.rebalance.needed.push(version);
 }
 
-/// The seat was told the scan of this seat. One that waits is helped next, and the version of one that has drawn is needed.
+/// The seat was told the scan of this seat. One that waits is helped next, and the version of one
+/// that has drawn is needed.
 #[inline(always)]
 pub fn scan(local: &mut Local, seat: u32, found: u64) -> StepDone
     requires seat { seat < SEATS }

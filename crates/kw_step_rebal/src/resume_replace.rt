@@ -1,4 +1,5 @@
-//! What a seat knows after the events that find the row before the full one, and link the new rows in place of the full one.
+//! What a seat knows after the events that find the row before the full one, and link the new rows
+//! in place of the full one.
 ghost use Rattle.std.specs.Prelude.{◌≡◌, ◌≤◌, Some, length, ℕ};
 ghost use Rattle.kw_words.specs.Link.{link_of};
 ghost use Rattle.kw_words.specs.Plain.{key_of_word};
@@ -27,7 +28,8 @@ fn linked(found: u64) -> Option<u32>
     }
 }
 
-// The seat was told the link to the first row. The full row may be that one, and no row stands before it then.
+// The seat was told the link to the first row. The full row may be that one, and no row stands
+// before it then.
 pub(crate) fn before_head(local: &mut Local, found: u64) -> StepDone
     ensures { outcome local.new result ≡ first_before (row_or_first (row_linked (link_of found)))
         local.old }
@@ -67,7 +69,8 @@ pub(crate) fn before(local: &mut Local, choice: Choice, found: u64) -> StepDone
     }
 }
 
-// The seat was told the least key of the guessed row, which serves if that is below that of the full row.
+// The seat was told the least key of the guessed row, which serves if that is below that of the
+// full row.
 pub(crate) fn guess_least(local: &mut Local, found: u64) -> StepDone
     ensures { outcome local.new result ≡ guess_least (key_of_word found) local.old }
 {

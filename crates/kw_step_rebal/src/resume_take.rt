@@ -1,7 +1,9 @@
-//! What a seat knows after the events that gather the cells of the full row, and after the last of them.
+//! What a seat knows after the events that gather the cells of the full row, and after the last of
+//! them.
 //!
-//! The end of the row's cells has no event of its own: it follows from the event that ends the walk, or from that on the last
-//! remembered cell that was not met. The seat plans the new rows then, which takes no memory.
+//! The end of the row's cells has no event of its own: it follows from the event that ends the
+//! walk, or from that on the last remembered cell that was not met. The seat plans the new rows
+//! then, which takes no memory.
 ghost use Rattle.std.specs.Prelude.{◌≡◌, ◌≤◌, length};
 ghost use Rattle.kw_words.specs.Plain.{cell_of_link_word, key_of_word, value_of_word, version_of_word};
 ghost use Rattle.kw_words.specs.declared.sizes.TheConstants.{CELLS, SEATS};
@@ -68,7 +70,8 @@ pub fn take_key(local: &mut Local, found: u64) -> StepDone
     to(local, Activity::TakeVersion)
 }
 
-/// The seat was told the version of that cell. A cell without one counts as one of version 1; no list has such a cell.
+/// The seat was told the version of that cell. A cell without one counts as one of version 1; no
+/// list has such a cell.
 #[inline(always)]
 pub fn take_version(local: &mut Local, found: u64) -> StepDone
     ensures { outcome local.new result ≡ take_version (version_of_word found) local.old }
@@ -123,7 +126,8 @@ pub fn rest_value(local: &mut Local, found: u64) -> StepDone
     to_left(local)
 }
 
-// The seat goes on to a remembered cell that it did not meet, or plans the new rows and begins to seek free ones.
+// The seat goes on to a remembered cell that it did not meet, or plans the new rows and begins to
+// seek free ones.
 fn to_left(local: &mut Local) -> StepDone
     requires gathered { length local.old.rebalance.gathered ≤ CELLS }
     requires needed { length local.old.rebalance.needed ≤ SEATS }
@@ -143,7 +147,8 @@ fn to_left(local: &mut Local) -> StepDone
     }
 }
 
-// The seat chooses the cells that the new rows get, and where each of these starts among them. No row is taken as yet.
+// The seat chooses the cells that the new rows get, and where each of these starts among them. No
+// row is taken as yet.
 fn plan(local: &mut Local)
     requires gathered { length local.old.rebalance.gathered ≤ CELLS }
     requires needed { length local.old.rebalance.needed ≤ SEATS }

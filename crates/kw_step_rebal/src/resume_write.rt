@@ -26,8 +26,8 @@ fn row_written(local: &mut Local) -> StepDone
     }
 }
 
-/// The seat goes on to this cell: to its key, or to its version alone where the row has no cell for it. After the last cell the
-/// row is written.
+/// The seat goes on to this cell: to its key, or to its version alone where the row has no cell for
+/// it. After the last cell the row is written.
 #[inline(always)]
 pub fn to_write_cell(local: &mut Local, cell: u32) -> StepDone
     requires { IsLocal product local.old }

@@ -15,8 +15,8 @@ use kw_world::world::World;
 
 /// Makes one event of the world, which is one of a rebalance.
 ///
-/// It takes no memory, and always answers Ok; the `Result` is that of the other steps. It never answers `Skipped`, since a
-/// seat that rebalances is not idle.
+/// It takes no memory, and always answers Ok; the `Result` is that of the other steps. It never
+/// answers `Skipped`, since a seat that rebalances is not idle.
 #[tactic(auto, unfolding(kw_world::specs::Step::step))]
 pub fn rebalance_step(world: &mut World, event: Event) -> Result<StepDone, Memory>
     requires sane { IsSane product world.old }

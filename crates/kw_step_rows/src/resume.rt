@@ -1,7 +1,7 @@
 //! What a seat knows after an event of its walk.
 //!
-//! The running map makes the events of a walk by steps of their own, and calls `first`, `guess`, `guess_min`, `link` and `walk_min` for what
-//! follows.
+//! The running map makes the events of a walk by steps of their own, and calls `first`, `guess`,
+//! `guess_min`, `link` and `walk_min` for what follows.
 ghost use Rattle.std.specs.Prelude.{◌≡◌, if◌then◌else◌};
 ghost use Rattle.kw_words.specs.Link.{link_of};
 ghost use Rattle.kw_words.specs.State.{state_of};
@@ -21,10 +21,11 @@ use kw_world::activity::Activity;
 use kw_world::event::{Choice, StepDone};
 use kw_world::local::Local;
 
-/// What a seat knows after its event, where the table has so many rows and the operation told it this.
+/// What a seat knows after its event, where the table has so many rows and the operation told it
+/// this.
 ///
-/// Each walk ends by what it is told, so that no event here asks for the number of rows; it is the end of a search along
-/// the table.
+/// Each walk ends by what it is told, so that no event here asks for the number of rows; it is the
+/// end of a search along the table.
 #[tactic(auto, unfolding(kw_world::specs::Step::transition_of))]
 pub fn rows_resume(local: &mut Local, rows: u32, choice: Choice, told: u64) -> StepDone
     requires { part_of choice local.old ≡ Part.Rows }

@@ -15,8 +15,8 @@ use kw_world::world::World;
 
 /// Makes one event of the world, which is one of a walk along the rows.
 ///
-/// It takes no memory, and always answers Ok; the `Result` is that of the other steps. It never answers `Skipped`, since a
-/// seat that walks is not idle.
+/// It takes no memory, and always answers Ok; the `Result` is that of the other steps. It never
+/// answers `Skipped`, since a seat that walks is not idle.
 #[tactic(auto, unfolding(kw_world::specs::Step::step))]
 pub fn rows_step(world: &mut World, event: Event) -> Result<StepDone, Memory>
     requires sane { IsSane product world.old }

@@ -1,4 +1,5 @@
--- What an event leaves as it was, and what it changes: one word, by its name, and what one seat knows.
+-- What an event leaves as it was, and what it changes: one word, by its name, and what one seat
+-- knows.
 use Rattle.std.proofs.Common.{ℕ, ◌≡◌, ◌≢◌, ◌<◌, Some, slice_get, length, get_or-set_same, get_or-set_other}
 use Rattle.std.proofs.lemmas.List.{set-get_or}
 use Rattle.kw_words.specs.declared.layout.Name.{Name}

@@ -1,5 +1,6 @@
--- What every line of the table leaves, whatever was told: only the last event of a call ends it, every other one that is not skipped
--- answers that the call goes on; and an event begins at most one call.
+-- What every line of the table leaves, whatever was told: only the last event of a call ends it,
+-- every other one that is not skipped answers that the call goes on; and an event begins at most
+-- one call.
 --
 -- One walk over all lines says both. What needs one of them takes it from `goes_on`.
 use Rattle.std.proofs.Common.{ℕ, ◌≡◌, refl, sym, ◌∙◌, ◌+◌, Option, Some, None, Bool, true, false, nat_lt, nat_le, ◌==◌, if◌then◌else◌, unwrap_or, ◌≤◌, subst, arith, length}
@@ -15,7 +16,7 @@ use Rattle.kw_words.specs.Count.{count_of}
 use Rattle.kw_words.specs.Scan.{scan_of}
 use Rattle.kw_words.specs.declared.sizes.TheConstants.{SPENT}
 use Rattle.kw_world.specs.declared.answer.Answer.{Answer}
-use Rattle.kw_world.specs.declared.answer.Answer.TheVariants.{Pairs, Spent}
+use Rattle.kw_world.specs.declared.answer.Answer.TheVariants.{Done, Pairs, Spent}
 use Rattle.kw_world.specs.Answers.{reply_of}
 use Rattle.kw_world.specs.Calls.{first_key, last_key, is_in_range, is_range_empty}
 use Rattle.kw_model.specs.declared.call.Call.{Call}
@@ -27,7 +28,7 @@ use Rattle.kw_world.specs.declared.event.Choice.{Choice}
 use Rattle.kw_world.specs.declared.event.Choice.TheVariants.{Begin, Go, Guess, Stop}
 use Rattle.kw_world.specs.Sizes.{Sizes}
 use Rattle.kw_world.specs.Transition.{Outcome, row_linked, row_or_first, to, leave}
-use Rattle.kw_world.specs.PutTransitions.{stamp_met, has_room, given_of}
+use Rattle.kw_world.specs.PutTransitions.{stamp_met, has_room, given_of, tidies_row}
 use Rattle.kw_world.specs.ListTransitions.{insert_from, insert_key, insert_past, insert_tried, is_newer}
 use Rattle.kw_world.specs.declared.marks.Mark.{Mark}
 use Rattle.kw_world.specs.Marks.{least_mark}
@@ -375,7 +376,7 @@ goes_on z InsKey s choice l rows told e n = insert_key_goes (key_of_word told) l
 goes_on z InsVer s choice l rows told e n = either (is_newer (unwrap_or (version_of_word told) 0) l.place l) (insert_past l) (to InsSet l) (record { moved = refl; number = refl }) (record { moved = refl; number = refl })
 goes_on z InsSet s choice l rows told e n = record { moved = refl; number = refl }
 goes_on z Insert s choice l rows told e n = insert_tried_goes z (told == cell_link_word l.held) l
-goes_on z PutClear s choice l rows told e n = record { moved = refl; number = refl }
+goes_on z PutClear s choice l rows told e n = either (tidies_row rows choice l) (to_rebalance (record l { tidies = true })) (leave Done l) (record { moved = refl; number = refl }) (record { moved = refl; number = refl })
 goes_on z (Leave answer) s choice l rows told e n = absurd n
 goes_on z Again s choice l rows told e n = record { moved = refl; number = refl }
 goes_on z AgainEpoch s choice l rows told e n = record { moved = refl; number = refl }
@@ -423,7 +424,8 @@ goes_on z Normalise s choice l rows told e n = either (has_more l) (to Normalise
 goes_on z Number s choice l rows told e n = record { moved = refl; number = refl }
 goes_on z Retire s choice l rows told e n = record { moved = refl; number = refl }
 
--- so an event that ends a call with this reply is one of a seat that was about to leave with an answer that makes it
+-- so an event that ends a call with this reply is one of a seat that was about to leave with an
+-- answer that makes it
 pub ends_leaving : (z : Sizes) (a : Activity) (s : ℕ) (choice : Choice) (l : Local) (rows told : ℕ) (reply : Reply) → is_skipped a choice ≡ false → ((transition z a s choice l).next rows told).done ≡ Ended reply → (answer : Answer) × (a ≡ Leave answer) × (reply ≡ reply_of answer l.pairs)
 ends_leaving z (Leave answer) s choice l rows told reply e d = (answer, refl, (let x : Ended (reply_of answer l.pairs) ≡ Ended reply = d in cc))
 ends_leaving z a s choice l rows told reply e d = let x : Moved ≡ Ended reply = sym (goes_on z a s choice l rows told e tt).moved ∙ d in absurd (cc)

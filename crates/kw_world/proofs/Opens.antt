@@ -1,4 +1,5 @@
--- The world that a run begins with is sane, each of its seats rests, and a seat may know something else in range.
+-- The world that a run begins with is sane, each of its seats rests, and a seat may know something
+-- else in range.
 use Rattle.std.proofs.Common.{ℕ, zero, suc, ◌≡◌, ◌≢◌, ◌⊎◌, inl, inr, ◌<◌, false, Some, None, arith, refl, sym, ◌∙◌, ap, subst, length, slice_get, slice_set}
 use Rattle.std.specs.Prelude.{replicate}
 use Rattle.std.proofs.lemmas.Bool.{cases_eq}

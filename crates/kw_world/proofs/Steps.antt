@@ -1,4 +1,5 @@
--- What the definition of one event comes to in each case. The layers above cite these, and do not open it.
+-- What the definition of one event comes to in each case. The layers above cite these, and do not
+-- open it.
 use Rattle.std.proofs.Common.{ℕ, ◌≡◌, Bool, Option, Some, None, true, false, refl, length, slice_get, slice_set, slice_index, length-set, ap, sym, ◌∙◌}
 use Rattle.kw_words.specs.Layout.{place_of}
 use Rattle.kw_world.specs.declared.local.Local.{Local}
@@ -72,7 +73,8 @@ step-seats z w e = go (slice_get w.locals e.seat)
     go (Some l) = moved l (is_skipped l.activity e.choice) refl
     go None = refl
 
--- a world with the event's word set and the acting seat's local replaced is the world after the event
+-- a world with the event's word set and the acting seat's local replaced is the world after the
+-- event
 made : (z : Sizes) (w : WorldView) (e : Event) (l k : Local) (done : StepDone) → slice_get w.locals e.seat ≡ Some l → is_skipped l.activity e.choice ≡ false
     → outcome k done ≡ next_of z w.rows (offered w.rows e.choice) l (told_by (transition_at z w e l).operation.action (word z w (transition_at z w e l).operation.name))
     → stepped (record {
@@ -90,8 +92,8 @@ made z w e l k done known goes next =
     }) o.done) follows
     ∙ sym (step-moved z w e l known goes)
 
--- the same, where each part was made in its turn: the operation, its place, the word found, the word left, what was told,
--- and what the seat knows then
+-- the same, where each part was made in its turn: the operation, its place, the word found, the
+-- word left, what was told, and what the seat knows then
 pub made_in_turn : (z : Sizes) (w after : WorldView) (e : Event) (l k : Local) (done : StepDone) (operation : Operation) (place found left told : ℕ)
     → slice_get w.locals e.seat ≡ Some l → is_skipped l.activity e.choice ≡ false
     → operation ≡ (transition_at z w e l).operation → place ≡ place_of z.seats z.cells operation.name

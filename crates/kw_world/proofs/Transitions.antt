@@ -1,4 +1,5 @@
--- What every line of the table keeps to: its word is one of the table, its action can happen, and a store tells nothing.
+-- What every line of the table keeps to: its word is one of the table, its action can happen, and a
+-- store tells nothing.
 use Rattle.std.proofs.Common.{ℕ, ◌≡◌, ◌+◌, ◌<◌, ◌^◌, Option, Some, None, Bool, true, false, nat_lt, if◌then◌else◌, arith, refl, ap, length, slice_get, zero, suc, List, [], ◌∷◌, All, slice_index}
 use Rattle.std.proofs.lemmas.Bool.Decides.{nat_tests}
 use Rattle.std.proofs.lemmas.List.Elements.{All-head, All-tail}

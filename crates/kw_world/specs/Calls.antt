@@ -1,5 +1,6 @@
--- What a seat's events need of its call. A seat without a call is taken to ask for the value of key 0, so that each of
--- these answers something for every local; no list of events leads to such a seat.
+-- What a seat's events need of its call. A seat without a call is taken to ask for the value of key
+-- 0, so that each of these answers something for every local; no list of events leads to such a
+-- seat.
 use Rattle.std.specs.Prelude.{ℕ, Bool, true, false, ◌&&◌, nat_le, nat_lt, Option, Some, None}
 use Rattle.kw_model.specs.declared.call.Call.{Call}
 use Rattle.kw_model.specs.declared.call.Call.TheVariants.{Put, Del, Get, Scan}

@@ -1,13 +1,15 @@
--- What follows from the events by which a rebalance begins: a full row gets a leader, its link is marked, and how many rows the
--- rebalance replaces is decided. That is one, always, as long as no row is taken along; a row that somebody decided to replace
--- together with another is left to others.
+-- What follows from the events by which a rebalance begins: a full row gets a leader, its link is
+-- marked, and how many rows the rebalance replaces is decided. That is one, always, as long as no
+-- row is taken along; a row that somebody decided to replace together with another is left to
+-- others.
 use Rattle.std.specs.Prelude.{ℕ, Bool, true, false, nat_le, ◌==◌, if◌then◌else◌, Option, Some, None}
 use Rattle.kw_words.specs.declared.sizes.TheConstants.{SPENT}
 use Rattle.kw_words.specs.declared.state.State.{State}
 use Rattle.kw_words.specs.declared.state.State.TheVariants.{Free, Infant, Normal, Leader, Follower, Retired}
 use Rattle.kw_world.specs.declared.answer.Answer.{Answer}
-use Rattle.kw_world.specs.declared.answer.Answer.TheVariants.{Spent}
-use Rattle.kw_world.specs.declared.activity.Activity.TheVariants.{Again, BalClock, BalEpoch, BalState, BalNormal, Engage, MarkLink, Decide, FreezeCount}
+use Rattle.kw_world.specs.declared.activity.Activity.{Activity}
+use Rattle.kw_world.specs.declared.answer.Answer.TheVariants.{Done, Spent}
+use Rattle.kw_world.specs.declared.activity.Activity.TheVariants.{Leave, Again, BalClock, BalEpoch, BalState, BalNormal, Engage, MarkLink, Decide, FreezeCount}
 use Rattle.kw_world.specs.declared.local.Local.{Local}
 use Rattle.kw_world.specs.Local.{without_rows, without_rebalance}
 use Rattle.kw_world.specs.Transition.{Outcome, to, leave}
@@ -16,13 +18,22 @@ use Rattle.kw_world.specs.Transition.{Outcome, to, leave}
 abbrev pub to_rebalance : Local → Outcome
 to_rebalance l = to BalClock (without_rebalance l)
 
--- the put tries again: it takes its announced epoch back first, and forgets every row
-abbrev pub again : Local → Outcome
-again l = to Again (without_rows (without_rebalance l))
+-- where a rebalance that is over leads: the put tries again; one that was done before leaves
+abbrev pub retrying : Local → Activity
+retrying l = if l.tidies then Leave Done else Again
 
--- the put is refused with this answer
+-- what a put answers that can't rebalance its row; one that was done before is refused nothing
+abbrev pub refusal : Answer → Local → Answer
+refusal answer l = if l.tidies then Done else answer
+
+-- the rebalance is over: a put that tries again takes its announced epoch back first; every row is
+-- forgotten
+abbrev pub again : Local → Outcome
+again l = to (retrying l) (without_rows (without_rebalance l))
+
+-- the rebalance can't be made: the put is refused with this answer, unless it was done before
 abbrev pub refuse : Answer → Local → Outcome
-refuse answer l = leave answer (without_rebalance l)
+refuse answer l = leave (refusal answer l) (without_rebalance l)
 
 -- BalClock: from a certain clock on no rebalance begins
 abbrev pub balance_clock : ℕ → Local → Outcome
@@ -36,7 +47,8 @@ balance_epoch epoch l = if nat_le SPENT epoch then refuse Spent l else to BalSta
 abbrev pub is_alone : ℕ → Bool
 is_alone count = nat_le count 1
 
--- BalState: a normal row is engaged, a leader of one row is helped, and what its seat has built is made normal first
+-- BalState: a normal row is engaged, a leader of one row is helped, and what its seat has built is
+-- made normal first
 abbrev pub state_met : Option State → Local → Outcome
 state_met (Some Free) l = again l
 state_met (Some (Infant seat)) l = to (BalNormal seat) l
@@ -55,12 +67,13 @@ engaged false l = to BalState l
 abbrev pub followed_by : Option ℕ → Local → Local
 followed_by after l = record l { rebalance = record l.rebalance { after = after } }
 
--- MarkLink: the link does not change any more. It is decided that one row is replaced, unless it was decided before: then it is frozen
+-- MarkLink: the link does not change any more. It is decided that one row is replaced, unless it
+-- was decided before: then it is frozen
 abbrev pub link_marked : ℕ → Option ℕ → Local → Outcome
 link_marked count after l = if count == 0 then to (Decide 1) (followed_by after l) else to FreezeCount (followed_by after l)
 
--- Decide: the exchange was made, or somebody else decided the same, and the row is frozen; in any other state it is not this seat's any
--- more
+-- Decide: the exchange was made, or somebody else decided the same, and the row is frozen; in any
+-- other state it is not this seat's any more
 abbrev pub decided : Option State → Local → Outcome
 decided (Some Free) l = again l
 decided (Some (Infant seat)) l = again l

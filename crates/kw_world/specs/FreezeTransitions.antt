@@ -1,7 +1,9 @@
--- What follows from the events that freeze the full row, and from those that ask which versions scans may still ask for.
+-- What follows from the events that freeze the full row, and from those that ask which versions
+-- scans may still ask for.
 --
--- A frozen row gives no cell, and no put of it gets a version any more: each entry is frozen, or is stamped and remembered. A scan
--- that waits is helped to a version, so that every scan has one that is needed, or begins later than all that the row holds.
+-- A frozen row gives no cell, and no put of it gets a version any more: each entry is frozen, or is
+-- stamped and remembered. A scan that waits is helped to a version, so that every scan has one that
+-- is needed, or begins later than all that the row holds.
 use Rattle.std.specs.Prelude.{ℕ, ◌+◌, Bool, true, false, nat_lt, ◌==◌, if◌then◌else◌, Option, Some, None, [], ◌∷◌, ◌++◌}
 use Rattle.kw_words.specs.declared.pend.Pend.{Pend}
 use Rattle.kw_words.specs.declared.pend.Pend.TheVariants.{Idle, Pending, Stamped, Frozen}
@@ -34,7 +36,8 @@ marking cell version l = record l { rebalance = record l.rebalance { marks = l.r
 abbrev pub freezing : ℕ → Pend → Local → Outcome
 freezing i entry l = to (Freeze i) (record l { rebalance = record l.rebalance { entry = entry } })
 
--- FreezeLook(i): an idle or a pending entry is frozen, a stamped cell is remembered, and a frozen entry is passed over
+-- FreezeLook(i): an idle or a pending entry is frozen, a stamped cell is remembered, and a frozen
+-- entry is passed over
 abbrev pub freeze_met : Sizes → ℕ → Option Pend → Local → Outcome
 freeze_met z i (Some Idle) l = freezing i Idle l
 freeze_met z i (Some (Pending cell)) l = freezing i (Pending cell) l

@@ -1,8 +1,10 @@
--- What follows from the events of a walk along a row's list, and of a put that inserts its cell there.
+-- What follows from the events of a walk along a row's list, and of a put that inserts its cell
+-- there.
 --
--- The cells of a row are linked by rising key, then by falling version, then by falling place. A walk stands at a link, which
--- is the row's first one or that after a cell, and goes from link to link. A put goes on past every cell that stands before its
--- own, and inserts its own cell at the link where it ends.
+-- The cells of a row are linked by rising key, then by falling version, then by falling place. A
+-- walk stands at a link, which is the row's first one or that after a cell, and goes from link to
+-- link. A put goes on past every cell that stands before its own, and inserts its own cell at the
+-- link where it ends.
 use Rattle.std.specs.Prelude.{ℕ, ◌+◌, Bool, true, false, nat_lt, ◌==◌, ◌&&◌, ◌||◌, if◌then◌else◌, min, Option, Some, None, unwrap_or}
 use Rattle.kw_words.specs.declared.layout.Name.{Name}
 use Rattle.kw_words.specs.declared.layout.Name.TheVariants.{First, After}
@@ -46,21 +48,21 @@ insert_from z None l = to InsSet (record l { held = None })
 abbrev pub insert_past : Local → Outcome
 insert_past l = to InsFrom (past_cell l)
 
--- InsKey: a cell of a smaller key is passed, one of the own key is asked for its version, and the own cell stands before one of a
--- greater key
+-- InsKey: a cell of a smaller key is passed, one of the own key is asked for its version, and the
+-- own cell stands before one of a greater key
 abbrev pub insert_key : ℕ → Local → Outcome
 insert_key key l =
     if nat_lt key (first_key l.call) then insert_past l
     else if key == first_key l.call then to InsVer l
     else to InsSet l
 
--- a cell of the own key, of this version and at this place, stands before the own: its version is greater, or the same and its
--- place is above the own
+-- a cell of the own key, of this version and at this place, stands before the own: its version is
+-- greater, or the same and its place is above the own
 abbrev pub is_newer : ℕ → ℕ → Local → Bool
 is_newer version place l = nat_lt l.version version || version == l.version && nat_lt l.cell place
 
--- InsVer: a cell that stands before the own is passed, and the own stands before every other; a cell without a version counts as
--- one of version 0
+-- InsVer: a cell that stands before the own is passed, and the own stands before every other; a
+-- cell without a version counts as one of version 0
 abbrev pub insert_version : Option ℕ → Local → Outcome
 insert_version version l = if is_newer (unwrap_or version 0) l.place l then insert_past l else to InsSet l
 

@@ -59,6 +59,7 @@ resting number = record {
   held = None;
   walked = 0;
   lost = 0;
+  tidies = false;
   rebalance = no_rebalance;
 }
 

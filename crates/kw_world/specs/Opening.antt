@@ -29,7 +29,8 @@ pub record IsOpening (z : Sizes) (o : Opening) : Type 0 where
 abbrev pub link_to : ℕ → Link
 link_to r = record { row = Some r; marked = false }
 
--- the words: the clock and the epoch are given, the list begins with row 0, which is normal, and all other words are 0
+-- the words: the clock and the epoch are given, the list begins with row 0, which is normal, and
+-- all other words are 0
 abbrev pub opening_words : Sizes → Opening → List ℕ
 opening_words z o =
     slice_set (slice_set (slice_set (slice_set (replicate (words_of z.seats z.cells o.rows) 0)

@@ -8,7 +8,8 @@ use Rattle.kw_world.specs.declared.part.Part.{Part}
 use Rattle.kw_world.specs.declared.part.Part.TheVariants as part
 use Rattle.kw_world.specs.WalkTransitions.{is_stopped}
 
--- the part that has the event at this activity; a walk that is stopped does not walk: the event ends the scan
+-- the part that has the event at this activity; a walk that is stopped does not walk: the event
+-- ends the scan
 abbrev pub part_at : Activity → Choice → Local → Part
 part_at Start choice l = part.Rows
 part_at Head choice l = part.Rows

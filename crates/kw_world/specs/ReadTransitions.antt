@@ -19,8 +19,8 @@ use Rattle.kw_world.specs.Marks.{mark_of, unmarked, least_mark}
 use Rattle.kw_world.specs.Transition.{Outcome, to, leave}
 use Rattle.kw_world.specs.ListTransitions.{one_more, past_cell}
 
--- Look(i): the entry of seat i; once all entries are looked at, the row's list, from its first link on, at which a reader stands since it
--- came to the row
+-- Look(i): the entry of seat i; once all entries are looked at, the row's list, from its first link
+-- on, at which a reader stands since it came to the row
 abbrev pub to_look : Sizes → ℕ → Local → Outcome
 to_look z i l = if nat_lt i z.seats then to (Look i) l else to ListFrom l
 
@@ -28,7 +28,8 @@ to_look z i l = if nat_lt i z.seats then to (Look i) l else to ListFrom l
 abbrev pub remembering : ℕ → ℕ → Local → Local
 remembering cell version l = record l { remembered = l.remembered ++ mark_of cell version ∷ [] }
 
--- Look(i): a pending cell is helped if its key is in range, a stamped cell is remembered, every other entry is passed over
+-- Look(i): a pending cell is helped if its key is in range, a stamped cell is remembered, every
+-- other entry is passed over
 abbrev pub look_met : Sizes → ℕ → Option Pend → Local → Outcome
 look_met z i (Some Idle) l = to_look z (i + 1) l
 look_met z i (Some (Pending cell)) l = to LookKey (record l { looked = i; met = cell })
@@ -36,7 +37,8 @@ look_met z i (Some (Stamped cell version)) l = to_look z (i + 1) (remembering ce
 look_met z i (Some Frozen) l = to_look z (i + 1) l
 look_met z i None l = to_look z (i + 1) l
 
--- LookHelp: the cell is remembered with the version that the exchange gave it, or with the one that was found
+-- LookHelp: the cell is remembered with the version that the exchange gave it, or with the one that
+-- was found
 abbrev pub help_met : Sizes → Option Pend → Local → Outcome
 help_met z (Some Idle) l = to_look z (l.looked + 1) l
 help_met z (Some (Pending cell)) l = to_look z (l.looked + 1) (if cell == l.met then remembering cell l.helping l else l)
@@ -44,7 +46,8 @@ help_met z (Some (Stamped cell version)) l = to_look z (l.looked + 1) (rememberi
 help_met z (Some Frozen) l = to_look z (l.looked + 1) l
 help_met z None l = to_look z (l.looked + 1) l
 
--- the end of a row's cells, for a get: what the best cell for the greatest version shows is the answer
+-- the end of a row's cells, for a get: what the best cell for the greatest version shows is the
+-- answer
 abbrev pub get_answered : ℕ → Local → Outcome
 get_answered key l = leave (answer_found (shown_at l.gathered NEWEST key)) l
 
@@ -59,8 +62,9 @@ scan_on (Some r) upto l =
     if nat_lt upto l.upper then scan_ended l
     else to Walk (record l { row = r; lower = l.upper; want = l.upper; next = None; upper = 0 })
 
--- the pairs of the row come after those of the rows before it: each key that is still wanted and shows a value at the
--- scan's version, by rising key. No cell of the row has a key of the range below the wanted one
+-- the pairs of the row come after those of the rows before it: each key that is still wanted and
+-- shows a value at the scan's version, by rising key. No cell of the row has a key of the range
+-- below the wanted one
 abbrev pub with_pairs : ℕ → Local → Local
 with_pairs upto l = record l { pairs = l.pairs ++ pairs_of l.gathered l.want upto l.version; has_read = true }
 
@@ -76,7 +80,8 @@ row_read (Some (Get key)) l = get_answered key l
 row_read (Some (Scan from upto)) l = row_scanned upto l
 row_read None l = get_answered 0 l
 
--- Rest: a remembered cell of the least place is read, and remembered no more; where none is left, the row is read
+-- Rest: a remembered cell of the least place is read, and remembered no more; where none is left,
+-- the row is read
 abbrev pub rest_of : Option Mark → Local → Outcome
 rest_of (Some m) l = to RestKey (record l { place = m.cell; place_version = m.version; remembered = unmarked m.cell l.remembered })
 rest_of None l = row_read l.call l
@@ -98,7 +103,8 @@ list_met z None l = to_rest l
 abbrev pub list_past : Local → Outcome
 list_past l = to ListFrom (past_cell l)
 
--- ListKey: a cell below the range is passed, one of the range is read on, and at one above it the walk is over
+-- ListKey: a cell below the range is passed, one of the range is read on, and at one above it the
+-- walk is over
 abbrev pub list_key : ℕ → Local → Outcome
 list_key key l =
     if nat_lt key (first_key l.call) then list_past l
@@ -113,7 +119,8 @@ list_version version l = to ListVal (record l { place_version = unwrap_or versio
 abbrev pub cell_in_hand : Option ℕ → Local → Cell
 cell_in_hand value l = record { key = l.place_key; version = l.place_version; place = l.place; value = value }
 
--- it is gathered: put among those that were, in the order of the list. A row has no more cells than are gathered
+-- it is gathered: put among those that were, in the order of the list. A row has no more cells than
+-- are gathered
 abbrev pub gathering : Sizes → Option ℕ → Local → Local
 gathering z value l = record l { gathered = if nat_lt (length l.gathered) z.cells then with_cell (cell_in_hand value l) l.gathered else l.gathered }
 

@@ -1,7 +1,9 @@
--- What follows from the events that find the row before the full one, link the new rows in place of the full row, and retire it.
+-- What follows from the events that find the row before the full one, link the new rows in place of
+-- the full row, and retire it.
 --
--- The walk to the row before goes from the first row, or from a guessed one, and ends at the link to the full row. Where it meets a
--- row whose least key is not below that of the full row, or no row, the full row was replaced by somebody else.
+-- The walk to the row before goes from the first row, or from a guessed one, and ends at the link
+-- to the full row. Where it meets a row whose least key is not below that of the full row, or no
+-- row, the full row was replaced by somebody else.
 use Rattle.std.specs.Prelude.{ℕ, ◌+◌, Bool, nat_lt, ◌==◌, if◌then◌else◌, Option, Some, None, slice_index}
 use Rattle.kw_words.specs.declared.layout.Name.{Name}
 use Rattle.kw_words.specs.declared.layout.Name.TheVariants as name
@@ -24,7 +26,8 @@ use Rattle.kw_world.specs.Transition.{Transition, Outcome, at, to, row_linked, r
 abbrev pub at_before : Option ℕ → ℕ → Local → Local
 at_before r least l = record l { rebalance = record l.rebalance { before = r; least = least } }
 
--- BeforeHead, and Before without a guess: the full row may be the first one, and no row stands before it then
+-- BeforeHead, and Before without a guess: the full row may be the first one, and no row stands
+-- before it then
 abbrev pub first_before : ℕ → Local → Outcome
 first_before r l = if r == l.row then to Replace (at_before None 0 l) else to BeforeLink (at_before (Some r) 0 l)
 
@@ -32,7 +35,8 @@ first_before r l = if r == l.row then to Replace (at_before None 0 l) else to Be
 abbrev pub before_head_transition : Local → Transition
 before_head_transition l = at kind.LoadHead name.Head Load (λ w. first_before (row_or_first (row_linked (link_of w))) l)
 
--- Before with a guess: a row in the normal state is taken, and every other one sends the walk to the first row
+-- Before with a guess: a row in the normal state is taken, and every other one sends the walk to
+-- the first row
 abbrev pub guess_before : ℕ → Option State → Local → Outcome
 guess_before r (Some Free) l = to BeforeHead l
 guess_before r (Some (Infant seat)) l = to BeforeHead l
@@ -55,8 +59,8 @@ guess_least least l =
     if nat_lt least l.lower then to BeforeLink (record l { rebalance = record l.rebalance { least = least } })
     else to BeforeHead (record l { rebalance = record l.rebalance { before = None } })
 
--- the link leads to this row, and is marked or not: where that is the full row, it is replaced at this link, or the row in which the
--- link stands is replaced before it
+-- the link leads to this row, and is marked or not: where that is the full row, it is replaced at
+-- this link, or the row in which the link stands is replaced before it
 abbrev pub row_before : Option ℕ → Bool → Local → Outcome
 row_before (Some r) marked l =
     if r == l.row then (if marked then give_back MoveLeft l else to Replace l)

@@ -6,8 +6,8 @@ use Rattle.kw_world.specs.declared.local.Local.{Local}
 use Rattle.kw_world.specs.WorldView.{WorldView}
 use Rattle.kw_world.specs.Calls.{is_scan}
 
--- the seat's event may be the last one of a row: it may end the walk along the list, where nothing is left that the seat remembers, or
--- read the last cell that is
+-- the seat's event may be the last one of a row: it may end the walk along the list, where nothing
+-- is left that the seat remembers, or read the last cell that is
 abbrev pub IsInCells : Activity → Type 0
 IsInCells ListFrom = Unit {0}
 IsInCells ListKey = Unit {0}

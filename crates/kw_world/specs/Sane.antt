@@ -255,7 +255,8 @@ marks_by z LookClock l = l.looked
 marks_by z LookHelp l = l.looked
 marks_by z _ l = z.seats
 
--- as many cells may be remembered of a full row where a seat does this: one for each entry that it has looked at
+-- as many cells may be remembered of a full row where a seat does this: one for each entry that it
+-- has looked at
 abbrev pub frozen_by : Sizes → Activity → ℕ
 frozen_by z (FreezeLook i) = i
 frozen_by z (Freeze i) = i
@@ -277,14 +278,16 @@ IsTakingRows Reclaim = Unit {0}
 IsTakingRows TakeRow = Unit {0}
 IsTakingRows _ = ⊥
 
--- the lists of a rebalance have room for what its next event adds, and no more cells are gathered than a row has
+-- the lists of a rebalance have room for what its next event adds, and no more cells are gathered
+-- than a row has
 pub record HasRebalanceRoom (z : Sizes) (a : Activity) (b : Rebalance) : Type 0 where
   pub marks : length b.marks ≤ frozen_by z a
   pub needed : length b.needed ≤ needed_by z a
   pub gathered : length b.gathered ≤ z.cells
   pub taken : IsTakingRows a → length b.taken < length b.starts
 
--- a seat's list of remembered cells has room for what its next event adds, and no more cells are gathered than a row has
+-- a seat's list of remembered cells has room for what its next event adds, and no more cells are
+-- gathered than a row has
 pub record HasRoom (z : Sizes) (l : Local) : Type 0 where
   pub remembered : length l.remembered ≤ marks_by z l.activity l
   pub gathered : length l.gathered ≤ z.cells
@@ -307,8 +310,9 @@ pub record IsSane (z : Sizes) (w : WorldView) : Type 0 where
   pub led : (n : Name) → IsWithin z.seats z.cells w.rows n → IsLed w.rows n (word z w n)
   pub locals : (s : ℕ) (l : Local) → slice_get w.locals s ≡ Some l → IsKnown z w.rows l
 
--- a call that a seat begins at this activity has numbers in range, and the seat can count it. An idle seat alone begins one: to
--- any other one the choice to begin counts as `Go`, whatever call it names
+-- a call that a seat begins at this activity has numbers in range, and the seat can count it. An
+-- idle seat alone begins one: to any other one the choice to begin counts as `Go`, whatever call it
+-- names
 abbrev pub CanBeginAt : Activity → Choice → Local → Type 0
 CanBeginAt Idle (Begin call) l = IsCall (Some call) × (l.number < MOST_CALLS)
 CanBeginAt _ choice l = Unit {0}

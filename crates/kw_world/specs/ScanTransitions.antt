@@ -15,7 +15,8 @@ use Rattle.kw_world.specs.declared.event.StepDone.TheVariants.{Skipped}
 use Rattle.kw_world.specs.Calls.{first_key, is_range_empty}
 use Rattle.kw_world.specs.Transition.{Outcome, outcome, to, leave}
 
--- Idle: the call is begun, and counted. An event with another choice is skipped, and never comes to this line
+-- Idle: the call is begun, and counted. An event with another choice is skipped, and never comes to
+-- this line
 abbrev pub begun : Choice → ℕ → Local → Outcome
 begun (Begin call) epoch l = to Enter (record l { call = Some call; number = l.number + 1; epoch = epoch })
 begun Go epoch l = outcome l Skipped

@@ -1,7 +1,8 @@
 -- What follows from the events of the search for free rows, and from giving rows back.
 --
--- The search goes round the table once, from row 0 or from a guessed row on. At a row that was retired the passes of all seats are
--- looked at: if none is on that began before the row went, the row is freed, and then taken as any free row.
+-- The search goes round the table once, from row 0 or from a guessed row on. At a row that was
+-- retired the passes of all seats are looked at: if none is on that began before the row went, the
+-- row is freed, and then taken as any free row.
 use Rattle.std.specs.Prelude.{ℕ, ◌+◌, Bool, true, false, nat_lt, nat_le, if◌then◌else◌, Option, Some, None, [], ◌∷◌, ◌++◌, length, slice_index}
 use Rattle.kw_words.specs.declared.layout.Name.TheVariants as name
 use Rattle.kw_words.specs.declared.kind.Kind.TheVariants as kind
@@ -68,7 +69,8 @@ numbered number l = record l { rebalance = record l.rebalance { number = number 
 abbrev pub to_pass : Sizes → ℕ → Local → Outcome
 to_pass z i l = if nat_lt i z.seats then to (SeekPass i) l else to Reclaim l
 
--- Seek: a free row is taken, at a retired one the passes are looked at, and every other one is passed over
+-- Seek: a free row is taken, at a retired one the passes are looked at, and every other one is
+-- passed over
 abbrev pub seek_met : ℕ → Option State → Local → Outcome
 seek_met rows (Some Free) l = to TakeRow l
 seek_met rows (Some (Infant seat)) l = to_seek rows l
@@ -93,8 +95,8 @@ seek_first_transition Go l = seek_transition l.rebalance.sought l
 seek_first_transition (Guess r) l = seek_transition r l
 seek_first_transition Stop l = seek_transition l.rebalance.sought l
 
--- SeekPass: a seat that announces an epoch up to the number may have entered before the row went, and keeps it from being used; any
--- other seat does not
+-- SeekPass: a seat that announces an epoch up to the number may have entered before the row went,
+-- and keeps it from being used; any other seat does not
 abbrev pub pass_met : Sizes → ℕ → ℕ → Option ℕ → Local → Outcome
 pass_met z i rows (Some epoch) l = if nat_le epoch l.rebalance.number then to_seek rows l else to_pass z (i + 1) l
 pass_met z i rows None l = to_pass z (i + 1) l

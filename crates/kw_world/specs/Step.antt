@@ -26,7 +26,8 @@ word z w n = slice_index w.words (place_of z.seats z.cells n)
 unfoldable pub transition_of : Sizes → ℕ → Choice → Local → Transition
 transition_of z s choice l = transition z l.activity s choice l
 
--- what follows in a table of so many rows from the event of a seat that is told this; it is the same for every number of the seat
+-- what follows in a table of so many rows from the event of a seat that is told this; it is the
+-- same for every number of the seat
 abbrev pub next_of : Sizes → ℕ → Choice → Local → ℕ → Outcome
 next_of z rows choice l told = (transition_of z 0 choice l).next rows told
 

@@ -1,24 +1,29 @@
 -- The table of events.
 --
--- One line for each activity of a seat, in the order in which a call goes through them. A line says which kind of event
--- it is, which word it acts on, what it does to that word, and what follows from what the operation tells the seat: the
--- word that was found, and nothing for a store. A line is a `Transition`; a row is always one of the map's. Whatever a line
--- needs beyond that has a name of its own, in the file of its section: ScanTransitions for the beginning of a call and a
--- scan's version, WalkTransitions for the walk, ReadTransitions for reading a row, PutTransitions for putting, ListTransitions
--- for a walk along a row's list, and for inserting the cell of a put there. A rebalance has EngageTransitions for its beginning,
--- FreezeTransitions for the full row's entries and the scans, TakeTransitions for the row's cells, SeekTransitions for free rows,
--- WriteTransitions for new rows, and ReplaceTransitions for the exchange of the one for the others. A put that meets a full row comes to
--- it (`to_rebalance`).
+-- One line for each activity of a seat, in the order in which a call goes through them. A line says
+-- which kind of event it is, which word it acts on, what it does to that word, and what follows
+-- from what the operation tells the seat: the word that was found, and nothing for a store. A line
+-- is a `Transition`; a row is always one of the map's. Whatever a line needs beyond that has a name
+-- of its own, in the file of its section: ScanTransitions for the beginning of a call and a scan's
+-- version, WalkTransitions for the walk, ReadTransitions for reading a row, PutTransitions for
+-- putting, ListTransitions for a walk along a row's list, and for inserting the cell of a put
+-- there. A rebalance has EngageTransitions for its beginning, FreezeTransitions for the full row's
+-- entries and the scans, TakeTransitions for the row's cells, SeekTransitions for free rows,
+-- WriteTransitions for new rows, and ReplaceTransitions for the exchange of the one for the others.
+-- A put that meets a full row comes to it (`to_rebalance`).
 --
--- Three steps of a call have no event, and so no line: the arrival at the row of the wanted key (`arrive`), the end of a
--- row's cells (`row_read`, which `to_rest` goes on to after the last one), and the arrival at a full row (`to_rebalance`). They
--- are passed through in what follows from the event before them.
+-- Three steps of a call have no event, and so no line: the arrival at the row of the wanted key
+-- (`arrive`), the end of a row's cells (`row_read`, which `to_rest` goes on to after the last one),
+-- and the arrival at a full row (`to_rebalance`). They are passed through in what follows from the
+-- event before them.
 --
--- `transition` is by cases on the activity alone, so that each line computes for every choice and every local. What a choice
--- decides is given to a definition by cases on the choice (`begun`, `start_transition`, `walk_transition`,
--- `answer_or_stopped`, `seek_first_transition`, `before_transition`). The sizes come first. The number of rows is not among them: which operation a line makes does not
--- depend on it, since `offered` has taken every guess at a row that does not exist for `Go` before an event comes here. It
--- is given to what follows, where a search along the table ends with its last row (`at_rows`); every other line leaves it out (`at`).
+-- `transition` is by cases on the activity alone, so that each line computes for every choice and
+-- every local. What a choice decides is given to a definition by cases on the choice (`begun`,
+-- `start_transition`, `walk_transition`, `answer_or_stopped`, `seek_first_transition`,
+-- `before_transition`). The sizes come first. The number of rows is not among them: which operation
+-- a line makes does not depend on it, since `offered` has taken every guess at a row that does not
+-- exist for `Go` before an event comes here. It is given to what follows, where a search along the
+-- table ends with its last row (`at_rows`); every other line leaves it out (`at`).
 use Rattle.std.specs.Prelude.{ℕ, ◌+◌, Some, None, ◌==◌, if◌then◌else◌, slice_get}
 use Rattle.kw_words.specs.declared.layout.Name.TheVariants.{Clock, Epoch, Pass, Scan, State, Count, Min, Next, First, Pend, Key, Value, Version, After}
 use Rattle.kw_words.specs.declared.kind.Kind.TheVariants as kind
@@ -33,7 +38,6 @@ use Rattle.kw_cells.specs.Cells.{value_in}
 use Rattle.kw_words.specs.Pend.{pend_of, pend_word}
 use Rattle.kw_words.specs.Scan.{scan_of, scan_word}
 use Rattle.kw_words.specs.Plain.{key_word, key_of_word, value_word, value_of_word, version_word, version_of_word, pass_word, pass_of_word, cell_link_word, cell_of_link_word}
-use Rattle.kw_world.specs.declared.answer.Answer.TheVariants.{Done}
 use Rattle.kw_world.specs.declared.activity.Activity.{Activity}
 use Rattle.kw_world.specs.declared.activity.Activity.TheVariants.{Idle, Enter, ScanClock, ScanWait, ScanDraw, ScanSettle, Start, Head, GuessMin, Walk, WalkMin, Look, LookKey, LookClock, LookHelp, ListFrom, ListKey, ListVer, ListVal, RestKey, RestVal, ClearScan, PutCount, PutAdd, PutKey, PutValue, Announce, PutClock, Stamp, PutVersion, InsFrom, InsKey, InsVer, InsSet, Insert, PutClear, Leave, Again, AgainEpoch, BalClock, BalEpoch, BalState, BalNormal, Engage, MarkLink, Decide, FreezeCount, FreezeLook, Freeze, ScanLook, HelpDraw, HelpSettle, TakeFrom, TakeKey, TakeVersion, TakeValue, TakeRestKey, TakeRestValue, SeekFirst, Seek, SeekPass, Reclaim, TakeRow, GiveBack, WriteCount, WriteMin, WriteNext, WriteFirst, WritePend, WriteKey, WriteValue, WriteVersion, WriteAfter, Before, BeforeGuess, BeforeHead, BeforeLink, BeforeMin, Replace, Normalise, Number, Retire}
 use Rattle.kw_world.specs.declared.local.Local.{Local}
@@ -45,7 +49,7 @@ use Rattle.kw_world.specs.Transition.{Transition, at, at_rows, to, leave, ended,
 use Rattle.kw_world.specs.ScanTransitions.{begun, entered, clock_met, version_settled, settled, answer_or_stopped}
 use Rattle.kw_world.specs.WalkTransitions.{start_transition, head_transition, guess_min, walk_transition, is_stopped, walk_min}
 use Rattle.kw_world.specs.ReadTransitions.{to_look, look_met, help_met, list_met, list_key, list_version, list_past, gathering, rest_key, to_rest}
-use Rattle.kw_world.specs.PutTransitions.{has_room, given_of, stamp_met}
+use Rattle.kw_world.specs.PutTransitions.{has_room, given_of, stamp_met, cleared}
 use Rattle.kw_world.specs.ListTransitions.{link_name, to_insert, insert_from, insert_key, insert_version, insert_tried}
 use Rattle.kw_world.specs.EngageTransitions.{again, balance_clock, balance_epoch, state_met, engaged, link_marked, decided, to_rebalance}
 use Rattle.kw_world.specs.FreezeTransitions.{count_frozen, freeze_met, entry_tried, scan_met, scan_helped}
@@ -99,7 +103,7 @@ transition z InsKey s choice l = at kind.LoadKey (Key l.row l.place) Load (λ w.
 transition z InsVer s choice l = at kind.LoadVersion (Version l.row l.place) Load (λ w. insert_version (version_of_word w) l)
 transition z InsSet s choice l = at kind.StoreAfter (After l.row l.cell) (Store (cell_link_word l.held)) (λ _. to Insert l)
 transition z Insert s choice l = at kind.Insert (link_name l.row l.link) (Exchange (cell_link_word l.held) (cell_link_word (Some l.cell))) (λ w. insert_tried z (w == cell_link_word l.held) l)
-transition z PutClear s choice l = at kind.ClearPend (Pend l.row s) (Store (pend_word pend.Idle)) (λ _. leave Done l)
+transition z PutClear s choice l = at_rows kind.ClearPend (Pend l.row s) (Store (pend_word pend.Idle)) (λ rows _. cleared rows choice l)
 -- the call ends
 transition z (Leave answer) s choice l = at kind.ClearPass (Pass s) (Store (pass_word None)) (λ _. ended answer l)
 -- a put tries again, after a rebalance

@@ -1,7 +1,8 @@
--- What follows from the events that gather all cells of the full row, and which of them go into the new rows.
+-- What follows from the events that gather all cells of the full row, and which of them go into the
+-- new rows.
 --
--- As a reader does, a rebalance walks along the row's list, and reads by themselves the stamped cells that it remembers and did not
--- meet. It gathers every key.
+-- As a reader does, a rebalance walks along the row's list, and reads by themselves the stamped
+-- cells that it remembers and did not meet. It gathers every key.
 use Rattle.std.specs.Prelude.{ℕ, nat_lt, if◌then◌else◌, Option, Some, None, [], length, unwrap_or}
 use Rattle.kw_cells.specs.Kept.{kept_of}
 use Rattle.kw_cells.specs.Cuts.{starts_of}
@@ -19,7 +20,8 @@ use Rattle.kw_world.specs.Transition.{Outcome, to}
 abbrev pub to_take : Local → Outcome
 to_take l = to TakeFrom (record (at_first l) { rebalance = record l.rebalance { gathered = [] } })
 
--- which cells the new rows get, and where each row starts among them; no row is taken as yet, and row 0 is asked first
+-- which cells the new rows get, and where each row starts among them; no row is taken as yet, and
+-- row 0 is asked first
 abbrev pub planned : Sizes → Local → Local
 planned z l = record l {
   rebalance = record l.rebalance {
@@ -32,8 +34,8 @@ planned z l = record l {
   };
 }
 
--- a remembered cell of the least place is read, and remembered no more; where none is left, all cells are gathered: the plan is made,
--- and the search for new rows begins
+-- a remembered cell of the least place is read, and remembered no more; where none is left, all
+-- cells are gathered: the plan is made, and the search for new rows begins
 abbrev pub left_of : Sizes → Option Mark → Local → Outcome
 left_of z (Some m) l = to TakeRestKey (record l { place = m.cell; place_version = m.version; rebalance = record l.rebalance { marks = unmarked m.cell l.rebalance.marks } })
 left_of z None l = to SeekFirst (planned z l)
@@ -55,7 +57,8 @@ take_met z None l = to_left z l
 abbrev pub take_version : Option ℕ → Local → Outcome
 take_version version l = to TakeValue (record l { place_version = unwrap_or version 1 })
 
--- the cell is gathered: put among those that were, in the order of the list. A row has no more cells than are gathered
+-- the cell is gathered: put among those that were, in the order of the list. A row has no more
+-- cells than are gathered
 abbrev pub keeping : Sizes → Option ℕ → Local → Local
 keeping z value l = record l {
   rebalance = record l.rebalance {

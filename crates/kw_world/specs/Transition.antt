@@ -1,4 +1,5 @@
--- A transition, which is one line of the table of events: the operation, and what follows from what it told.
+-- A transition, which is one line of the table of events: the operation, and what follows from what
+-- it told.
 use Rattle.std.specs.Prelude.{ℕ, Option, Some, None, unwrap_or}
 use Rattle.kw_words.specs.declared.layout.Name.{Name}
 use Rattle.kw_words.specs.declared.kind.Kind.{Kind}
@@ -28,7 +29,8 @@ pub record Transition : Type 0 where
   pub operation : Operation
   pub next : ℕ → ℕ → Outcome
 
--- the transition with this kind, word and action, and with what follows, however many rows there are
+-- the transition with this kind, word and action, and with what follows, however many rows there
+-- are
 abbrev pub at : Kind → Name → Action → (ℕ → Outcome) → Transition
 at kind name action next = record { operation = record { kind = kind; name = name; action = action }; next = λ rows. next }
 
@@ -44,7 +46,8 @@ to a l = outcome (record l { activity = a }) Moved
 abbrev pub leave : Answer → Local → Outcome
 leave answer l = to (Leave answer) (without_rows l)
 
--- the call has ended with this answer, and with the pairs that the seat has: it is idle, and knows how many calls it has begun
+-- the call has ended with this answer, and with the pairs that the seat has: it is idle, and knows
+-- how many calls it has begun
 abbrev pub ended : Answer → Local → Outcome
 ended answer l = outcome (resting l.number) (Ended (reply_of answer l.pairs))
 

@@ -31,7 +31,8 @@ offered rows Stop = Stop
 abbrev pub head_transition : Local → Transition
 head_transition l = at kind.LoadHead name.Head Load (λ w. to Walk (record l { row = row_or_first (row_linked (link_of w)); lower = 0 }))
 
--- Start with a guess: a row in the normal state is taken, and every other one sends the walk to the first row
+-- Start with a guess: a row in the normal state is taken, and every other one sends the walk to the
+-- first row
 abbrev pub guess_met : ℕ → Option State → Local → Outcome
 guess_met r (Some Free) l = to Head l
 guess_met r (Some (Infant seat)) l = to Head l
@@ -65,7 +66,8 @@ abbrev pub link_met : Option ℕ → Local → Outcome
 link_met None l = arrive l.call (record l { next = None; upper = 0 })
 link_met (Some r) l = to WalkMin (record l { candidate = r })
 
--- WalkMin: the walk goes on to a row whose minimum is at most the wanted key, and else ends before it
+-- WalkMin: the walk goes on to a row whose minimum is at most the wanted key, and else ends before
+-- it
 abbrev pub walk_min : ℕ → Local → Outcome
 walk_min least l =
     if nat_le least l.want then to Walk (record l { row = l.candidate; lower = least })

@@ -1,8 +1,9 @@
 -- What the events that write a new row store, and what follows from them.
 --
--- The kept cells are cut at the starts, and each taken row gets one part, with its cells by rising key and version. They are linked
--- in the order of a row's list: by rising key, then by falling version. So the first link leads to the last cell of the least key;
--- behind a cell stands the one before it, if that has the same key, and else the last cell of the next key.
+-- The kept cells are cut at the starts, and each taken row gets one part, with its cells by rising
+-- key and version. They are linked in the order of a row's list: by rising key, then by falling
+-- version. So the first link leads to the last cell of the least key; behind a cell stands the one
+-- before it, if that has the same key, and else the last cell of the next key.
 use Rattle.std.specs.Prelude.{ℕ, ◌+◌, ◌-◌, Bool, false, nat_lt, nat_le, ◌&&◌, ◌==◌, if◌then◌else◌, Option, Some, None, List, [], ◌∷◌, length, take, drop, slice_get, slice_index, count_by}
 use Rattle.kw_words.specs.declared.count.Count.{Count}
 use Rattle.kw_words.specs.declared.link.Link.{Link}
@@ -29,7 +30,8 @@ abbrev pub first_cell_key : List Cell → ℕ
 first_cell_key [] = 0
 first_cell_key (c ∷ cells) = c.key
 
--- its least key is that of the full row for the first new one, and that of its first cell for every other
+-- its least key is that of the full row for the first new one, and that of its first cell for every
+-- other
 abbrev pub infant_least : Local → ℕ
 infant_least l = if l.rebalance.at == 0 then l.lower else first_cell_key (infant_cells l)
 

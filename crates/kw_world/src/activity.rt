@@ -1,8 +1,9 @@
 //! What a seat does next.
 //!
-//! There is one variant for each line of the table of events, and none for what is passed through without an event. A
-//! variant's field is what the line's own text names in brackets; all else that a seat keeps stands in `local`. The table
-//! goes by these variants, so a new one is a new line there.
+//! There is one variant for each line of the table of events, and none for what is passed through
+//! without an event. A variant's field is what the line's own text names in brackets; all else that
+//! a seat keeps stands in `local`. The table goes by these variants, so a new one is a new line
+//! there.
 ghost use Rattle.std.specs.Prelude.{◌≡◌};
 ghost use Rattle.kw_world.specs.Step.{is_skipped};
 
@@ -24,7 +25,8 @@ pub enum Activity {
     ScanDraw,
     /// Exchanges the waiting scan for one with a version.
     ScanSettle,
-    /// Begins the walk to the row of the wanted key: loads the link to the first row, or the state of a guessed row.
+    /// Begins the walk to the row of the wanted key: loads the link to the first row, or the state
+    /// of a guessed row.
     Start,
     /// Loads the link to the first row, after a guess that did not serve.
     Head,
@@ -88,7 +90,8 @@ pub enum Activity {
     Leave(Answer),
 
     // A rebalance, of a full row that a put has met.
-    /// Takes the announced epoch back, for the put to try again: stores that the seat announces none.
+    /// Takes the announced epoch back, for the put to try again: stores that the seat announces
+    /// none.
     Again,
     /// Loads the epoch, to announce it again.
     AgainEpoch,
@@ -98,7 +101,8 @@ pub enum Activity {
     BalEpoch,
     /// Loads the state of the full row.
     BalState,
-    /// Exchanges the state of the full row, which is still the infant of this seat, for the normal one.
+    /// Exchanges the state of the full row, which is still the infant of this seat, for the normal
+    /// one.
     BalNormal(u32),
     /// Exchanges the normal state of the full row for that of a leader.
     Engage,
@@ -134,7 +138,8 @@ pub enum Activity {
     SeekFirst,
     /// Loads the state of the next row.
     Seek,
-    /// Loads the epoch that this seat has announced, below the number of seats, where that row was retired.
+    /// Loads the epoch that this seat has announced, below the number of seats, where that row was
+    /// retired.
     SeekPass(u32),
     /// Exchanges the retired state of that row, with the number that was found, for the free one.
     Reclaim,
@@ -160,7 +165,8 @@ pub enum Activity {
     WriteVersion(u32),
     /// Stores the link after this cell.
     WriteAfter(u32),
-    /// Begins the walk to the row before the full one: loads the link to the first row, or the state of a guessed row.
+    /// Begins the walk to the row before the full one: loads the link to the first row, or the
+    /// state of a guessed row.
     Before,
     /// Loads the least key of the guessed row.
     BeforeGuess,

@@ -1,7 +1,8 @@
 //! What a call is about to answer.
 //!
-//! A seat that ends its call keeps the answer in its activity. The pairs of a scan are no part of it: they stay where the
-//! seat keeps them until the call is over, so that an answer, and an activity with it, is a few words that are copied.
+//! A seat that ends its call keeps the answer in its activity. The pairs of a scan are no part of
+//! it: they stay where the seat keeps them until the call is over, so that an answer, and an
+//! activity with it, is a few words that are copied.
 ghost use Rattle.std.specs.Prelude.{◌≡◌};
 ghost use Rattle.kw_world.specs.Answers.{answer_found, reply_of};
 
@@ -38,7 +39,8 @@ impl Answer {
         }
     }
 
-    /// The reply, where these are the pairs that the call has. An answer other than `Pairs` drops them.
+    /// The reply, where these are the pairs that the call has. An answer other than `Pairs` drops
+    /// them.
     pub fn reply(self, pairs: PairList) -> Reply
         ensures { result ≡ reply_of self pairs }
     {

@@ -1,7 +1,7 @@
 //! What a seat's events need of its call.
 //!
-//! A seat without a call is taken to ask for the value of key 0: no list of events leads to one that acts, and so each of
-//! these answers for every local.
+//! A seat without a call is taken to ask for the value of key 0: no list of events leads to one
+//! that acts, and so each of these answers for every local.
 ghost use Rattle.std.specs.Prelude.{◌≡◌};
 ghost use Rattle.kw_words.specs.Plain.{IsValue};
 ghost use Rattle.kw_world.specs.Calls.{first_key, last_key, is_in_range, is_range_empty, put_value, is_scan};
@@ -45,7 +45,8 @@ pub fn is_range_empty(call: Option<Call>) -> bool
     last_key(call) < first_key(call)
 }
 
-/// The value that the call puts; none for a delete, which puts a tombstone, and for a call that puts nothing.
+/// The value that the call puts; none for a delete, which puts a tombstone, and for a call that
+/// puts nothing.
 pub fn put_value(call: Option<Call>) -> Option<u64>
     requires { IsCall call }
     ensures value { result ≡ put_value call }

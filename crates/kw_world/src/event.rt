@@ -1,7 +1,7 @@
 //! What may happen to a world.
 //!
-//! An event says which seat acts and what it chooses; all else follows from the world. Lists of events are kept by the
-//! million, so an event is a few words of plain data that is copied.
+//! An event says which seat acts and what it chooses; all else follows from the world. Lists of
+//! events are kept by the million, so an event is a few words of plain data that is copied.
 ghost use Rattle.std.specs.Prelude.{◌≡◌};
 ghost use Rattle.kw_world.specs.WalkTransitions.{offered, is_stop};
 ghost use Rattle.kw_world.specs.Sane.{IsOffered};
@@ -15,7 +15,8 @@ pub enum Choice {
     Begin(Call),
     /// The seat goes on.
     Go,
-    /// A walk begins at this row, where it may. A row that is not one of the table's is not offered.
+    /// A walk begins at this row, where it may. A row that is not one of the table's is not
+    /// offered.
     Guess(u32),
     /// A scan ends before its time, where it may.
     Stop,

@@ -1,8 +1,8 @@
 //! The cells that a reader has gathered in a row.
 //!
-//! Of each cell of the row whose key is in its range and whose put has a version a reader keeps a copy. The copies stand in the
-//! order of the row's list, so that what a version shows of them is found in one pass. A row has `CELLS` cells, so the list
-//! lies in place and takes no memory.
+//! Of each cell of the row whose key is in its range and whose put has a version a reader keeps a
+//! copy. The copies stand in the order of the row's list, so that what a version shows of them is
+//! found in one pass. A row has `CELLS` cells, so the list lies in place and takes no memory.
 ghost use Rattle.std.specs.Prelude.{◌≡◌, ◌<◌, [], true, length, nat_lt, if◌then◌else◌, slice_index_or, remove, IfSome, IfNone};
 ghost use Rattle.kw_words.specs.declared.sizes.TheConstants.{CELLS};
 ghost use Rattle.kw_cells.specs.InOrder.{AreInOrder, place_in, stands_before, with_cell};
@@ -14,8 +14,8 @@ use kw_words::sizes::CELLS;
 use std::alloc::AllocError;
 use std::marker::Model;
 
-/// The gathered cells, in the order of the row's list: by key, then by falling version, then by falling place; at most `CELLS`, of
-/// which no two agree in key, version and place.
+/// The gathered cells, in the order of the row's list: by key, then by falling version, then by
+/// falling place; at most `CELLS`, of which no two agree in key, version and place.
 #[derive(Debug, Drop)]
 pub struct Gathered {
     cells: ArrayVec<Cell, CELLS>,
@@ -64,8 +64,9 @@ impl Gathered {
 
     /// Puts a cell at its place among those that were gathered. The answer is that place.
     ///
-    /// None where the cell is not put there, and all stays as it was: there is no room, or a cell was gathered that agrees with it
-    /// in key, version and place. No reader of a row meets either. A walk along a row's list has the next cell for the end.
+    /// None where the cell is not put there, and all stays as it was: there is no room, or a cell
+    /// was gathered that agrees with it in key, version and place. No reader of a row meets either.
+    /// A walk along a row's list has the next cell for the end.
     #[inline(always)]
     pub fn gather(&mut self, cell: Cell) -> Option<usize>
         ensures gathered { self.new ≡ (if nat_lt (length self.old) CELLS
@@ -99,7 +100,8 @@ impl Gathered {
         Some(at)
     }
 
-    /// The place at which the cell is put among those that were gathered: how many of them stand before it in the list.
+    /// The place at which the cell is put among those that were gathered: how many of them stand
+    /// before it in the list.
     pub fn place_of(&self, cell: &Cell) -> usize
         ensures { result ≡ place_in cell.now self.now }
     {
@@ -123,7 +125,8 @@ impl Gathered {
     }
 }
 
-// Whether the cell stands before the one at this place, if there is one. At the cell's own place it then agrees with none.
+// Whether the cell stands before the one at this place, if there is one. At the cell's own place it
+// then agrees with none.
 fn is_new(cell: &Cell, cells: &[Cell], at: usize) -> bool
     ensures { result ≡ (if nat_lt at (length cells.now) then stands_before cell.now
         (slice_index_or cells.now at cell.now) else true) }

@@ -1,9 +1,9 @@
 //! What one seat knows.
 //!
-//! A `Local` has a field for each value that a seat keeps from one event to the next. Every number always has a range
-//! that holds, so that code may use it whatever the seat does; what it means at which activity is for the laws over lists
-//! of events to say. The step crates write the fields, each event those that its line of the table names, and nobody else
-//! does.
+//! A `Local` has a field for each value that a seat keeps from one event to the next. Every number
+//! always has a range that holds, so that code may use it whatever the seat does; what it means at
+//! which activity is for the laws over lists of events to say. The step crates write the fields,
+//! each event those that its line of the table names, and nobody else does.
 ghost use Rattle.std.specs.Prelude.{◌≡◌};
 ghost use Rattle.kw_world.specs.Local.{resting, without_rows, before_row};
 ghost use Rattle.kw_world.specs.WalkTransitions.{is_stopped};
@@ -49,7 +49,8 @@ pub struct Local {
     pub waiting: u64,
     /// The version that a scan drew, from 1 to below `VERSION_END`.
     pub drawn: u64,
-    /// The version of a scan, or of a put once it has loaded the clock; from 1 to below `VERSION_END`.
+    /// The version of a scan, or of a put once it has loaded the clock; from 1 to below
+    /// `VERSION_END`.
     pub version: u64,
     /// Whether a scan has read a row.
     pub has_read: bool,
@@ -64,7 +65,8 @@ pub struct Local {
     pub helping: u64,
     /// The stamped cells that a reader has met in entries of the row, and not yet in its list.
     pub remembered: Marks,
-    /// The cell that a walk along the row's list has met, or that a reader remembered, below the number of cells.
+    /// The cell that a walk along the row's list has met, or that a reader remembered, below the
+    /// number of cells.
     pub place: u32,
     /// The version of that cell, from 1 to below `VERSION_END`.
     pub place_version: u64,
@@ -75,14 +77,19 @@ pub struct Local {
 
     /// The cell of a put or a delete, below the number of cells.
     pub cell: u32,
-    /// The cell after which the link stands that a walk along the row's list is at; none at the row's first link.
+    /// The cell after which the link stands that a walk along the row's list is at; none at the
+    /// row's first link.
     pub link: Option<u32>,
     /// The cell to which that link led; none where it led to no cell.
     pub held: Option<u32>,
     /// How many cells the walk has met since the row's first link, at most the number of cells.
     pub walked: u32,
-    /// How many exchanges the put has lost that were to insert its cell, at most the number of cells.
+    /// How many exchanges the put has lost that were to insert its cell, at most the number of
+    /// cells.
     pub lost: u32,
+    /// Whether the put or the delete is done and tidies: its seat rebalances its row before it
+    /// leaves.
+    pub tidies: bool,
 
     /// The rebalance that it makes.
     pub rebalance: Rebalance,
@@ -124,13 +131,15 @@ impl Clone for Local {
             held: self.held,
             walked: self.walked,
             lost: self.lost,
+            tidies: self.tidies,
             rebalance: self.rebalance.clone()?,
         })
     }
 }
 
 impl Local {
-    /// A seat that has begun no call. Takes no memory; the pairs of its scans take theirs from this allocator.
+    /// A seat that has begun no call. Takes no memory; the pairs of its scans take theirs from this
+    /// allocator.
     pub fn idle(alloc: Global) -> Local
         ensures { result ≡ resting 0 }
     {
@@ -163,6 +172,7 @@ impl Local {
             held: None,
             walked: 0,
             lost: 0,
+            tidies: false,
             rebalance: Rebalance::none(),
         }
     }
@@ -198,6 +208,7 @@ impl Local {
         self.held = None;
         self.walked = 0;
         self.lost = 0;
+        self.tidies = false;
         self.rebalance.forget();
     }
 
@@ -229,7 +240,8 @@ impl Local {
         choice.is_stop() && is_scan(self.call) && self.has_read
     }
 
-    /// The part of the table that has the event with this choice. A walk that is stopped does not walk.
+    /// The part of the table that has the event with this choice. A walk that is stopped does not
+    /// walk.
     pub fn part(&self, choice: Choice) -> Part
         ensures { result ≡ part_of choice self.now }
     {

@@ -1,7 +1,8 @@
 //! One operation on one word.
 //!
-//! All that a step does to the shared words is here: a load, a store, an addition, a union of bits or an exchange, what
-//! each of them leaves in the word, and what it tells the seat. Every layer above cites these two.
+//! All that a step does to the shared words is here: a load, a store, an addition, a union of bits
+//! or an exchange, what each of them leaves in the word, and what it tells the seat. Every layer
+//! above cites these two.
 ghost use Rattle.std.specs.Prelude.{◌≡◌};
 ghost use Rattle.kw_world.specs.Operation.{word_after, told_by, CanHappen};
 

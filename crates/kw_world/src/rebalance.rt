@@ -1,8 +1,8 @@
 //! What one seat knows of the rebalance that it makes.
 //!
-//! A rebalance replaces a full row by new ones. Its row and that row's least key are the row and the least key of the seat's
-//! walk; here is what it knows beside them. As in `Local` every number always has a range that holds, so that code may use
-//! it whatever the seat does.
+//! A rebalance replaces a full row by new ones. Its row and that row's least key are the row and
+//! the least key of the seat's walk; here is what it knows beside them. As in `Local` every number
+//! always has a range that holds, so that code may use it whatever the seat does.
 ghost use Rattle.std.specs.Prelude.{◌≡◌};
 ghost use Rattle.kw_world.specs.Local.{no_rebalance};
 
@@ -26,7 +26,8 @@ pub enum Afterwards {
 /// What one seat knows of the rebalance that it makes. Of no rebalance it knows nothing.
 #[derive(Debug, Drop)]
 pub struct Rebalance {
-    /// The row after the full one, to which its marked link leads; none where the full row is the last.
+    /// The row after the full one, to which its marked link leads; none where the full row is the
+    /// last.
     pub after: Option<u32>,
     /// The entry that the seat found, and is about to freeze.
     pub entry: Pend,
@@ -52,12 +53,13 @@ pub struct Rebalance {
     pub sought: u32,
     /// How many rows it has asked so, with that one.
     pub asked: u32,
-    /// The row at which its walk to the row before the full one is; none where the full row is the first.
+    /// The row at which its walk to the row before the full one is; none where the full row is the
+    /// first.
     pub before: Option<u32>,
     /// The least key that this row may hold.
     pub least: u32,
-    /// The number of the retired row that it asks for, and then that of the full row, once it is replaced; from 1 to below
-    /// `NUMBER_END`.
+    /// The number of the retired row that it asks for, and then that of the full row, once it is
+    /// replaced; from 1 to below `NUMBER_END`.
     pub number: u64,
     /// What follows once the taken rows are given back.
     pub afterwards: Afterwards,

@@ -1,4 +1,5 @@
-//! The lists of a rebalance: the versions that it needs, the cells that it keeps, where its new rows start, and the rows that it took.
+//! The lists of a rebalance: the versions that it needs, the cells that it keeps, where its new
+//! rows start, and the rows that it took.
 //!
 //! Each of them has its room from the sizes of the map, lies in place and takes no memory.
 ghost use Rattle.std.specs.Prelude.{◌≡◌, ◌<◌, ◌≤◌, ◌++◌, ◌∷◌, [], length};
@@ -12,7 +13,8 @@ use kw_cells::pack::RowCuts;
 use std::alloc::AllocError;
 use std::marker::Model;
 
-/// The versions that a rebalance needs, since a scan may still ask for them, in the order of the seats; at most `MOST_NEEDED`.
+/// The versions that a rebalance needs, since a scan may still ask for them, in the order of the
+/// seats; at most `MOST_NEEDED`.
 #[derive(Debug, Drop)]
 pub struct Needed {
     versions: ArrayVec<u64, MOST_NEEDED>,

@@ -1,8 +1,8 @@
 //! Worlds.
 //!
-//! A `World` owns the words and the locals, and lets the step crates read and write them one at a time. It promises
-//! nothing of what they hold: that a world stays sane is a law over events, and a condition of every step. So its setters
-//! set, and owe nothing else.
+//! A `World` owns the words and the locals, and lets the step crates read and write them one at a
+//! time. It promises nothing of what they hold: that a world stays sane is a law over events, and a
+//! condition of every step. So its setters set, and owe nothing else.
 ghost use Rattle.std.specs.Prelude.{◌≡◌, ◌<◌, ◌≤◌, length, slice_index, slice_get, slice_set, Some, IfOk};
 ghost use Rattle.std.specs.Borrow.{sem};
 ghost use Rattle.kw_world.specs.Lending.{LendsLocal};
@@ -41,9 +41,9 @@ impl Model for World {
 impl World {
     /// The world that a run begins with.
     ///
-    /// There are 1 to `MOST_ROWS` rows and 1 to `SEATS` seats; the clock and the epoch are from 1 to `SPENT`. Row 0 is
-    /// normal, may hold every key and has no next row, the list begins with it, all other rows are free, and every seat
-    /// is idle. All that the world holds is in range.
+    /// There are 1 to `MOST_ROWS` rows and 1 to `SEATS` seats; the clock and the epoch are from 1
+    /// to `SPENT`. Row 0 is normal, may hold every key and has no next row, the list begins with
+    /// it, all other rows are free, and every seat is idle. All that the world holds is in range.
     pub fn open(
         alloc: Global,
         rows: u32,

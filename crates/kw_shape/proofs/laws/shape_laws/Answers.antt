@@ -1,4 +1,4 @@
-use Rattle.kw_shape.proofs.ShapeHolds.{shape_holds}
+use Rattle.kw_shape.proofs.Worlds.{shape_holds}
 use Rattle.kw_shape.proofs.laws.shape_laws.Goals as goal
 
 pub returns : goal.returns

@@ -13,21 +13,21 @@ put_operation-operation-requires-clause-local c = (c.requires.sane.locals _ _ c.
 
 pub put_operation-operation-requires-clause-part : goal.put_operation-operation-requires-clause-part
 put_operation-operation-requires-clause-part c =
-    rw (c.offered-choice.ensures.value) (part-offered c.rows.result c.args.event.choice c.local-local.result.now ∙ c.requires.part c.local-local.result.now c.local-local.ensures)
+    rw (c.offered-choice.ensures.value) (part-offered c.rows-rows.result c.args.event.choice c.local-local.result.now ∙ c.requires.part c.local-local.result.now c.local-local.ensures)
 
 pub put_resume-requires-clause-part : goal.put_resume-requires-clause-part
 put_resume-requires-clause-part c =
-    rw (c.offered-choice.ensures.value) (part-offered c.rows.result c.args.event.choice c.local_mut.result.now ∙ c.requires.part c.local_mut.result.now c.local_mut.ensures.value)
+    rw (c.offered-choice.ensures.value) (part-offered c.rows-rows.result c.args.event.choice c.local_mut.result.now ∙ c.requires.part c.local_mut.result.now c.local_mut.ensures.value)
 
 pub place-place-requires-clause-within : goal.place-place-requires-clause-within
 place-place-requires-clause-within c =
-    rw (c.put_operation-operation.ensures, c.offered-choice.ensures.value, c.rows.ensures, c.rows-2.ensures)
+    rw (c.put_operation-operation.ensures, c.offered-choice.ensures.value, c.rows-rows.ensures)
     (in_table product c.args.world.now c.args.event c.local-local.result.now c.requires.sane c.requires.seat c.local-local.ensures)
 
 pub after-word-requires : goal.after-word-requires
 unfolding word
 after-word-requires c =
-    rw (c.word-found.ensures, c.place-place.ensures.value, c.put_operation-operation.ensures, c.offered-choice.ensures.value, c.rows.ensures)
+    rw (c.word-found.ensures, c.place-place.ensures.value, c.put_operation-operation.ensures, c.offered-choice.ensures.value, c.rows-rows.ensures)
     (event_can_happen product c.args.world.now c.args.event c.local-local.result.now c.requires.sane c.requires.seat c.local-local.ensures)
 
 pub put_resume-requires-clause-ranges : goal.put_resume-requires-clause-ranges
@@ -47,9 +47,9 @@ returns-clause-ok c =
     made_in_turn product c.args.world.now c.set_word.new.self c.args.event c.local-local.result.now c.put_resume.new.local c.in_ok-done.done
     c.put_operation-operation.result c.place-place.result c.word-found.result c.after-word.result c.told-told.result
     c.local-local.ensures (sym c.skips.ensures ∙ c.if-skips.false)
-    (rw (c.put_operation-operation.ensures, c.offered-choice.ensures.value, c.rows.ensures))
+    (rw (c.put_operation-operation.ensures, c.offered-choice.ensures.value, c.rows-rows.ensures))
     c.place-place.ensures.value c.word-found.ensures c.after-word.ensures c.told-told.ensures
-    (rw (c.offered-choice.ensures.value, c.rows.ensures, same) at (c.in_ok-done.ensures.ok c.args.world.now.rows))
+    (rw (c.offered-choice.ensures.value, c.rows-rows.ensures, same) at (c.in_ok-done.ensures.ok))
     c.set_word.ensures
 
 pub returns-clause-skipped : goal.returns-clause-skipped
