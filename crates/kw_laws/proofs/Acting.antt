@@ -1,4 +1,5 @@
--- The event at the end of a list, as what a seat does there: it makes the operation of its line of the table.
+-- The event at the end of a list, as what a seat does there: it makes the operation of its line of
+-- the table.
 use Rattle.std.proofs.Common.{ℕ, ◌≡◌, ◌⊎◌, inl, inr, Some, List, [], ◌∷◌, ◌++◌, arith, refl, sym, ◌∙◌, ap, subst, length, slice_get}
 use Rattle.std.proofs.lemmas.Option.{same_Some}
 use Rattle.kw_world.specs.declared.activity.Activity.{Activity}

@@ -1,4 +1,5 @@
--- What holds of a list of events and of all that led to its world, by induction over the events from the front.
+-- What holds of a list of events and of all that led to its world, by induction over the events
+-- from the front.
 use Rattle.std.proofs.Common.{◌≡◌, true, List, [], ◌∷◌, ◌++◌, refl, sym, ◌∙◌, ap, subst, append_assoc, append-nil}
 use Rattle.std.proofs.lemmas.Bool.{and_parts}
 use Rattle.kw_world.specs.declared.event.Event.{Event}

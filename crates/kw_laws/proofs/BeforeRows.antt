@@ -1,9 +1,10 @@
 -- Where the walk to the row before a full one ends, the full row is in the list no more.
 --
--- Each row that the walk names was in the list after the full row came to it, or the full row is in it no more: a row that was met along the
--- link of a dead one went no sooner than that one. Of two rows that hold one key one went before the other came. So as long as the full
--- row is in the list, each row of the walk whose range ends behind the full row's least key is in the list too, and there the row before the
--- full one leads to it.
+-- Each row that the walk names was in the list after the full row came to it, or the full row is in
+-- it no more: a row that was met along the link of a dead one went no sooner than that one. Of two
+-- rows that hold one key one went before the other came. So as long as the full row is in the list,
+-- each row of the walk whose range ends behind the full row's least key is in the list too, and
+-- there the row before the full one leads to it.
 use Rattle.std.proofs.Common.{ℕ, ◌≡◌, ◌≢◌, ◌⊎◌, inl, inr, ◌<◌, ◌≤◌, true, Some, None, List, arith, refl, sym, ◌∙◌, ap, subst, slice_get, length}
 use Rattle.std.proofs.lemmas.Bool.{cases_lt}
 use Rattle.std.proofs.lemmas.Option.{same_Some}
@@ -37,7 +38,7 @@ use Rattle.kw_core.specs.Words.{Words, least_in, next_in}
 use Rattle.kw_core.proofs.Building.{Building, IsBuilding, first_is_taken, sought_is_taken, pass_is_old, pass_is_young, takes_row, loses_row, gives_last_back, writes_first, writes_entry, writes_after, begins_before, guesses_before, before_serves, takes_head_before, leads_on_marked, leads_to_other, leads_nowhere, walks_before, walks_past, is_marked_before, is_replaced}
 use Rattle.kw_core.proofs.Events.{may_come}
 use Rattle.kw_core.proofs.Happens.{Happens, each_seat, happens}
-use Rattle.kw_core.proofs.NextBuilt.{GivenBack, is_refused_rows, moves_left, tries_again, NextBack, gives_back, has_none, NextPass, has_looked, looks_on, NextSeek, asks, has_asked, NextTaken, has_enough, wants_more, NextNewCell, empties, fills, has_cells, NextNewEntry, has_entries, writes_idle, NextNewRow, has_written, writes_row, NextBefore, is_behind, is_first}
+use Rattle.kw_core.proofs.NextBuilt.{GivenBack, is_refused_rows, moves_left, tries_again, NextBack, gives_back, has_none, NextPass, has_looked, looks_on, NextSeek, asks, has_asked, NextTaken, has_enough, wants_more, NextNewCell, empties, fills, has_cells, NextNewEntry, has_entries, writes_idle, NextNewRow, has_written, writes_row, NextBefore, is_behind, is_first, was_done, was_served}
 use Rattle.kw_core.proofs.Runs.{goes_on-moved, holds_of_history}
 use Rattle.kw_shape.specs.MetRows.{IsMet, is_first as met_first, is_next as met_next}
 use Rattle.kw_shape.specs.RowsIn.{rows_in, state_met}
@@ -67,7 +68,8 @@ IsWalkingBefore _ = ⊥
 abbrev IsLate : Ledger → ℕ → ℕ → Type 0
 IsLate g q x = IsLive g q → IsDead g x → (g.fates q).born ≤ (g.fates x).gone
 
--- the row of the walk and the one that it met behind it are such ones; the range of the first ends where the second begins, which is not the full one
+-- the row of the walk and the one that it met behind it are such ones; the range of the first ends
+-- where the second begins, which is not the full one
 record WalksBefore (v : Words) (g : Ledger) (a : Activity) (l : Local) : Type 0 where
   late : (p : ℕ) → IsWalkingBefore a → l.rebalance.before ≡ Some p → IsLate g l.row p
   late_next : HasMetNext a → IsLate g l.row l.candidate
@@ -107,7 +109,8 @@ elsewhere v g a l n = record { late = λ p x. absurd (n x); late_next = λ x. ab
 
 -- The steps of the walk.
 
--- how a seat comes to a row of its walk, or goes on there: at the first row, at one that it guessed, and along links
+-- how a seat comes to a row of its walk, or goes on there: at the first row, at one that it
+-- guessed, and along links
 data StepsBefore (v : Words) (l : Local) : Activity → Local → Type 0 where
   from_first : (a : Activity) → StepsBefore v l a (record (at_before (Some (row_or_first (row_linked (link_of (v name.Head))))) 0 l) { activity = BeforeLink })
   from_guess : (q : ℕ) → state_of (v (name.State q)) ≡ Some Normal → StepsBefore v l Before (record l { rebalance = record l.rebalance { before = Some q }; activity = BeforeGuess })
@@ -126,8 +129,10 @@ row_same v l a k moves = refl
 -- no other part of a rebalance leads there
 
 given_off : (c : Afterwards) (k next : Local) → GivenBack k c next → IsWalkingBefore next.activity → ⊥
-given_off c k next tries_again x = x
-given_off c k next is_refused_rows x = x
+given_off c k next (tries_again nd) x = x
+given_off c k next (was_done dn) x = x
+given_off c k next (is_refused_rows nd) x = x
+given_off c k next (was_served dn) x = x
 given_off c k next moves_left x = x
 
 back_off : (c : Afterwards) (k next : Local) → NextBack c k next → IsWalkingBefore next.activity → ⊥
@@ -284,7 +289,8 @@ module _ (v : Words) (g : Ledger) (t now : ℕ) (i : Structure (rows_in v) g now
       which (inl o) = let k = late live d in absurd (omega (arith, o, k))
       which (inr o) = dead_live g l.row live o.0
 
-  -- a row of the list with a lower least key has a next one, which begins at the full row or before it
+  -- a row of the list with a lower least key has a next one, which begins at the full row or before
+  -- it
   goes_before : (p : ℕ) → IsLive g p → least_in v p < l.lower → IsBefore (rows_in v) p l.row
   goes_before p a o = which (i.chain.apart p l.row a live)
     where

@@ -1,4 +1,5 @@
--- What the events of a call so far say of a seat that is about to be refused, or searches for rows, and that each event of the seat keeps it.
+-- What the events of a call so far say of a seat that is about to be refused, or searches for rows,
+-- and that each event of the seat keeps it.
 use Rattle.std.proofs.Common.{ℕ, ◌≡◌, ◌≢◌, ◌⊎◌, inl, inr, ◌+◌, ◌<◌, ◌≤◌, ◌==◌, Bool, true, false, nat_le, nat_lt, if◌then◌else◌, Option, Some, None, List, [], ◌∷◌, ◌++◌, arith, refl, sym, ◌∙◌, ap, subst, length, slice_get, length-append}
 use Rattle.std.proofs.lemmas.Bool.Decides.{nat_tests}
 use Rattle.std.proofs.lemmas.Option.{same_Some}
@@ -14,9 +15,9 @@ use Rattle.kw_words.proofs.StateWords.{state_of-Free}
 use Rattle.kw_model.specs.declared.call.Call.{Call}
 use Rattle.kw_model.specs.declared.call.Call.TheVariants.{Put, Del, Get, Scan}
 use Rattle.kw_world.specs.declared.activity.Activity.{Activity}
-use Rattle.kw_world.specs.declared.activity.Activity.TheVariants.{Leave, ClearScan, ScanClock, BalClock, BalEpoch, SeekFirst, Seek, SeekPass, Reclaim, TakeRow, GiveBack, WriteCount}
+use Rattle.kw_world.specs.declared.activity.Activity.TheVariants.{Leave, Again, ClearScan, ScanClock, BalClock, BalEpoch, SeekFirst, Seek, SeekPass, Reclaim, TakeRow, GiveBack, WriteCount}
 use Rattle.kw_world.specs.declared.answer.Answer.{Answer}
-use Rattle.kw_world.specs.declared.answer.Answer.TheVariants.{Pairs, NoRows, Spent}
+use Rattle.kw_world.specs.declared.answer.Answer.TheVariants.{Done, Pairs, NoRows, Spent}
 use Rattle.kw_world.specs.declared.event.Choice.{Choice}
 use Rattle.kw_world.specs.declared.event.Choice.TheVariants.{Begin, Go, Guess, Stop}
 use Rattle.kw_world.specs.declared.event.Event.{Event}
@@ -31,7 +32,8 @@ use Rattle.kw_world.specs.ScanTransitions.{answer_or_stopped}
 use Rattle.kw_world.specs.SeekTransitions.{at_infant, has_more, row_behind, given_back, give_back, pass_met, to_pass, to_seek, seek_met, seeking, seek_first_transition, with_row, take_row}
 use Rattle.kw_world.specs.Sizes.{Sizes}
 use Rattle.kw_world.specs.Table.{transition}
-use Rattle.kw_world.specs.Transition.{Transition, Outcome, to}
+use Rattle.kw_world.specs.Transition.{Transition, Outcome, to, leave}
+use Rattle.kw_world.specs.Local.{without_rows, without_rebalance}
 use Rattle.kw_world.specs.WalkTransitions.{offered}
 use Rattle.kw_world.specs.WorldView.{WorldView}
 use Rattle.kw_world.specs.Sane.{IsOffered}
@@ -41,9 +43,9 @@ use Rattle.kw_core.specs.Events.{event, world}
 use Rattle.kw_core.specs.Run.{Run}
 use Rattle.kw_core.specs.Stages.{IsBusy}
 use Rattle.kw_core.specs.Words.{Words}
-use Rattle.kw_core.proofs.Arrows.{Arrow, NextLook, looks, lists, NextRest, rests, answers, ends_scan, scans_on, is_spent, meets_stamped, meets_neither, is_passed, helps, finds_stamped, finds_other, list_ends, key_above, rest_passed, gathers_rest, clears_scan, clock_is_spent, epoch_is_spent, takes_no_more, keeps_no_more, builds}
+use Rattle.kw_core.proofs.Arrows.{Arrow, NextLook, looks, lists, NextRest, rests, answers, ends_scan, scans_on, is_spent, meets_stamped, meets_neither, is_passed, helps, finds_stamped, finds_other, list_ends, key_above, rest_passed, gathers_rest, clears_scan, clock_is_spent, epoch_is_spent, takes_no_more, keeps_no_more, builds, ends_at_clock, ends_at_epoch}
 use Rattle.kw_core.proofs.Building.{Building, first_is_free, first_is_taken, first_is_retired, sought_is_free, sought_is_taken, sought_is_retired, pass_is_old, pass_is_young, frees_row, takes_row, loses_row, gives_one_back, gives_last_back, writes_first, writes_entry, writes_after, begins_before, takes_head_before, leads_on_marked, leads_nowhere, walks_past, is_marked_before, is_replaced}
-use Rattle.kw_core.proofs.NextBuilt.{tries_again, moves_left, NextBack, gives_back, has_none, NextNewRow, writes_row, has_written, NextNewCell, fills, empties, has_cells, NextNewEntry, writes_idle, has_entries, NextBefore, is_first, is_behind}
+use Rattle.kw_core.proofs.NextBuilt.{tries_again, moves_left, NextBack, gives_back, has_none, NextNewRow, writes_row, has_written, NextNewCell, fills, empties, has_cells, NextNewEntry, writes_idle, has_entries, NextBefore, is_first, is_behind, was_done}
 use Rattle.kw_core.proofs.Happens.{Happens, found_at}
 use Rattle.kw_reads.specs.Inv.{Inv}
 use Rattle.kw_rows.specs.Events.{IsIn}
@@ -53,7 +55,8 @@ use Rattle.kw_shape.specs.Shape.{IsKind, IsPutCall, IsScanCall, IsPairs}
 use Rattle.kw_laws.specs.Causes.{AskedAll, IsAsking, IsSpentBy, IsTrying, MayBeNamed, MetPass, FoundTaken, TookRow, asking, asking_pass, reclaiming, taking}
 use Rattle.kw_laws.specs.Mirror.{Occurs, Acts}
 use Rattle.kw_laws.proofs.CausesLast.{IsSearching, asked_lasts, spent_lasts, trying_searches}
-use Rattle.kw_laws.proofs.CausesSearch.{none_passed, in_front, in_last, in_was, some_start, IsBeforeSearch, Searching, searching_begun, searching_lasts, searching_number, AsksPasses, asks_lasts, asks_taken, asked_all, next_row}
+use Rattle.kw_cells.proofs.Even.{starts_some}
+use Rattle.kw_laws.proofs.CausesSearch.{none_passed, in_front, in_last, in_was, IsBeforeSearch, Searching, searching_begun, searching_lasts, searching_number, AsksPasses, asks_lasts, asks_taken, asked_all, next_row}
 use Rattle.kw_laws.proofs.Occurs.{occurs_now, occurs_was, occurs_within}
 
 -- what the events of the call, which began at this position, say of its seat
@@ -213,7 +216,8 @@ module _ (z : Sizes) (o : Opening) (es : List Event) (e : Event) (r r' : Run) (l
   -- rows that are given back so that the put goes on elsewhere
   back_again : (m k : Local) → NextBack TryAgain m k → Then k
   back_again m k (gives_back w) = λ x. let y : TryAgain ≡ Refuse = x in absurd (cc)
-  back_again m k (has_none next w tries_again) = tt
+  back_again m k (has_none next w (tries_again nd)) = tt
+  back_again m k (has_none next w (was_done dn)) = tt
 
   back_left : (m k : Local) → NextBack MoveLeft m k → Then k
   back_left m k (gives_back w) = λ x. let y : MoveLeft ≡ Refuse = x in absurd (cc)
@@ -250,8 +254,8 @@ module _ (z : Sizes) (o : Opening) (es : List Event) (e : Event) (r r' : Run) (l
   by_arrow : (b : Activity) (k : Local) → a ≡ b → Arrow z v e.seat choice l b k → IsOffSearch b → Then k
   by_arrow b k is (builds c next y t) x = built c next t x
   by_arrow b k is (is_spent w) x = spent_here ScanClock _ is refl (asks_scan call (subst IsScanCall asked (kind_here ScanClock is))) w
-  by_arrow b k is (clock_is_spent w) x = spent_here BalClock _ is refl (asks_clock call (subst IsPutCall asked (kind_here BalClock is))) w
-  by_arrow b k is (epoch_is_spent w) x = spent_here BalEpoch _ is refl (asks_epoch call (subst IsPutCall asked (kind_here BalEpoch is))) w
+  by_arrow b k is (clock_is_spent w nd) x = spent_here BalClock _ is refl (asks_clock call (subst IsPutCall asked (kind_here BalClock is))) w
+  by_arrow b k is (epoch_is_spent w nd) x = spent_here BalEpoch _ is refl (asks_epoch call (subst IsPutCall asked (kind_here BalEpoch is))) w
   by_arrow b k is (meets_stamped j c version next f n) x = next_look _ next _ n
   by_arrow b k is (meets_neither j next f n) x = next_look _ next _ n
   by_arrow b k is (is_passed next f n) x = next_look _ next _ n
@@ -263,8 +267,8 @@ module _ (z : Sizes) (o : Opening) (es : List Event) (e : Event) (r r' : Run) (l
   by_arrow b k is (rest_passed next f n) x = next_rest _ k n
   by_arrow b k is (gathers_rest next n) x = next_rest _ k n
   by_arrow b k is (clears_scan answer) x = cleared answer choice _ (kind_here (ClearScan answer) is).1
-  by_arrow b k is (takes_no_more f n) x = record { sought = refl; asked = refl; taken = refl; some = some_start z.built _ }
-  by_arrow b k is (keeps_no_more n) x = record { sought = refl; asked = refl; taken = refl; some = some_start z.built _ }
+  by_arrow b k is (takes_no_more f n) x = record { sought = refl; asked = refl; taken = refl; some = starts_some z.built _ }
+  by_arrow b k is (keeps_no_more n) x = record { sought = refl; asked = refl; taken = refl; some = starts_some z.built _ }
   by_arrow b k is _ x = tt
 
   -- In a search.
@@ -304,7 +308,11 @@ module _ (z : Sizes) (o : Opening) (es : List Event) (e : Event) (r r' : Run) (l
     where
       met : (b : Bool) → Then (let x : Outcome = if b then to GiveBack (record k { rebalance = record k.rebalance { at = 0; afterwards = Refuse } }) else given_back Refuse k in x).local
       met true = λ x. p
-      met false = p
+      met false = no_rows_left k.tidies
+        where
+          no_rows_left : (b : Bool) → Then (leave (if b then Done else NoRows) (without_rebalance k)).local
+          no_rows_left true = tt
+          no_rows_left false = p
 
   -- the next row is asked, or all were
   goes_on : (k : Local) → (p : Searching z o (es ++ e ∷ []) e.seat first k.rebalance) → IsIn k.rebalance.taken k.rebalance.sought ⊎ FoundTaken z o (es ++ e ∷ []) e.seat p.begun (length (es ++ e ∷ [])) k.rebalance.sought → Then (to_seek o.rows k).local
@@ -522,8 +530,16 @@ module _ (z : Sizes) (o : Opening) (es : List Event) (e : Event) (r r' : Run) (l
           asked_lasts z o es e e.seat (length es) (length (es ++ e ∷ [])) w inside (λ u found b op y f g t. subst IsSearching (sym (acts_same u found b op f g t).0 ∙ is) y) o.rows first (p x)
 
       given : (f : Afterwards) → l.rebalance.afterwards ≡ f → Then (given_back f l).local
-      given TryAgain x = tt
-      given Refuse x = later x
+      given TryAgain x = again_or_over l.tidies
+        where
+          again_or_over : (b : Bool) → Then (to (if b then Leave Done else Again) (without_rows (without_rebalance l))).local
+          again_or_over true = tt
+          again_or_over false = tt
+      given Refuse x = no_rows_left l.tidies
+        where
+          no_rows_left : (b : Bool) → Then (leave (if b then Done else NoRows) (without_rebalance l)).local
+          no_rows_left true = tt
+          no_rows_left false = later x
       given MoveLeft x = tt
 
       met : (b : Bool) → Then (let x : Outcome = if b then to GiveBack (at_infant (l.rebalance.at + 1) l) else given_back l.rebalance.afterwards l in x).local

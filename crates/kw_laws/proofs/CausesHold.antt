@@ -1,5 +1,5 @@
--- Each call that was refused has its cause, by induction over the events from the front: the events of a call say why its seat is about to be
--- refused, and so why the call was.
+-- Each call that was refused has its cause, by induction over the events from the front: the events
+-- of a call say why its seat is about to be refused, and so why the call was.
 use Rattle.std.proofs.Common.{ℕ, ◌≡◌, ◌≢◌, ◌⊎◌, inl, inr, ◌<◌, ◌≤◌, true, false, Some, None, List, [], ◌∷◌, ◌++◌, arith, refl, sym, ◌∙◌, ap, subst, length, slice_get, length-append}
 use Rattle.std.proofs.lemmas.Option.{same_Some}
 use Rattle.kw_model.specs.declared.call.Call.{Call}
@@ -48,7 +48,7 @@ use Rattle.kw_laws.proofs.CausesArrows.{Since, since_lasts, since_own}
 use Rattle.kw_laws.proofs.CausesLast.{IsSearching, asked_lasts, spent_lasts}
 use Rattle.kw_laws.proofs.MirrorKeeps.{mirrors_hold}
 use Rattle.kw_laws.proofs.Occurs.{ends_lasts, ends_was, occurs_now, occurs_was, occurs_within}
-use Rattle.kw_laws.proofs.Worlds.{world-rows}
+use Rattle.kw_shape.proofs.Worlds.{world-rows}
 
 -- What is kept.
 

@@ -6,7 +6,6 @@ use Rattle.kw_words.specs.declared.state.State.TheVariants as state
 use Rattle.kw_words.specs.State.{state_of, state_word}
 use Rattle.kw_words.proofs.StateWords.{state_of-Free}
 use Rattle.kw_cells.specs.declared.cell.Cell.{Cell}
-use Rattle.kw_cells.specs.Cuts.{starts_from, starts_of}
 use Rattle.kw_world.specs.declared.activity.Activity.{Activity}
 use Rattle.kw_world.specs.declared.activity.Activity.TheVariants.{SeekFirst}
 use Rattle.kw_world.specs.declared.event.Event.{Event}
@@ -110,15 +109,6 @@ in_was (x ∷ xs) y q (inr t) = which (in_was xs y q t)
     which (inl c) = inl (inr c)
     which (inr c) = inr c
 
--- some row starts where cells are kept, and where none is
-some_from : (n built start : ℕ) (kept : List Cell) → 0 < n → 0 < length (starts_from n built kept start)
-some_from zero built start kept w = absurd (omega (arith, w))
-some_from (suc n) built start kept w = omega arith
-
-pub some_start : (built : ℕ) (kept : List Cell) → 0 < length (starts_of built kept)
-unfolding starts_of
-some_start built kept = some_from (length kept + 1) built 0 kept (omega arith)
-
 -- What is kept of a search.
 
 -- before a search: row 0 is asked first, and no row is taken
@@ -128,7 +118,8 @@ pub record IsBeforeSearch (b : Rebalance) : Type 0 where
   pub taken : b.taken ≡ []
   pub some : 0 < length b.starts
 
--- the seat began its search in its call, and of the rows that it asked each one was taken, or is one that it took
+-- the seat began its search in its call, and of the rows that it asked each one was taken, or is
+-- one that it took
 pub record Searching (z : Sizes) (o : Opening) (es : List Event) (s first : ℕ) (b : Rebalance) : Type 0 where
   pub begun : ℕ
   pub after : first < begun
@@ -145,7 +136,8 @@ pub record Searching (z : Sizes) (o : Opening) (es : List Event) (s first : ℕ)
   pub fewer : length b.taken < length b.starts
   pub passed : (q : ℕ) → q < o.rows → IsPassed row b.sought q → IsIn b.taken q ⊎ FoundTaken z o es s begun (length es) q
 
--- one more event, by which the seat begins no search, and asks for no row but the one that is sought
+-- one more event, by which the seat begins no search, and asks for no row but the one that is
+-- sought
 pub searching_lasts : (z : Sizes) (o : Opening) (es : List Event) (e : Event) (s first : ℕ) (b : Rebalance) → length es ≤ length (es ++ e ∷ []) → ((u found : ℕ) (op : Operation) → length es ≤ u → u < length (es ++ e ∷ []) → Acts z o (es ++ e ∷ []) u s SeekFirst op found → ⊥) →
     ((q u found : ℕ) (a : Activity) (op : Operation) → q ≢ b.sought → length es ≤ u → u < length (es ++ e ∷ []) → IsTrying s q a op → Acts z o (es ++ e ∷ []) u s a op found → ⊥) → Searching z o es s first b → Searching z o (es ++ e ∷ []) s first b
 searching_lasts z o es e s first b longer quiet untried t = record {
@@ -184,7 +176,8 @@ searching_number z o es s first number b t = record { begun = t.begun; after = t
 
 -- The passes.
 
--- the seat found the row that it asks for retired with this number, since its search began, and has asked for it no more: it looks at the passes
+-- the seat found the row that it asks for retired with this number, since its search began, and has
+-- asked for it no more: it looks at the passes
 pub record AsksPasses (z : Sizes) (o : Opening) (es : List Event) (s begun row number : ℕ) : Type 0 where
   pub at : ℕ
   pub after : begun ≤ at

@@ -1,4 +1,5 @@
--- What a seat finds in its entry at the row of its put: an idle entry before it announces its cell, one with its cell after that; or a frozen one.
+-- What a seat finds in its entry at the row of its put: an idle entry before it announces its cell,
+-- one with its cell after that; or a frozen one.
 use Rattle.std.proofs.Common.{ℕ, ◌≡◌, ◌⊎◌, inl, inr, ◌<◌, Bool, true, false, Some, arith, refl, sym, ◌∙◌, ap, subst, slice_get}
 use Rattle.std.proofs.lemmas.Option.{slice_get_within}
 use Rattle.kw_words.specs.declared.layout.Name.TheVariants as name

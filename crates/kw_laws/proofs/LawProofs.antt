@@ -24,7 +24,7 @@ use Rattle.kw_rows.specs.Ledger.{IsFresh}
 use Rattle.kw_rows.proofs.Named.{above_least, held_by}
 use Rattle.kw_shape.specs.RowsIn.{rows_in, state_met}
 use Rattle.kw_shape.specs.Shape.{Walks}
-use Rattle.kw_shape.proofs.RowsStay.{fresh_linked, holds_wanted}
+use Rattle.kw_shape.proofs.LinkedRows.{fresh_linked, holds_wanted}
 use Rattle.kw_core.specs.Stages.{IsAtRow, IsAtListed, IsKeeping, IsWaiting, IsInserting, IsUnlisted, IsMeeting}
 use Rattle.kw_lists.specs.Rows.{Row, IsBehind, IsSound}
 use Rattle.kw_lists.specs.Walks.{IsWalking}
@@ -45,7 +45,9 @@ use Rattle.kw_shape.proofs.Walking.{past}
 use Rattle.kw_shape.proofs.SoughtKeep.{retakes}
 use Rattle.kw_laws.proofs.FoundEntries.{finds_idle, finds_own}
 use Rattle.kw_laws.proofs.BeforeRows.{EndsBefore, PassesFull, ends_before_holds, passes_full_holds}
+use Rattle.kw_laws.proofs.ShownRows.{kept_shown, of_puts, shown}
 use Rattle.kw_laws.proofs.SoloStates.{AreStated, stated_holds}
+use Rattle.kw_laws.proofs.TakenRows.{is_taken}
 use Rattle.kw_core.specs.Stages.{HasDrawn, IsPublished}
 use Rattle.kw_reads.specs.Replies.{IsCovered}
 use Rattle.kw_puts.proofs.OwnScans.{covering_draws}
@@ -138,7 +140,10 @@ laws_from z r i stated ends passes = record {
   stamped = λ p h. let a = i.history.laws.attempted p (in_range r.history p h) in record { announced = a.load h; load = a.at h; found = i.history.laws.loaded p h };
   given = λ p w n. (i.puts.given p w n).origin;
   seen = seen;
-  kept = i.contents.kept;
+  rebuilds = λ t l g y. is_taken z r i t l g y;
+  kept = kept_shown z r i;
+  shown = shown z r i;
+  of_puts = of_puts z r i;
   live = λ t l g y. ((i.shape.walks t l g).at y).fresh;
   holds = λ t l g y. holds_wanted (word z r.world) r.ledger.rows t l ((i.shape.walks t l g).at y);
   history = i.history.laws;

@@ -6,8 +6,9 @@ pub mod EndedCalls
 pub mod FoundEntries
 pub mod SoloStates
 pub mod BeforeRows
+pub mod ShownRows
+pub mod TakenRows
 pub mod LawProofs
-pub mod Worlds
 pub mod Occurs
 pub mod Over
 pub mod Mirroring
@@ -18,6 +19,7 @@ pub mod MirrorStamps
 pub mod MirrorScans
 pub mod MirrorReads
 pub mod MirrorKeeps
+pub mod MirrorLosses
 pub mod SeatLists
 pub mod SeatTurns
 pub mod SeatApart

@@ -1,15 +1,22 @@
--- The row at which a seat has arrived was met from Head along links at some position since it began its pass, or drew: it is so now, or was
--- so where the row went out of the list, which was no sooner.
-use Rattle.std.proofs.Common.{ℕ, zero, suc, ◌≡◌, ◌≢◌, ◌⊎◌, inl, inr, ◌<◌, ◌≤◌, true, Some, None, List, [], ◌∷◌, ◌++◌, arith, refl, sym, ◌∙◌, ap, subst, length, slice_get, length-append}
+-- The row at which a seat has arrived was met from Head along links at some position since it began
+-- its pass, or drew: it is so now, or was so where the row went out of the list, which was no
+-- sooner.
+use Rattle.std.proofs.Common.{ℕ, zero, suc, ◌≡◌, ◌≢◌, ◌⊎◌, inl, inr, ◌<◌, ◌≤◌, true, false, Option, Some, None, List, [], ◌∷◌, ◌++◌, arith, refl, sym, ◌∙◌, ap, subst, length, slice_get, length-append}
 use Rattle.std.specs.Prelude.{take}
 use Rattle.std.proofs.lemmas.List.{take-append-le, take_all}
 use Rattle.std.proofs.lemmas.Option.{same_Some}
 use Rattle.kw_words.specs.declared.layout.Name.TheVariants as name
+use Rattle.kw_words.specs.declared.scan.ScanWord.TheVariants.{Drawn, Waiting}
+use Rattle.kw_words.specs.Scan.{scan_word}
+use Rattle.kw_model.specs.declared.call.Call.{Call}
+use Rattle.kw_model.specs.declared.call.Call.TheVariants.{Del, Get, Put, Scan}
 use Rattle.kw_world.specs.declared.activity.Activity.{Activity}
+use Rattle.kw_world.specs.declared.activity.Activity.TheVariants.{Announce, InsFrom, InsKey, InsSet, InsVer, Insert, ListFrom, ListKey, ListVal, ListVer, Look, LookClock, LookHelp, LookKey, PutAdd, PutClear, PutClock, PutCount, PutKey, PutValue, PutVersion, RestKey, RestVal, Stamp}
 use Rattle.kw_world.specs.declared.event.Choice.{Choice}
 use Rattle.kw_world.specs.declared.event.Event.{Event}
 use Rattle.kw_world.specs.declared.local.Local.{Local}
 use Rattle.kw_world.specs.declared.opening.Opening.{Opening}
+use Rattle.kw_world.specs.Calls.{is_scan}
 use Rattle.kw_world.specs.Opening.{IsOpening}
 use Rattle.kw_world.specs.Sizes.{Sizes}
 use Rattle.kw_world.specs.Step.{step, word}
@@ -19,24 +26,26 @@ use Rattle.kw_world.specs.WorldView.{WorldView}
 use Rattle.kw_core.specs.Events.{event, is_valid, may_step, world}
 use Rattle.kw_core.specs.History.{History}
 use Rattle.kw_core.specs.Run.{Run, goes_on, history, logged, noted_by, start}
+use Rattle.kw_core.specs.Stages.{HasDrawn, IsAtRow}
 use Rattle.kw_core.proofs.Events.{may_come, world-nil, world-snoc}
 use Rattle.kw_core.proofs.Happens.{Happens, each_seat, happens, knows_next, knows_other}
 use Rattle.kw_core.proofs.Runs.{goes_on-moved, goes_on-world}
 use Rattle.kw_rows.specs.Ledger.{Dead, Fate, Free, IsDead, Live}
-use Rattle.kw_shape.proofs.FollowRows.{live_met}
+use Rattle.kw_shape.proofs.LinkedRows.{live_met, GoesNow, dead_before}
 use Rattle.kw_shape.specs.MetRows.{IsMet}
-use Rattle.kw_shape.specs.Shape.{Walks}
+use Rattle.kw_shape.specs.Shape.{IsKind, IsPutCall, Walks}
 use Rattle.kw_reads.specs.Contents.{IsLater, IsSince}
 use Rattle.kw_reads.specs.Inv.{Inv}
 use Rattle.kw_reads.proofs.Keeps.{inv_goes_on}
 use Rattle.kw_reads.proofs.Opens.{inv_start}
 use Rattle.kw_laws.specs.Live.{AreLive, WasMet}
 use Rattle.kw_laws.specs.Mirror.{Occurs}
+use Rattle.kw_laws.specs.MirrorReads.{HasSettled, WasHelped}
 use Rattle.kw_laws.proofs.Along.{holds_along}
-use Rattle.kw_shape.proofs.LinkedRows.{GoesNow, dead_before}
 use Rattle.kw_reads.proofs.Later.{at_row_has, later_by}
 use Rattle.kw_reads.proofs.Floors.{IsOnWay, row_from}
 use Rattle.kw_reads.proofs.LaterKeeps.{later_if, later_lasts, named_linked}
+use Rattle.kw_laws.proofs.MirrorKeeps.{scans_settled}
 use Rattle.kw_laws.proofs.Occurs.{occurs_now, occurs_was, occurs_within}
 
 -- a row that went at this position of the list was met where it went
@@ -53,7 +62,8 @@ record IsOff (z : Sizes) (o : Opening) (es : List Event) (u t : ℕ) : Type 0 wh
   knows : slice_get before.locals t ≡ Some local
   off : IsOnWay local.activity → ⊥
 
--- what is kept along a list: dead rows were met where they went, and none of the rows that a walk names went before the walk began
+-- what is kept along a list: dead rows were met where they went, and none of the rows that a walk
+-- names went before the walk began
 record Follows (z : Sizes) (o : Opening) (es : List Event) (r : Run) : Type 0 where
   inv : Inv z r
   world : world z o es ≡ r.world
@@ -162,18 +172,70 @@ follows_start z o opening = record {
     none_dead zero d = let x : Live ≡ Dead = d in absurd (cc)
     none_dead (suc q) d = let x : Free ≡ Dead = d in absurd (cc)
 
+-- a put or a delete is no scan
+no_scan : {A : Type 0} (call : Option Call) → IsPutCall call → is_scan call ≡ true → A
+no_scan (Some (Put key value)) p e = let x : false ≡ true = e in absurd (cc)
+no_scan (Some (Del key)) p e = let x : false ≡ true = e in absurd (cc)
+no_scan (Some (Get key)) p e = absurd p
+no_scan (Some (Scan from upto)) p e = absurd p
+no_scan None p e = absurd p
+
+-- a scan that is at its row has its version
+row_drawn : (a : Activity) (l : Local) → IsKind a l → IsAtRow a → is_scan l.call ≡ true → HasDrawn a
+row_drawn (Look j) l k x e = tt
+row_drawn LookKey l k x e = tt
+row_drawn LookClock l k x e = tt
+row_drawn LookHelp l k x e = tt
+row_drawn ListFrom l k x e = tt
+row_drawn ListKey l k x e = tt
+row_drawn ListVer l k x e = tt
+row_drawn ListVal l k x e = tt
+row_drawn RestKey l k x e = tt
+row_drawn RestVal l k x e = tt
+row_drawn PutCount l k x e = no_scan l.call k e
+row_drawn PutAdd l k x e = no_scan l.call k e
+row_drawn PutKey l k x e = no_scan l.call k e
+row_drawn PutValue l k x e = no_scan l.call k e
+row_drawn Announce l k x e = no_scan l.call k e
+row_drawn PutClock l k x e = no_scan l.call k e
+row_drawn Stamp l k x e = no_scan l.call k e
+row_drawn PutVersion l k x e = no_scan l.call k e
+row_drawn InsFrom l k x e = no_scan l.call k e
+row_drawn InsKey l k x e = no_scan l.call k e
+row_drawn InsVer l k x e = no_scan l.call k e
+row_drawn InsSet l k x e = no_scan l.call k e
+row_drawn Insert l k x e = no_scan l.call k e
+row_drawn PutClear l k x e = no_scan l.call k e
+row_drawn _ l k x e = absurd x
+
 -- the row of each seat that has arrived
 pub lives : (z : Sizes) (o : Opening) → IsOpening z o → (es : List Event) → is_valid z o es ≡ true → AreLive z o es
 lives z o i es v t l g a = record {
   passed = λ c u p. met u (known u (record { before = p.acts.before; choice = p.acts.choice; local = p.acts.local; occurs = p.acts.occurs; knows = p.acts.knows; off = λ y. subst IsOnWay p.acts.activity y })) (occurs_within z o es u p.acts.before (event t p.acts.choice) p.acts.occurs);
-  drew = λ c u d. met u (known u (record { before = d.acts.before; choice = d.acts.choice; local = d.acts.local; occurs = d.acts.occurs; knows = d.acts.knows; off = λ y. subst IsOnWay d.acts.activity y })) (occurs_within z o es u d.acts.before (event t d.acts.choice) d.acts.occurs);
+  settled = λ c. (((history z o es).seats t).drawn, (scans_settled z o i es v).settled t l knows c (row_drawn l.activity l (k.inv.shape.kinds t l knows).kind a c));
+  drew = λ c x u d.
+      let s = d.settles in
+      let w = met d.settle (known d.settle (record { before = s.before; choice = s.choice; local = s.local; occurs = s.occurs; knows = s.knows; off = λ y. subst IsOnWay s.activity y })) (occurs_within z o es d.settle s.before (event t s.choice) s.occurs) in
+      record { at = w.at; not_before = omega (arith, w.not_before, drawn_before t x u d); within = w.within; met = w.met };
+  drew_itself = λ c u d. met u (known u (record { before = d.acts.before; choice = d.acts.choice; local = d.acts.local; occurs = d.acts.occurs; knows = d.acts.knows; off = λ y. subst IsOnWay d.acts.activity y })) (occurs_within z o es u d.acts.before (event t d.acts.choice) d.acts.occurs);
 }
   where
     k : Follows z o es (history z o es)
     k = holds_along z o (Follows z o) (follows_on z o) (follows_start z o i) es v
 
+    knows : slice_get (history z o es).world.locals t ≡ Some l
+    knows = subst (λ (w : WorldView). slice_get w.locals t ≡ Some l) k.world g
+
     known : (u : ℕ) → IsOff z o es u t → IsSince (history z o es).ledger.rows u l.row
-    known u x = (k.later t u l (subst (λ (w : WorldView). slice_get w.locals t ≡ Some l) k.world g) x).row (at_row_has l.activity a)
+    known u x = (k.later t u l knows x).row (at_row_has l.activity a)
+
+    -- what a scan settled for was drawn before it settled
+    drawn_before : (s at version : ℕ) (d : HasSettled z o es s at version) → at < d.settle
+    drawn_before s at version d = which d.entry
+      where
+        which : (d.draw ≡ at) × (d.drew ≡ version) × (d.found ≡ scan_word (Waiting d.clock)) ⊎ (d.found ≡ scan_word (Drawn version)) × WasHelped z o es s d.clock at version d.settle → at < d.settle
+        which (inl y) = omega (arith, y.0, d.after)
+        which (inr y) = omega (arith, y.1.after, y.1.before)
 
     met : (u : ℕ) → IsSince (history z o es).ledger.rows u l.row → u < length es → WasMet z o es l.row u
     met u (inl y) w =

@@ -1,4 +1,5 @@
--- Every attempt of the record is what its events say, over one more event: it was so, or the event adds, announces or stamps it.
+-- Every attempt of the record is what its events say, over one more event: it was so, or the event
+-- adds, announces or stamps it.
 use Rattle.std.proofs.Common.{ℕ, ◌≡◌, ◌⊎◌, inl, inr, ◌<◌, true, false, Some, None, List, [], ◌∷◌, ◌++◌, arith, refl, sym, ◌∙◌, ap, subst, length}
 use Rattle.std.proofs.lemmas.Option.{same_Some}
 use Rattle.kw_words.specs.declared.kind.Kind.TheVariants as kind

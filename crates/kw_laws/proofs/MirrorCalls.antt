@@ -1,5 +1,5 @@
--- Every call of the record is what its events say, over one more event: it was so, or the event begins or ends it; and no call and no
--- attempt is left out.
+-- Every call of the record is what its events say, over one more event: it was so, or the event
+-- begins or ends it; and no call and no attempt is left out.
 use Rattle.std.proofs.Common.{ℕ, ◌≡◌, ◌⊎◌, inl, inr, ◌+◌, ◌<◌, ◌≤◌, Bool, true, false, Some, None, List, [], ◌∷◌, ◌++◌, arith, refl, sym, ◌∙◌, ap, subst, length, length-append, slice_get}
 use Rattle.std.specs.Prelude.{take}
 use Rattle.std.proofs.lemmas.List.{take-append-le, take_all}

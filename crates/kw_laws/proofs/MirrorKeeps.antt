@@ -30,6 +30,7 @@ use Rattle.kw_laws.proofs.MirrorStamps.{all_announced_keep, all_stamped_keep}
 use Rattle.kw_laws.specs.MirrorReads.{MirrorsReads, GetsRead}
 use Rattle.kw_reads.proofs.Keeps.{inv_holds}
 use Rattle.kw_laws.proofs.MirrorReads.{KeptReads, kept_reads, reads_start, gets_read}
+use Rattle.kw_laws.proofs.MirrorScans.{KeptScans}
 
 -- one event, over a free run
 kept : (z : Sizes) (o : Opening) (es : List Event) (e : Event) (r r' : Run) (l l' : Local) (a : Activity) → Happens z r r' e.seat (offered r.world.rows e.choice) l l' a → Inv z r → Keeps r'.history → Kept z o es r → world z o (es ++ e ∷ []) ≡ r'.world → Kept z o (es ++ e ∷ []) r'
@@ -108,6 +109,10 @@ mirrors_hold z o opening es ok = (whole_holds z o opening es ok).kept.mirrors
 -- and says of draws and answers what they say
 pub reads_mirrored : (z : Sizes) (o : Opening) → IsOpening z o → (es : List Event) → is_valid z o es ≡ true → MirrorsReads z o es (history z o es).history
 reads_mirrored z o opening es ok = (whole_holds z o opening es ok).reads.mirrors
+
+-- and each scan that has its version has settled for it
+pub scans_settled : (z : Sizes) (o : Opening) → IsOpening z o → (es : List Event) → is_valid z o es ≡ true → KeptScans z o es (history z o es)
+scans_settled z o opening es ok = (whole_holds z o opening es ok).reads.scans
 
 -- and of each get that answered a value whose it is
 pub gets_mirrored : (z : Sizes) (o : Opening) → IsOpening z o → (es : List Event) → is_valid z o es ≡ true → GetsRead z o es (history z o es).history

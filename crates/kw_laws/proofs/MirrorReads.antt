@@ -1,5 +1,6 @@
--- That the record says of draws and answers what the events say, kept along a list: beside the mirror, where each scan drew and settled, and
--- of each busy seat where it read the cells that it has gathered.
+-- That the record says of draws and answers what the events say, kept along a list: beside the
+-- mirror, where each scan drew and settled, and of each busy seat where it read the cells that it
+-- has gathered.
 use Rattle.std.proofs.Common.{ℕ, ◌≡◌, ◌⊎◌, inl, inr, ◌<◌, ◌==◌, Bool, true, false, Option, Some, None, List, [], ◌∷◌, ◌++◌, arith, refl, sym, ◌∙◌, ap, subst, length, slice_get, if◌then◌else◌, unwrap_or, Contains}
 use Rattle.std.specs.Prelude.{insert, take}
 use Rattle.std.proofs.lemmas.List.{take_at, take-append-le}
@@ -72,8 +73,8 @@ use Rattle.kw_core.specs.declared.history.End.{End}
 use Rattle.kw_core.specs.HistoryLaws.{HistoryLaws, Got, shows, answer_of}
 use Rattle.kw_laws.specs.MirrorReads.{AnswersFrom, GetsRead}
 
--- the run is that of the list; the draws and the answers of the record; the draws and the settles of the scans; and of a busy seat the loads
--- of the values that it has gathered
+-- the run is that of the list; the draws and the answers of the record; the draws and the settles
+-- of the scans; and of a busy seat the loads of the values that it has gathered
 pub record KeptReads (z : Sizes) (o : Opening) (es : List Event) (r : Run) : Type 0 where
   pub led : history z o es ≡ r
   pub mirrors : MirrorsReads z o es r.history
@@ -132,8 +133,8 @@ left : (ids : List ℕ) (b : Bool) (x y : SeatLog) → x.ids ≡ ids → y.ids �
 left ids true x y p q = p
 left ids false x y p q = q
 
--- what an event leaves of them: none where a call begins or a row is looked at anew, all of them, or one more, at its place, where the
--- value of a cell is loaded
+-- what an event leaves of them: none where a call begins or a row is looked at anew, all of them,
+-- or one more, at its place, where the value of a cell is loaded
 module _ (z : Sizes) (choice : Choice) (l : Local) (found : ℕ) (next : Activity) (g : SeatLog) (o : Origins) (h : History) (settled : ℕ) where
   abbrev after : Activity → SeatLog
   after a = seat_after z a choice l found next g o h settled
@@ -346,7 +347,8 @@ reads_start z o = record {
   reads = λ t l g u. absurd (subst (λ (m : Local). IsBusy m.activity) (all_resting o.seats t l g) u);
 }
 
--- A get that answered a value: its gap is behind a put, which its answer names, and which shows the value.
+-- A get that answered a value: its gap is behind a put, which its answer names, and which shows the
+-- value.
 pub gets_read : (z : Sizes) (o : Opening) (es : List Event) (h : History) → HistoryLaws h → MirrorsReads z o es h → GetsRead z o es h
 gets_read z o es h laws m x key at v w ends = which got.gap (got.answer v refl) got.knows.reply
   where

@@ -1,5 +1,6 @@
--- Where each scan drew and settled, in the words of the events, kept along a list: of a scan that is to settle its own draw, of one that
--- waits whether it was helped, of one that has its version all of it; and of a seat that is to settle another one's scan its draw.
+-- Where each scan drew and settled, in the words of the events, kept along a list: of a scan that
+-- is to settle its own draw, of one that waits whether it was helped, of one that has its version
+-- all of it; and of a seat that is to settle another one's scan its draw.
 use Rattle.std.proofs.Common.{ℕ, ◌≡◌, ◌≢◌, ◌⊎◌, inl, inr, ◌<◌, true, Option, Some, None, List, [], ◌∷◌, ◌++◌, arith, refl, sym, ◌∙◌, ap, subst, length, length-append, slice_get, eq-eqb}
 use Rattle.std.proofs.lemmas.Bool.{cases_eq}
 use Rattle.std.proofs.lemmas.Option.{slice_get_within}
@@ -44,7 +45,8 @@ use Rattle.kw_laws.specs.MirrorReads.{WasHelped, HasSettled, settling, helping}
 use Rattle.kw_laws.proofs.Mirroring.{Kept, acts_here}
 use Rattle.kw_laws.proofs.Occurs.{occurs_within, acts_lasts}
 
--- another seat has settled the scan of seat t, which waited with this clock: its word has the version that was drawn at this position
+-- another seat has settled the scan of seat t, which waited with this clock: its word has the
+-- version that was drawn at this position
 pub record IsHelpedScan (z : Sizes) (o : Opening) (es : List Event) (v : Words) (t clock at : ℕ) : Type 0 where
   pub version : ℕ
   pub range : IsVersion version
@@ -194,7 +196,8 @@ module _ (z : Sizes) (o : Opening) (es : List Event) (e : Event) (r r' : Run) (l
           subst (λ c. WaitsOrHelped z o (es ++ e ∷ []) (word z r'.world) e.seat c (r'.settled e.seat)) (sym (ap (λ (m : Local). m.waiting) y.1))
           (waits_lasts z o es e (word z r.world) (word z r'.world) e.seat l.waiting (r.settled e.seat) (r'.settled e.seat) same kept (n.waits e.seat l h.knows (subst IsWaiting (sym (h.activity ∙ y.0)) tt)))
 
-  -- that of a scan which the event may settle: it is helped where it waits with the clock that the helper met
+  -- that of a scan which the event may settle: it is helped where it waits with the clock that the
+  -- helper met
   waits_helped : (t clock : ℕ) → a ≡ HelpSettle t → Happens z r r' e.seat (offered r.world.rows e.choice) l l' (HelpSettle t) → WaitsOrHelped z o es (word z r.world) t clock (r.settled t) → WaitsOrHelped z o (es ++ e ∷ []) (word z r'.world) t clock (r'.settled t)
   waits_helped t clock is g w = which (cases_eq (word z r.world (name.Scan t)) (scan_word (Waiting l.rebalance.waiting)))
     where

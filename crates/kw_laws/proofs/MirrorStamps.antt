@@ -67,7 +67,8 @@ no_replaced : (before : Option ℕ) (q t : ℕ) → replaced_link before ≡ nam
 no_replaced (Some r) q t e = cc
 no_replaced None q t e = cc
 
--- only a put that stamps its cell, or a reader that helps, exchanges a pending entry for a stamped one
+-- only a put that stamps its cell, or a reader that helps, exchanges a pending entry for a stamped
+-- one
 stamp_line : (z : Sizes) (v : Words) (s : ℕ) (choice : Choice) (l : Local) (a : Activity) (q t c version : ℕ) → (transition z a s choice l).operation.name ≡ name.Pend q t → (transition z a s choice l).operation.action ≡ Exchange (pend_word (pend.Pending c)) (pend_word (pend.Stamped c version)) → v (name.Pend q t) ≡ pend_word (pend.Pending c) →
     (a ≡ Stamp) × (v (name.Pend l.row s) ≡ pend_word (pend.Pending l.cell)) ⊎ (a ≡ LookHelp) × (v (name.Pend l.row l.looked) ≡ pend_word (pend.Pending l.met))
 stamp_line z v s choice l Stamp q t c u n x f = inl (refl, ap v n ∙ f ∙ sym (same_exchange _ _ _ _ x))
@@ -206,7 +207,8 @@ module _ (z : Sizes) (o : Opening) (es : List Event) (e : Event) (r r' : Run) (l
       stamped_now x helped.put l.helping (r.seats e.seat).loaded at (announced_within r.history helped.put helped.announced)
       (noted_here LookHelp f.0 ∙ ap (noted r.history it) (chosen (word z r.world (name.Pend l.row l.looked)) (pend_word (pend.Pending l.met)) (helping (r.origin l.row l.met) l.helping (r.seats e.seat).loaded) Nothing f.1 ∙ ap (λ (p : Option ℕ). helping p l.helping (r.seats e.seat).loaded) helped.origin))
 
-  -- an operation that stands at the end is that of the event's line, and the word is the one that it found
+  -- an operation that stands at the end is that of the event's line, and the word is the one that
+  -- it found
   line_here : (s : ℕ) (b : Activity) (op : Operation) (found : ℕ) (t : Acts z o (es ++ e ∷ []) (length es) s b op found) → e ≡ event s t.choice → world z o es ≡ t.before → ((transition z a e.seat (offered r.world.rows e.choice) l).operation ≡ op) × (word z r.world op.name ≡ found)
   line_here s b op found t f g =
       let same : l ≡ t.local = acting_local z o es e r r' l l' a h k t.before s t.choice t.local f g t.knows in

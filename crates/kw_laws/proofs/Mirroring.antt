@@ -1,4 +1,5 @@
--- What is kept along a list so that the record mirrors its events, and an event as this sees it: where it stands and what it is.
+-- What is kept along a list so that the record mirrors its events, and an event as this sees it:
+-- where it stands and what it is.
 use Rattle.std.proofs.Common.{ℕ, ◌≡◌, ◌⊎◌, inl, inr, ◌<◌, Bool, true, false, if◌then◌else◌, nat_lt, Some, None, List, [], ◌∷◌, ◌++◌, arith, refl, sym, ◌∙◌, ap, subst, length, slice_get, length-append}
 use Rattle.std.proofs.lemmas.Option.{same_Some}
 use Rattle.kw_words.specs.declared.kind.Kind.TheVariants as kind
@@ -38,8 +39,9 @@ use Rattle.kw_core.proofs.Happens.{Happens, found_at}
 use Rattle.kw_laws.proofs.Occurs.{occurs_now, logged_lasts, get_was}
 use Rattle.kw_world.proofs.GoingOn.{ends_leaving}
 
--- the record mirrors the events; a seat's number counts the calls that it began; a call that runs is its seat's present one; no seat
--- has loaded the clock since it is said to; and a seat that is to stamp, or to help, loaded there the version that it has in hand
+-- the record mirrors the events; a seat's number counts the calls that it began; a call that runs
+-- is its seat's present one; no seat has loaded the clock since it is said to; and a seat that is
+-- to stamp, or to help, loaded there the version that it has in hand
 pub record Kept (z : Sizes) (o : Opening) (es : List Event) (r : Run) : Type 0 where
   pub world : world z o es ≡ r.world
   pub mirrors : Mirrors z o es r.history

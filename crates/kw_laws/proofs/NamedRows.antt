@@ -1,5 +1,6 @@
--- The rows that a seat names. It is in a pass then, and may name them; a row that it may name is there for it; and whatever word of a row an event
--- touches, but for its state, is one of a row that its seat names, or of an infant of it.
+-- The rows that a seat names. It is in a pass then, and may name them; a row that it may name is
+-- there for it; and whatever word of a row an event touches, but for its state, is one of a row
+-- that its seat names, or of an infant of it.
 use Rattle.std.proofs.Common.{ℕ, ◌≡◌, ◌⊎◌, inl, inr, ◌<◌, Bool, true, false, Option, Some, None, sym, ◌∙◌, ap, subst, length}
 use Rattle.kw_words.specs.declared.layout.Name.TheVariants as name
 use Rattle.kw_words.specs.declared.state.State.TheVariants as state
@@ -24,7 +25,7 @@ use Rattle.kw_world.specs.WalkTransitions.{is_stopped, start_transition, walk_tr
 use Rattle.kw_core.specs.Stages.{IsAtRow, IsBalancing, IsPassing}
 use Rattle.kw_core.specs.Words.{Words}
 use Rattle.kw_reads.specs.Contents.{HasRow, HasCandidate}
-use Rattle.kw_shape.proofs.FollowRows.{live_met}
+use Rattle.kw_shape.proofs.LinkedRows.{live_met}
 use Rattle.kw_shape.proofs.InfantsStay.{infant_at}
 use Rattle.kw_shape.specs.Balances.{Balances}
 use Rattle.kw_shape.specs.Infants.{HasAtHand, IsNursedRow, nursing_of}
@@ -116,7 +117,8 @@ replaced_row None q w = absurd w
 nursed_row : (a : Activity) (l : Local) (q : ℕ) → IsNursedRow a l (infant l) → q ≡ infant l → IsNursedRow a l q
 nursed_row a l q n w = subst (IsNursedRow a l) (sym w) n
 
--- each line of the table touches words of a row that the seat names, of an infant of it, or states alone
+-- each line of the table touches words of a row that the seat names, of an infant of it, or states
+-- alone
 pub touched : (z : Sizes) (s : ℕ) (choice : Choice) (l : Local) (a : Activity) (q : ℕ) → (HasBefore a l → (p : ℕ) × (l.rebalance.before ≡ Some p)) → (HasAtHand (nursing_of a) → l.rebalance.at < length l.rebalance.taken) →
     IsRowWord (transition z a s choice l).operation.name q → IsNamed a l q ⊎ IsNursedRow a l q
 touched z s choice l Start q some hand w = starts choice w

@@ -1,5 +1,5 @@
--- Events at their positions, over one more event: what was at a position stays there, the new event is at the end, and what is
--- said of the events between two positions says nothing of it.
+-- Events at their positions, over one more event: what was at a position stays there, the new event
+-- is at the end, and what is said of the events between two positions says nothing of it.
 use Rattle.std.proofs.Common.{ℕ, zero, suc, ◌≡◌, ◌⊎◌, inl, inr, ◌<◌, ◌≤◌, Some, None, List, [], ◌∷◌, ◌++◌, arith, refl, sym, ◌∙◌, ap, subst, length, slice_get}
 use Rattle.std.specs.Prelude.{take}
 use Rattle.std.proofs.lemmas.List.{take-append-le, take_all}

@@ -1,4 +1,5 @@
--- What an event does to each call and each attempt that was there, with the activity that does it: one constructor for each change.
+-- What an event does to each call and each attempt that was there, with the activity that does it:
+-- one constructor for each change.
 use Rattle.std.proofs.Common.{ℕ, ◌≡◌, ◌⊎◌, inl, inr, ◌+◌, ◌<◌, ◌≤◌, true, Option, Some, None, [], ◌∷◌, ◌++◌, arith, refl, sym, ◌∙◌, ap, subst, length, length-append, length-set, set}
 use Rattle.std.proofs.lemmas.Bool.{cases_eq, cases_lt}
 use Rattle.kw_words.specs.declared.layout.Name.TheVariants as name
@@ -30,8 +31,8 @@ use Rattle.kw_core.proofs.NotedLaws.{attempt_set_same, called_set_same, called_s
 use Rattle.kw_puts.proofs.RelyEntry.{attempt_left}
 use Rattle.kw_core.proofs.Changes.{Makes, makes_nothing, makes_begin, makes_add, makes_announce, makes_stamp, makes_help, makes_end, makes_lose}
 
--- an attempt over an event of seat s: it is as it was; or it is the seat's own and is announced or stamped; or it is helped; or the
--- seat freezes its entry, and it is lost
+-- an attempt over an event of seat s: it is as it was; or it is the seat's own and is announced or
+-- stamped; or it is helped; or the seat freezes its entry, and it is lost
 pub data AttemptOver (v : Words) (h h' : History) (s : ℕ) (l : Local) (g : SeatLog) (o : Origins) (a : Activity) (p : ℕ) : Type 0 where
   stays : attempt h' p ≡ attempt h p → AttemptOver v h h' s l g o a p
   is_announced : a ≡ Announce → p ≡ g.own → v (name.Pend l.row s) ≡ pend_word pend.Idle →

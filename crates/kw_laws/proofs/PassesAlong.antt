@@ -1,6 +1,7 @@
--- The passes of seats along a list of events: the ledger has those that the events say, and the numbers that were drawn, the word of a seat says the epoch
--- of its pass, a seat may name each row to which it has come in its pass, a row that is given free was reached by none, and no event touches a word, but
--- a state, of a row that its seat cannot reach.
+-- The passes of seats along a list of events: the ledger has those that the events say, and the
+-- numbers that were drawn, the word of a seat says the epoch of its pass, a seat may name each row
+-- to which it has come in its pass, a row that is given free was reached by none, and no event
+-- touches a word, but a state, of a row that its seat cannot reach.
 use Rattle.std.proofs.Common.{ℕ, ◌≡◌, ◌⊎◌, inl, inr, ◌+◌, ◌<◌, ◌≤◌, true, Some, None, List, [], ◌∷◌, ◌++◌, arith, refl, sym, ◌∙◌, ap, subst, length, slice_get, length-append}
 use Rattle.std.specs.Prelude.{take}
 use Rattle.std.proofs.lemmas.Bool.{cases_eq, cases_lt}
@@ -51,29 +52,30 @@ use Rattle.kw_shape.proofs.PassesKeep.{old_number}
 use Rattle.kw_shape.proofs.RowsKeep.{others_kept, pass_begins, pass_ends, pass_taken_back, rely_rows}
 use Rattle.kw_laws.specs.Causes.{reclaiming}
 use Rattle.kw_laws.specs.Mirror.{Acts, operation}
-use Rattle.kw_laws.specs.Reach.{DrawsNumber, EndsPass, HasComeTo, HasReached, IsEnding, IsInPass, IsNamed, IsRowWord, IsWithinReach, Reclaims, is_led, is_named}
+use Rattle.kw_laws.specs.Reach.{DrawsNumber, EndsPass, HasBeenAt, HasComeTo, IsEnding, IsInPass, IsNamed, IsRowWord, IsWithinReach, Reclaims, is_led, is_named}
 use Rattle.kw_laws.proofs.Acting.{acting_now, acts_now}
 use Rattle.kw_laws.proofs.Along.{holds_along}
 use Rattle.kw_laws.proofs.CausesLast.{acts_was}
 use Rattle.kw_laws.proofs.NamedRows.{named_fresh, named_passes, touched}
 use Rattle.kw_laws.proofs.Occurs.{occurs_now}
-use Rattle.kw_laws.proofs.PassesOver.{come_after, come_was, in_pass_lasts, in_pass_next, in_pass_one_less, in_pass_was, reached_was, within_reach_lasts}
-use Rattle.kw_laws.proofs.Worlds.{world-seats}
+use Rattle.kw_laws.proofs.PassesOver.{been_was, come_after, come_was, in_pass_lasts, in_pass_next, in_pass_one_less, in_pass_was, within_reach_lasts}
+use Rattle.kw_shape.proofs.Worlds.{world-seats}
 
--- where a row that is retired with this number is given free, at position x: the number was drawn before each pass that is on began, and no seat has
--- reached the row in such a pass
+-- where a row that is retired with this number is given free, at position x: the number was drawn
+-- before each pass that is on began, and no seat has reached the row in such a pass
 pub record IsFreed (z : Sizes) (o : Opening) (es : List Event) (g : Ledger) (x q number : ℕ) : Type 0 where
   pub at : ℕ
   pub numbered : g.numbered number ≡ Some at
   pub young : (t u : ℕ) → IsInPass z o es t u x → at < u
-  pub unreached : (t : ℕ) → HasReached z o es x t q → ⊥
+  pub unreached : (t : ℕ) → HasBeenAt z o es x t q → ⊥
 
 -- what is kept along a list
 pub record KeepsPasses (z : Sizes) (o : Opening) (es : List Event) (r : Run) : Type 0 where
   pub inv : Inv z r
   pub world : world z o es ≡ r.world
   pub now : length r.history.log ≡ length es
-  -- a pass of the ledger is on, and one that is on is in the ledger, and its epoch in the seat's word
+  -- a pass of the ledger is on, and one that is on is in the ledger, and its epoch in the seat's
+  -- word
   pub begun : (t u : ℕ) → r.ledger.rows.passes t ≡ Some u → IsInPass z o es t u (length es)
   pub on : (t u : ℕ) (p : IsInPass z o es t u (length es)) → (r.ledger.rows.passes t ≡ Some u) × (word z r.world (name.Pass t) ≡ pass_word (Some p.begins.epoch))
   -- a number that is drawn is in the ledger
@@ -195,7 +197,7 @@ module _ (z : Sizes) (o : Opening) (es : List Event) (e : Event) (r r' : Run) (l
     at = f.at;
     numbered = number_stays number f.at f.numbered;
     young = λ t u p. f.young t u (in_pass_was z o es e t u x (omega (arith, w)) p);
-    unreached = λ t d. f.unreached t (reached_was z o es e x t q (omega (arith, w)) d);
+    unreached = λ t d. f.unreached t (been_was z o es e x t q (omega (arith, w)) d);
   }
 
   -- one that is given free now: the seat has looked at each pass
@@ -204,7 +206,7 @@ module _ (z : Sizes) (o : Opening) (es : List Event) (e : Event) (r r' : Run) (l
     at = drawn.0;
     numbered = number_stays l.rebalance.number drawn.0 drawn.1;
     young = λ t u p. young t u drawn.0 (k.on t u (was t u p)).0 drawn.1;
-    unreached = λ t d. unheld (held_by r.ledger.rows t l.rebalance.sought (k.fresh t d.since (length es) l.rebalance.sought (was t d.since d.pass) (come_was z o es e t d.since (length es) l.rebalance.sought same d.reached)));
+    unreached = λ t d. unheld (held_by r.ledger.rows t l.rebalance.sought (k.fresh t d.since d.at l.rebalance.sought (was t d.since d.pass) (come_was z o es e t d.since d.at l.rebalance.sought d.by d.came)));
   }
     where
       same : length es ≤ length es

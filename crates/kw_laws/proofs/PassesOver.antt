@@ -1,5 +1,5 @@
--- Passes that are on, and rows that a seat has come to, over one more event: what was so at a position of the list is so in a longer one, and the other way
--- round.
+-- Passes that are on, and rows that a seat has come to, over one more event: what was so at a
+-- position of the list is so in a longer one, and the other way round.
 use Rattle.std.proofs.Common.{ℕ, ◌≡◌, ◌⊎◌, inl, inr, ◌+◌, ◌<◌, ◌≤◌, Some, List, [], ◌∷◌, ◌++◌, arith, sym, subst, length, slice_get, length-append}
 use Rattle.std.proofs.lemmas.Bool.{cases_lt}
 use Rattle.std.proofs.lemmas.List.{take-append-le}
@@ -12,7 +12,7 @@ use Rattle.kw_world.specs.Step.{word}
 use Rattle.kw_core.specs.Events.{world}
 use Rattle.kw_core.specs.Words.{next_in}
 use Rattle.kw_laws.specs.Mirror.{Acts}
-use Rattle.kw_laws.specs.Reach.{EndsPass, HasComeTo, HasReached, IsInPass, IsOwnInfant, IsWithinReach, is_led, is_named}
+use Rattle.kw_laws.specs.Reach.{EndsPass, HasBeenAt, HasComeTo, HasReached, IsInPass, IsOwnInfant, IsWithinReach, is_led, is_named}
 use Rattle.kw_laws.proofs.CausesLast.{acts_on, acts_was}
 
 -- a row is come to after its pass began
@@ -94,8 +94,8 @@ module _ (z : Sizes) (o : Opening) (es : List Event) (e : Event) where
   reached_lasts : (x t q : ℕ) → HasReached z o es x t q → HasReached z o (es ++ e ∷ []) x t q
   reached_lasts x t q d = record { since = d.since; pass = in_pass_lasts t d.since x d.pass; reached = come_lasts t d.since x q d.reached }
 
-  pub reached_was : (x t q : ℕ) → x ≤ length es → HasReached z o (es ++ e ∷ []) x t q → HasReached z o es x t q
-  reached_was x t q i d = record { since = d.since; pass = in_pass_was t d.since x i d.pass; reached = come_was t d.since x q i d.reached }
+  pub been_was : (x t q : ℕ) → x ≤ length es → HasBeenAt z o (es ++ e ∷ []) x t q → HasBeenAt z o es x t q
+  been_was x t q i d = record { since = d.since; pass = in_pass_was t d.since x i d.pass; at = d.at; by = d.by; came = come_was t d.since d.at q (omega (arith, d.by, i)) d.came }
 
   own_lasts : (x t q : ℕ) → x ≤ length es → IsOwnInfant z o es x t q → IsOwnInfant z o (es ++ e ∷ []) x t q
   own_lasts x t q i d = record { local = d.local; knows = subst (λ xs. slice_get (world z o xs).locals t ≡ Some d.local) (sym (take-append-le x es (e ∷ []) i)) d.knows; nursed = d.nursed }

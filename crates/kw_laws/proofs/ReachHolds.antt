@@ -27,7 +27,7 @@ use Rattle.kw_shape.specs.RowsIn.{rows_in, state_met}
 use Rattle.kw_laws.specs.Reach.{HasComeTo, IsInPass, IsOwnInfant, IsThere, KeepsRows}
 use Rattle.kw_laws.proofs.NamedRows.{fresh_met, fresh_taken}
 use Rattle.kw_laws.proofs.PassesAlong.{KeepsPasses, acting_seat, passes_along}
-use Rattle.kw_laws.proofs.Worlds.{world-local}
+use Rattle.kw_shape.proofs.Worlds.{world-local}
 
 -- a state that reads as that of an infant is one
 infant_met : (s : Option State) (t : ℕ) → state_met s ≡ row.Infant t → s ≡ Some (state.Infant t)

@@ -171,7 +171,8 @@ copied_same : (o p : Origins) (row : ℕ) (x : Option kw_cell.Cell) → ((c : kw
 copied_same o p row (Some c) e = e c refl
 copied_same o p row None e = refl
 
--- the origins with what the change adds, where the attempt p is the next one, and with the copy that the event writes, if it writes one
+-- the origins with what the change adds, where the attempt p is the next one, and with the copy
+-- that the event writes, if it writes one
 origins_noted : (z : Sizes) (a : Activity) (s : ℕ) (choice : Choice) (l : Local) (found : ℕ) (g : SeatLog) (o p : Origins) (h : History) (n : ℕ) (xs : List (Option ℕ)) (rows : ℕ) → n ≡ length h.attempts → length xs ≡ rows * z.cells → l.row < rows → infant l < rows → IsActivity z a →
     ((j : ℕ) (c : kw_cell.Cell) → slice_get (infant_cells l) j ≡ Some c → o l.row c.place ≡ p l.row c.place) → ((q c : ℕ) → q < rows → c < z.cells → origin_in z xs q c ≡ p q c) →
     (q c : ℕ) → q < rows → c < z.cells → origin_in z (copies_with z (copied_cell a l o) (origins_with z (change_of z a s choice l found g o) n xs)) q c ≡ origins_after z a l found p h q c

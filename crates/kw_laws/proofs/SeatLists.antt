@@ -1,4 +1,5 @@
--- The calls of one seat, among the calls of all: what a push and a write leave of them; calls in turn, and calls that go on.
+-- The calls of one seat, among the calls of all: what a push and a write leave of them; calls in
+-- turn, and calls that go on.
 use Rattle.std.proofs.Common.{ℕ, zero, suc, ◌≡◌, ◌≢◌, ◌⊎◌, inl, inr, ◌+◌, ◌==◌, ◌<◌, ◌≤◌, Some, List, [], ◌∷◌, ◌++◌, arith, refl, sym, ◌∙◌, ap, length, map, get_or, set, eq-eqb, ne_eqb}
 use Rattle.std.specs.Prelude.{filter}
 use Rattle.std.proofs.lemmas.Bool.{cases_eq}

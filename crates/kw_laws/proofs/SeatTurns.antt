@@ -1,4 +1,5 @@
--- One event, and the calls of each seat: other seats' stay, and the acting seat begins one, ends its last one, or leaves them.
+-- One event, and the calls of each seat: other seats' stay, and the acting seat begins one, ends
+-- its last one, or leaves them.
 use Rattle.std.proofs.Common.{ℕ, ◌≡◌, ◌≢◌, ◌⊎◌, inl, inr, ◌+◌, ◌<◌, ◌≤◌, true, false, Some, None, List, [], ◌∷◌, ◌++◌, arith, refl, sym, ◌∙◌, ap, subst, length, slice_get, length-append, length-set, append-nil}
 use Rattle.std.proofs.lemmas.Bool.{cases_eq}
 use Rattle.kw_words.specs.declared.layout.Name.TheVariants as name

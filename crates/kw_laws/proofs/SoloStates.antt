@@ -1,5 +1,6 @@
--- The state of the row that a seat is about to rebalance. A rebalance replaces one row alone, so no row leads more than one, and none follows
--- another: each event keeps that. Then what the invariant says of a row that a seat may name leaves the states of `IsMetState`.
+-- The state of the row that a seat is about to rebalance. A rebalance replaces one row alone, so no
+-- row leads more than one, and none follows another: each event keeps that. Then what the invariant
+-- says of a row that a seat may name leaves the states of `IsMetState`.
 use Rattle.std.proofs.Common.{ℕ, zero, suc, ◌≡◌, ◌⊎◌, inl, inr, ◌<◌, ◌≤◌, true, Option, Some, None, List, arith, sym, subst, slice_get}
 use Rattle.std.proofs.lemmas.Bool.{cases_eq}
 use Rattle.kw_words.specs.declared.layout.Name.TheVariants as name

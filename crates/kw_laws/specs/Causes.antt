@@ -1,8 +1,10 @@
 -- Why a call was refused, in the words of the events: what its seat found within the call.
 --
--- A scan loads the clock before it waits, and a put or a delete loads the clock and the epoch before it rebalances a row: each is refused as
--- spent where it finds one of them at its bound. For want of rows a put or a delete is refused as it has asked each row of the table in
--- one search, and was left without as many as it needs. A row that was retired is such a one only if a pass was on in which it may be named.
+-- A scan loads the clock before it waits, and a put or a delete loads the clock and the epoch
+-- before it rebalances a row: each is refused as spent where it finds one of them at its bound. For
+-- want of rows a put or a delete is refused as it has asked each row of the table in one search,
+-- and was left without as many as it needs. A row that was retired is such a one only if a pass was
+-- on in which it may be named.
 use Rattle.std.specs.Prelude.{ℕ, ◌≡◌, ◌≢◌, ◌⊎◌, ◌<◌, ◌≤◌, Some, List, length, slice_get}
 use Rattle.kw_words.specs.declared.kind.Kind.TheVariants as kind
 use Rattle.kw_words.specs.declared.layout.Name.TheVariants as name
@@ -38,7 +40,8 @@ IsAsking (Del key) BalClock op = op ≡ operation kind.LoadClock name.Clock Load
 IsAsking (Del key) BalEpoch op = op ≡ operation kind.LoadEpoch name.Epoch Load
 IsAsking _ _ op = ⊥
 
--- after the first position and before the last the seat, which makes this call, asked, and found none left
+-- after the first position and before the last the seat, which makes this call, asked, and found
+-- none left
 pub record IsSpentBy (z : Sizes) (o : Opening) (es : List Event) (call : Call) (s first last : ℕ) : Type 0 where
   pub at : ℕ
   pub after : first < at
@@ -80,7 +83,8 @@ IsTrying s row _ op = ⊥
 abbrev pub NotTried : Sizes → Opening → List Event → ℕ → ℕ → ℕ → ℕ → Type 0
 NotTried z o es s first last row = (u found : ℕ) (a : Activity) (op : Operation) → first < u → u < last → IsTrying s row a op → Acts z o es u s a op found → ⊥
 
--- after the first position and before the last the search met the pass of a seat with an epoch that is not above this number
+-- after the first position and before the last the search met the pass of a seat with an epoch that
+-- is not above this number
 pub record MetPass (z : Sizes) (o : Opening) (es : List Event) (s first last number : ℕ) : Type 0 where
   pub at : ℕ
   pub after : first < at
@@ -91,13 +95,14 @@ pub record MetPass (z : Sizes) (o : Opening) (es : List Event) (s first last num
   pub some : 1 ≤ epoch
   pub old : epoch ≤ number
 
--- a row that was found retired with this number, by a seat that knew l, may be named in a pass that is on: that of the seat itself, or one that the
--- search met after it
+-- a row that was found retired with this number, by a seat that knew l, may be named in a pass that
+-- is on: that of the seat itself, or one that the search met after it
 abbrev pub MayBeNamed : Sizes → Opening → List Event → ℕ → ℕ → ℕ → ℕ → Local → Type 0
 MayBeNamed z o es s at last number l = (1 ≤ l.epoch) × (l.epoch ≤ number) ⊎ MetPass z o es s at last number
 
--- from the first position on and before the last the seat asked for the row, or tried to take it, and did not find it free; it found it retired only
--- if the row may be named in a pass that is on; and it asked for the row no more
+-- from the first position on and before the last the seat asked for the row, or tried to take it,
+-- and did not find it free; it found it retired only if the row may be named in a pass that is on;
+-- and it asked for the row no more
 pub record FoundTaken (z : Sizes) (o : Opening) (es : List Event) (s first last row : ℕ) : Type 0 where
   pub at : ℕ
   pub after : first ≤ at
@@ -122,8 +127,9 @@ pub record TookRow (z : Sizes) (o : Opening) (es : List Event) (s first last row
 abbrev pub NoSearch : Sizes → Opening → List Event → ℕ → ℕ → ℕ → Type 0
 NoSearch z o es s first last = (u found : ℕ) (op : Operation) → first < u → u < last → Acts z o es u s SeekFirst op found → ⊥
 
--- after the first position and before the last the seat began a search, its last one there, which asked for each row of the table: it found it
--- taken, or took it, and it took fewer rows than the cells fill that it gathered
+-- after the first position and before the last the seat began a search, its last one there, which
+-- asked for each row of the table: it found it taken, or took it, and it took fewer rows than the
+-- cells fill that it gathered
 pub record AskedAll (z : Sizes) (o : Opening) (es : List Event) (s rows first last : ℕ) : Type 0 where
   pub begun : ℕ
   pub after : first < begun
@@ -137,11 +143,13 @@ pub record AskedAll (z : Sizes) (o : Opening) (es : List Event) (s rows first la
   pub fewer : length taken < length begins.local.rebalance.starts
   pub asked : (q : ℕ) → q < rows → IsIn taken q ⊎ FoundTaken z o es s begun last q
 
--- each call of the record that was refused has its cause: it was found after the call's first event and before its last
+-- each call of the record that was refused has its cause: it was found after the call's first event
+-- and before its last
 pub record HaveCauses (z : Sizes) (o : Opening) (es : List Event) (h : History) : Type 0 where
   pub spent : (x : ℕ) (e : End) → x < length h.calls → (called h x).end ≡ Some e → e.reply ≡ Spent → IsSpentBy z o es (called h x).call (called h x).seat (called h x).first e.at
   pub no_rows : (x : ℕ) (e : End) → x < length h.calls → (called h x).end ≡ Some e → e.reply ≡ NoRows → AskedAll z o es (called h x).seat o.rows (called h x).first e.at
 
--- so it is with each seat that is about to leave for want of rows: after some event of its own it has found why
+-- so it is with each seat that is about to leave for want of rows: after some event of its own it
+-- has found why
 abbrev pub AsksWhereItStands : Sizes → Opening → List Event → Type 0
 AsksWhereItStands z o es = (t : ℕ) (l : Local) → slice_get (world z o es).locals t ≡ Some l → l.activity ≡ Leave answer.NoRows → (first : ℕ) × AskedAll z o es t o.rows first (length es)

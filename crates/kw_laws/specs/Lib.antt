@@ -1,4 +1,5 @@
 pub mod Recorder
+pub mod Cells
 pub mod Laws
 pub mod Example
 pub mod Mirror
@@ -6,4 +7,5 @@ pub mod SeatCalls
 pub mod Live
 pub mod Reach
 pub mod MirrorReads
+pub mod MirrorLosses
 pub mod Causes

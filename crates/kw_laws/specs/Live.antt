@@ -15,6 +15,7 @@ use Rattle.kw_core.specs.Events.{world}
 use Rattle.kw_core.specs.Stages.{IsAtRow}
 use Rattle.kw_shape.specs.MetRows.{IsMet}
 use Rattle.kw_laws.specs.Mirror.{Acts, operation}
+use Rattle.kw_laws.specs.MirrorReads.{HasSettled}
 
 -- at some position of the list, not before this one, the row was met from Head along links
 pub record WasMet (z : Sizes) (o : Opening) (es : List Event) (q since : ℕ) : Type 0 where
@@ -29,16 +30,22 @@ pub record StoresPass (z : Sizes) (o : Opening) (es : List Event) (x s : ℕ) : 
   pub found : ℕ
   pub acts : Acts z o es x s Enter (operation kind.StorePass (name.Pass s) (Store (pass_word (Some epoch)))) found
 
--- at position x the seat draws a version for its scan
+-- at position x the seat itself draws a version for its scan; the scan may yet get one that another
+-- seat draws for it
 pub record DrawsHere (z : Sizes) (o : Opening) (es : List Event) (x s : ℕ) : Type 0 where
   pub version : ℕ
   pub acts : Acts z o es x s ScanDraw (operation kind.Draw name.Clock (Add 1)) version
 
--- the row at which a put, a delete or a get has arrived was met from Head along links at some position not before the one at which
--- the seat stored its pass; the row that a scan reads, at some position not before its draw
+-- the row at which a put, a delete or a get has arrived was met from Head along links at some
+-- position not before the one at which the seat stored its pass. The row that a scan reads was met
+-- so at some position not before the draw whose version went into the word of the scan, be it the
+-- seat's own or that of a seat which helped it; and not before the seat's own draw
 pub record IsLiveRow (z : Sizes) (o : Opening) (es : List Event) (t : ℕ) (l : Local) : Type 0 where
   pub passed : is_scan l.call ≡ false → (since : ℕ) → StoresPass z o es since t → WasMet z o es l.row since
-  pub drew : is_scan l.call ≡ true → (since : ℕ) → DrawsHere z o es since t → WasMet z o es l.row since
+  -- there is such a draw, and it found the version of the scan
+  pub settled : is_scan l.call ≡ true → (at : ℕ) × HasSettled z o es t at l.version
+  pub drew : is_scan l.call ≡ true → (at version : ℕ) → HasSettled z o es t at version → WasMet z o es l.row at
+  pub drew_itself : is_scan l.call ≡ true → (since : ℕ) → DrawsHere z o es since t → WasMet z o es l.row since
 
 -- each seat that is at the row of its key
 abbrev pub AreLive : Sizes → Opening → List Event → Type 0

@@ -1,8 +1,9 @@
--- That the record of a history is what it claims to be, in the words of the events: at each position that it names stands the
--- event that it says, and no event of those kinds is left out.
+-- That the record of a history is what it claims to be, in the words of the events: at each
+-- position that it names stands the event that it says, and no event of those kinds is left out.
 --
--- A position is a place in the list of events. `Occurs` has the event at a position and the world before it; `Acts` has what a
--- seat did there: its operation on one word, and what it found in that word.
+-- A position is a place in the list of events. `Occurs` has the event at a position and the world
+-- before it; `Acts` has what a seat did there: its operation on one word, and what it found in that
+-- word.
 use Rattle.std.specs.Prelude.{ℕ, ◌≡◌, ◌≢◌, ◌⊎◌, ◌+◌, ◌==◌, ◌&&◌, ◌<◌, ◌≤◌, Bool, true, false, if◌then◌else◌, Option, Some, None, List, [], ◌∷◌, length, slice_get, take}
 use Rattle.kw_words.specs.declared.kind.Kind.{Kind}
 use Rattle.kw_words.specs.declared.kind.Kind.TheVariants as kind
@@ -57,7 +58,8 @@ pub record Acts (z : Sizes) (o : Opening) (es : List Event) (x s : ℕ) (a : Act
   pub operates : (transition_at z before (event s choice) local).operation ≡ op
   pub finds : word z before op.name ≡ found
 
--- the entry of the log for position x has the seat of the event there, its kind, and the clock before it
+-- the entry of the log for position x has the seat of the event there, its kind, and the clock
+-- before it
 pub record IsLogged (z : Sizes) (o : Opening) (es : List Event) (x : ℕ) (q : Logged) : Type 0 where
   pub activity : Activity
   pub op : Operation
@@ -117,8 +119,9 @@ pub record DrawsVersion (z : Sizes) (o : Opening) (es : List Event) (d : Drawn) 
   pub is_draw : IsDraw kind
   pub acts : Acts z o es d.at seat activity (operation kind name.Clock (Add 1)) d.version
 
--- a call of the record: its first event begins it, and its number counts the calls of its seat up to there; its end is the first
--- event from there on that ends a call of its seat, with its reply, and where it has none no event has ended it; and what it drew
+-- a call of the record: its first event begins it, and its number counts the calls of its seat up
+-- to there; its end is the first event from there on that ends a call of its seat, with its reply,
+-- and where it has none no event has ended it; and what it drew
 pub record MirrorsCall (z : Sizes) (o : Opening) (es : List Event) (h : History) (x : ℕ) : Type 0 where
   pub begins : BeginsCall z o es (called h x).first (called h x).seat (called h x).call
   pub number : (called h x).number ≡ begun z o (called h x).seat (take ((called h x).first + 1) es)
@@ -149,8 +152,8 @@ stamping kind row seat cell version = operation kind (name.Pend row seat) (Excha
 abbrev pub NoLoad : Sizes → Opening → List Event → ℕ → ℕ → ℕ → Type 0
 NoLoad z o es s x y = (u : ℕ) (w : WorldView) (choice : Choice) → x < u → u < y → Occurs z o es u w (event s choice) → kind_of z w (event s choice) ≢ Some kind.LoadClock
 
--- the attempt was stamped by seat s, at the first of these activities: its exchange won, and its last load of the clock before it,
--- at the other activity, found the version
+-- the attempt was stamped by seat s, at the first of these activities: its exchange won, and its
+-- last load of the clock before it, at the other activity, found the version
 pub record StampedBy (z : Sizes) (o : Opening) (es : List Event) (q : Attempt) (s : ℕ) (by from : Activity) (k : Kind) : Type 0 where
   pub stamps : Acts z o es q.at s by (stamping k q.row q.seat q.cell q.version) (pend_word (pend.Pending q.cell))
   pub loads : Acts z o es q.load s from (operation kind.LoadClock name.Clock Load) q.version
@@ -160,7 +163,8 @@ pub record StampedBy (z : Sizes) (o : Opening) (es : List Event) (q : Attempt) (
 abbrev pub StampedAt : Sizes → Opening → List Event → Attempt → Type 0
 StampedAt z o es q = StampedBy z o es q q.seat Stamp PutClock kind.Stamp ⊎ ((s : ℕ) × StampedBy z o es q s LookHelp LookClock kind.HelpStamp)
 
--- an attempt of the record: its seat was given the cell, within its call; it was announced by the exchange that won, and stamped so
+-- an attempt of the record: its seat was given the cell, within its call; it was announced by the
+-- exchange that won, and stamped so
 pub record MirrorsAttempt (z : Sizes) (o : Opening) (es : List Event) (h : History) (p : ℕ) : Type 0 where
   pub takes : TakesCell z o es (attempt h p).add (attempt h p).seat (attempt h p).row (attempt h p).cell
   pub within : (e : End) → (called h (attempt h p).call).end ≡ Some e → (attempt h p).add < e.at
@@ -204,7 +208,8 @@ pub record Mirrors (z : Sizes) (o : Opening) (es : List Event) (h : History) : T
   pub calls : (x : ℕ) → x < length h.calls → MirrorsCall z o es h x
   -- each attempt was given its cell, announced and stamped there
   pub attempts : (p : ℕ) → p < length h.attempts → MirrorsAttempt z o es h p
-  -- no call that begins, no cell that is given, and no exchange that announces or stamps a cell is left out
+  -- no call that begins, no cell that is given, and no exchange that announces or stamps a cell is
+  -- left out
   pub all_calls : (x s : ℕ) (call : Call) → BeginsCall z o es x s call → IsCallOf h x
   pub all_attempts : (x s row cell : ℕ) → TakesCell z o es x s row cell → IsAttemptOf h x
   pub all_announced : (x s row cell : ℕ) (a : Activity) → Acts z o es x s a (announcing row s cell) (pend_word pend.Idle) → IsAnnouncementOf h x

@@ -1,5 +1,6 @@
--- What a scan drew and what a get answered, in the words of the events: the seat's own draw and the settle by which it has its version, with
--- the draw and the settle of the seat that helped it if one did, and the load of the cell whose value is answered: that of the put, or a copy of it.
+-- What a scan drew and what a get answered, in the words of the events: the seat's own draw and the
+-- settle by which it has its version, with the draw and the settle of the seat that helped it if
+-- one did, and the load of the cell whose value is answered: that of the put, or a copy of it.
 use Rattle.std.specs.Prelude.{ℕ, ◌≡◌, ◌⊎◌, ◌<◌, Some, List, length, take}
 use Rattle.kw_words.specs.declared.kind.Kind.TheVariants as kind
 use Rattle.kw_words.specs.declared.layout.Name.TheVariants as name
@@ -24,12 +25,13 @@ use Rattle.kw_laws.specs.Mirror.{Acts, operation}
 abbrev pub settling : ℕ → ℕ → ℕ → Operation
 settling seat clock version = operation kind.Settle (name.Scan seat) (Exchange (scan_word (Waiting clock)) (scan_word (Drawn version)))
 
--- the exchange by which a seat settles for a version the scan of another one, which waits with this clock
+-- the exchange by which a seat settles for a version the scan of another one, which waits with this
+-- clock
 abbrev pub helping : ℕ → ℕ → ℕ → Operation
 helping seat clock version = operation kind.HelpSettle (name.Scan seat) (Exchange (scan_word (Waiting clock)) (scan_word (Drawn version)))
 
--- another seat drew this version for the scan of this seat, at this position, and after that, before the last position, it settled the scan,
--- which still waited with this clock
+-- another seat drew this version for the scan of this seat, at this position, and after that,
+-- before the last position, it settled the scan, which still waited with this clock
 pub record WasHelped (z : Sizes) (o : Opening) (es : List Event) (s clock at version till : ℕ) : Type 0 where
   pub helper : ℕ
   pub draws : Acts z o es at helper (HelpDraw s) (operation kind.HelpDraw name.Clock (Add 1)) version
@@ -38,8 +40,9 @@ pub record WasHelped (z : Sizes) (o : Opening) (es : List Event) (s clock at ver
   pub before : settle < till
   pub settles : Acts z o es settle helper (HelpSettle s) (helping s clock version) (scan_word (Waiting clock))
 
--- the scan of this seat has its version, which was drawn at this position: the seat drew, and after that an exchange of its entry either
--- won, and left the version that it drew, or found there the version that another seat had drawn for it
+-- the scan of this seat has its version, which was drawn at this position: the seat drew, and after
+-- that an exchange of its entry either won, and left the version that it drew, or found there the
+-- version that another seat had drawn for it
 pub record HasSettled (z : Sizes) (o : Opening) (es : List Event) (s at version : ℕ) : Type 0 where
   pub draw : ℕ
   pub drew : ℕ
@@ -57,7 +60,8 @@ IsLoadingValue ListVal = Unit {0}
 IsLoadingValue RestVal = Unit {0}
 IsLoadingValue _ = ⊥
 
--- the seat has read the value of a cell that stood for this attempt then, after the first position and before the last
+-- the seat has read the value of a cell that stood for this attempt then, after the first position
+-- and before the last
 pub record HasRead (z : Sizes) (o : Opening) (es : List Event) (h : History) (s first last p : ℕ) : Type 0 where
   pub within : p < length h.attempts
   pub at : ℕ
@@ -81,7 +85,8 @@ pub record AnswersFrom (z : Sizes) (o : Opening) (es : List Event) (h : History)
 
 -- the record says of draws and answers what the events say
 pub record MirrorsReads (z : Sizes) (o : Opening) (es : List Event) (h : History) : Type 0 where
-  -- a scan settled for the version that it ended with, which its own seat drew, or one that helped it
+  -- a scan settled for the version that it ended with, which its own seat drew, or one that helped
+  -- it
   pub draws : (x : ℕ) (d : drawn.Drawn) → x < length h.calls → (called h x).draw ≡ Some d → HasSettled z o es (called h x).seat d.at d.version
   -- a call that ended with the answer of an attempt has read the attempt's cell, or a copy of it
   pub answers : (x p : ℕ) (e : End) → x < length h.calls → (called h x).end ≡ Some e → (called h x).answer ≡ Some p → HasRead z o es h (called h x).seat (called h x).first e.at p

@@ -1,7 +1,9 @@
--- Which rows a seat can reach in its pass, and what every list of events keeps of them: none is used again while the pass is on.
+-- Which rows a seat can reach in its pass, and what every list of events keeps of them: none is
+-- used again while the pass is on.
 --
--- A seat comes to a row where it works on it, and with each row to the one to which that row's link leads, then or later. It has come to it until
--- the pass ends, whether it names the row still or not. It has not come to a row of which it only asks the state.
+-- A seat comes to a row where it works on it, and with each row to the one to which that row's link
+-- leads, then or later. It has come to it until the pass ends, whether it names the row still or
+-- not. It has not come to a row of which it only asks the state.
 use Rattle.std.specs.Prelude.{ℕ, ◌≡◌, ◌≢◌, ◌⊎◌, ◌<◌, ◌≤◌, Some, None, List, length, slice_get, take}
 use Rattle.kw_words.specs.declared.kind.Kind.TheVariants as kind
 use Rattle.kw_words.specs.declared.layout.Name.{Name}
@@ -63,8 +65,9 @@ Reclaims z o es x s q number = Acts z o es x s Reclaim (reclaiming q number) (st
 
 -- Rows that are reached.
 
--- the seat works on the row: on its walk or at its row, the row met next, the row after its own; its full row, the row before that one, the row
--- met behind that; and new rows that it has linked and makes normal
+-- the seat works on the row: on its walk or at its row, the row met next, the row after its own;
+-- its full row, the row before that one, the row met behind that; and new rows that it has linked
+-- and makes normal
 pub data IsNamed (a : Activity) (l : Local) (q : ℕ) : Type 0 where
   names_row : HasRow a → q ≡ l.row → IsNamed a l q
   names_candidate : HasCandidate a → q ≡ l.candidate → IsNamed a l q
@@ -79,7 +82,8 @@ pub data HasComeTo (z : Sizes) (o : Opening) (es : List Event) (t u : ℕ) : ℕ
   is_named : (x q : ℕ) (l : Local) → u < x → x ≤ length es → slice_get (world z o (take x es)).locals t ≡ Some l → IsNamed l.activity l q → HasComeTo z o es t u x q
   is_led : (x y p q : ℕ) → HasComeTo z o es t u x p → x ≤ y → y ≤ length es → next_in (word z (world z o (take y es))) p ≡ Some q → HasComeTo z o es t u y q
 
--- the row is not free, nor one that another seat took and has not linked; and where it is retired, its number is not below this epoch
+-- the row is not free, nor one that another seat took and has not linked; and where it is retired,
+-- its number is not below this epoch
 pub record IsThere (z : Sizes) (w : WorldView) (q epoch : ℕ) : Type 0 where
   pub taken : state_of (word z w (name.State q)) ≢ Some state.Free
   pub linked : (s : ℕ) → state_of (word z w (name.State q)) ≡ Some (state.Infant s) → IsMet (word z w) q
@@ -98,17 +102,28 @@ IsRowWord (name.Version r j) q = q ≡ r
 IsRowWord (name.After r j) q = q ≡ r
 IsRowWord _ q = ⊥
 
--- after x events the row is an infant of the seat: one that it took, and has neither linked nor given back
+-- after x events the row is an infant of the seat: one that it took, and has neither linked nor
+-- given back
 pub record IsOwnInfant (z : Sizes) (o : Opening) (es : List Event) (x t q : ℕ) : Type 0 where
   pub local : Local
   pub knows : slice_get (world z o (take x es)).locals t ≡ Some local
   pub nursed : IsNursedRow local.activity local q
 
--- after x events the seat is in a pass, and has come to the row in it
+-- after x events the seat is in a pass, and names the row, or the links of the rows that it has
+-- come to in the pass lead to it
 pub record HasReached (z : Sizes) (o : Opening) (es : List Event) (x t q : ℕ) : Type 0 where
   pub since : ℕ
   pub pass : IsInPass z o es t since x
   pub reached : HasComeTo z o es t since x q
+
+-- after x events the seat is in a pass, and has come to the row in it, now or before; it may name
+-- the row no more
+pub record HasBeenAt (z : Sizes) (o : Opening) (es : List Event) (x t q : ℕ) : Type 0 where
+  pub since : ℕ
+  pub pass : IsInPass z o es t since x
+  pub at : ℕ
+  pub by : at ≤ x
+  pub came : HasComeTo z o es t since at q
 
 -- the seat can reach the row, or the row is an infant of it
 abbrev pub IsWithinReach : Sizes → Opening → List Event → ℕ → ℕ → ℕ → Type 0
@@ -116,10 +131,11 @@ IsWithinReach z o es x t q = HasReached z o es x t q ⊎ IsOwnInfant z o es x t 
 
 -- What every list keeps.
 pub record KeepsRows (z : Sizes) (o : Opening) (es : List Event) : Type 0 where
-  -- when a retired row is given free, each pass that is on was announced after the number of the row was drawn
+  -- when a retired row is given free, each pass that is on was announced after the number of the
+  -- row was drawn
   pub reclaims : (x s q number y d t u : ℕ) → Reclaims z o es x s q number → DrawsNumber z o es y d number → IsInPass z o es t u x → y < u
-  -- and no seat has reached the row in such a pass
-  pub unreached : (x s q number t : ℕ) → Reclaims z o es x s q number → HasReached z o es x t q → ⊥
+  -- and no seat has come to the row in such a pass, be it that it names the row no more
+  pub unreached : (x s q number t : ℕ) → Reclaims z o es x s q number → HasBeenAt z o es x t q → ⊥
   -- whatever a seat has reached in a pass that is on is there for it
   pub there : (t u x q : ℕ) (p : IsInPass z o es t u (length es)) → HasComeTo z o es t u x q → IsThere z (world z o es) q p.begins.epoch
   -- the infants of a seat are its own

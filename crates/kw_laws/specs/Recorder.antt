@@ -25,8 +25,8 @@ log_of k s = get_or k.logs s no_log
 abbrev pub draw_of : Recording → ℕ → ℕ
 draw_of k s = get_or k.settled s 0
 
--- the recorder holds what the run has: the history, the log of each of its seats, where the versions in the words of scans were drawn, and the
--- origins of the cells of its rows
+-- the recorder holds what the run has: the history, the log of each of its seats, where the
+-- versions in the words of scans were drawn, and the origins of the cells of its rows
 pub record Records (z : Sizes) (k : Recording) (r : Run) : Type 0 where
   pub history : k.history ≡ r.history
   pub seats : length k.logs ≡ length r.world.locals
@@ -65,7 +65,8 @@ abbrev pub draws_with : Option Settled → List ℕ → List ℕ
 draws_with (Some x) draws = set draws x.seat x.at
 draws_with None draws = draws
 
--- the record with what the event adds whose entry this is, and that was appended to the history; its seat goes on to `next`
+-- the record with what the event adds whose entry this is, and that was appended to the history;
+-- its seat goes on to `next`
 abbrev pub settled_by : Sizes → Recording → Entry → Activity → Recording
 settled_by z k entry next = record {
   history = settled (length k.history.log - 1) k.history entry.change;

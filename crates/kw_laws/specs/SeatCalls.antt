@@ -1,7 +1,8 @@
 -- The calls of one seat in a list of events, in the order in which it began them.
 --
--- What is seen of a call here, its number, what it asks, its first event and its end, goes by the events of its seat alone. The
--- record of a call has more, its put, which a reader of another seat may settle.
+-- What is seen of a call here, its number, what it asks, its first event and its end, goes by the
+-- events of its seat alone. The record of a call has more, its put, which a reader of another seat
+-- may settle.
 use Rattle.std.specs.Prelude.{ℕ, ◌≡◌, ◌+◌, ◌==◌, ◌<◌, ◌≤◌, Option, Some, None, List, [], ◌∷◌, ◌++◌, map, filter, slice_get}
 use Rattle.kw_model.specs.declared.call.Call.{Call}
 use Rattle.kw_model.specs.declared.call.Reply.{Reply}
@@ -63,8 +64,8 @@ end_last n reply [] = []
 end_last n reply (c ∷ []) = ended_at n reply c ∷ []
 end_last n reply (c ∷ d ∷ cs) = c ∷ end_last n reply (d ∷ cs)
 
--- the calls of a seat that has begun `number` calls, after its event at place n, at this activity and with this choice: an idle seat
--- begins a call, and one that leaves ends its last call
+-- the calls of a seat that has begun `number` calls, after its event at place n, at this activity
+-- and with this choice: an idle seat begins a call, and one that leaves ends its last call
 abbrev pub seen_after : Activity → Choice → Local → ℕ → List CallSeen → List CallSeen
 seen_after Idle (Begin call) l n cs = cs ++ begun_at n (l.number + 1) call ∷ []
 seen_after Idle Go l n cs = cs
@@ -75,12 +76,14 @@ seen_after _ choice l n cs = cs
 
 -- How the calls lie.
 
--- all calls have ended; each begins at `low` or later and after the end of the one before it, and ends below `high`
+-- all calls have ended; each begins at `low` or later and after the end of the one before it, and
+-- ends below `high`
 abbrev pub AreInTurn : ℕ → List CallSeen → ℕ → Type 0
 AreInTurn low [] high = low ≤ high
 AreInTurn low (c ∷ cs) high = (e : End) × (c.end ≡ Some e) × (low ≤ c.first) × (c.first < e.at) × AreInTurn (e.at + 1) cs high
 
--- all calls but the last have ended, in turn and before it began; the last one is that which the seat makes
+-- all calls but the last have ended, in turn and before it began; the last one is that which the
+-- seat makes
 pub record HasLast (n : ℕ) (l : Local) (cs : List CallSeen) : Type 0 where
   pub before : List CallSeen
   pub last : CallSeen
@@ -91,12 +94,14 @@ pub record HasLast (n : ℕ) (l : Local) (cs : List CallSeen) : Type 0 where
   pub number : last.number ≡ l.number
   pub call : l.call ≡ Some last.call
 
--- the calls of a seat that knows l, after n events: an idle seat's have all ended, and any other seat makes the last one
+-- the calls of a seat that knows l, after n events: an idle seat's have all ended, and any other
+-- seat makes the last one
 pub record KeepsTurns (n : ℕ) (l : Local) (cs : List CallSeen) : Type 0 where
   pub rests : l.activity ≡ Idle → AreInTurn 0 cs n
   pub makes : IsBusy l.activity → HasLast n l cs
 
--- the same, call by call: each begins and ends below n, ends after it began, and has ended before a later one began
+-- the same, call by call: each begins and ends below n, ends after it began, and has ended before a
+-- later one began
 pub record AreApart (n : ℕ) (cs : List CallSeen) : Type 0 where
   pub first : (i : ℕ) (c : CallSeen) → slice_get cs i ≡ Some c → c.first < n
   pub end : (i : ℕ) (c : CallSeen) (e : End) → slice_get cs i ≡ Some c → c.end ≡ Some e → (c.first < e.at) × (e.at < n)
@@ -111,7 +116,8 @@ pub record IsStill (c d : CallSeen) : Type 0 where
   pub first : d.first ≡ c.first
   pub end : (e : End) → c.end ≡ Some e → d.end ≡ Some e
 
--- the longer list begins with the calls of the shorter one; a call that had not ended may have ended since
+-- the longer list begins with the calls of the shorter one; a call that had not ended may have
+-- ended since
 abbrev pub AreStill : List CallSeen → List CallSeen → Type 0
 AreStill [] ds = Unit {0}
 AreStill (c ∷ cs) [] = ⊥

@@ -1,7 +1,8 @@
 //! The laws of histories, and of all valid lists of events.
 //!
-//! Nothing runs here: the functions' clauses are the statements. Whoever folds a history along shows at each event that the log
-//! may take it and that the change may happen there; then the laws hold ever after.
+//! Nothing runs here: the functions' clauses are the statements. Whoever folds a history along
+//! shows at each event that the log may take it and that the change may happen there; then the laws
+//! hold ever after.
 ghost use Rattle.std.specs.Prelude.{◌≡◌, ◌<◌, ◌++◌, ◌∷◌, [], true, List, ℕ, length};
 ghost use Rattle.kw_core.specs.History.{History};
 ghost use Rattle.kw_core.specs.declared.history.Logged.{Logged};
@@ -19,6 +20,7 @@ ghost use Rattle.kw_laws.specs.Causes.{AsksWhereItStands, HaveCauses};
 ghost use Rattle.kw_laws.specs.Laws.{KeepsLaws};
 ghost use Rattle.kw_laws.specs.Live.{AreLive};
 ghost use Rattle.kw_laws.specs.Mirror.{Mirrors};
+ghost use Rattle.kw_laws.specs.MirrorLosses.{MirrorsLosses};
 ghost use Rattle.kw_laws.specs.MirrorReads.{GetsRead, MirrorsReads};
 ghost use Rattle.kw_laws.specs.Reach.{KeepsRows};
 ghost use Rattle.kw_laws.specs.SeatCalls.{calls_seen, seen_after, KeepsTurns, AreApart, AreStill};
@@ -30,8 +32,11 @@ pub fn history_laws()
         MayNote h e c → Keeps (noted h e c) }
 {}
 
-/// After every valid list of events from an opening the laws hold, whatever the sizes of the table. A row at which a seat has
-/// arrived was in the list, as one who follows the links from the first row sees it, after the seat began its pass, or drew.
+/// After every valid list of events from an opening the laws hold, whatever the sizes of the table.
+/// A row at which a put, a delete or a get has arrived was in the list, as one who follows the
+/// links from the first row sees it, after the seat began its pass; the row that a scan reads was
+/// so after the draw whose version went into the scan's word, its own draw or that of a seat which
+/// helped it, and after its own draw.
 pub fn list_laws()
     ensures laws { (z : Sizes) (o : Opening) (events : List Event) → IsOpening z o →
         is_valid z o events ≡ true → KeepsLaws z (history z o events) }
@@ -41,9 +46,11 @@ pub fn list_laws()
         is_valid z o events ≡ true → AreLive z o events }
 {}
 
-/// The record of every valid list from an opening is what it claims to be: at each position that it names stands the event
-/// that it says, and it leaves no such event out. A scan drew by its own seat and settled for its version, and a get read the cell
-/// of the put whose value it answers, or a copy of it.
+/// The record of every valid list from an opening is what it claims to be: at each position that it
+/// names stands the event that it says, and it leaves no such event out. A scan drew by its own
+/// seat and settled for its version, and a get read the cell of the put whose value it answers, or
+/// a copy of it. An attempt is lost just where a seat that rebalances froze its entry, which had
+/// been pending since the attempt was announced.
 pub fn mirror_laws()
     ensures events { (z : Sizes) (o : Opening) (events : List Event) → IsOpening z o →
         is_valid z o events ≡ true → Mirrors z o events (history z o events).history }
@@ -51,12 +58,16 @@ pub fn mirror_laws()
         is_valid z o events ≡ true → MirrorsReads z o events (history z o events).history }
     ensures gets { (z : Sizes) (o : Opening) (events : List Event) → IsOpening z o →
         is_valid z o events ≡ true → GetsRead z o events (history z o events).history }
+    ensures losses { (z : Sizes) (o : Opening) (events : List Event) → IsOpening z o →
+        is_valid z o events ≡ true → MirrorsLosses z o events (history z o events).history }
 {}
 
-/// Each call of the record of a valid list from an opening that was refused has its cause among the events of its seat after its first
-/// one and before its last. As spent it is refused where its seat found the clock or the epoch at its bound. For want of rows it is
-/// refused as one search asked for each row of the table, and found too few that were free. A retired row was passed over only if a pass
-/// was on in which it may be named. So a seat has found already that is about to leave for want of rows.
+/// Each call of the record of a valid list from an opening that was refused has its cause among the
+/// events of its seat after its first one and before its last. As spent it is refused where its
+/// seat found the clock or the epoch at its bound. For want of rows it is refused as one search
+/// asked for each row of the table, and found too few that were free. A retired row was passed over
+/// only if a pass was on in which it may be named. So a seat has found already that is about to
+/// leave for want of rows.
 pub fn cause_laws()
     ensures causes { (z : Sizes) (o : Opening) (events : List Event) → IsOpening z o →
         is_valid z o events ≡ true → HaveCauses z o events (history z o events).history }
@@ -64,19 +75,22 @@ pub fn cause_laws()
         is_valid z o events ≡ true → AsksWhereItStands z o events }
 {}
 
-/// No row is used again while a seat may read it. When a retired row is given free, each pass that is on was announced after the
-/// number of the row was drawn, and no seat in a pass has reached the row. Each row that a seat has reached in a pass that is on is
-/// not free, is not taken by another seat that has not linked it, and where it is retired its number is not below the epoch of the
-/// pass. No event touches a word, other than the state, of a row that its seat cannot reach.
+/// No row is used again while a seat may read it. When a retired row is given free, each pass that
+/// is on was announced after the number of the row was drawn, and no seat has come to the row in
+/// such a pass, be it that it names the row no more. Each row that a seat has reached in a pass
+/// that is on is not free, is not taken by another seat that has not linked it, and where it is
+/// retired its number is not below the epoch of the pass. No event touches a word, other than the
+/// state, of a row that its seat cannot reach.
 pub fn reach_laws()
     ensures rows { (z : Sizes) (o : Opening) (events : List Event) → IsOpening z o →
         is_valid z o events ≡ true → KeepsRows z o events }
 {}
 
-/// The calls of one seat in a valid list from an opening. No event makes no call, and events of other seats leave the
-/// seat's calls. An event of an idle seat begins a call, one of a seat that leaves ends its last call, and any other leaves
-/// them. The calls do not overlap, and only the last one may be without end, just where the seat is in a call. A longer
-/// list has the calls of a shorter one, of which the last may have ended since.
+/// The calls of one seat in a valid list from an opening. No event makes no call, and events of
+/// other seats leave the seat's calls. An event of an idle seat begins a call, one of a seat that
+/// leaves ends its last call, and any other leaves them. The calls do not overlap, and only the
+/// last one may be without end, just where the seat is in a call. A longer list has the calls of a
+/// shorter one, of which the last may have ended since.
 pub fn seat_calls_laws()
     ensures none { (z : Sizes) (o : Opening) (s : ℕ) → calls_seen z o s [] ≡ [] }
     ensures still { (z : Sizes) (o : Opening) (s : ℕ) (xs ys : List Event) → IsOpening z o →

@@ -1,10 +1,11 @@
 //! The record of a world's events, kept while they are made.
 //!
-//! A `Recorder` holds the history of the events so far and, beside it, what is needed to say what the next event adds to it: what
-//! each seat did last, where the version in each seat's scan was drawn, and to which attempt each cell was given, or of which one it
-//! is a copy. `step_recorded` makes an event and notes it. What an event adds is settled before it is made, as `Entry`, for the seat
-//! forgets what it knew; all memory is taken then, so that an event that was made is always noted, and one that was not made leaves
-//! no trace.
+//! A `Recorder` holds the history of the events so far and, beside it, what is needed to say what
+//! the next event adds to it: what each seat did last, where the version in each seat's scan was
+//! drawn, and to which attempt each cell was given, or of which one it is a copy. `step_recorded`
+//! makes an event and notes it. What an event adds is settled before it is made, as `Entry`, for
+//! the seat forgets what it knew; all memory is taken then, so that an event that was made is
+//! always noted, and one that was not made leaves no trace.
 ghost use Rattle.std.specs.Prelude.{◌≡◌, ◌<◌, ◌≤◌, ◌+◌, ◌*◌, None, IfOk, OnOk, OnErr, length, replicate};
 ghost use Rattle.kw_words.specs.declared.sizes.TheConstants.{CELLS, SEATS};
 ghost use Rattle.kw_world.specs.Sizes.{product};
@@ -40,8 +41,8 @@ pub struct Entry {
     copy: Option<Copied>,
 }
 
-/// The history of the events so far, what each seat did last, where the version in each seat's scan was drawn, and to which attempt
-/// each cell of each row was given, or of which one it is a copy.
+/// The history of the events so far, what each seat did last, where the version in each seat's scan
+/// was drawn, and to which attempt each cell of each row was given, or of which one it is a copy.
 #[derive(Drop)]
 pub struct Recorder {
     history: History,
@@ -87,7 +88,8 @@ impl Recorder {
         &self.history
     }
 
-    // What an event adds that is about to be made, of which the history takes what takes memory; `settle` or `forget` follows.
+    // What an event adds that is about to be made, of which the history takes what takes memory;
+    // `settle` or `forget` follows.
     fn prepare(&mut self, local: &Local, happening: Happening) -> Result<Entry, Memory>
         requires seat { happening.seat < length self.old.logs }
         requires ranges { IsLocal product local.now }
@@ -144,8 +146,8 @@ impl Recorder {
 
 /// Makes one event of the world, as `step` does, and notes it in the record of the world.
 ///
-/// The record is that of a run that led to this world from an opening. The world and the record are as they were after `Skipped`,
-/// and without memory.
+/// The record is that of a run that led to this world from an opening. The world and the record are
+/// as they were after `Skipped`, and without memory.
 pub fn step_recorded(
     world: &mut World,
     recorder: &mut Recorder,

@@ -1,4 +1,5 @@
--- The gap of a get that found nothing, from the lists of all puts and of all deletes, split at the get's first event.
+-- The gap of a get that found nothing, from the lists of all puts and of all deletes, split at the
+-- get's first event.
 use Rattle.std.proofs.Common.{ℕ, ◌≡◌, ◌-◌, ◌<◌, ◌≤◌, ◌⊎◌, inl, inr, List, Option, Some, None, arith, sym, ◌∙◌, ap, subst, length, get_or, refl, true, false, is_some}
 use Rattle.std.proofs.lemmas.Bool.{cases_lt, cases_eq}
 use Rattle.std.proofs.lemmas.Option.{same_Some}

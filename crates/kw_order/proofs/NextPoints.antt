@@ -36,7 +36,8 @@ point_alone h l key p q s n v = record { mate = p; is_mate = own_mate h p s.is_p
         at (inl e) = absurd (omega (arith, v, m.version, ap (λ x. (attempt h x).version) e))
         at (inr b) = absurd (omega (arith, v, m.version, b))
 
--- where the next put has the same version, it is the lesser of the own load and the point of the next put
+-- where the next put has the same version, it is the lesser of the own load and the point of the
+-- next put
 pub point_with_next : (h : History) → HistoryLaws h → (key p q b : ℕ) → IsPutOf h key p → IsNext h key (Some p) q → (attempt h q).version ≡ (attempt h p).version → IsPoint h q b → IsPoint h p (min (attempt h p).load b)
 point_with_next h l key p q b s n e i = which (cases_lt b (attempt h p).load)
   where

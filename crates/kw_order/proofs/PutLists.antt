@@ -1,4 +1,5 @@
--- The puts of a history in a list: which stand before which, the next one, and the point of each from those after it.
+-- The puts of a history in a list: which stand before which, the next one, and the point of each
+-- from those after it.
 use Rattle.std.proofs.Common.{ℕ, ◌≡◌, ◌+◌, ◌<◌, ◌≤◌, ◌⊎◌, inl, inr, List, Some, arith, sym, ◌∙◌, ap, subst, length, get_or, min, set, ◌-◌}
 use Rattle.std.proofs.lemmas.Bool.{cases_order, cases_lt, cases_eq}
 use Rattle.std.proofs.lemmas.List.{get_or_read, get_or-set_same, get_or-set_other, length-set}

@@ -22,6 +22,8 @@ use Rattle.kw_core.specs.Events.{is_valid, world, may_begin, is_call_in_range}
 use Rattle.kw_core.specs.declared.history.CallLog.{CallLog}
 use Rattle.kw_reads.specs.Inv.{Inv}
 use Rattle.kw_laws.specs.Laws.{KeepsLaws}
+use Rattle.kw_laws.specs.Live.{AreLive}
+use Rattle.kw_laws.specs.Reach.{KeepsRows}
 use Rattle.kw_core.specs.Recording.{Recording}
 use Rattle.kw_laws.specs.Recorder.{Records, opening_record}
 use Rattle.kw_core.specs.Run.{Run, goes_on, start}
@@ -29,15 +31,25 @@ use Rattle.kw_laws.proofs.EndedCalls.{ended_lasts}
 use Rattle.kw_core.proofs.Events.{may_step_from, valid-nil, valid-snoc, world-snoc}
 use Rattle.kw_reads.proofs.Keeps.{inv_holds}
 use Rattle.kw_laws.proofs.LawProofs.{laws_hold}
+use Rattle.kw_laws.proofs.LiveRows.{lives}
+use Rattle.kw_laws.proofs.ReachHolds.{reach_holds}
 use Rattle.kw_laws.proofs.Records.{records_start, seats_kept}
 use Rattle.kw_core.proofs.Runs.{history-nil, history-snoc, history-world}
-use Rattle.kw_laws.proofs.Worlds.{world-rows}
+use Rattle.kw_shape.proofs.Worlds.{world-rows}
 use Rattle.kw_order.specs.Trace.{TraceView, IsTrace, run_of, history_of, pushed, longer, GivesTops}
 use Rattle.kw_order.proofs.Separate.{scan_top}
 
 -- the laws of the run of a trace
 pub trace_laws : (t : TraceView) (w : WorldView) (k : Recording) → IsTrace t w k → KeepsLaws product (run_of t)
 trace_laws t w k i = laws_hold product t.opening i.opening t.events i.valid
+
+-- each seat that is at its row is at one that was in the list
+pub trace_live : (t : TraceView) (w : WorldView) (k : Recording) → IsTrace t w k → AreLive product t.opening t.events
+trace_live t w k i = lives product t.opening i.opening t.events i.valid
+
+-- no row is used again too early
+pub trace_reach : (t : TraceView) (w : WorldView) (k : Recording) → IsTrace t w k → KeepsRows product t.opening t.events
+trace_reach t w k i = reach_holds product t.opening i.opening t.events i.valid
 
 -- its world is sane
 pub trace_sane : (t : TraceView) (w : WorldView) (k : Recording) → IsTrace t w k → IsSane product w

@@ -52,6 +52,7 @@ pub record OrderLaws (h : History) (xs : List ℕ) : Type 0 where
   pub tops : (x from to at : ℕ) (pairs : List (ℕ × ℕ)) (d : Drawn) → EndsWith h x (Scan from to) at (Pairs pairs) → (called h x).draw ≡ Some d →
       (key : ℕ) → from ≤ key → key ≤ to → (o : Option ℕ) × IsTop h key d.version o × (value_of key pairs ≡ shows h o)
   pub no_others : (x from to at : ℕ) (pairs : List (ℕ × ℕ)) → EndsWith h x (Scan from to) at (Pairs pairs) → (key : ℕ) → (key < from) ⊎ (to < key) → value_of key pairs ≡ None
-  -- a get whose point is that of the put before its gap stands directly after this put, and after gets of this gap that began before it
+  -- a get whose point is that of the put before its gap stands directly after this put, and after
+  -- gets of this gap that began before it
   pub directly : (x key at : ℕ) (r : Reply) (p a : ℕ) → EndsWith h x (Get key) at r → IsGap h x key r (Some p) → IsPoint h p a → (called h x).first < a →
       (z : ℕ) (s : Rank) → HasRank h z s → Below (put_rank h p a) s → Below s (record { at = a; add = (attempt h p).add; tail = (called h x).first + 1 }) → IsGetBehind h key p (called h x).first z

@@ -1,4 +1,5 @@
--- The stamped puts of a history in their order, key by key, and their points: what the code that sorts them keeps.
+-- The stamped puts of a history in their order, key by key, and their points: what the code that
+-- sorts them keeps.
 use Rattle.std.specs.Prelude.{ℕ, ◌≡◌, ◌<◌, ◌≤◌, ◌⊎◌, Option, Some, None, List, length, get_or}
 use Rattle.kw_core.specs.History.{History, attempt}
 use Rattle.kw_core.specs.HistoryLaws.{IsPut}
@@ -50,7 +51,8 @@ pub record HavePoints (h : History) (points : List ℕ) : Type 0 where
 abbrev pub IsUntil : List StampedPut → List ℕ → ℕ → ℕ → ℕ → Type 0
 IsUntil puts points key at i = ((put_at puts i).key < key) ⊎ (((put_at puts i).key ≡ key) × (get_or points (put_at puts i).place 0 ≤ at))
 
--- where this holds of a put of the list it holds of all before it, and each put has a place among the points
+-- where this holds of a put of the list it holds of all before it, and each put has a place among
+-- the points
 pub record CanSplit (puts : List StampedPut) (points : List ℕ) (key at : ℕ) : Type 0 where
   pub within : (i : ℕ) → i < length puts → (put_at puts i).place < length points
   pub down : (i j : ℕ) → i ≤ j → j < length puts → IsUntil puts points key at j → IsUntil puts points key at i
@@ -83,8 +85,8 @@ pub record IsTable (h : History) (table : PutTable) : Type 0 where
 abbrev pub IsReached : History → ℕ → Option ℕ → Type 0
 IsReached h f o = (p a : ℕ) → o ≡ Some p → IsPoint h p a → a ≤ f
 
--- a get of this key that began at f and found nothing stands in the gap behind this put, whose point is after f; or else in a
--- gap that is reached
+-- a get of this key that began at f and found nothing stands in the gap behind this put, whose
+-- point is after f; or else in a gap that is reached
 abbrev pub HasGap : History → ℕ → ℕ → Option ℕ → Type 0
 HasGap h key f None = (o : Option ℕ) × IsFirstGap h key f o × IsReached h f o
 HasGap h key f (Some p) = IsFirstGap h key f (Some p) × ((a : ℕ) → IsPoint h p a → f < a)

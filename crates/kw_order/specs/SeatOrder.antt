@@ -1,4 +1,5 @@
--- The calls of each seat, among the calls of all: which number in the record has the call that a seat made as its k-th, counted from 0.
+-- The calls of each seat, among the calls of all: which number in the record has the call that a
+-- seat made as its k-th, counted from 0.
 use Rattle.std.specs.Prelude.{ℕ, ◌≡◌, ◌==◌, ◌<◌, Some, List, filter, length, take, slice_get}
 use Rattle.kw_world.specs.declared.event.Event.{Event}
 use Rattle.kw_world.specs.declared.opening.Opening.{Opening}

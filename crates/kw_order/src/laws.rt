@@ -1,7 +1,7 @@
 //! The laws of the order of a history.
 //!
-//! Nothing runs here: the function's clauses are the statement. They stand on the laws of histories alone, and say nothing of
-//! how events come about.
+//! Nothing runs here: the function's clauses are the statement. They stand on the laws of histories
+//! alone, and say nothing of how events come about.
 ghost use Rattle.std.specs.Prelude.{List, ℕ, ◌≡◌, ◌<◌, true, Some, length, slice_get};
 ghost use Rattle.kw_world.specs.declared.event.Event.{Event};
 ghost use Rattle.kw_world.specs.declared.opening.Opening.{Opening};
@@ -17,9 +17,10 @@ ghost use Rattle.kw_order.specs.Legal.{IsLegalOrder};
 ghost use Rattle.kw_order.specs.OrderLaws.{OrderLaws};
 ghost use Rattle.kw_order.specs.SeatOrder.{IsTurn, AllEnded};
 
-/// A history that keeps its laws has one order, and it is legal: the calls, asked one after the other in this order of the
-/// empty map of one thread, have the replies that they had. The order keeps precedence, each call stands at a point inside
-/// itself, and each get and scan answers what the updates before it wrote.
+/// A history that keeps its laws has one order, and it is legal: the calls, asked one after the
+/// other in this order of the empty map of one thread, have the replies that they had. The order
+/// keeps precedence, each call stands at a point inside itself, and each get and scan answers what
+/// the updates before it wrote.
 pub fn order_laws()
     ensures exists { (h : History) → HistoryLaws h → (xs : List ℕ) × IsOrder h xs }
     ensures one { (h : History) → HistoryLaws h → (xs ys : List ℕ) → IsOrder h xs → IsOrder h ys →
@@ -29,9 +30,10 @@ pub fn order_laws()
         IsLegalOrder h xs }
 {}
 
-/// The numbers that the order has are those of the record, and each is a seat's k-th call for just one seat and one k. What is
-/// seen of that call is what the record has of it. In a valid list from an opening each call is one of the seats', the
-/// calls of one seat stand in the order in which it made them, and where all calls have ended the order has each number.
+/// The numbers that the order has are those of the record, and each is a seat's k-th call for just
+/// one seat and one k. What is seen of that call is what the record has of it. In a valid list from
+/// an opening each call is one of the seats', the calls of one seat stand in the order in which it
+/// made them, and where all calls have ended the order has each number.
 pub fn seat_call_laws()
     ensures names { (z : Sizes) (o : Opening) (events : List Event) (s k : ℕ) (c : CallSeen) →
         slice_get (calls_seen z o s events) k ≡ Some c → (x : ℕ)

@@ -29,7 +29,8 @@ pub struct Point {
     pub at: u64,
 }
 
-/// The calls that ended, and those whose put or delete was stamped, each with its point, in their order.
+/// The calls that ended, and those whose put or delete was stamped, each with its point, in their
+/// order.
 pub fn points(alloc: Global, history: &History) -> Result<Vec<Point>, Memory>
     requires { HistoryLaws history.now }
     ensures { IfOk result (λ points. ArePoints history.now points.items) }
@@ -153,7 +154,8 @@ fn rank_at_first(first: u64) -> Rank
     }
 }
 
-/// The rank of a get that stands behind this put, if any: at the later of its first event and the put's point.
+/// The rank of a get that stands behind this put, if any: at the later of its first event and the
+/// put's point.
 fn rank_behind(history: &History, table: &PutTable, first: u64, behind: Option<usize>) -> Rank
     requires table { IsTable history.now table.now }
     requires put { IfSome behind (IsPut history.now) }

@@ -1,7 +1,8 @@
 //! The stamped puts and deletes of a history, key by key in their order, and their points.
 //!
-//! A table is made once for a history, and then answers where a put has its point and where a get that found nothing stands.
-//! Points never fall along the puts of a key: so a binary search finds the last put that a get has reached.
+//! A table is made once for a history, and then answers where a put has its point and where a get
+//! that found nothing stands. Points never fall along the puts of a key: so a binary search finds
+//! the last put that a get has reached.
 ghost use Rattle.std.specs.Prelude.{ℕ, ◌≡◌, ◌+◌, ◌<◌, ◌≤◌, ◌⊎◌, Option, IfOk, length, get_or};
 ghost use Rattle.kw_core.specs.HistoryLaws.{HistoryLaws, IsPut};
 ghost use Rattle.kw_order.specs.Order.{IsPoint, Meets};
@@ -20,7 +21,8 @@ pub struct StampedPut {
     place: usize,
 }
 
-/// The stamped puts and deletes in their order, and of these the deletes alone, with the point of each by its place.
+/// The stamped puts and deletes in their order, and of these the deletes alone, with the point of
+/// each by its place.
 #[derive(Debug, Drop)]
 pub struct PutTable {
     puts: Vec<StampedPut>,
@@ -53,8 +55,9 @@ impl PutTable {
         self.points[place]
     }
 
-    /// Where a get stands that began at `first` and found nothing of this key: behind the put of this place, whose point is
-    /// after its first event. Where there is none, the get stands at its first event.
+    /// Where a get stands that began at `first` and found nothing of this key: behind the put of
+    /// this place, whose point is after its first event. Where there is none, the get stands at its
+    /// first event.
     pub fn gap(&self, history: &History, key: u32, first: u64) -> Option<usize>
         requires laws { HistoryLaws history.now }
         requires table { IsTable history.now self.now }
@@ -130,8 +133,8 @@ fn put_points(alloc: Global, history: &History, puts: &[StampedPut]) -> Result<V
     Ok(points)
 }
 
-/// The point of the put at this place of the list, where those of all later ones are known: the least clock load from it on,
-/// over the puts of its key and version.
+/// The point of the put at this place of the list, where those of all later ones are known: the
+/// least clock load from it on, over the puts of its key and version.
 fn point_at(history: &History, puts: &[StampedPut], points: &[u64], i: usize) -> u64
     requires laws { HistoryLaws history.now }
     requires puts { AreAllPuts history.now puts.now }
@@ -152,7 +155,8 @@ fn point_at(history: &History, puts: &[StampedPut], points: &[u64], i: usize) ->
     }
 }
 
-/// How many of the puts, from the first on, are of a lesser key, or of this key with a point that is not after `at`.
+/// How many of the puts, from the first on, are of a lesser key, or of this key with a point that
+/// is not after `at`.
 fn count_until(puts: &[StampedPut], points: &[u64], key: u32, at: u64) -> usize
     requires { CanSplit puts.now points.now key at }
     ensures { IsSplit puts.now points.now key at result }

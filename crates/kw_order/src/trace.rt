@@ -1,8 +1,10 @@
-//! Traces: lists of events that may happen, with the world that they lead to and the order of their calls.
+//! Traces: lists of events that may happen, with the world that they lead to and the order of their
+//! calls.
 //!
-//! A `Trace` begins with an opening world and grows by one event at a time; whoever may make events at all may push them here.
-//! Its world and its record follow the events and are never set, and so every law of lists of events holds of it: `push` and the
-//! two functions on traces have these laws as their clauses.
+//! A `Trace` begins with an opening world and grows by one event at a time; whoever may make events
+//! at all may push them here. Its world and its record follow the events and are never set, and so
+//! every law of lists of events holds of it: `push` and the two functions on traces have these laws
+//! as their clauses.
 ghost use Rattle.std.specs.Prelude.{◌≡◌, ◌<◌, ◌++◌, ◌↔◌, true, Some, [], List, ℕ, IfOk, OnErr, length, slice_get};
 ghost use Rattle.kw_world.specs.declared.event.Event.{Event};
 ghost use Rattle.kw_world.specs.declared.local.Local.{Local};
@@ -12,6 +14,8 @@ ghost use Rattle.kw_world.specs.Sane.{IsSane, CanStep};
 ghost use Rattle.kw_world.specs.Step.{step, is_skipped};
 ghost use Rattle.kw_core.specs.Events.{is_valid};
 ghost use Rattle.kw_laws.specs.Laws.{KeepsLaws};
+ghost use Rattle.kw_laws.specs.Live.{AreLive};
+ghost use Rattle.kw_laws.specs.Reach.{KeepsRows};
 ghost use Rattle.kw_order.specs.Order.{IsOrder};
 ghost use Rattle.kw_order.specs.Legal.{IsLegalOrder};
 ghost use Rattle.kw_order.specs.OrderLaws.{OrderLaws};
@@ -28,7 +32,8 @@ use kw_world::world::World;
 use std::alloc::Global;
 use std::marker::Model;
 
-/// A list of events that may happen one after the other from an opening world, and what they led to.
+/// A list of events that may happen one after the other from an opening world, and what they led
+/// to.
 #[derive(Drop)]
 pub struct Trace {
     opening: Opening,
@@ -50,7 +55,8 @@ impl Model for Trace {
 impl Trace {
     /// The trace of no events.
     ///
-    /// There are 1 to `MOST_ROWS` rows and 1 to `SEATS` seats; the clock and the epoch are from 1 to `SPENT`.
+    /// There are 1 to `MOST_ROWS` rows and 1 to `SEATS` seats; the clock and the epoch are from 1
+    /// to `SPENT`.
     pub fn open(
         alloc: Global,
         rows: u32,
@@ -84,9 +90,14 @@ impl Trace {
 
     /// Makes one more event, and keeps it unless it is skipped.
     ///
-    /// The event's seat is one of the trace's, a value that it puts is below `VALUE_END`, and a seat that begins a call has
-    /// begun fewer than `MOST_CALLS`. A choice that the seat's activity does not offer counts as `Go`. The answer is `Skipped`
-    /// exactly where the seat is idle and begins nothing. Without memory the trace is as it was.
+    /// The event's seat is one of the trace's, a value that it puts is below `VALUE_END`, and a
+    /// seat that begins a call has begun fewer than `MOST_CALLS`. A choice that the seat's activity
+    /// does not offer counts as `Go`. The answer is `Skipped` exactly where the seat is idle and
+    /// begins nothing. Without memory the trace is as it was.
+    ///
+    /// Of the trace hold then the laws of all lists: each row at which a seat has arrived was in
+    /// the list since it began its pass, or drew; what a seat has reached in its pass is there for
+    /// it; and no row is given free while a seat is in a pass in which it has come to it.
     pub fn push(&mut self, event: Event) -> Result<StepDone, Memory>
         requires seat { event.seat < self.old.opening.seats }
         requires begin { CanStep (world_of self.old) event }
@@ -97,6 +108,8 @@ impl Trace {
             ↔ (is_skipped local.activity event.choice ≡ true)) }
         ensures err { OnErr result (self.new ≡ self.old) }
         ensures laws { KeepsLaws product (run_of self.new) }
+        ensures live { AreLive product self.new.opening self.new.events }
+        ensures rows { KeepsRows product self.new.opening self.new.events }
     {
         if self.world.local(event.seat).activity.skips(event.choice) {
             return Ok(StepDone::Skipped);
@@ -146,9 +159,9 @@ impl Trace {
     }
 }
 
-/// The calls that ended, and those whose put or delete was stamped, each with the position at which it takes effect, in the one
-/// legal order. That there is one, that it is legal and that no later event changes it is said by the clauses of `order`, which
-/// has the names alone.
+/// The calls that ended, and those whose put or delete was stamped, each with the position at which
+/// it takes effect, in the one legal order. That there is one, that it is legal and that no later
+/// event changes it is said by the clauses of `order`, which has the names alone.
 pub fn points(alloc: Global, trace: &Trace) -> Result<Vec<Point>, Memory>
     ensures points { IfOk result (λ points. ArePoints (history_of trace.now) points.items) }
     ensures laws { (xs : List ℕ) → IsOrder (history_of trace.now) xs →
@@ -159,9 +172,10 @@ pub fn points(alloc: Global, trace: &Trace) -> Result<Vec<Point>, Memory>
 
 /// The names of the calls that ended, and of those whose put or delete was stamped, in their order.
 ///
-/// There is one such order. It is legal: the calls, asked one after the other in it of the empty map of one thread, have the
-/// replies that they had. It keeps precedence, each call stands at a point inside itself, and a scan gives for each key of its
-/// range what the last put with a version at most its own wrote. No event that comes later changes that.
+/// There is one such order. It is legal: the calls, asked one after the other in it of the empty
+/// map of one thread, have the replies that they had. It keeps precedence, each call stands at a
+/// point inside itself, and a scan gives for each key of its range what the last put with a version
+/// at most its own wrote. No event that comes later changes that.
 pub fn order(alloc: Global, trace: &Trace) -> Result<Vec<CallName>, Memory>
     ensures names { IfOk result (λ names. AreNames (history_of trace.now) names.items) }
     ensures one { (xs ys : List ℕ) → IsOrder (history_of trace.now) xs →

@@ -1,7 +1,7 @@
 //! The order of a history that is made event by event.
 //!
-//! Each call's events are noted by a function of their own, whose clause gives the history behind them in full: the proof of one
-//! call then does not carry the events of those before it.
+//! Each call's events are noted by a function of their own, whose clause gives the history behind
+//! them in full: the proof of one call then does not carry the events of those before it.
 ghost use Rattle.std.specs.Prelude.{◌≡◌, ◌∷◌, [], IfOk, OnOk, take};
 ghost use Rattle.kw_core.specs.HistoryLaws.{HistoryLaws};
 ghost use Rattle.kw_core.specs.Noted.{IsWithin, noted, nothing_yet};

@@ -1,8 +1,9 @@
 //! A trace of one seat, event by event.
 //!
-//! How several seats bear on each other's order is shown by the scripts in tools/scripts, which need no proof. The helpers have no
-//! `ensures`, so that their callers' goals do not carry the laws of `push`, `points` and `order`; and the calls are made and judged in
-//! one of them, since each `assert_eq!` that follows makes a test's proof much longer.
+//! How several seats bear on each other's order is shown by the scripts in tools/scripts, which
+//! need no proof. The helpers have no `ensures`, so that their callers' goals do not carry the laws
+//! of `push`, `points` and `order`; and the calls are made and judged in one of them, since each
+//! `assert_eq!` that follows makes a test's proof much longer.
 ghost use Rattle.std.specs.Prelude.{Some};
 ghost use Rattle.kw_world.specs.Sane.{IsCall};
 
@@ -53,7 +54,8 @@ fn finish(trace: &mut Trace) -> Result<Reply, Fail> {
     Err("not ended")?
 }
 
-// a trace of one row and one seat: an event that is skipped and not kept, a put, and a get that finds it
+// a trace of one row and one seat: an event that is skipped and not kept, a put, and a get that
+// finds it
 fn put_and_got(alloc: Global) -> Result<Trace, Fail> {
     let mut trace = Trace::open(alloc, 1, 1, 1, 1)?;
     if go(&mut trace)? != StepDone::Skipped {
@@ -81,7 +83,8 @@ fn places(alloc: Global, trace: &Trace) -> Result<Vec<Point>, Memory> {
     points(alloc, trace)
 }
 
-// A put alone loads the clock in its tenth event and ends in its 17th. The get behind it stands at its own first event.
+// A put alone loads the clock in its tenth event and ends in its 17th. The get behind it stands at
+// its own first event.
 #[test]
 fn a_put_has_its_point_where_it_loads_the_clock(rt: HostRuntime) -> Result<(), Fail> {
     let trace = put_and_got(rt.alloc())?;
