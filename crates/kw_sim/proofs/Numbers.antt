@@ -1,4 +1,5 @@
--- A seat begins at most one call with an event, so it has begun no more calls than there are events.
+-- A seat begins at most one call with an event, so it has begun no more calls than there are
+-- events.
 use Rattle.std.proofs.Common.{ℕ, zero, suc, ◌≡◌, ◌+◌, ◌≤◌, ◌⊎◌, ◌≢◌, inl, inr, List, ◌∷◌, length, replicate, slice_get, slice_set, refl, sym, ap, ◌∙◌, arith, Option, Some, None, Bool, true, false, []}
 use Rattle.kw_world.specs.declared.local.Local.{Local}
 use Rattle.kw_world.specs.Sizes.{Sizes}

@@ -1,4 +1,5 @@
--- The replies of a valid list of events: their numbers are in range, since each value that is answered was put.
+-- The replies of a valid list of events: their numbers are in range, since each value that is
+-- answered was put.
 use Rattle.std.proofs.Common.{ℕ, suc, ◌≡◌, ◌<◌, ◌≤◌, ◌^◌, cond, eq-eqb, ne_eqb, Option, Some, None, List, [], ◌∷◌, arith, refl, sym, ap, ◌∙◌, length}
 use Rattle.std.specs.List.{AllByRecursion}
 use Rattle.std.proofs.lemmas.Option.{same_Some}

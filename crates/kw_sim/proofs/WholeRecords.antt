@@ -110,7 +110,8 @@ get_second : {X : Type 0} (xs ys : List X) (k : ℕ) (x : X) → slice_get ys k 
 get_second [] ys k x e = let z : k ≡ 0 + k = omega arith in subst (λ j. slice_get ys j ≡ Some x) z e
 get_second (y ∷ xs) ys k x e = let z : suc (length xs + k) ≡ suc (length xs) + k = omega arith in subst (λ j. slice_get (y ∷ (xs ++ ys)) j ≡ Some x) z (get_second xs ys k x e)
 
--- no call has a line in both sections, so together these have as many lines as there are calls with one
+-- no call has a line in both sections, so together these have as many lines as there are calls with
+-- one
 count_both : (cs : List CallLog) → length (filter (λ (c : CallLog). is_some (stands_at Done c)) cs) + length (filter (λ (c : CallLog). is_some (stands_at Open c)) cs) ≡ length (filter has_line cs)
 count_both [] = refl
 count_both (c ∷ cs) = go (is_some (stands_at Done c)) (is_some (stands_at Open c)) (has_line c) (one c.end c.put) (count_both cs)

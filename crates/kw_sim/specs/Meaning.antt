@@ -32,7 +32,8 @@ abbrev pub FitsChoice : Choice → Type 0
 FitsChoice (Begin call) = FitsCall call
 FitsChoice _ = Unit {0}
 
--- the call that a seat makes; one that makes none is taken to ask for the value of key 0, and never ends a call
+-- the call that a seat makes; one that makes none is taken to ask for the value of key 0, and never
+-- ends a call
 abbrev pub call_made : Local → Call
 call_made l = unwrap_or l.call (Get 0)
 
@@ -68,8 +69,8 @@ makes_none None = false
 abbrev pub is_idle : ℕ → State → Bool
 is_idle s st = makes_none (slice_get (world_of st.trace).locals s)
 
--- what a seat chooses: where it is idle it begins the first call that it is still to make, and else it goes on; an idle
--- seat with nothing to make makes no event so
+-- what a seat chooses: where it is idle it begins the first call that it is still to make, and else
+-- it goes on; an idle seat with nothing to make makes no event so
 abbrev pub next_choice : Bool → List Call → Choice
 next_choice true [] = Go
 next_choice true (c ∷ cs) = Begin c
@@ -128,7 +129,8 @@ unfoldable pub after_commands : List Command → State → State
 after_commands [] st = st
 after_commands (c ∷ cs) st = after_commands cs (after_command c st)
 
--- what a script begins with: all seats are there, the first version and the first epoch are 1, and no call is to be made
+-- what a script begins with: all seats are there, the first version and the first epoch are 1, and
+-- no call is to be made
 abbrev pub opening : ℕ → Opening
 opening rows = record { rows = rows; seats = SEATS; clock = 1; epoch = 1 }
 

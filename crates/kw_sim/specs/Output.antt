@@ -12,8 +12,9 @@ use Rattle.kw_sim.specs.Printed.{order_line}
 use Rattle.kw_sim.specs.State.{State}
 use Rattle.kw_sim.specs.Meaning.{script_state}
 
--- the bytes are what was printed, and then the names of the calls in their order: the only order of these calls. It is legal: the
--- calls, asked one after the other in it of the empty map of one thread, have the replies that they had; and it keeps precedence
+-- the bytes are what was printed, and then the names of the calls in their order: the only order of
+-- these calls. It is legal: the calls, asked one after the other in it of the empty map of one
+-- thread, have the replies that they had; and it keeps precedence
 pub record IsOutputAt (st : State) (bytes : List ℕ) : Type 0 where
   pub names : List CallName
   pub are_names : AreNames (history_of st.trace) names
@@ -22,7 +23,8 @@ pub record IsOutputAt (st : State) (bytes : List ℕ) : Type 0 where
   pub laws : OrderLaws (history_of st.trace) are_names.order
   pub bytes_are : bytes ≡ st.text ++ order_line names
 
--- the bytes are what the commands print whose texts are the lines of the script, and then the order of the calls
+-- the bytes are what the commands print whose texts are the lines of the script, and then the order
+-- of the calls
 pub record IsOutputOf (rows : ℕ) (script bytes : List ℕ) : Type 0 where
   pub commands : List Command
   pub lines : AreLinesOf rows script commands

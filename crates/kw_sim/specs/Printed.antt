@@ -1,4 +1,5 @@
--- What is printed of a script: a line for each call that ends, a line where a kind of event did not come, and the order of the calls.
+-- What is printed of a script: a line for each call that ends, a line where a kind of event did not
+-- come, and the order of the calls.
 use Rattle.std.specs.Prelude.{ℕ, List, [], ◌∷◌, ◌++◌, map, codes}
 use Rattle.kw_model.specs.declared.call.Call.{Call}
 use Rattle.kw_model.specs.declared.call.Reply.{Reply}
@@ -14,7 +15,8 @@ use Rattle.kw_judge.specs.Texts.{call_text, reply_text, name_text, order_text}
 abbrev pub ended_line : ℕ → ℕ → Call → Reply → List ℕ
 ended_line seat number call reply = name_text (record { seat = seat; number = number }) ++ SPACE ∷ call_text call ++ COLON ∷ SPACE ∷ reply_text reply ++ LINE_FEED ∷ []
 
--- what an event of a seat prints, where the seat makes this call: a line if the call has ended with it
+-- what an event of a seat prints, where the seat makes this call: a line if the call has ended with
+-- it
 abbrev pub done_text : ℕ → ℕ → Call → StepDone → List ℕ
 done_text seat number call Moved = []
 done_text seat number call (Ended reply) = ended_line seat number call reply

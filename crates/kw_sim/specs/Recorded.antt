@@ -76,7 +76,8 @@ pub record IsRecordAt (t : TraceView) (bytes : List ℕ) : Type 0 where
 abbrev pub IsTooMany : TraceView → Type 0
 IsTooMany t = MOST_CALLS < length (filter has_line (history_of t).calls)
 
--- the bytes are the text of the record of what the commands do whose texts are the lines of the script
+-- the bytes are the text of the record of what the commands do whose texts are the lines of the
+-- script
 pub record IsRecordOf (rows : ℕ) (script bytes : List ℕ) : Type 0 where
   pub commands : List Command
   pub lines : AreLinesOf rows script commands
@@ -88,7 +89,8 @@ pub record IsTooLong (rows : ℕ) (script : List ℕ) : Type 0 where
   pub lines : AreLinesOf rows script commands
   pub many : IsTooMany (script_state rows commands).trace
 
--- a line that is named is the first bad one of the script; line 0 says that the record would be too long
+-- a line that is named is the first bad one of the script; line 0 says that the record would be too
+-- long
 abbrev pub IfBadRecord : {X : Type 0} → ℕ → List ℕ → Result X ScriptError → Type 0
 IfBadRecord rows script (Ok x) = Unit {0}
 IfBadRecord rows script (Err (error.Bad line)) = IsFirstBadCommand rows script line ⊎ ((line ≡ 0) × IsTooLong rows script)

@@ -80,13 +80,15 @@ IsCommand rows c = (seat_of c < SEATS) × HasRange rows c
 abbrev pub IsText : ℕ → List ℕ → Type 0
 IsText rows line = (c : Command) × IsCommand rows c × (line ≡ command_text c)
 
--- the lines of these bytes are the texts of these commands, one for one, and no more than a script may have
+-- the lines of these bytes are the texts of these commands, one for one, and no more than a script
+-- may have
 pub record AreLinesOf (rows : ℕ) (bytes : List ℕ) (commands : List Command) : Type 0 where
   pub each : AllByRecursion (IsCommand rows) commands
   pub few : length commands ≤ MOST_LINES
   pub texts : lines bytes ≡ map command_text commands
 
--- this line of the bytes, counted from 1, is the text of no command or is one too many, and each line before it is neither
+-- this line of the bytes, counted from 1, is the text of no command or is one too many, and each
+-- line before it is neither
 pub record IsFirstBadCommand (rows : ℕ) (bytes : List ℕ) (number : ℕ) : Type 0 where
   pub before : List Command
   pub line : List ℕ

@@ -1,4 +1,5 @@
--- The lines of a record, as the code gathers and prints them: the places of each section's calls in the history, and their texts.
+-- The lines of a record, as the code gathers and prints them: the places of each section's calls in
+-- the history, and their texts.
 use Rattle.std.specs.Prelude.{ℕ, ◌≡◌, ◌≢◌, ◌<◌, ◌≤◌, is_some, Option, Some, None, List, [], ◌∷◌, ◌++◌, filter, length, slice_get, take}
 use Rattle.std.specs.List.{flat_map}
 use Rattle.kw_line.specs.declared.words.TheConstants.{LINE_FEED}

@@ -1,7 +1,8 @@
 //! What a line of a script asks for.
 //!
-//! The types of this crate that its callers hold: a [`Command`] for each line of a script, and what is wrong with a script.
-//! `specs/Script.antt` gives the one text of each command and the range of its numbers.
+//! The types of this crate that its callers hold: a [`Command`] for each line of a script, and what
+//! is wrong with a script. `specs/Script.antt` gives the one text of each command and the range of
+//! its numbers.
 use kw_model::call::Call;
 use kw_model::memory::Memory;
 use kw_words::kind::Kind;
@@ -11,8 +12,8 @@ use thiserror::Error;
 /// A line of a script. Seats are counted from 0, and are below `SEATS`.
 #[derive(Clone, Copy, Debug, PartialEq, Eq)]
 pub enum Command {
-    /// `call S put K V`, `call S del K`, `call S get K` or `call S scan A B`: this seat is to make this call, after those
-    /// that it is to make already. Keys are below 2^32, values below 2^63.
+    /// `call S put K V`, `call S del K`, `call S get K` or `call S scan A B`: this seat is to make
+    /// this call, after those that it is to make already. Keys are below 2^32, values below 2^63.
     Call(u32, Call),
     /// `puts S N K V`: this seat is to put this value at this key so many times.
     Puts {

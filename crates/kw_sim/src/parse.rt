@@ -1,8 +1,9 @@
 //! From lines to commands.
 //!
-//! A line is read word by word, and it is the text of a command exactly where all its words are read. Each reader takes
-//! what it reads off the front of the words that are left, and its contract says the same both ways: which words it takes
-//! for what, and that no other words would have been that.
+//! A line is read word by word, and it is the text of a command exactly where all its words are
+//! read. Each reader takes what it reads off the front of the words that are left, and its contract
+//! says the same both ways: which words it takes for what, and that no other words would have been
+//! that.
 ghost use Rattle.std.specs.Prelude.{◌≡◌, ◌≢◌, ◌≤◌, ◌++◌, ◌∷◌, ℕ, List, decimal, MatchOption, IfOk};
 ghost use Rattle.kw_words.specs.declared.kind.Kind.{Kind as AnyKind};
 ghost use Rattle.kw_words.specs.Kind.{name_of};

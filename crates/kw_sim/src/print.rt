@@ -1,7 +1,8 @@
 //! What is printed of a script.
 //!
-//! Calls, replies and the names of calls are printed by `kw_judge`, as records have them. Each function here adds a line at the
-//! end of a `Vec` that grows; on an `Err` it may have left a part of its text.
+//! Calls, replies and the names of calls are printed by `kw_judge`, as records have them. Each
+//! function here adds a line at the end of a `Vec` that grows; on an `Err` it may have left a part
+//! of its text.
 ghost use Rattle.std.specs.Prelude.{◌≡◌, ◌++◌, map, IfOk, OnOk};
 ghost use Rattle.kw_sim.specs.Printed.{ended_line, done_text, missed_line, judged};
 

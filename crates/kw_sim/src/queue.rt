@@ -1,7 +1,7 @@
 //! The calls that a seat is still to make.
 //!
-//! A line of a script may ask for a hundred thousand puts, so calls are kept in runs of the same call: a queue has no more
-//! runs than the script has lines. Contracts see the calls alone.
+//! A line of a script may ask for a hundred thousand puts, so calls are kept in runs of the same
+//! call: a queue has no more runs than the script has lines. Contracts see the calls alone.
 ghost use Rattle.std.specs.Prelude.{◌≡◌, ◌≤◌, ◌∷◌, [], ◌++◌, ℕ, List, replicate, IfNone, IfSome, OnOk, OnErr};
 ghost use Rattle.kw_line.specs.Line.{FitsCall};
 
@@ -57,8 +57,8 @@ impl Queue {
         }
     }
 
-    /// Adds this call at the end, so many times: at least once. The numbers of the call are in range. Without memory the
-    /// queue is as it was.
+    /// Adds this call at the end, so many times: at least once. The numbers of the call are in
+    /// range. Without memory the queue is as it was.
     pub fn push(&mut self, call: Call, count: u32) -> Result<(), Memory>
         requires some { 1 ≤ count }
         requires fits { FitsCall call }

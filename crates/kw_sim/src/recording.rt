@@ -1,8 +1,8 @@
 //! The record of a trace: the lines of its calls, and their order.
 //!
-//! A record says of each call that ended, and of each put or delete that goes on and was stamped, at which positions it began and
-//! ended. The calls are gathered from the history for each of these two sections, sorted by what the section's lines stand by, and
-//! printed by `kw_judge`.
+//! A record says of each call that ended, and of each put or delete that goes on and was stamped,
+//! at which positions it began and ended. The calls are gathered from the history for each of these
+//! two sections, sorted by what the section's lines stand by, and printed by `kw_judge`.
 ghost use Rattle.std.specs.Prelude.{◌≡◌, ◌≤◌, ◌++◌, length, IfOk, OnOk, MatchOption};
 ghost use Rattle.kw_judge.specs.declared.record.TheConstants.{RECORD_SEATS, MOST_POSITION};
 ghost use Rattle.kw_sim.specs.Recorded.{IsTooMany, IsRecordAt};

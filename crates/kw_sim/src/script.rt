@@ -13,8 +13,8 @@ use std::alloc::Global;
 
 /// What a script prints, on a table of this many rows: 1 to `MOST_ROWS`.
 ///
-/// `Bad` names the first line that is outside the grammar, or the first one after the most that a script may have; nothing
-/// is run then.
+/// `Bad` names the first line that is outside the grammar, or the first one after the most that a
+/// script may have; nothing is run then.
 pub fn run_script(alloc: Global, rows: u32, script: &[u8]) -> Result<Vec<u8>, ScriptError>
     requires some { 1 ≤ rows }
     requires few { rows ≤ MOST_ROWS }
@@ -27,9 +27,10 @@ pub fn run_script(alloc: Global, rows: u32, script: &[u8]) -> Result<Vec<u8>, Sc
 
 /// The record of a script's run, on a table of this many rows: 1 to `MOST_ROWS`.
 ///
-/// It has the calls that ended by their last positions, then the puts and deletes that go on and were stamped by their seats, and
-/// the order of all these calls. `Bad` names the first line that is outside the grammar, or the first one after the most that a
-/// script may have; nothing is run then. `Bad` with line 0 says that there are more of these calls than a record may have.
+/// It has the calls that ended by their last positions, then the puts and deletes that go on and
+/// were stamped by their seats, and the order of all these calls. `Bad` names the first line that
+/// is outside the grammar, or the first one after the most that a script may have; nothing is run
+/// then. `Bad` with line 0 says that there are more of these calls than a record may have.
 pub fn record_script(alloc: Global, rows: u32, script: &[u8]) -> Result<Vec<u8>, ScriptError>
     requires some { 1 ≤ rows }
     requires few { rows ≤ MOST_ROWS }

@@ -1,8 +1,9 @@
 //! A script, run line by line.
 //!
-//! A `Simulator` keeps the events that were made, the calls that each seat is still to make, and what is printed so far.
-//! Each rule of a script has one method here that is proved to be that rule: an event, a step of a seat, steps in number,
-//! steps until a kind of event, a line, and the order at the end. All events are made in `event`, by the `Trace`.
+//! A `Simulator` keeps the events that were made, the calls that each seat is still to make, and
+//! what is printed so far. Each rule of a script has one method here that is proved to be that
+//! rule: an event, a step of a seat, steps in number, steps until a kind of event, a line, and the
+//! order at the end. All events are made in `event`, by the `Trace`.
 ghost use Rattle.std.specs.Prelude.{◌≡◌, ◌+◌, ◌<◌, ◌≤◌, true, if◌then◌else◌, [], ◌∷◌, length, replicate, IfOk, OnOk, IfNone, IfSome, MatchOption};
 ghost use Rattle.kw_words.specs.declared.sizes.TheConstants.{SEATS, MOST_ROWS};
 ghost use Rattle.kw_world.specs.declared.limits.TheConstants.{MOST_CALLS};
@@ -180,7 +181,8 @@ impl Simulator {
         Ok(kind)
     }
 
-    /// What a seat chooses next. A call that it is to begin is taken from those that it is still to make.
+    /// What a seat chooses next. A call that it is to begin is taken from those that it is still to
+    /// make.
     fn next_choice(&mut self, seat: u32) -> Choice
         requires { seat < SEATS }
         ensures choice { result ≡ next_choice (is_idle seat self.old) (queue_of seat self.old) }
@@ -227,7 +229,8 @@ impl Simulator {
         kind_of(self.trace.world(), Event { seat, choice })
     }
 
-    /// Makes one event of a seat, and prints the line of a call that ends with it. One that is skipped leaves all as it was.
+    /// Makes one event of a seat, and prints the line of a call that ends with it. One that is
+    /// skipped leaves all as it was.
     fn event(&mut self, seat: u32, choice: Choice) -> Result<(), Memory>
         requires seat { seat < SEATS }
         requires fits { FitsChoice choice }

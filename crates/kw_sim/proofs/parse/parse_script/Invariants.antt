@@ -1,4 +1,5 @@
--- The lines so far are the texts of the commands so far, and those of the lines that are left follow.
+-- The lines so far are the texts of the commands so far, and those of the lines that are left
+-- follow.
 use Rattle.std.proofs.Common.{◌≡◌, ◌++◌, ◌≤◌, map, length}
 use Rattle.std.specs.List.{AllByRecursion}
 use Rattle.kw_line.specs.Cut.{lines}
