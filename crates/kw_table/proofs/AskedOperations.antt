@@ -8,7 +8,8 @@ use Rattle.kw_table.specs.Passes.{Asks, operation}
 use Rattle.kw_table.specs.declared.pass.Pass.{Pass}
 use Rattle.kw_table.specs.declared.shared.Shared.{Shared}
 
--- a pass whose next operation is this one asks for the operation of its kind, its word and its action
+-- a pass whose next operation is this one asks for the operation of its kind, its word and its
+-- action
 pub asks_for : (s : Shared) (p : Pass) (c : Choice) (does : Operation) (kind : Kind) (action : Action) → Asks s p c does → does.kind ≡ kind → does.action ≡ action → Asks s p c (operation kind does.name action)
 asks_for s p c does kind action asks is_kind is_action = record {
   of_table = asks.of_table;

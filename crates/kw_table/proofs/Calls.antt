@@ -14,7 +14,7 @@ use Rattle.kw_world.specs.Step.{transition_of}
 use Rattle.kw_world.specs.WorldView.{WorldView}
 use Rattle.kw_world.proofs.Transitions.{in_table}
 use Rattle.kw_core.specs.Events.{world, is_valid, event}
-use Rattle.kw_laws.proofs.Worlds.{world-rows, world-seats, world-local, world_sane}
+use Rattle.kw_shape.proofs.Worlds.{world-rows, world-seats, world-local, world_sane}
 use Rattle.kw_table.specs.declared.pass.Pass.{Pass}
 use Rattle.kw_table.specs.declared.pass.View.{View}
 use Rattle.kw_table.specs.declared.shared.Shared.{Shared}
@@ -45,11 +45,11 @@ pub is_ready : (s : Shared) (p : Pass) (c : Choice) (does : Operation) → Asks 
 is_ready s p c does asks = record { one = p.known.count; opens = p.known.opens; begins = asks.begins; moves = asks.moves }
 
 -- the law of a step, as a call asks it
-pub asked : (slots id : ℕ) (m : Mine) (c picked : Choice) (does : Operation) (i : ℕ) (key : Opening) (f h : ℕ → ℕ) → picked ≡ c → (transition_in m.0 c).operation ≡ does
-    → i ≡ slot does.name → m.0.opening ≡ key
+pub asked : (slots id rows : ℕ) (m : Mine) (c picked : Choice) (does : Operation) (i : ℕ) (key : Opening) (f h : ℕ → ℕ) → picked ≡ c → (transition_in m.0 c).operation ≡ does
+    → m.0.opening.rows ≡ rows → i ≡ slot rows does.name → m.0.opening ≡ key
     → Allows (Rule m.0.opening) slots id m (slot_in m.0 c) f (λ n. StepsFor c m (h n)) → Allows (Rule key) slots id m i f (λ n. StepsFor picked m (h n))
-asked slots id m c picked does i key f h p is q r law =
-    let at : slot_in m.0 c ≡ i = ap (λ (d : Operation). slot d.name) is ∙ sym q in
+asked slots id rows m c picked does i key f h p is k q r law =
+    let at : slot_in m.0 c ≡ i = ap (λ (d : Operation). slot m.0.opening.rows d.name) is ∙ (ap (λ n. slot n does.name) k ∙ sym q) in
     subst (λ (d : Choice). Allows (Rule key) slots id m i f (λ n. StepsFor d m (h n))) (sym p)
     (subst (λ j. Allows (Rule key) slots id m j f (λ n. StepsFor c m (h n))) at
     (subst (λ (o : Opening). Allows (Rule o) slots id m (slot_in m.0 c) f (λ n. StepsFor c m (h n))) r law))

@@ -1,4 +1,5 @@
--- What a pass's seat knows: it is in range, and after a step it is what follows from what the step told.
+-- What a pass's seat knows: it is in range, and after a step it is what follows from what the step
+-- told.
 use Rattle.std.proofs.Common.{◌≡◌, ℕ, ◌<◌, refl, ◌∙◌, ap, sym, arith, subst}
 use Rattle.kw_world.specs.declared.event.Choice.{Choice}
 use Rattle.kw_world.specs.declared.event.StepDone.{StepDone}
@@ -10,7 +11,7 @@ use Rattle.kw_world.specs.Sane.{IsKnown}
 use Rattle.kw_world.specs.Sizes.{product}
 use Rattle.kw_world.specs.Step.{transition_of, next_of}
 use Rattle.kw_world.proofs.Transitions.{transition_of-next}
-use Rattle.kw_laws.proofs.Worlds.{world-rows, world-local, world_sane}
+use Rattle.kw_shape.proofs.Worlds.{world-rows, world-local, world_sane}
 use Rattle.kw_table.specs.declared.pass.Pass.{Pass}
 use Rattle.kw_table.specs.declared.pass.View.{View}
 use Rattle.kw_table.specs.declared.shared.Shared.{Shared}
@@ -25,7 +26,8 @@ known_in p l is =
     let known = (world_sane product v.opening p.known.opens v.seen p.known.valid).locals v.number (local_in v) (world-local product v.opening v.seen v.number inside) in
     subst (λ k. IsKnown product (view p).opening.rows k) (sym is) (subst (λ n. IsKnown product n (local_in v)) (world-rows product v.opening v.seen) known)
 
--- the line of the next event, by the number and the rows that the program has at hand and by what the seat knows
+-- the line of the next event, by the number and the rows that the program has at hand and by what
+-- the seat knows
 pub line_is : (s : Shared) (p : Pass) (c : Choice) (l : Local) (n : ℕ) (o : Choice) → IsPassOf s p → l ≡ local_in (view p) → n ≡ (view p).number → o ≡ offered s.opening.rows c → transition_of product n o l ≡ transition_in (view p) c
 line_is s p c l n o of knows number offers =
     ap (λ k. transition_of product k o l) number

@@ -17,17 +17,17 @@ use Rattle.kw_core.proofs.Events.{of_seat-append, valid_front, valid-nil, world-
 use Rattle.kw_table.specs.declared.pass.View.{View}
 use Rattle.kw_table.specs.Views.{Mine, LooksFor, CatchesFor, rest_view, spent_view, note_of, told_of}
 use Rattle.kw_table.specs.Rules.{Owns, Fits, Kept, Rule}
-use Rattle.kw_table.specs.Slots.{laid, rowless}
+use Rattle.kw_table.specs.Slots.{IsLaid}
 use Rattle.kw_table.proofs.Prefixes.{prefix_self, prefix_nil}
 use Rattle.kw_table.proofs.Stepping.{local_is, apart_fewer, rest_is_others}
 
 -- the table at the start: no event, and one view for all seats
-pub opens : (o : Opening) (ws : List ℕ) → ws ≡ laid rowless (opening_words product o) → Rule o (opening ws [] (rest_view o 0))
+pub opens : (o : Opening) (ws : List ℕ) → IsLaid o.rows (opening_words product o) ws → Rule o (opening ws [] (rest_view o 0))
 opens o ws is = (
   [],
   record {
     valid = valid-nil product o;
-    words = is ∙ sym (ap (λ (w : WorldView). laid rowless w.words) (world-nil product o));
+    words = subst (λ (w : WorldView). IsLaid o.rows w.words ws) (sym (world-nil product o)) is;
     fits = λ i v at. subst (Fits o []) (only i v at).1 record { seen = prefix_self []; told = prefix_self []; seats = λ n h. let p = h.1 in omega arith; own = λ n _. refl };
     apart = λ i j n v w at_i at_j _ _. (only i v at_i).0 ∙ sym (only j w at_j).0;
   },

@@ -1,5 +1,6 @@
--- The law of a step: whatever the table is, a step of a pass keeps the rule, and adds its event to the one list.
-use Rattle.std.proofs.Common.{◌≡◌, ◌≢◌, ℕ, ◌+◌, ◌<◌, ◌%◌, ◌^◌, ◌==◌, bit_or, true, false, List, [], ◌∷◌, ◌++◌, slice_index, slice_get, set, Some, refl, ap, sym, ◌∙◌, subst, arith, append-nil, le_refl, get_or-set_same}
+-- The law of a step: whatever the table is, a step of a pass keeps the rule, and adds its event to
+-- the one list.
+use Rattle.std.proofs.Common.{◌≡◌, ◌≢◌, ℕ, ◌+◌, ◌<◌, ◌≤◌, ◌%◌, ◌^◌, ◌==◌, bit_or, true, false, List, [], ◌∷◌, ◌++◌, length, slice_index, slice_get, set, Some, refl, ap, sym, ◌∙◌, subst, arith, append-nil, le_refl, get_or-set_same}
 use Rattle.std.proofs.lemmas.List.{append_cancel_left}
 use mathlib.Core.Logic.{⊎_elim}
 use mathlib.Core.Option.{some}
@@ -9,7 +10,7 @@ use prog.Atomic.{either}
 use Rattle.atomic_table.specs.Table.{keeps, Allows}
 use Rattle.atomic_table.proofs.Lists.{at_set}
 use Rattle.kw_words.specs.declared.layout.Name.{Name}
-use Rattle.kw_words.specs.Layout.{place_of}
+use Rattle.kw_words.specs.Layout.{IsWithin, place_of}
 use Rattle.kw_world.specs.declared.event.Choice.{Choice}
 use Rattle.kw_world.specs.declared.event.Event.{Event}
 use Rattle.kw_world.specs.declared.local.Local.{Local}
@@ -25,16 +26,16 @@ use Rattle.kw_world.specs.Sane.{IsSane}
 use Rattle.kw_world.specs.Sizes.{product}
 use Rattle.kw_world.specs.Step.{word, transition_of, transition_at, after, followed, is_skipped, kind_of, Stepped}
 use Rattle.kw_world.specs.WorldView.{WorldView}
-use Rattle.kw_world.proofs.Transitions.{event_can_happen}
+use Rattle.kw_world.proofs.Transitions.{event_can_happen, in_table}
 use Rattle.kw_world.proofs.Steps.{step-moved, kind_of-moved}
 use Rattle.kw_core.specs.Events.{local_of, world, may_begin, is_valid, of_seat, event}
 use Rattle.kw_core.proofs.Events.{world-append, world-snoc, valid-snoc, may_step_from, local_still, of_seat-append, of_seat-here, of_seat-else}
-use Rattle.kw_laws.proofs.Worlds.{world-rows, world-seats, world-local, world_sane}
+use Rattle.kw_shape.proofs.Worlds.{world-rows, world-seats, world-local, world_sane}
 use Rattle.kw_table.specs.declared.pass.View.{View}
 use Rattle.kw_table.specs.Views.{local_in, mine_in, transition_in, Steps, Mine, StepsFor}
 use Rattle.kw_table.specs.Rules.{Owns, Fits, Rule}
-use Rattle.kw_table.specs.Slots.{laid, rowless, slot}
-use Rattle.kw_table.proofs.Slots.{index-laid, set-laid}
+use Rattle.kw_table.specs.Slots.{slot, IsLaid}
+use Rattle.kw_table.proofs.Slots.{laid_written}
 use Rattle.kw_table.proofs.Prefixes.{prefix_self, prefix_longer}
 
 -- the events that a view of the seat has not seen are of other seats
@@ -83,6 +84,8 @@ pub record IsReady (m : Mine) (c : Choice) : Type 0 where
 -- what is known of that event, where these are all events so far
 record Comes (v : View) (c : Choice) (es : List Event) : Type 0 where
   inside : v.number < v.opening.seats
+  some_rows : 1 ≤ v.opening.rows
+  within : IsWithin product.seats product.cells v.opening.rows (transition_in v c).operation.name
   here : local_of (world product v.opening es) v.number ≡ local_in v
   valid : is_valid product v.opening (es ++ event v.number c ∷ []) ≡ true
   can : CanHappen (transition_in v c).operation.action (word product (world product v.opening es) (transition_in v c).operation.name)
@@ -103,8 +106,12 @@ comes m c es ready valid fits =
     let knows : slice_get w.locals n ≡ Some (local_in v) = world-local product o es n inside ∙ ap Some here in
     let line : transition_at product w e (local_in v) ≡ transition_in v c = ap (λ k. transition_of product n (offered k c) (local_in v)) (world-rows product o es) in
     let sane : IsSane product w = world_sane product o ready.opens es valid in
-    let can = event_can_happen product w e (local_in v) sane (omega (arith, inside, world-seats product o es)) knows in record {
+    let seat : n < length w.locals = omega (arith, inside, world-seats product o es) in
+    let can = event_can_happen product w e (local_in v) sane seat knows in
+    let within = in_table product w e (local_in v) sane seat knows in record {
       inside = inside;
+      some_rows = ready.opens.sized.some_rows;
+      within = subst (λ k. IsWithin product.seats product.cells k (transition_in v c).operation.name) (world-rows product o es) (subst (λ (r : Transition). IsWithin product.seats product.cells w.rows r.operation.name) line within);
       here = here;
       valid = valid-snoc product o es e valid (may_step_from o w e (local_in v) inside ready.begins knows ready.moves);
       can = subst (λ (r : Transition). CanHappen r.operation.action (word product w r.operation.name)) line can;
@@ -114,23 +121,24 @@ comes m c es ready valid fits =
 
 -- where the word of the next event lies
 abbrev pub slot_in : View → Choice → ℕ
-slot_in v c = slot (transition_in v c).operation.name
+slot_in v c = slot v.opening.rows (transition_in v c).operation.name
 
--- the word of a name is the one at its slot
-word_at : (w : WorldView) (name : Name) → word product w name ≡ slice_index (laid rowless w.words) (slot name)
+-- the word of the event is the one at its slot
+word_at : (v : View) (c : Choice) (es : List Event) (ws : List ℕ) → Comes v c es → IsLaid v.opening.rows (world product v.opening es).words ws
+    → slice_index ws (slot_in v c) ≡ word product (world product v.opening es) (transition_in v c).operation.name
 unfolding word
-word_at w name = sym (index-laid rowless (place_of product.seats product.cells name) w.words)
+word_at v c es ws comes laid = laid.each (transition_in v c).operation.name comes.within
 
 -- the words after the event are those of the table after its operation
-words_after : (v : View) (c : Choice) (es : List Event) (ws : List ℕ) (y : ℕ) → Comes v c es → ws ≡ laid rowless (world product v.opening es).words
+words_after : (v : View) (c : Choice) (es : List Event) (ws : List ℕ) (y : ℕ) → Comes v c es → IsLaid v.opening.rows (world product v.opening es).words ws
     → y ≡ word_after (transition_in v c).operation.action (word product (world product v.opening es) (transition_in v c).operation.name)
-    → set ws (slot_in v c) y ≡ laid rowless (world product v.opening (es ++ event v.number c ∷ [])).words
-words_after v c es ws y comes same is =
+    → IsLaid v.opening.rows (world product v.opening (es ++ event v.number c ∷ [])).words (set ws (slot_in v c) y)
+words_after v c es ws y comes laid is =
     let name : Name = (transition_in v c).operation.name in
     let place : ℕ = place_of product.seats product.cells name in
-    ap (λ (l : List ℕ). set l (slot name) y) same
-    ∙ (set-laid rowless place y (world product v.opening es).words
-    ∙ ap (laid rowless) (ap (set (world product v.opening es).words place) is ∙ sym (ap (λ (q : WorldView). q.words) comes.leads)))
+    subst (λ (l : List ℕ). IsLaid v.opening.rows l (set ws (slot_in v c) y))
+    (ap (set (world product v.opening es).words place) is ∙ sym (ap (λ (q : WorldView). q.words) comes.leads))
+    (laid_written v.opening.rows y name (world product v.opening es).words ws comes.some_rows comes.within laid)
 
 -- what the seat knows after the event follows from what it is told
 local_after : (v : View) (c : Choice) (es : List Event) (told : ℕ) → Comes v c es
@@ -161,7 +169,7 @@ steps slots id m c f g ready leaves tells s holds _ at small =
     let all : List Event = es ++ event n c ∷ [] in
     let w : View = after_event v es c in
     let x : ℕ = slice_index s.words (slot_in v c) in
-    let same : x ≡ found = ap (λ (l : List ℕ). slice_index l (slot_in v c)) kept.words ∙ sym (word_at (world product o es) (transition_in v c).operation.name) in
+    let same : x ≡ found = word_at v c es s.words it kept.words in
     let leaves_it : f x ≡ word_after a found = ap f same ∙ leaves found it.can in
     let told : told_by a (g x) ≡ told_by a found = tells x ∙ ap (told_by a) same in
     let telling : Steps v c (told_by a (g x)) w = record {

@@ -1,4 +1,5 @@
--- How many links of rows a seat has loaded: one more after an event of its own that loads one, and no more after any other event.
+-- How many links of rows a seat has loaded: one more after an event of its own that loads one, and
+-- no more after any other event.
 use Rattle.std.proofs.Common.{◌≡◌, ◌≢◌, ℕ, ◌+◌, ◌-◌, ◌^◌, min, List, [], ◌∷◌, ◌++◌, Some, refl, ap, sym, ◌∙◌, arith, append-nil, eq-eqb, ne_eqb}
 use Rattle.std.proofs.lemmas.Bool.{cases_eq}
 use Rattle.std.proofs.lemmas.List.{append_cancel_left, append_cancel_right}

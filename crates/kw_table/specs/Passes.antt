@@ -38,7 +38,8 @@ pub record IsFresh (s : Shared) (n : ℕ) (p : Pass) : Type 0 where
 abbrev pub operation : Kind → Name → Action → Operation
 operation kind name action = record { kind = kind; name = name; action = action }
 
--- the pass is one of the table, and with this choice its next event is this operation; a call that it begins, where its seat is idle, is in range
+-- the pass is one of the table, and with this choice its next event is this operation; a call that
+-- it begins, where its seat is idle, is in range
 pub record Asks (s : Shared) (p : Pass) (c : Choice) (does : Operation) : Type 0 where
   pub of_table : IsPassOf s p
   pub begins : may_begin (local_in (view p)).activity c ≡ true

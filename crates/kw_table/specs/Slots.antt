@@ -1,20 +1,12 @@
--- Where the words lie in the memory of the running table: those of no row a line apart, the rows' words side by side behind them.
-use Rattle.std.specs.Prelude.{ℕ, Bool, true, false, zero, suc, ◌+◌, ◌-◌, ◌*◌, nat_lt, if◌then◌else◌, List, [], ◌∷◌, ◌++◌, replicate}
+-- Where the words lie in the memory of the running table: those of no row a line apart, the rows
+-- behind them, each from the start of a line on, and behind the rows the states of all of them side
+-- by side.
+use Rattle.std.specs.Prelude.{ℕ, Bool, true, false, ◌≡◌, ◌+◌, ◌-◌, ◌*◌, ◌/◌, List, length, slice_index}
 use Rattle.kw_words.specs.declared.layout.Name.{Name}
 use Rattle.kw_words.specs.declared.layout.Name.TheVariants.{Clock, Epoch, Head, Turn, Pass, Scan, Pin, State, Count, Min, Next, First, Pend, Key, Value, Version, After}
 use Rattle.kw_words.specs.declared.sizes.TheConstants.{SEATS, CELLS}
-use Rattle.kw_words.specs.Layout.{row_start, place_of, words_of}
-use Rattle.kw_table.specs.declared.slot.TheConstants.{WORDS_A_LINE}
-
--- the words as they lie in memory: each of the first n has a line to itself, which zeros fill
-unfoldable pub laid : ℕ → List ℕ → List ℕ
-laid zero words = words
-laid (suc n) [] = []
-laid (suc n) (word ∷ words) = word ∷ (replicate (WORDS_A_LINE - 1) 0 ++ laid n words)
-
--- where the word at a place then lies
-unfoldable pub slot_of : ℕ → ℕ → ℕ
-slot_of n place = if nat_lt place n then place * WORDS_A_LINE else place + n * (WORDS_A_LINE - 1)
+use Rattle.kw_words.specs.Layout.{IsWithin, row_start, place_of, words_of}
+use Rattle.kw_table.specs.declared.slot.TheConstants.{WORDS_A_LINE, LEFT_OUT}
 
 -- the word is of no row
 abbrev pub is_rowless : Name → Bool
@@ -36,14 +28,60 @@ is_rowless (Value row cell) = false
 is_rowless (Version row cell) = false
 is_rowless (After row cell) = false
 
--- how many words are of no row: the first row begins behind them
+-- how many words are of no row: their places are those before the first row
 abbrev pub rowless : ℕ
 rowless = row_start SEATS CELLS 0
 
--- where a word of the table lies
-abbrev pub slot : Name → ℕ
-slot name = slot_of rowless (place_of SEATS CELLS name)
+-- as many slots as whole lines have that hold so many words
+abbrev pub in_lines : ℕ → ℕ
+in_lines words = (words + (WORDS_A_LINE - 1)) / WORDS_A_LINE * WORDS_A_LINE
 
--- how many words the memory of a table of this many rows has: the next row would begin there
+-- where the line with this number begins
+abbrev pub line_slot : ℕ → ℕ
+line_slot line = LEFT_OUT + line * WORDS_A_LINE
+
+-- how many slots the head of a row has: four words of its own, and an entry for each seat
+abbrev pub head_slots : ℕ
+head_slots = in_lines (4 + SEATS)
+
+-- how many slots a row has: its head and its cells
+abbrev pub row_slots : ℕ
+row_slots = head_slots + in_lines (4 * CELLS)
+
+-- where a row begins
+abbrev pub row_slot : ℕ → ℕ
+row_slot row = line_slot rowless + row * row_slots
+
+-- where a cell of a row begins
+abbrev pub cell_slot : ℕ → ℕ → ℕ
+cell_slot row cell = row_slot row + head_slots + 4 * cell
+
+-- where a word of a table of this many rows lies; the states begin where the next row would
+abbrev pub slot : ℕ → Name → ℕ
+slot rows Clock = line_slot (place_of SEATS CELLS Clock)
+slot rows Epoch = line_slot (place_of SEATS CELLS Epoch)
+slot rows Head = line_slot (place_of SEATS CELLS Head)
+slot rows Turn = line_slot (place_of SEATS CELLS Turn)
+slot rows (Pass seat) = line_slot (place_of SEATS CELLS (Pass seat))
+slot rows (Scan seat) = line_slot (place_of SEATS CELLS (Scan seat))
+slot rows (Pin seat) = line_slot (place_of SEATS CELLS (Pin seat))
+slot rows (State row) = row_slot rows + row
+slot rows (Count row) = row_slot row
+slot rows (Min row) = row_slot row + 1
+slot rows (Next row) = row_slot row + 2
+slot rows (First row) = row_slot row + 3
+slot rows (Pend row seat) = row_slot row + 4 + seat
+slot rows (Key row cell) = cell_slot row cell
+slot rows (Value row cell) = cell_slot row cell + 1
+slot rows (Version row cell) = cell_slot row cell + 2
+slot rows (After row cell) = cell_slot row cell + 3
+
+-- how many words the memory of a table of this many rows has: the states are the last of them
 abbrev pub slots : ℕ → ℕ
-slots rows = slot_of rowless (words_of SEATS CELLS rows)
+slots rows = row_slot rows + rows
+
+-- the memory of a table of this many rows holds its words, each at its slot
+pub record IsLaid (rows : ℕ) (words memory : List ℕ) : Type 0 where
+  pub words_len : length words ≡ words_of SEATS CELLS rows
+  pub memory_len : length memory ≡ slots rows
+  pub each : (name : Name) → IsWithin SEATS CELLS rows name → slice_index memory (slot rows name) ≡ slice_index words (place_of SEATS CELLS name)

@@ -26,8 +26,8 @@ mine_in v = of_seat v.number v.seen
 abbrev pub transition_in : View → Choice → Transition
 transition_in v c = transition_of product v.number (offered v.opening.rows c) (local_in v)
 
--- The view v made its next event with this choice, was told this, and became w. It has then seen all events up to and with this
--- one, which is the only new one of its own.
+-- The view v made its next event with this choice, was told this, and became w. It has then seen
+-- all events up to and with this one, which is the only new one of its own.
 pub record Steps (v : View) (c : Choice) (told : ℕ) (w : View) : Type 0 where
   pub number : w.number ≡ v.number
   pub count : w.count ≡ v.count
@@ -38,7 +38,8 @@ pub record Steps (v : View) (c : Choice) (told : ℕ) (w : View) : Type 0 where
   pub seen : w.seen ≡ front ++ event v.number c ∷ []
   pub valid : is_valid product v.opening w.seen ≡ true
   pub mine : mine_in w ≡ mine_in v ++ event v.number c ∷ []
-  -- in the world before it the seat knows what it knew, and the event is of the kind that its line names
+  -- in the world before it the seat knows what it knew, and the event is of the kind that its line
+  -- names
   pub here : local_of (world product v.opening front) v.number ≡ local_in v
   pub kind : kind_of product (world product v.opening front) (event v.number c) ≡ Some (transition_in v c).operation.kind
   -- the seat is told what the operation tells of that world's word, and goes on by it

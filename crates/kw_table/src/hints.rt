@@ -1,9 +1,10 @@
 //! What a pass has with it for an index of the rows.
 //!
-//! An index says at which row to begin for a key. A pass guesses from entries of its own, and sees at the row that they name whether it is still in use;
-//! where it is not, it asks the index what has changed. A rebalance that won has replaced rows, and publishes that change. What all that needs
-//! is made with the table, so that a call takes no memory for it. It is for speed alone: no clause says what hints hold, and whoever finds none with
-//! a pass goes on without.
+//! An index says at which row to begin for a key. A pass guesses from entries of its own, and sees
+//! at the row that they name whether it is still in use; where it is not, it asks the index what
+//! has changed. A rebalance that won has replaced rows, and publishes that change. What all that
+//! needs is made with the table, so that a call takes no memory for it. It is for speed alone: no
+//! clause says what hints hold, and whoever finds none with a pass goes on without.
 ghost use Rattle.std.specs.Prelude.{◌≡◌, ◌<◌, IfSome};
 ghost use Rattle.kw_table.specs.Passes.{view};
 
@@ -20,7 +21,8 @@ use std::alloc::Global;
 pub struct Hints {
     /// The entries from which the pass guesses, and those that a rebalance of its own publishes.
     pub own: OwnEntries,
-    /// Where the pass searches for free rows first. It begins at the pass's number times (rows / passes), so that passes search apart.
+    /// Where the pass searches for free rows first. It begins at the pass's number times (rows /
+    /// passes), so that passes search apart.
     pub window: Window,
 }
 
@@ -36,7 +38,8 @@ impl Hints {
         }
     }
 
-    // A row to begin at for the key: by the own entries, where the row that they name serves, and else by them once they were brought up to the last change.
+    // A row to begin at for the key: by the own entries, where the row that they name serves, and
+    // else by them once they were brought up to the last change.
     fn guess(&mut self, shared: &Shared, index: &Index, key: u32) -> Option<u32>
         ensures { IfSome result (λ row. row < index.now) }
     {
@@ -46,8 +49,9 @@ impl Hints {
         }
     }
 
-    // The same by what is published. A row that is being replaced just then does not serve, and no others are published yet: the walk begins at the row on
-    // its left, since it would begin at the first row of the map else.
+    // The same by what is published. A row that is being replaced just then does not serve, and no
+    // others are published yet: the walk begins at the row on its left, since it would begin at the
+    // first row of the map else.
     fn guess_anew(&mut self, shared: &Shared, index: &Index, key: u32) -> Option<u32>
         ensures { IfSome result (λ row. row < index.now) }
     {
@@ -61,8 +65,9 @@ impl Hints {
 }
 
 impl Shared {
-    /// A row to begin at for the key, by the hints' own entries: as they are where the row that they name is in use, and else brought up to what the index
-    /// has published. None without hints.
+    /// A row to begin at for the key, by the hints' own entries: as they are where the row that
+    /// they name is in use, and else brought up to what the index has published. None without
+    /// hints.
     ///
     /// The row is below the index's number of rows. Takes no memory.
     pub fn guess(&self, hints: &mut Option<Box<Hints>>, index: &Index, key: u32) -> Option<u32>

@@ -8,7 +8,8 @@ use crate::pass::Pass;
 use kw_world::local::Local;
 
 impl Pass {
-    /// Takes the local out, for a call; it is at rest. Whoever makes the call gives it back by `give`. Takes no memory.
+    /// Takes the local out, for a call; it is at rest. Whoever makes the call gives it back by
+    /// `give`. Takes no memory.
     pub fn lend(&mut self) -> Box<Local>
         requires { Holds self.old }
         ensures rests { result.value ≡ resting 0 }
@@ -33,7 +34,8 @@ impl Pass {
 
     /// Takes the hints out, for a put or a delete, which gives them back by `give_hints`.
     ///
-    /// None comes only where they are out already, and then the call goes on without them. Takes no memory.
+    /// None comes only where they are out already, and then the call goes on without them. Takes no
+    /// memory.
     pub fn lend_hints(&mut self) -> Option<Box<Hints>>
         ensures table { self.new.seat.table_id ≡ self.old.seat.table_id }
         ensures view { view self.new ≡ view self.old }

@@ -1,15 +1,18 @@
 //! The words that threads share, changed by one event of the core at a time.
 //!
-//! A `Shared` is the table of atomic words under one rule: there is one valid list of events, the words are those of the world after
-//! it, and what each caller has seen is a beginning of it. A caller steps with a `Pass`, its seat. Of a pass the contracts see its
-//! number, the events that it has seen, its own ones among them, what its seat knows after them, and the opening of the run. All of it
-//! but the number is for the proofs alone and takes no time and no room.
+//! A `Shared` is the table of atomic words under one rule: there is one valid list of events, the
+//! words are those of the world after it, and what each caller has seen is a beginning of it. A
+//! caller steps with a `Pass`, its seat. Of a pass the contracts see its number, the events that it
+//! has seen, its own ones among them, what its seat knows after them, and the opening of the run.
+//! All of it but the number is for the proofs alone and takes no time and no room.
 //!
-//! `opening` makes a table and its passes, `kinds` and `rebalance_kinds` have one step for each kind of event and `steps` the one that
-//! takes any, and `meeting` lets passes see what others have seen. `pass` and `shared` hold the two types, and `rule` the rule and what a
-//! step tells its caller; `lending` hands out the local that a pass has with it, and its `hints`. `warming` loads rows ahead of walks, and `window`
-//! says where to search for free rows: both are for speed alone. Each step is one atomic operation on one word. Whoever stands above needs the
-//! contracts of these calls alone, and goes on by the laws over valid lists of events.
+//! `opening` makes a table and its passes, `kinds` and `rebalance_kinds` have one step for each
+//! kind of event and `steps` the one that takes any, and `meeting` lets passes see what others have
+//! seen. `pass` and `shared` hold the two types, and `rule` the rule and what a step tells its
+//! caller; `lending` hands out the local that a pass has with it, and its `hints`. `warming` loads
+//! rows ahead of walks, and `window` says where to search for free rows: both are for speed alone.
+//! Each step is one atomic operation on one word. Whoever stands above needs the contracts of these
+//! calls alone, and goes on by the laws over valid lists of events.
 #![tactic(auto)]
 
 mod hints;

@@ -23,8 +23,9 @@ impl Pass {
         self.number
     }
 
-    /// How many links from one row to the next the pass has loaded, by events of its own that it has seen: `u64::MAX` where they are more. By it
-    /// a test sees how far a call has gone along the rows. Takes no memory.
+    /// How many links from one row to the next the pass has loaded, by events of its own that it
+    /// has seen: `u64::MAX` where they are more. By it a test sees how far a call has gone along
+    /// the rows. Takes no memory.
     pub fn walked(&self) -> u64
         ensures { result ≡ min (2 ^ 64 - 1) (walks_in (view self.now)) }
     {

@@ -1,13 +1,14 @@
 //! The table at the start, and its passes.
 //!
-//! The words are those of the opening world, each at its slot. The view that the table is opened with may act for all seats, and a
-//! pass for each is cut off it, one after the other, with a local and hints of its own.
+//! The words are those of the opening world, each at its slot. The view that the table is opened
+//! with may act for all seats, and a pass for each is cut off it, one after the other, with a local
+//! and hints of its own.
 ghost use Rattle.std.specs.Prelude.{◌≡◌, ℕ, ◌+◌, ◌<◌, [], IfOk, vec_len, slice_index_or};
 ghost use Rattle.kw_world.specs.Local.{resting};
 ghost use Rattle.kw_world.specs.Opening.{IsOpening, opening_words};
 ghost use Rattle.kw_world.specs.Sizes.{product};
 ghost use Rattle.kw_table.specs.Passes.{IsFresh};
-ghost use Rattle.kw_table.specs.Slots.{laid, rowless};
+ghost use Rattle.kw_table.specs.Slots.{IsLaid};
 ghost use Rattle.kw_table.specs.Views.{rest_view};
 
 use crate::hints::Hints;
@@ -27,7 +28,7 @@ use std::alloc::Global;
 /// The words of the world that a run begins with, as they lie in memory.
 pub(crate) fn opening_words(alloc: Global, opening: Opening) -> Result<Vec<u64>, Memory>
     requires { IsOpening product opening }
-    ensures { IfOk result (λ words. words.items ≡ laid rowless (opening_words product opening)) }
+    ensures { IfOk result (λ words. IsLaid opening.rows (opening_words product opening) words.items) }
 {
     let rows = opening.rows;
     let head = Link {
@@ -45,9 +46,9 @@ pub(crate) fn opening_words(alloc: Global, opening: Opening) -> Result<Vec<u64>,
 impl Shared {
     /// A table in which nothing has happened, and a pass for each of its seats, numbered from 0.
     ///
-    /// There are 1 to `MOST_ROWS` rows and 1 to `SEATS` passes; the clock and the epoch are from 1 to `SPENT`. The words and what the
-    /// seats know are those of `World::open` with these numbers. All memory of the table and of its
-    /// passes' calls is taken here, and the only error is the
+    /// There are 1 to `MOST_ROWS` rows and 1 to `SEATS` passes; the clock and the epoch are from 1
+    /// to `SPENT`. The words and what the seats know are those of `World::open` with these numbers.
+    /// All memory of the table and of its passes' calls is taken here, and the only error is the
     /// want of it.
     pub fn open(
         alloc: Global,

@@ -1,10 +1,12 @@
 //! What one caller has seen, and the seat that it steps with.
 //!
-//! The two types stand alone here, since their facts may name nothing that names them; what a pass can do is in the other modules.
+//! The two types stand alone here, since their facts may name nothing that names them; what a pass
+//! can do is in the other modules.
 //!
-//! A pass has a local with it, in a box that is made with the table: what code that follows the pass's seat knows lies there while a call
-//! runs, so that a call takes no memory for it and moves none of it. `lend` in `lending` takes the box out. Its hints lie in a box of their own
-//! beside it.
+//! A pass has a local with it, in a box that is made with the table: what code that follows the
+//! pass's seat knows lies there while a call runs, so that a call takes no memory for it and moves
+//! none of it. `lend` in `lending` takes the box out. Its hints lie in a box of their own beside
+//! it.
 ghost use Rattle.std.specs.Prelude.{◌≡◌, ◌-◌, ◌^◌, min};
 ghost use Rattle.kw_table.specs.Known.{IsKnown};
 ghost use Rattle.kw_table.specs.Walks.{walks_in};
@@ -18,8 +20,8 @@ use std::collections::LinkedList;
 
 /// What a seat of the table of words has seen. It is for the proofs alone: no value of it is made.
 ///
-/// It may act for the seats of the run from `number` on, as many as `count`: a pass for one, a note for none, and the view that the
-/// table is opened with for all. So no two views act for one seat.
+/// It may act for the seats of the run from `number` on, as many as `count`: a pass for one, a note
+/// for none, and the view that the table is opened with for all. So no two views act for one seat.
 pub struct View {
     /// The first seat that it may act for.
     pub number: u32,
@@ -33,7 +35,8 @@ pub struct View {
     pub told: LinkedList<Event>,
 }
 
-/// One caller's seat of a run. It has its number, the local and the hints that its calls use, and how many links of rows it has loaded.
+/// One caller's seat of a run. It has its number, the local and the hints that its calls use, and
+/// how many links of rows it has loaded.
 #[derive(Drop)]
 pub struct Pass {
     pub(crate) number: u32,

@@ -1,7 +1,8 @@
 //! The kinds of event of a rebalance, each a step of its own.
 //!
-//! They stand by what `kinds` says of its own: what each asks, what it tells, and what the pass has seen afterwards. First come those at
-//! the full row and at the scans that it must tell of, then those that find and write the new rows, link them, and retire the full one.
+//! They stand by what `kinds` says of its own: what each asks, what it tells, and what the pass has
+//! seen afterwards. First come those at the full row and at the scans that it must tell of, then
+//! those that find and write the new rows, link them, and retire the full one.
 ghost use Rattle.kw_table.specs.Passes.{operation, Asks, Makes};
 
 use crate::kinds::step;

@@ -6,7 +6,8 @@ use atomic_table::{Join, Play, Split, TableRule};
 use kw_world::opening::Opening;
 use std::marker::{Brand, PhantomData};
 
-/// The rule: there is one valid list of events that every view's list begins, and the words are those of the world after it.
+/// The rule: there is one valid list of events that every view's list begins, and the words are
+/// those of the world after it.
 pub struct Rules;
 
 impl TableRule<(), View, Opening> for Rules {
@@ -18,7 +19,8 @@ impl TableRule<(), View, Opening> for Rules {
     ghost first = { λ o. rest_view o 0 };
 }
 
-/// The choice of a step, for the proof alone: what a step tells depends on it, and the table does not see it.
+/// The choice of a step, for the proof alone: what a step tells depends on it, and the table does
+/// not see it.
 pub(crate) trait Choosing {
     ghost use Rattle.kw_world.specs.declared.event.Choice.{Choice};
 

@@ -1,7 +1,8 @@
 //! The steps of the table, by what they do to the word.
 //!
-//! There is one function for each action, and each makes one atomic operation; `make` takes any operation. The event's choice is in
-//! the proof alone, and comes to the table's step by a type parameter, `Choosing`. Each also counts the links of rows that the pass loads.
+//! There is one function for each action, and each makes one atomic operation; `make` takes any
+//! operation. The event's choice is in the proof alone, and comes to the table's step by a type
+//! parameter, `Choosing`. Each also counts the links of rows that the pass loads.
 ghost use Rattle.std.specs.Prelude.{◌≡◌, ℕ, ◌+◌, ◌-◌, ◌^◌, ◌<◌, min};
 ghost use Rattle.kw_words.specs.Layout.{IsWithin};
 ghost use Rattle.kw_words.specs.declared.sizes.TheConstants.{SEATS, CELLS};
@@ -19,7 +20,8 @@ use kw_world::event::Choice;
 use kw_world::operation::{Action, Operation};
 use std::marker::Brand;
 
-// How many links of rows a pass has loaded after an operation of this kind, where it had loaded so many before.
+// How many links of rows a pass has loaded after an operation of this kind, where it had loaded so
+// many before.
 #[inline(always)]
 fn walked_after(walked: u64, kind: Kind) -> u64
     ensures { result ≡ min (2 ^ 64 - 1) (walked + walks_by kind) }
@@ -35,7 +37,7 @@ impl Shared {
     #[inline(always)]
     pub(crate) fn slot(&self, word: Name) -> usize
         requires { IsWithin SEATS CELLS self.now.opening.rows word }
-        ensures slot { result ≡ slot word }
+        ensures slot { result ≡ slot self.now.opening.rows word }
         ensures below { result < slots self.now.opening.rows }
     {
         slot::slot(self.opening.rows, word)
@@ -225,10 +227,12 @@ impl Shared {
 
 /// Makes the next event of a pass, whichever it is: this operation, with this choice.
 ///
-/// The operation is the one that the table of events has for what the pass's seat knows and for the choice, as `kw_core`'s `operation`
-/// gives it; a guess at a row that the table does not have counts as `Go` there. A call that begins has a value below `VALUE_END`. The
-/// answer is what the operation tells the seat: the word that it found, and 0 for a store. Afterwards the pass has seen all events up
-/// to and with this one, which is the only new one of its own. Takes no memory, and is never refused.
+/// The operation is the one that the table of events has for what the pass's seat knows and for the
+/// choice, as `kw_core`'s `operation` gives it; a guess at a row that the table does not have
+/// counts as `Go` there. A call that begins has a value below `VALUE_END`. The answer is what the
+/// operation tells the seat: the word that it found, and 0 for a store. Afterwards the pass has
+/// seen all events up to and with this one, which is the only new one of its own. Takes no memory,
+/// and is never refused.
 pub fn make(shared: &Shared, pass: &mut Pass, choice: Choice, operation: Operation) -> u64
     requires { Asks shared.now pass.old choice operation }
     ensures { Makes shared.now pass.old choice result pass.new }

@@ -1,6 +1,7 @@
 //! Passes that make whole calls, one event after the other, and meet.
 //!
-//! A test here follows each seat with a local of its own, so that the events are those that the core names.
+//! A test here follows each seat with a local of its own, so that the events are those that the
+//! core names.
 ghost use Rattle.std.specs.Prelude.{◌≡◌, true, false, IfOk};
 ghost use Rattle.kw_world.specs.Local.{resting};
 ghost use Rattle.kw_world.specs.Sane.{CanBegin};
@@ -24,7 +25,8 @@ use std::test::Fail;
 // More events than any call of these tests makes.
 const ALL: u32 = 1000;
 
-// Makes the next event of a pass with this choice, and brings the local of its seat up to it. The answer is what the event did.
+// Makes the next event of a pass with this choice, and brings the local of its seat up to it. The
+// answer is what the event did.
 fn advance(
     shared: &Shared,
     pass: &mut Pass,
@@ -97,7 +99,8 @@ fn begin_two(alloc: Global, call: Call) -> Result<(Shared, Player, Player), Memo
     Ok((shared, putter, reader))
 }
 
-// Expects that a put is made, and this reply of a call of another pass that comes after the put's first event and this many more.
+// Expects that a put is made, and this reply of a call of another pass that comes after the put's
+// first event and this many more.
 fn expect_within_a_put(
     rt: &impl Abort,
     alloc: Global,
@@ -148,7 +151,8 @@ fn a_scan_finds_the_pair_that_was_stamped_before_it_drew(rt: HostRuntime) -> Res
     Ok(())
 }
 
-// How many links of rows a put has loaded after its first event and this many more, and another pass that has seen them.
+// How many links of rows a put has loaded after its first event and this many more, and another
+// pass that has seen them.
 fn walked_within_a_put(alloc: Global, more: u32) -> Result<(u64, u64), Memory> {
     let (shared, mut putter, mut other) = begin_two(alloc, Call::Get(5))?;
     play(&shared, &mut putter, more)?;
@@ -156,8 +160,9 @@ fn walked_within_a_put(alloc: Global, more: u32) -> Result<(u64, u64), Memory> {
     Ok((putter.pass.walked(), other.pass.walked()))
 }
 
-// The fourth event of a put, the first after its row is found at the head, loads the link to the next row, of which there is none. The others
-// load no link of a row, and neither does what other passes do.
+// The fourth event of a put, the first after its row is found at the head, loads the link to the
+// next row, of which there is none. The others load no link of a row, and neither does what other
+// passes do.
 #[test]
 fn a_pass_counts_the_links_of_rows_that_it_loads(rt: HostRuntime) -> Result<(), Fail> {
     for (more, walked) in [(2, 0), (3, 1), (ALL, 1)] {
@@ -175,7 +180,8 @@ fn passes_of_64_rows(alloc: Global) -> Result<(Pass, Pass), Memory> {
     Ok((first, second))
 }
 
-// The row that a search of the pass asks first, where it then takes two rows, this one last. None where its hints are not lent just once.
+// The row that a search of the pass asks first, where it then takes two rows, this one last. None
+// where its hints are not lent just once.
 fn search(pass: &mut Pass, last: u32) -> Option<u32> {
     let mut lent = pass.lend_hints()?;
     if pass.lend_hints().is_some() {

@@ -1,11 +1,12 @@
 //! The calls of the kinds, each made in its place.
 //!
-//! The words that they find are those of runs that were worked by hand from the encodings: a clock and an epoch of 1, row 0 as the first
-//! row, whose state is 2, its key 5 and its value 10, which is 10 above 2^63 in its word. What a store leaves shows in a load or an
-//! exchange that comes later, where one of this table loads that word.
+//! The words that they find are those of runs that were worked by hand from the encodings: a clock
+//! and an epoch of 1, row 0 as the first row, whose state is 2, its key 5 and its value 10, which
+//! is 10 above 2^63 in its word. What a store leaves shows in a load or an exchange that comes
+//! later, where one of this table loads that word.
 //!
-//! A test is a list of turns that two passes take, and what each turn was told. One loop makes the turns of every list, so that their
-//! events are proved once.
+//! A test is a list of turns that two passes take, and what each turn was told. One loop makes the
+//! turns of every list, so that their events are proved once.
 ghost use Rattle.std.specs.Prelude.{◌≡◌, true, false, IfOk};
 ghost use Rattle.kw_world.specs.Local.{resting};
 ghost use Rattle.kw_world.specs.Sane.{CanBegin};
@@ -332,7 +333,8 @@ fn play(
     Ok(made)
 }
 
-// Whole puts with value 1, this many: of one key, or, where keys rise, of it and the next ones. What they are told is not kept.
+// Whole puts with value 1, this many: of one key, or, where keys rise, of it and the next ones.
+// What they are told is not kept.
 fn put_many(
     alloc: Global,
     shared: &Shared,
@@ -420,7 +422,8 @@ fn told_at(told: &[Vec<(Kind, u64)>], turn: usize) -> &[(Kind, u64)] {
     }
 }
 
-// Expects of two passes of a table of two rows that take these turns that each turn with one of these numbers finds this.
+// Expects of two passes of a table of two rows that take these turns that each turn with one of
+// these numbers finds this.
 pub(crate) fn expect_told(
     rt: &impl Abort,
     alloc: Global,
@@ -434,7 +437,8 @@ pub(crate) fn expect_told(
     Ok(())
 }
 
-// A put of key 5 and value 10 up to its stamp: row 0 is the first row and has no next one, its count is 0, and the seat's entry is idle.
+// A put of key 5 and value 10 up to its stamp: row 0 is the first row and has no next one, its
+// count is 0, and the seat's entry is idle.
 const PUT_UNTIL_ITS_STAMP: [(Kind, u64); 9] = [
     (Kind::StorePass, 0),
     (Kind::LoadHead, 1),
@@ -447,9 +451,11 @@ const PUT_UNTIL_ITS_STAMP: [(Kind, u64); 9] = [
     (Kind::LoadClock, 1),
 ];
 
-// A scan from 0 to 9 that comes then. Its scan word waits for the clock 1, which is 5, until it is settled. It finds the put's entry, which
-// is 1 as a pending one of cell 0, and whose key is in its range, and stamps it with the clock 2. The other entries are idle, and the row's
-// list has no cell yet, since the put has not inserted its own: the scan loads the key and the value of the cell that it helped, and ends.
+// A scan from 0 to 9 that comes then. Its scan word waits for the clock 1, which is 5, until it is
+// settled. It finds the put's entry, which is 1 as a pending one of cell 0, and whose key is in its
+// range, and stamps it with the clock 2. The other entries are idle, and the row's list has no cell
+// yet, since the put has not inserted its own: the scan loads the key and the value of the cell
+// that it helped, and ends.
 const SCAN_THAT_HELPS: [(Kind, u64); 23] = [
     (Kind::StorePass, 0),
     (Kind::LoadClock, 1),
@@ -476,8 +482,9 @@ const SCAN_THAT_HELPS: [(Kind, u64); 23] = [
     (Kind::ClearPass, 0),
 ];
 
-// The put goes on. Its stamp finds the entry that the scan left: of cell 0, with version 2, which is 2 + 2 * 32768. It stores the version, finds
-// the row's list empty, lets its cell lead to none, and inserts the cell at the row's first link, which led to none.
+// The put goes on. Its stamp finds the entry that the scan left: of cell 0, with version 2, which
+// is 2 + 2 * 32768. It stores the version, finds the row's list empty, lets its cell lead to none,
+// and inserts the cell at the row's first link, which led to none.
 const PUT_FROM_ITS_STAMP: [(Kind, u64); 7] = [
     (Kind::Stamp, 65538),
     (Kind::StoreVersion, 0),
@@ -509,8 +516,8 @@ fn a_put_and_the_scan_that_helps_it_find_the_words_of_their_kinds(
     Ok(expect_told(&rt, rt.alloc(), &turns, &table)?)
 }
 
-// A get that guesses row 0, whose least key is 0. It finds the entries idle and the put's cell 0 as the list's first, which is 1 as a link, and
-// the key, version and value that the put stored.
+// A get that guesses row 0, whose least key is 0. It finds the entries idle and the put's cell 0 as
+// the list's first, which is 1 as a link, and the key, version and value that the put stored.
 const GET_BY_ITS_GUESS: [(Kind, u64); 14] = [
     (Kind::LoadMin, 0),
     (Kind::LoadLink, 0),

@@ -1,7 +1,8 @@
 //! The calls of the kinds of a rebalance, each made in its place.
 //!
-//! The words that they find are those of a model of the events in another language. A row's state is 2 as a word where it is normal, 3 where it
-//! is a leader that has not decided, 11 where it leads alone, 0 where it is free, 1 where seat 0 writes it, and 13 where it is retired with
+//! The words that they find are those of a model of the events in another language. A row's state
+//! is 2 as a word where it is normal, 3 where it is a leader that has not decided, 11 where it
+//! leads alone, 0 where it is free, 1 where seat 0 writes it, and 13 where it is retired with
 //! number 1.
 use crate::tests_kinds::{ALL, Turn, Who, expect_told};
 use kw_words::kind::Kind;
@@ -10,7 +11,8 @@ use std::test::Fail;
 // How many puts fill an empty row.
 const ROW: u32 = 64;
 
-// The put of a full row comes to its row, which is a normal one of 64 cells, and begins to rebalance it.
+// The put of a full row comes to its row, which is a normal one of 64 cells, and begins to
+// rebalance it.
 const REBALANCE_BEGINS: [(Kind, u64); 11] = [
     (Kind::StorePass, 0),
     (Kind::LoadHead, 1),
@@ -52,7 +54,8 @@ const TAKES_A_ROW: [(Kind, u64); 3] = [
     (Kind::TakeRow, 0),
 ];
 
-// The new row is written. It takes the place of row 0, which is retired with number 1; then the put begins its way anew.
+// The new row is written. It takes the place of row 0, which is retired with number 1; then the put
+// begins its way anew.
 const REPLACES_THE_ROW: [(Kind, u64); 10] = [
     (Kind::LoadHead, 1),
     (Kind::Replace, 1),
@@ -66,8 +69,8 @@ const REPLACES_THE_ROW: [(Kind, u64); 10] = [
     (Kind::LoadLink, 0),
 ];
 
-// The next put that finds its row full finds row 1 full and row 0 retired. Its own epoch is 2, and no other seat announces one: it frees row 0
-// and takes it.
+// The next put that finds its row full finds row 1 full and row 0 retired. Its own epoch is 2, and
+// no other seat announces one: it frees row 0 and takes it.
 const USES_A_ROW_AGAIN: [(Kind, u64); 11] = [
     (Kind::LoadState, 13),
     (Kind::LoadPass, 2),
@@ -130,8 +133,8 @@ fn a_full_row_is_replaced_and_used_again(rt: HostRuntime) -> Result<(), Fail> {
     Ok(expect_told(&rt, rt.alloc(), &TWO_REBALANCES, &table)?)
 }
 
-// Another pass's scan from 0 to 9 has stored that it waits with the clock 1, which is 5 as a word. A rebalance comes to the scans, draws a version
-// for it, and finds no other.
+// Another pass's scan from 0 to 9 has stored that it waits with the clock 1, which is 5 as a word.
+// A rebalance comes to the scans, draws a version for it, and finds no other.
 const HELPS_A_SCAN: [(Kind, u64); 10] = [
     (Kind::LoadScan, 0),
     (Kind::LoadScan, 5),

@@ -1,5 +1,7 @@
-//! Where words lie, worked by hand: 4 words of the whole map and 3 for each of 8 seats have a line of 8 words each, and the rows follow,
-//! of 5 words, one for each seat and 4 for each of 64 cells.
+//! Where words lie, worked by hand. Behind 6 words that are left out, 4 words of the whole map and
+//! 3 for each of 8 seats have a line of 8 words each, so that the first row begins at 6 + 28 * 8 =
+//! 230. A row has 12 words of its head in two lines, and 4 for each of 64 cells: 272 in all. The
+//! states follow behind the last row.
 use crate::opening::opening_words;
 use crate::shared::Shared;
 use crate::slot::{WORDS_A_LINE, slot, slots};
@@ -12,20 +14,67 @@ use std::test::Fail;
 fn pass_words_have_a_line_each(rt: HostRuntime) {
     let one = slot(2, Name::Pass(0));
     let other = slot(2, Name::Pass(1));
-    assert_eq!(rt; (one, other, other.abs_diff(one)), (32, 40, WORDS_A_LINE));
+    assert_eq!(rt; (one, other, other.abs_diff(one)), (38, 46, WORDS_A_LINE));
 }
 
 #[test]
-fn words_of_rows_lie_side_by_side(rt: HostRuntime) {
+fn words_of_no_row_lie_before_the_rows(rt: HostRuntime) {
     let found = [
+        slot(2, Name::Clock),
         slot(2, Name::Turn),
         slot(2, Name::Scan(0)),
         slot(2, Name::Pin(7)),
-        slot(2, Name::State(0)),
-        slot(2, Name::Count(0)),
-        slot(2, Name::State(1)),
     ];
-    assert_eq!(rt; (found, slots(2)), ([24, 96, 216, 224, 225, 493], 762));
+    assert_eq!(rt; found, [6, 30, 102, 222]);
+}
+
+#[test]
+fn a_row_has_its_head_and_then_its_cells(rt: HostRuntime) {
+    let head = [
+        slot(2, Name::Count(0)),
+        slot(2, Name::Min(0)),
+        slot(2, Name::Next(0)),
+        slot(2, Name::First(0)),
+        slot(2, Name::Pend(0, 0)),
+        slot(2, Name::Pend(0, 7)),
+    ];
+    let cells = [
+        slot(2, Name::Key(0, 0)),
+        slot(2, Name::Value(0, 0)),
+        slot(2, Name::Version(0, 0)),
+        slot(2, Name::After(0, 0)),
+        slot(2, Name::After(0, 63)),
+        slot(2, Name::Count(1)),
+    ];
+    assert_eq!(rt;
+        (head, cells),
+        (
+            [230, 231, 232, 233, 234, 241],
+            [246, 247, 248, 249, 501, 502]
+        )
+    );
+}
+
+// The lines begin at 6 and each 8 words on.
+#[test]
+fn rows_and_their_cells_begin_at_a_line(rt: HostRuntime) {
+    let rows = [slot(3, Name::Count(0)), slot(3, Name::Count(2))];
+    let cells = [slot(3, Name::Key(2, 0)), slot(3, Name::Key(2, 62))];
+    let states = slot(3, Name::State(0));
+    assert_eq!(rt; (rows, cells, states), ([230, 774], [790, 1_038], 1_046));
+    let in_a_line = [
+        rows[1] % WORDS_A_LINE,
+        cells[1] % WORDS_A_LINE,
+        states % WORDS_A_LINE,
+    ];
+    assert_eq!(rt; in_a_line, [6, 6, 6]);
+}
+
+#[test]
+fn states_lie_side_by_side_behind_the_rows(rt: HostRuntime) {
+    let two = [slot(2, Name::State(0)), slot(2, Name::State(1)), slots(2)];
+    let three = [slot(3, Name::State(0)), slot(3, Name::State(2)), slots(3)];
+    assert_eq!(rt; (two, three), ([774, 775, 776], [1_046, 1_048, 1_049]));
 }
 
 #[test]
@@ -38,11 +87,11 @@ fn a_run_begins_with_four_words_at_their_slots(rt: HostRuntime) -> Result<(), Fa
     };
     let words = opening_words(rt.alloc(), opening)?;
     let words = words.as_slice();
-    let found = [words.get(0), words.get(8), words.get(16), words.get(224)];
+    let found = [words.get(6), words.get(14), words.get(22), words.get(502)];
     let written = words.iter().filter(|word| **word > 0).count();
     assert_eq!(rt;
         (found, words.len(), written),
-        ([Some(&5), Some(&7), Some(&1), Some(&2)], 493, 4)
+        ([Some(&5), Some(&7), Some(&1), Some(&2)], 503, 4)
     );
     Ok(())
 }

@@ -1,8 +1,11 @@
-//! Loads that bring the words of a row into the caches, before they are asked for one after the other.
+//! Loads that bring the words of a row into the caches, before they are asked for one after the
+//! other.
 //!
-//! A walk along a row's list is told by each cell where the next one is. So where a row lies far from the processor, each cell costs the wait for
-//! memory, while loads that depend on nothing are under way several at once. The loads here have no seat and make no event: they tell nothing, and
-//! no clause rests on what they find. They are for speed alone. A small table stays in the caches, and there nothing is loaded.
+//! A walk along a row's list is told by each cell where the next one is. So where a row lies far
+//! from the processor, each cell costs the wait for memory, while loads that depend on nothing are
+//! under way several at once. The loads here have no seat and make no event: they tell nothing, and
+//! no clause rests on what they find. They are for speed alone. A small table stays in the caches,
+//! and there nothing is loaded.
 ghost use Rattle.std.specs.Prelude.{◌<◌, ◌≤◌, IfSome, IsTrue};
 ghost use Rattle.kw_words.specs.Layout.{IsWithin};
 ghost use Rattle.kw_words.specs.declared.sizes.TheConstants.{SEATS, CELLS, CELL_COUNT};
@@ -13,15 +16,17 @@ use kw_words::link::Link;
 use kw_words::sizes::{CELL_COUNT, FROZEN_BIT};
 use kw_words::state::State;
 
-/// How many rows a table has at least whose rows are loaded before a walk: those of a smaller one fit into a cache of its processor's own.
+/// How many rows a table has at least whose rows are loaded before a walk: those of a smaller one
+/// fit into a cache of its processor's own.
 pub(crate) const SMALLEST_COLD: u32 = 256;
 
 /// How many cells of a row lie in a cache line of 64 bytes: each has four words of eight bytes.
 const CELLS_A_LINE: u32 = 2;
 
 impl Shared {
-    /// Loads what a walk along the row's list and the step to the next row ask for: a word of each cache line in which given cells of the row lie,
-    /// and the least key of the next row. Nothing is done where the table has no such row.
+    /// Loads what a walk along the row's list and the step to the next row ask for: a word of each
+    /// cache line in which given cells of the row lie, and the least key of the next row. Nothing
+    /// is done where the table has no such row.
     pub fn warm(&self, row: u32) {
         if self.is_cold(row) {
             let given = given_in(self.peek(Name::Count(row)));
@@ -30,8 +35,9 @@ impl Shared {
         }
     }
 
-    /// The same for a row that a scan comes to from another one. When it steps on to the next row, it asks for the least key of the row behind that
-    /// one, to know where the next row ends. So the least key two rows on is loaded too.
+    /// The same for a row that a scan comes to from another one. When it steps on to the next row,
+    /// it asks for the least key of the row behind that one, to know where the next row ends. So
+    /// the least key two rows on is loaded too.
     pub fn warm_next(&self, row: u32) {
         if self.is_cold(row) {
             let given = given_in(self.peek(Name::Count(row)));
@@ -42,14 +48,16 @@ impl Shared {
         }
     }
 
-    /// Loads a word of each cache line in which cells of the row lie: for a row that is about to be written.
+    /// Loads a word of each cache line in which cells of the row lie: for a row that is about to be
+    /// written.
     pub fn warm_whole(&self, row: u32) {
         if self.is_cold(row) {
             self.peek_cells(row, CELL_COUNT);
         }
     }
 
-    /// Whether the row is in use just now, and for no keys above this one alone: whether a walk to the key may begin there.
+    /// Whether the row is in use just now, and for no keys above this one alone: whether a walk to
+    /// the key may begin there.
     #[inline(always)]
     pub(crate) fn serves(&self, row: u32, key: u32) -> bool {
         row < self.opening.rows

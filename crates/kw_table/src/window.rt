@@ -1,9 +1,11 @@
 //! Where a pass searches for free rows.
 //!
-//! A table has many more rows than are in use at once. A search that always went on behind the last row that it took would come round the whole
-//! table, so that each new row lay where nobody has been for long, far from the caches. So a pass goes round in a part of the table, its window,
-//! and takes rows again that were retired there. Where a round found few rows the next one is twice as long. It is for speed alone: a search that
-//! finds too few rows in the window goes on behind it, and asks for each row of the table in the end.
+//! A table has many more rows than are in use at once. A search that always went on behind the last
+//! row that it took would come round the whole table, so that each new row lay where nobody has
+//! been for long, far from the caches. So a pass goes round in a part of the table, its window, and
+//! takes rows again that were retired there. Where a round found few rows the next one is twice as
+//! long. It is for speed alone: a search that finds too few rows in the window goes on behind it,
+//! and asks for each row of the table in the end.
 
 /// How many rows a window has at first, where the table has as many.
 pub const SMALLEST_WINDOW: u32 = 64;
@@ -11,7 +13,8 @@ pub const SMALLEST_WINDOW: u32 = 64;
 /// Of how many rows a round must have taken one for the next to be no longer.
 const SPARSE: u32 = 4;
 
-/// The rows in which a pass's searches begin: so many from one on, past the end of the table from row 0 on.
+/// The rows in which a pass's searches begin: so many from one on, past the end of the table from
+/// row 0 on.
 #[derive(Clone, Copy, Debug, PartialEq, Eq)]
 pub struct Window {
     rows: u32,
@@ -44,7 +47,8 @@ impl Window {
         }
     }
 
-    /// A search has taken so many rows, this one last. The next one begins behind it, and at the start of the window where the round is over.
+    /// A search has taken so many rows, this one last. The next one begins behind it, and at the
+    /// start of the window where the round is over.
     pub fn took(&mut self, last: u32, count: u32) {
         self.taken = self.taken.saturating_add(count);
         self.passed = self.place_of(last).saturating_add(1);
@@ -77,7 +81,8 @@ mod tests {
         window.start()
     }
 
-    // A round of 64 rows that took one in two is followed by one that is no longer; one that took one in eight, by one that is twice as long.
+    // A round of 64 rows that took one in two is followed by one that is no longer; one that took
+    // one in eight, by one that is twice as long.
     #[test]
     fn a_window_grows_where_a_round_found_few_rows(rt: HostRuntime) {
         let mut window = Window::new(16_384, 100);

@@ -1,4 +1,5 @@
-use Rattle.std.proofs.Common.{◌+◌, ◌%◌, ◌^◌, sym, ◌∙◌, refl, subst, ◌<◌}
+use Rattle.std.proofs.Common.{ap, ◌+◌, ◌%◌, ◌^◌, sym, ◌∙◌, refl, subst, ◌<◌}
+use Rattle.kw_world.specs.declared.opening.Opening.{Opening}
 use Rattle.kw_world.specs.declared.operation.Action.TheVariants.{Add}
 use Rattle.kw_table.proofs.Stepping.{steps_by_add}
 use Rattle.kw_table.proofs.Calls.{named_within, is_ready, action_is, asked, known_on, counted_on, makes_on}
@@ -14,7 +15,7 @@ fetch_add-told-requires g c =
     let action = action_is c.args.self.now pass c.args.choice c.args.operation (Add c.args.number) ask c.requires.action in (
       ask.of_table.0,
       subst (λ n. c.slot.result < n) (sym c.args.self.now.words_are) c.slot.ensures.below,
-      asked _ _ pass.seat.me c.args.choice _ c.args.operation _ _ (λ n. (n + c.args.number) % 2 ^ 64) (λ n. n) c.requires.choice ask.next c.slot.ensures.slot (ask.of_table.1 ∙ sym c.args.self.now.key_is)
+      asked _ _ _ pass.seat.me c.args.choice _ c.args.operation _ _ (λ n. (n + c.args.number) % 2 ^ 64) (λ n. n) c.requires.choice ask.next (ap (λ (o : Opening). o.rows) ask.of_table.1) c.slot.ensures.slot (ask.of_table.1 ∙ sym c.args.self.now.key_is)
           (steps_by_add _ _ pass.seat.me c.args.choice (is_ready c.args.self.now pass c.args.choice c.args.operation ask) c.args.number action),
     )
 

@@ -1,5 +1,6 @@
-use Rattle.std.proofs.Common.{◌==◌, sym, ◌∙◌, refl, subst, ◌<◌}
+use Rattle.std.proofs.Common.{ap, ◌==◌, sym, ◌∙◌, refl, subst, ◌<◌}
 use prog.Atomic.{either}
+use Rattle.kw_world.specs.declared.opening.Opening.{Opening}
 use Rattle.kw_world.specs.declared.operation.Action.TheVariants.{Exchange}
 use Rattle.kw_table.proofs.Stepping.{steps_by_exchange}
 use Rattle.kw_table.proofs.Calls.{named_within, is_ready, action_is, asked, known_on, counted_on, makes_on}
@@ -15,7 +16,7 @@ compare_exchange-told-requires g c =
     let action = action_is c.args.self.now pass c.args.choice c.args.operation (Exchange c.args.expected c.args.stored) ask c.requires.action in (
       ask.of_table.0,
       subst (λ n. c.slot.result < n) (sym c.args.self.now.words_are) c.slot.ensures.below,
-      asked _ _ pass.seat.me c.args.choice _ c.args.operation _ _ (λ n. either (n == c.args.expected) c.args.stored n) (λ n. n) c.requires.choice ask.next c.slot.ensures.slot (ask.of_table.1 ∙ sym c.args.self.now.key_is)
+      asked _ _ _ pass.seat.me c.args.choice _ c.args.operation _ _ (λ n. either (n == c.args.expected) c.args.stored n) (λ n. n) c.requires.choice ask.next (ap (λ (o : Opening). o.rows) ask.of_table.1) c.slot.ensures.slot (ask.of_table.1 ∙ sym c.args.self.now.key_is)
           (steps_by_exchange _ _ pass.seat.me c.args.choice (is_ready c.args.self.now pass c.args.choice c.args.operation ask) c.args.expected c.args.stored action),
     )
 
