@@ -84,7 +84,8 @@ pub fn time_fill<T: Threads + Wait + Sync>(
     })
 }
 
-// Puts on until so many rows' worth of keys are in, but no more than so many keys, and times the last quarter of them.
+// Puts on until so many rows' worth of keys are in, but no more than so many keys, and times the
+// last quarter of them.
 fn time_stretch<R: Wait>(
     clock: &HostRuntime,
     rt: &R,

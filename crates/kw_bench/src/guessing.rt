@@ -1,7 +1,9 @@
-//! Guesses of an index, by one thread and by four beside one that publishes, and searches in a plain slice.
+//! Guesses of an index, by one thread and by four beside one that publishes, and searches in a
+//! plain slice.
 //!
-//! Each thread asks for keys from a fixed generator, so the index and the slice are asked for the same ones, and should tell the same rows. A guess of the
-//! index is one that is made anew, by own entries that were brought up to the last change.
+//! Each thread asks for keys from a fixed generator, so the index and the slice are asked for the
+//! same ones, and should tell the same rows. A guess of the index is one that is made anew, by own
+//! entries that were brought up to the last change.
 ghost use Rattle.std.specs.Prelude.{◌≡◌, ◌≤◌, IfOk};
 
 use kw_index::change::Change;
@@ -82,7 +84,8 @@ pub enum Asked<'a> {
 }
 
 impl Asked<'_> {
-    /// Asks for so many keys, which follow this one. The only error is the want of memory for own entries.
+    /// Asks for so many keys, which follow this one. The only error is the want of memory for own
+    /// entries.
     pub fn for_keys(&self, alloc: Global, first: u32, calls: u32) -> Result<Told, Memory> {
         match *self {
             Asked::Slice(list) => Ok(search(list, first, calls)),
@@ -126,7 +129,8 @@ fn counted(told: Told, row: u32) -> Told {
     }
 }
 
-/// Lets four threads ask an index for so many keys each, while a fifth publishes again and again that the first row begins at the least key.
+/// Lets four threads ask an index for so many keys each, while a fifth publishes again and again
+/// that the first row begins at the least key.
 pub fn ask_in_a_crowd<T: Threads + Sync>(
     threads: &T,
     alloc: Global,

@@ -1,19 +1,23 @@
-//! How fast the map's calls are, by one thread, two and four on one map, how fast lines are read and answers printed, and how fast an
-//! index is.
+//! How fast the map's calls are, by one thread, two and four on one map, how fast lines are read
+//! and answers printed, and how fast an index is.
 //!
-//! With a number N the program makes N calls of each kind on maps of one row, for rows of a quarter of their cells to all, of different keys and
-//! of one key. It prints a table of what a call took, in nanoseconds, and of those that read what it took each of two threads and of four
-//! that made N at once, and how many calls they made in the time in which one made a hundred.
+//! With a number N the program makes N calls of each kind on maps of one row, for rows of a quarter
+//! of their cells to all, of different keys and of one key. It prints a table of what a call took,
+//! in nanoseconds, and of those that read what it took each of two threads and of four that made N
+//! at once, and how many calls they made in the time in which one made a hundred.
 //!
-//! Then it does the same on a map of many rows, whose full rows are replaced meanwhile: N puts, N gets, and N of both in turn, which threads
-//! share; and N sums of a thousand keys, alone and while three other threads put. It fills such a map by rising, falling and random keys,
-//! N at most, until a put is refused, and prints what a put took as more and more rows were in use.
+//! Then it does the same on a map of many rows, whose full rows are replaced meanwhile: N puts, N
+//! gets, and N of both in turn, which threads share; and N sums of a thousand keys, alone and while
+//! three other threads put. It fills such a map by rising, falling and random keys, N at most,
+//! until a put is refused, and prints what a put took as more and more rows were in use.
 //!
-//! Then it reads an input of N lines, or of as many as an input may have, and prints an answer to each, with no map. At last it asks an index
-//! of few entries, one of some and one of many for N keys, and plain slices of the same entries, by one thread and by four.
+//! Then it reads an input of N lines, or of as many as an input may have, and prints an answer to
+//! each, with no map. At last it asks an index of few entries, one of some and one of many for N
+//! keys, and plain slices of the same entries, by one thread and by four.
 //!
-//! All figures of a run come from that run, so its ratios can be compared where its times cannot. Without a number it says how it is used.
-//! Nothing is promised of the figures; the calls are those of `kw_map`, `kw_line` and `kw_index`, by their contracts.
+//! All figures of a run come from that run, so its ratios can be compared where its times cannot.
+//! Without a number it says how it is used. Nothing is promised of the figures; the calls are those
+//! of `kw_map`, `kw_line` and `kw_index`, by their contracts.
 #![tactic(auto)]
 
 mod asking;

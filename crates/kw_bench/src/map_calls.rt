@@ -23,7 +23,8 @@ pub enum Kind {
 }
 
 impl Kind {
-    // Whether the call with this number puts. Of mixed calls every second one does, and in the next round of all keys the others.
+    // Whether the call with this number puts. Of mixed calls every second one does, and in the next
+    // round of all keys the others.
     fn is_put(self, number: u32) -> bool {
         match self {
             Kind::Puts => true,
@@ -41,8 +42,8 @@ pub fn put_keys<R: Wait>(rt: &R, kiwi: &Kiwi, pass: Pass) -> Pass
     call_from(rt, kiwi, pass, Kind::Puts, 0, KEYS)
 }
 
-/// Makes so many calls with each pass, in a thread of its own; with one pass in this thread. Each thread has a part of the scattered
-/// order of its own.
+/// Makes so many calls with each pass, in a thread of its own; with one pass in this thread. Each
+/// thread has a part of the scattered order of its own.
 pub fn call_by_each<T: Threads + Wait + Sync>(
     threads: &T,
     kiwi: &Kiwi,
@@ -90,7 +91,8 @@ fn call_from<R: Wait>(rt: &R, kiwi: &Kiwi, pass: Pass, kind: Kind, first: u32, c
     pass
 }
 
-/// Puts with each pass, in a thread of its own, until this is over, and tells how many puts each thread made.
+/// Puts with each pass, in a thread of its own, until this is over, and tells how many puts each
+/// thread made.
 pub fn put_by_each<T: Threads + Wait + Sync>(
     threads: &T,
     kiwi: &Kiwi,

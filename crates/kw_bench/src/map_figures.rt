@@ -25,7 +25,8 @@ pub fn print_map(rt: &HostRuntime, figure: MapFigure) -> io::Result<()> {
     print_kind(rt, "mixed", one.calls, [one.mixed, two.mixed, four.mixed])
 }
 
-// Prints what calls of one kind took by one thread, by two and by four that shared them: a line below the heads.
+// Prints what calls of one kind took by one thread, by two and by four that shared them: a line
+// below the heads.
 fn print_kind(rt: &HostRuntime, name: &str, calls: u32, took: [u128; 3]) -> io::Result<()> {
     let [one, two, four] = took;
     let calls = u128::from(calls).max(1);
@@ -63,7 +64,8 @@ pub fn print_fill_heads(rt: &HostRuntime) -> io::Result<()> {
     )
 }
 
-/// Prints what puts took while a map filled: a line below the heads. What a pair takes is told where the map is full.
+/// Prints what puts took while a map filled: a line below the heads. What a pair takes is told
+/// where the map is full.
 pub fn print_fill(rt: &HostRuntime, figure: FillFigure) -> io::Result<()> {
     print!(rt; "{:<8}", figure.order.word())?;
     print_stretch(rt, figure.few)?;

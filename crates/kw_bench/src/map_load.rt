@@ -10,7 +10,8 @@ pub const KEYS: u32 = 65_536;
 /// Over how many keys a sum goes.
 pub const SUMMED: u32 = 1_000;
 
-/// A key below `KEYS` for each number, in a scattered order: `KEYS` numbers that follow each other have all keys, each once.
+/// A key below `KEYS` for each number, in a scattered order: `KEYS` numbers that follow each other
+/// have all keys, each once.
 pub fn scattered(number: u32) -> u32 {
     let low = number.wrapping_mul(40_503) % KEYS;
     let folded = low ^ (low >> 8);

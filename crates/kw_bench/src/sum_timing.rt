@@ -55,7 +55,8 @@ pub fn time_sums<T: Threads + Wait + Sync>(
     })
 }
 
-// Makes so many sums while a thread for each other pass puts, and tells how many puts each of these made.
+// Makes so many sums while a thread for each other pass puts, and tells how many puts each of these
+// made.
 fn sum_beside<T: Threads + Wait + Sync>(
     threads: &T,
     kiwi: &Kiwi,

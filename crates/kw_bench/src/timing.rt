@@ -72,7 +72,8 @@ pub(crate) fn opened(alloc: Global, rows: u32, threads: u32) -> io::Result<(Kiwi
     }
 }
 
-/// Times calls that read, on maps of one row that hold the task's load, by one thread, by two and by four.
+/// Times calls that read, on maps of one row that hold the task's load, by one thread, by two and
+/// by four.
 pub fn time_reads<T: Threads + Wait + Sync>(
     rt: &HostRuntime,
     threads: &T,
@@ -102,7 +103,8 @@ fn time_threads<T: Threads + Wait + Sync>(
     Ok(start.elapsed(rt)?.as_nanos())
 }
 
-/// Times puts into rows that fill, each with this load, until about so many puts are made. What opening the maps takes is not in the figure.
+/// Times puts into rows that fill, each with this load, until about so many puts are made. What
+/// opening the maps takes is not in the figure.
 pub fn time_puts<T: Threads + Wait + Sync>(
     rt: &HostRuntime,
     threads: &T,

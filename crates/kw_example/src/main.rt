@@ -1,7 +1,8 @@
 //! Four threads put readings into one map while a fifth adds up what it sees of them.
 //!
-//! The whole program stands on `kw_map` alone. Each thread has a pass of its own. `IsIdle` says of a pass that it is one of this map and
-//! makes no call: `open` gives such passes, and every call asks for one and leaves it so. Copy it to begin a program of your own.
+//! The whole program stands on `kw_map` alone. Each thread has a pass of its own. `IsIdle` says of
+//! a pass that it is one of this map and makes no call: `open` gives such passes, and every call
+//! asks for one and leaves it so. Copy it to begin a program of your own.
 #![tactic(auto)]
 
 ghost use Rattle.kw_map.specs.Kiwi.{IsIdle};

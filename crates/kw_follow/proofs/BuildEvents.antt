@@ -1,4 +1,5 @@
--- The events that freeze and gather a full row and write the new ones: what each asks, and what its seat knows.
+-- The events that freeze and gather a full row and write the new ones: what each asks, and what its
+-- seat knows.
 use Rattle.std.proofs.Common.{◌≡◌, ◌<◌, ◌≤◌, ◌∙◌, ℕ, Some, arith, ap, sym, subst, length, slice_get}
 use Rattle.kw_words.specs.declared.kind.Kind.TheVariants as kind
 use Rattle.kw_words.specs.declared.layout.Name.{Name}
@@ -22,7 +23,7 @@ use Rattle.kw_shape.specs.Infants.{nursing_of}
 use Rattle.kw_shape.specs.Keyed.{IsPlanned}
 use Rattle.kw_shape.specs.Plans.{Plans}
 use Rattle.kw_reads.proofs.Keeps.{inv_holds}
-use Rattle.kw_laws.proofs.Worlds.{world-local}
+use Rattle.kw_shape.proofs.Worlds.{world-local}
 use Rattle.kw_table.specs.declared.pass.Pass.{Pass}
 use Rattle.kw_table.specs.declared.shared.Shared.{Shared}
 use Rattle.kw_table.specs.Passes.{view, operation, Asks}

@@ -6,8 +6,8 @@ use Rattle.kw_world.specs.Transition.{Outcome}
 use Rattle.kw_world.specs.WalkTransitions.{is_stop}
 use Rattle.kw_follow.specs.Following.{carried}
 
--- p is what follows for code where o follows for the seat: it carries what the seat then knows, and the call goes on. The seat's pairs
--- are then these, unless the choice is to stop
+-- p is what follows for code where o follows for the seat: it carries what the seat then knows, and
+-- the call goes on. The seat's pairs are then these, unless the choice is to stop
 pub record Carries (c : Choice) (pairs : List (ℕ × ℕ)) (o p : Outcome) : Type 0 where
   pub local : p.local ≡ carried o.local
   pub done : p.done ≡ Moved

@@ -1,8 +1,8 @@
--- The seat's local and the one that code carries: they have the same operation, and what follows is again a local and what code
--- carries for it.
+-- The seat's local and the one that code carries: they have the same operation, and what follows is
+-- again a local and what code carries for it.
 --
--- One lemma for each part of the table, over what the seat knows. A record update of the whole computes, so that each line is one
--- equation, but for the tests that a line makes.
+-- One lemma for each part of the table, over what the seat knows. A record update of the whole
+-- computes, so that each line is one equation, but for the tests that a line makes.
 use Rattle.std.proofs.Common.{ℕ, ◌≡◌, ◌+◌, ◌==◌, ◌&&◌, Bool, true, false, nat_lt, nat_le, if◌then◌else◌, Option, Some, None, unwrap_or, refl, ap}
 use Rattle.kw_words.specs.declared.pend.Pend.{Pend}
 use Rattle.kw_words.specs.declared.pend.Pend.TheVariants as pend
@@ -26,7 +26,7 @@ use Rattle.kw_world.specs.declared.local.Local.{Local}
 use Rattle.kw_world.specs.Calls.{first_key, is_in_range, is_range_empty, is_scan}
 use Rattle.kw_world.specs.Transition.{row_linked, leave}
 use Rattle.kw_world.specs.ListTransitions.{insert_from, insert_tried, is_newer}
-use Rattle.kw_world.specs.PutTransitions.{has_room, stamp_met}
+use Rattle.kw_world.specs.PutTransitions.{cleared, has_room, stamp_met, tidies_row}
 use Rattle.kw_world.specs.ReadTransitions.{to_look, look_met, help_met, remembering}
 use Rattle.kw_world.specs.ScanTransitions.{entered, answer_or_stopped, settled, version_settled}
 use Rattle.kw_world.specs.WalkTransitions.{arrive, guess_met, is_stop, is_stopped, link_met, start_transition, walk_min, walk_transition}
@@ -127,6 +127,13 @@ module _ (c : Choice) where
   inserts_tried z true l = record { local = refl; done = refl; held = λ g. refl }
   inserts_tried z false l = record { local = refl; done = refl; held = λ g. refl }
 
+  -- a put that is done leaves, or tidies its row
+  tidies : (choice : Choice) (rows : ℕ) (l : Local) → Carries c l.pairs (cleared rows choice l) (cleared rows choice (carried l))
+  tidies (Begin call) rows l = record { local = refl; done = refl; held = λ g. refl }
+  tidies Go rows l = record { local = refl; done = refl; held = λ g. refl }
+  tidies (Guess r) rows l = either c (tidies_row rows (Guess r) l) l.pairs _ _ _ _ (record { local = refl; done = refl; held = λ g. refl }) (record { local = refl; done = refl; held = λ g. refl })
+  tidies Stop rows l = record { local = refl; done = refl; held = λ g. refl }
+
 -- a walk is stopped by the choice to stop alone
 not_stopped : (c : Choice) (l : Local) → is_stop c ≡ false → is_stopped c l ≡ false
 not_stopped c l n = ap (λ b. b && (is_scan l.call && l.has_read)) n
@@ -187,7 +194,7 @@ carries z InsKey s c l rows told u = either c (nat_lt (key_of_word told) (first_
 carries z InsVer s c l rows told u = either c (is_newer (unwrap_or (version_of_word told) 0) l.place l) l.pairs _ _ _ _ (record { local = refl; done = refl; held = λ g. refl }) (record { local = refl; done = refl; held = λ g. refl })
 carries z InsSet s c l rows told u = record { local = refl; done = refl; held = λ g. refl }
 carries z Insert s c l rows told u = inserts_tried c z (told == cell_link_word l.held) l
-carries z PutClear s c l rows told u = record { local = refl; done = refl; held = λ g. refl }
+carries z PutClear s c l rows told u = tidies c c rows l
 carries z (Leave answer) s c l rows told u = absurd u
 carries z Again s c l rows told u = rebalance_carries c z Again s l rows told tt
 carries z AgainEpoch s c l rows told u = rebalance_carries c z AgainEpoch s l rows told tt

@@ -1,4 +1,5 @@
--- The same of a rebalance: what follows from one of its events is again a local and what code carries for it.
+-- The same of a rebalance: what follows from one of its events is again a local and what code
+-- carries for it.
 use Rattle.std.proofs.Common.{ℕ, ◌+◌, ◌==◌, Bool, true, false, nat_lt, nat_le, if◌then◌else◌, Option, Some, None, length, refl}
 use Rattle.kw_words.specs.declared.pend.Pend.{Pend}
 use Rattle.kw_words.specs.declared.pend.Pend.TheVariants as pend

@@ -1,4 +1,5 @@
--- Where a pass made one of its events: the laws hold there of all that came before, and what the event was told is what it found.
+-- Where a pass made one of its events: the laws hold there of all that came before, and what the
+-- event was told is what it found.
 use Rattle.std.proofs.Common.{◌≡◌, ℕ, ◌<◌, ◌≤◌, ◌++◌, [], ◌∷◌, true, Some, List, arith, refl, sym, ◌∙◌, ap, subst, length, append_assoc, slice_get}
 use Rattle.std.proofs.lemmas.List.{take-append-le, take_all}
 use Rattle.kw_world.specs.declared.activity.Activity.{Activity}
@@ -21,7 +22,7 @@ use Rattle.kw_core.specs.Run.{history}
 use Rattle.kw_core.proofs.Events.{valid_front}
 use Rattle.kw_laws.proofs.LawProofs.{laws_hold}
 use Rattle.kw_core.proofs.Runs.{history-world}
-use Rattle.kw_laws.proofs.Worlds.{world-local, world-rows}
+use Rattle.kw_shape.proofs.Worlds.{world-local, world-rows}
 use Rattle.kw_table.specs.declared.pass.Pass.{Pass}
 use Rattle.kw_table.specs.declared.shared.Shared.{Shared}
 use Rattle.kw_table.specs.Passes.{view}

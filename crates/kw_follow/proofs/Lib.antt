@@ -15,3 +15,4 @@ pub mod WayEvents
 pub mod BuildEvents
 pub mod RestingCall
 pub mod Reaching
+pub mod Untidied

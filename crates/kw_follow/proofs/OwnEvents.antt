@@ -1,4 +1,5 @@
--- The events of a pass's own: each step makes one event, and what was met on a whole way was met on one part of it.
+-- The events of a pass's own: each step makes one event, and what was met on a whole way was met on
+-- one part of it.
 use Rattle.std.proofs.Common.{ℕ, ◌≡◌, List, [], ◌∷◌, ◌++◌, arith, refl, sym, ◌∙◌, ap, subst, inl, inr, ◌⊎◌, length, length-append, append_assoc}
 use Rattle.std.proofs.lemmas.List.{append_cancel_left}
 use mathlib.Core.Logic.{⊎_elim}
@@ -62,7 +63,8 @@ same_first n (x ∷ xs) ys (u ∷ us) vs c d none neither is =
     let same = same_first n xs ys us vs c d (rest_none n x xs none) (rest_none n u us neither) t in
     (ap (λ l. x ∷ l) same.0 ∙ ap (λ y. y ∷ us) e, same.1)
 
--- of two beginnings of one list the one begins the other, and where the longer one ends with an event, what is before that too
+-- of two beginnings of one list the one begins the other, and where the longer one ends with an
+-- event, what is before that too
 cut : (xs : List Event) (e : Event) (zs ys ws : List Event) → (xs ++ e ∷ []) ++ zs ≡ ys ++ ws → IsPrefix (xs ++ e ∷ []) ys ⊎ IsPrefix ys xs
 cut xs e zs [] ws is = inr (prefix_nil xs)
 cut [] e zs (y ∷ ys) ws is =

@@ -1,4 +1,5 @@
--- The events of a reader at its row: what each asks, and what follows for the seat and for code, which keeps no pairs.
+-- The events of a reader at its row: what each asks, and what follows for the seat and for code,
+-- which keeps no pairs.
 use Rattle.std.proofs.Common.{ℕ, ◌≡◌, ◌<◌, Bool, true, false, nat_lt, nat_le, if◌then◌else◌, Option, Some, None, [], refl, sym, ◌∙◌, ap, subst}
 use Rattle.std.proofs.lemmas.Bool.{lt-ltb}
 use Rattle.kw_words.specs.declared.kind.Kind.TheVariants as kind

@@ -22,7 +22,7 @@ use Rattle.kw_reads.proofs.Keeps.{inv_goes_on}
 use Rattle.kw_shape.proofs.ShapeOpens.{all_resting}
 use Rattle.kw_reads.proofs.Opens.{inv_start}
 use Rattle.kw_core.proofs.Runs.{goes_on-moved, history-world, holds_of_history}
-use Rattle.kw_laws.proofs.Worlds.{world-local}
+use Rattle.kw_shape.proofs.Worlds.{world-local}
 use Rattle.kw_table.specs.declared.pass.Pass.{Pass}
 use Rattle.kw_table.specs.Passes.{view}
 use Rattle.kw_table.specs.Views.{local_in}

@@ -1,4 +1,5 @@
--- Where the cursor of a reader or a put is, and which local a cursor and the local that stays behind it stand for.
+-- Where the cursor of a reader or a put is, and which local a cursor and the local that stays
+-- behind it stand for.
 use Rattle.std.specs.Prelude.{◌≡◌, ℕ, Option, Some, None}
 use Rattle.kw_cells.specs.declared.cell.Cell.{Cell}
 use Rattle.kw_world.specs.declared.activity.Activity.{Activity}
@@ -51,7 +52,8 @@ cell_at c value = record { key = c.key; place = c.place; version = c.version; va
 abbrev pub gathering_at : Cursor → Option ℕ → Local → Local
 gathering_at c value l = record l { gathered = (gathering product value (with_cursor ListVal c l)).gathered }
 
--- the pass made one event, which is the first one of its own since, and was told this: code followed it so
+-- the pass made one event, which is the first one of its own since, and was told this: code
+-- followed it so
 pub record ReadsWord (s : Shared) (p : Pass) (l : Local) (told : ℕ) (q : Pass) : Type 0 where
   pub makes : Makes s p Go told q
   pub goes : GoesTo s p q

@@ -20,11 +20,13 @@ use Rattle.kw_follow.specs.Following.{known}
 abbrev pub knew : Pass → List Event → Local
 knew p es = local_of (world product (view p).opening es) (view p).number
 
--- the line of the table of events by which this seat makes its event with this choice, after these events
+-- the line of the table of events by which this seat makes its event with this choice, after these
+-- events
 abbrev pub transition_after : Opening → List Event → ℕ → Choice → Transition
 transition_after o es n c = transition_of product n (offered o.rows c) (local_of (world product o es) n)
 
--- among the events from the first list to the second is one of this seat, made at this activity with this choice, which was told this
+-- among the events from the first list to the second is one of this seat, made at this activity
+-- with this choice, which was told this
 pub record MetIn (o : Opening) (n : ℕ) (old new : List Event) (a : Activity) (c : Choice) (told : ℕ) : Type 0 where
   -- the events before it
   pub front : List Event
@@ -37,7 +39,8 @@ pub record MetIn (o : Opening) (n : ℕ) (old new : List Event) (a : Activity) (
 abbrev pub Met : Pass → Pass → Activity → Choice → ℕ → Type 0
 Met p q a c told = MetIn (view p).opening (view p).number (view p).seen (view q).seen a c told
 
--- there is such an event, made where the seat knew this, and it is the first one of the pass's own since
+-- there is such an event, made where the seat knew this, and it is the first one of the pass's own
+-- since
 pub record MetAs (p q : Pass) (l : Local) (c : Choice) (told : ℕ) : Type 0 where
   pub met : Met p q l.activity c told
   pub knew : known (local_of (world product (view p).opening met.front) (view p).number) ≡ known l

@@ -5,7 +5,8 @@ use Rattle.kw_table.specs.declared.shared.Shared.{Shared}
 use Rattle.kw_follow.specs.Calling.{KeepsCalls}
 use Rattle.kw_follow.specs.Following.{Follows, GoesTo}
 
--- the call went on by events in its middle, or by none: its seat then knows this, as far as code knows it, and the calls of its pass are as they were
+-- the call went on by events in its middle, or by none: its seat then knows this, as far as code
+-- knows it, and the calls of its pass are as they were
 pub record Reaches (s : Shared) (p q : Pass) (m : Local) : Type 0 where
   pub goes : GoesTo s p q
   pub follows : Follows s q m

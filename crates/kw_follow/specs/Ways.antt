@@ -15,6 +15,7 @@ entering key epoch = record (resting 1) { activity = Enter; call = Some (Get key
 abbrev pub starting : ℕ → ℕ → Local
 starting key epoch = record (entering key epoch) { activity = Start; want = key }
 
--- the local of a get that is at this activity and came so far: between calls it knows nothing, and has learnt this alone since
+-- the local of a get that is at this activity and came so far: between calls it knows nothing, and
+-- has learnt this alone since
 abbrev pub on_way : Activity → Way → Local
 on_way a w = record (resting 1) { activity = a; call = Some (Get w.key); epoch = w.epoch; want = w.key; row = w.row; lower = w.lower; candidate = w.candidate; next = w.next; upper = w.upper }

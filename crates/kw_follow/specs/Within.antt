@@ -1,10 +1,12 @@
--- The middle of a call, where in it a scan gets its version, and where a reader is at the cells that it remembers or at an entry, and a call on its walk.
+-- The middle of a call, where in it a scan gets its version, and where a reader is at the cells
+-- that it remembers or at an entry, and a call on its walk.
 use Rattle.std.specs.Prelude.{ℕ}
 use Rattle.kw_world.specs.declared.activity.Activity.{Activity}
 use Rattle.kw_world.specs.declared.activity.Activity.TheVariants.{Idle, Look, ScanClock, ScanWait, ScanDraw, ScanSettle, ListFrom, ListKey, ListVer, ListVal, RestKey, RestVal, ClearScan, Leave}
 use Rattle.kw_world.specs.declared.local.Local.{Local}
 
--- the seat is in the middle of a call, and its next event neither ends the call or a scan nor reads a cell
+-- the seat is in the middle of a call, and its next event neither ends the call or a scan nor reads
+-- a cell
 abbrev pub IsWithinCall : Activity → Type 0
 IsWithinCall Idle = ⊥
 IsWithinCall ListFrom = ⊥

@@ -1,9 +1,10 @@
-//! The events that every call makes: as it begins, on its way to its row, at the entries there, and as it ends; each by its own step of the
-//! table.
+//! The events that every call makes: as it begins, on its way to its row, at the entries there, and
+//! as it ends; each by its own step of the table.
 //!
-//! A call loads the epoch and announces it, loads the link from the head, or the state and the least key of a guessed row, and the link after each
-//! row that it passes, and announces no epoch any more at its end; a reader looks at each entry of its row. What the local does next says which
-//! step it is, as in `putting`; every other event is put together in `going`.
+//! A call loads the epoch and announces it, loads the link from the head, or the state and the
+//! least key of a guessed row, and the link after each row that it passes, and announces no epoch
+//! any more at its end; a reader looks at each entry of its row. What the local does next says
+//! which step it is, as in `putting`; every other event is put together in `going`.
 ghost use Rattle.std.specs.Prelude.{◌≡◌, ◌<◌, true, false, length};
 ghost use Rattle.kw_words.specs.Link.{link_of};
 ghost use Rattle.kw_words.specs.Pend.{pend_of};
@@ -143,8 +144,8 @@ fn load_guessed_least(shared: &Shared, pass: &mut Pass, local: &mut Local) -> Ha
     Happened { told, done }
 }
 
-/// Loads the link after this row, for a call that walks along the rows and stands at it. The answer is what the event was told, and `meet_row_link`
-/// says what follows. Takes no memory.
+/// Loads the link after this row, for a call that walks along the rows and stands at it. The answer
+/// is what the event was told, and `meet_row_link` says what follows. Takes no memory.
 #[inline(always)]
 pub fn load_row_link(shared: &Shared, pass: &mut Pass, row: u32) -> u64
     requires { (l : Local) × Follows shared.now pass.old (walking Activity.Walk l) × (l.row ≡ row) }
@@ -161,8 +162,8 @@ pub fn meet_row_link(local: &mut Local, found: u64) -> StepDone
     link(local, found)
 }
 
-/// Loads the least key of the row to which that link led. The answer is what the event was told, and `meet_row_least` says what follows. Takes no
-/// memory.
+/// Loads the least key of the row to which that link led. The answer is what the event was told,
+/// and `meet_row_least` says what follows. Takes no memory.
 #[inline(always)]
 pub fn load_row_least(shared: &Shared, pass: &mut Pass, row: u32) -> u64
     requires { (l : Local) × Follows shared.now pass.old (walking Activity.WalkMin l)
@@ -208,8 +209,9 @@ fn load_least_key(shared: &Shared, pass: &mut Pass, local: &mut Local) -> Happen
     Happened { told, done }
 }
 
-/// Loads the entry of this seat in the reader's row, for a reader that looks at it next. The answer is what the event was told, and `meet_entry`
-/// says what follows. So code that looks at many entries at which nothing is announced leaves its local as it is meanwhile. Takes no memory.
+/// Loads the entry of this seat in the reader's row, for a reader that looks at it next. The answer
+/// is what the event was told, and `meet_entry` says what follows. So code that looks at many
+/// entries at which nothing is announced leaves its local as it is meanwhile. Takes no memory.
 #[inline(always)]
 pub fn load_entry(shared: &Shared, pass: &mut Pass, row: u32, entry: u32) -> u64
     requires { (l : Local) × Follows shared.now pass.old (looking entry l) × (l.row ≡ row) }
@@ -262,8 +264,9 @@ fn event_along(shared: &Shared, pass: &mut Pass, local: &mut Local) -> Happened
     }
 }
 
-/// Makes the next event in the middle of a call, as `go` does with the choice `Go`. The announcement of the epoch, the walk along the rows
-/// and the looks at entries are made by steps of their own. The answer is what the event was told. Takes no memory.
+/// Makes the next event in the middle of a call, as `go` does with the choice `Go`. The
+/// announcement of the epoch, the walk along the rows and the looks at entries are made by steps of
+/// their own. The answer is what the event was told. Takes no memory.
 #[inline(always)]
 pub fn go_along(shared: &Shared, pass: &mut Pass, local: &mut Local) -> u64
     requires follows { Follows shared.now pass.old local.old }
@@ -281,8 +284,8 @@ pub fn go_along(shared: &Shared, pass: &mut Pass, local: &mut Local) -> u64
     happened.told
 }
 
-/// Makes the first event of a walk that is to begin at this row, as `go` does with the choice `Guess(row)`. The answer is what the event was told.
-/// Takes no memory.
+/// Makes the first event of a walk that is to begin at this row, as `go` does with the choice
+/// `Guess(row)`. The answer is what the event was told. Takes no memory.
 #[inline(always)]
 pub fn go_guess(shared: &Shared, pass: &mut Pass, local: &mut Local, row: u32) -> u64
     requires follows { Follows shared.now pass.old local.old }
@@ -302,8 +305,8 @@ pub fn go_guess(shared: &Shared, pass: &mut Pass, local: &mut Local, row: u32) -
     happened.told
 }
 
-/// Loads the least key of a guessed row that is in use, as `go_along` does where the call tries a guessed row. The answer is what the event was told.
-/// Takes no memory.
+/// Loads the least key of a guessed row that is in use, as `go_along` does where the call tries a
+/// guessed row. The answer is what the event was told. Takes no memory.
 #[inline(always)]
 pub fn go_guess_min(shared: &Shared, pass: &mut Pass, local: &mut Local) -> u64
     requires follows { Follows shared.now pass.old local.old }

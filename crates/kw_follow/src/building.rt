@@ -1,7 +1,8 @@
 //! The events of a rebalance.
 //!
-//! Most of them freeze and gather the full row (`gathering`) and write the new ones (`writing`): a split makes some hundreds of these, each by
-//! its own step of the table. What is left, as the search for free rows and the exchange of the link, is put together in `going`.
+//! Most of them freeze and gather the full row (`gathering`) and write the new ones (`writing`): a
+//! split makes some hundreds of these, each by its own step of the table. What is left, as the
+//! search for free rows and the exchange of the link, is put together in `going`.
 ghost use Rattle.std.specs.Prelude.{◌≡◌};
 ghost use Rattle.kw_world.specs.Sizes.{product};
 ghost use Rattle.kw_world.specs.Step.{next_of};
@@ -50,7 +51,8 @@ fn write_event(shared: &Shared, pass: &mut Pass, local: &mut Local) -> Happened
     }
 }
 
-// The next event, by what the local does next: one that freezes or gathers the full row, or any other one.
+// The next event, by what the local does next: one that freezes or gathers the full row, or any
+// other one.
 #[inline(always)]
 fn build_event(shared: &Shared, pass: &mut Pass, local: &mut Local) -> Happened
     requires follows { Follows shared.now pass.old local.old }
@@ -73,8 +75,9 @@ fn build_event(shared: &Shared, pass: &mut Pass, local: &mut Local) -> Happened
     }
 }
 
-/// Makes the next event in the middle of a call, as `go` does with the choice `Go`. Those of a rebalance that freeze and gather the full row
-/// and write the new ones are made by steps of their own. The answer is what the event was told. Takes no memory.
+/// Makes the next event in the middle of a call, as `go` does with the choice `Go`. Those of a
+/// rebalance that freeze and gather the full row and write the new ones are made by steps of their
+/// own. The answer is what the event was told. Takes no memory.
 #[inline(always)]
 pub fn go_build(shared: &Shared, pass: &mut Pass, local: &mut Local) -> u64
     requires follows { Follows shared.now pass.old local.old }

@@ -1,12 +1,15 @@
-//! A cursor along the list of a row, and the events by which a reader, or a put that inserts its cell, goes on.
+//! A cursor along the list of a row, and the events by which a reader, or a put that inserts its
+//! cell, goes on.
 //!
-//! A reader makes two events for each cell that it passes and four for each that it gathers. All that changes between them is how far it has come
-//! and which cell it has at hand. So code that goes along a list keeps these in a `Cursor`, which lies in registers, and leaves all else of
-//! the reader's local where it was: `with_cursor` says which local the two stand for. Once it has come to the end of the list or to a key above its
-//! range, it writes the cursor back, and goes on by `go_to_rest`.
+//! A reader makes two events for each cell that it passes and four for each that it gathers. All
+//! that changes between them is how far it has come and which cell it has at hand. So code that
+//! goes along a list keeps these in a `Cursor`, which lies in registers, and leaves all else of the
+//! reader's local where it was: `with_cursor` says which local the two stand for. Once it has come
+//! to the end of the list or to a key above its range, it writes the cursor back, and goes on by
+//! `go_to_rest`.
 //!
-//! A put goes along the list in the same way, to where its own cell stands, by two events for each cell that it passes. It goes on from there by
-//! `meet_insert_link` or `meet_insert_key`.
+//! A put goes along the list in the same way, to where its own cell stands, by two events for each
+//! cell that it passes. It goes on from there by `meet_insert_link` or `meet_insert_key`.
 ghost use Rattle.std.specs.Prelude.{◌≡◌, ◌<◌, unwrap_or};
 ghost use Rattle.kw_words.specs.Plain.{value_of_word, version_of_word};
 ghost use Rattle.kw_words.specs.declared.sizes.TheConstants.{CELLS};
@@ -41,7 +44,8 @@ pub struct Cursor {
 }
 
 impl Cursor {
-    /// The cursor of a reader that stands at the first link of this row's list, and has met no cell.
+    /// The cursor of a reader that stands at the first link of this row's list, and has met no
+    /// cell.
     #[inline(always)]
     pub fn first(row: u32) -> Cursor
         ensures { result ≡ first_of row }
@@ -97,7 +101,8 @@ impl Cursor {
         next
     }
 
-    /// The link led a put to this cell, and the put holds what the link held. The walk has met fewer cells than there are.
+    /// The link led a put to this cell, and the put holds what the link held. The walk has met
+    /// fewer cells than there are.
     #[inline(always)]
     pub fn meet(self, local: &mut Local, cell: u32) -> Cursor
         requires { self.walked < CELLS }
@@ -121,7 +126,8 @@ impl Cursor {
         next
     }
 
-    /// The reader was told the version of the cell at hand. A cell without one counts as one of version 1; no list has such a cell.
+    /// The reader was told the version of the cell at hand. A cell without one counts as one of
+    /// version 1; no list has such a cell.
     #[inline(always)]
     pub fn with_version(self, found: u64) -> Cursor
         ensures { result ≡ record self { version = unwrap_or (version_of_word found) 1 } }
@@ -141,7 +147,8 @@ impl Cursor {
         next
     }
 
-    /// The cell at hand, of which a reader has loaded the key and the version and was told this value.
+    /// The cell at hand, of which a reader has loaded the key and the version and was told this
+    /// value.
     #[inline(always)]
     pub fn cell(self, found: u64) -> Cell
         ensures { result ≡ cell_at self (value_of_word found) }
@@ -162,7 +169,8 @@ impl Cursor {
         local.gathered.gather(self.cell(found));
     }
 
-    /// Loads the link at which the reader stands. The answer is what the event was told. Takes no memory.
+    /// Loads the link at which the reader stands. The answer is what the event was told. Takes no
+    /// memory.
     #[inline(always)]
     pub fn load_link(self, shared: &Shared, pass: &mut Pass) -> u64
         requires { (l : Local) × Follows shared.now pass.old (with_cursor Activity.ListFrom self l) }
@@ -184,7 +192,8 @@ impl Cursor {
         load_key(shared, pass, Choice::Go, key)
     }
 
-    /// Loads the version of the cell at hand. The answer is what the event was told. Takes no memory.
+    /// Loads the version of the cell at hand. The answer is what the event was told. Takes no
+    /// memory.
     #[inline(always)]
     pub fn load_version(self, shared: &Shared, pass: &mut Pass) -> u64
         requires { (l : Local) × Follows shared.now pass.old (with_cursor Activity.ListVer self l) }
@@ -206,7 +215,8 @@ impl Cursor {
         load_value(shared, pass, Choice::Go, value)
     }
 
-    /// Loads the link at which a put stands. The answer is what the event was told. Takes no memory.
+    /// Loads the link at which a put stands. The answer is what the event was told. Takes no
+    /// memory.
     #[inline(always)]
     pub fn load_insert_link(self, shared: &Shared, pass: &mut Pass) -> u64
         requires { (l : Local) × Follows shared.now pass.old (with_cursor Activity.InsFrom self l) }
@@ -216,7 +226,8 @@ impl Cursor {
         load_after(shared, pass, Choice::Go, link)
     }
 
-    /// Loads the key of the cell that a put has at hand. The answer is what the event was told. Takes no memory.
+    /// Loads the key of the cell that a put has at hand. The answer is what the event was told.
+    /// Takes no memory.
     #[inline(always)]
     pub fn load_insert_key(self, shared: &Shared, pass: &mut Pass) -> u64
         requires { (l : Local) × Follows shared.now pass.old (with_cursor Activity.InsKey self l) }

@@ -1,7 +1,8 @@
 //! The events by which a scan gets its version and is over, each by its own step of the table.
 //!
-//! A scan loads the clock and stores that it waits with that; it draws a version and exchanges its waiting word for one with the version; and
-//! at its end it stores that the seat makes no scan. What the local does next says which step it is, as in `putting`.
+//! A scan loads the clock and stores that it waits with that; it draws a version and exchanges its
+//! waiting word for one with the version; and at its end it stores that the seat makes no scan.
+//! What the local does next says which step it is, as in `putting`.
 ghost use Rattle.std.specs.Prelude.{◌≡◌};
 ghost use Rattle.kw_world.specs.Sizes.{product};
 ghost use Rattle.kw_world.specs.Step.{next_of};
@@ -130,7 +131,8 @@ fn draw_event(shared: &Shared, pass: &mut Pass, local: &mut Local) -> Happened
     }
 }
 
-/// Makes the next event of a scan that gets its version. The answer is what the event was told: 0 where it stored. Takes no memory.
+/// Makes the next event of a scan that gets its version. The answer is what the event was told: 0
+/// where it stored. Takes no memory.
 #[inline(always)]
 pub fn go_draw(shared: &Shared, pass: &mut Pass, local: &mut Local) -> u64
     requires follows { Follows shared.now pass.old local.old }

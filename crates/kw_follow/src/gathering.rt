@@ -1,8 +1,9 @@
 //! The events that freeze a full row and gather its cells, each by its own step of the table.
 //!
-//! A rebalance looks at each entry of the full row, and freezes it where no version is stamped there; it looks at each scan; and then it
-//! goes along the row's list, with four events for each cell, as a reader does who gathers all. What the local does next says which step it
-//! is, as in `putting`; `building` asks for it.
+//! A rebalance looks at each entry of the full row, and freezes it where no version is stamped
+//! there; it looks at each scan; and then it goes along the row's list, with four events for each
+//! cell, as a reader does who gathers all. What the local does next says which step it is, as in
+//! `putting`; `building` asks for it.
 ghost use Rattle.std.specs.Prelude.{◌≡◌};
 ghost use Rattle.kw_world.specs.Sizes.{product};
 ghost use Rattle.kw_world.specs.Step.{next_of};

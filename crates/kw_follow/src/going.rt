@@ -1,8 +1,9 @@
 //! Single events of a pass, and the local that follows its seat.
 //!
-//! An event is put together in `event`, once: the core's `operation`, a step of the table, and the core's `resume`. Those that every call
-//! makes have a step of their own in `along`, and those that a rebalance makes for each entry and each cell have one by way of `building`. All
-//! that the crates above know of events they know by contracts like those of this file.
+//! An event is put together in `event`, once: the core's `operation`, a step of the table, and the
+//! core's `resume`. Those that every call makes have a step of their own in `along`, and those that
+//! a rebalance makes for each entry and each cell have one by way of `building`. All that the
+//! crates above know of events they know by contracts like those of this file.
 ghost use Rattle.std.specs.Prelude.{◌≡◌, ℕ, true, false, [], Some};
 ghost use Rattle.kw_core.specs.Events.{is_call_in_range};
 ghost use Rattle.kw_world.specs.Local.{resting};
@@ -30,8 +31,8 @@ use kw_world::answer::Answer;
 use kw_world::event::{Choice, StepDone};
 use kw_world::local::Local;
 
-// Makes the operation of the pass's next event with this choice, which is the one that the local names. The answer is what the event
-// was told.
+// Makes the operation of the pass's next event with this choice, which is the one that the local
+// names. The answer is what the event was told.
 #[inline(always)]
 fn ask(shared: &Shared, pass: &mut Pass, local: &Local, choice: Choice) -> u64
     requires ranges { IsLocal product local.now }
@@ -55,7 +56,8 @@ pub(crate) struct Happened {
     pub(crate) done: StepDone,
 }
 
-// Makes the next event of the pass with this choice, and brings the local up to it. It is not the last event of a scan at a row.
+// Makes the next event of the pass with this choice, and brings the local up to it. It is not the
+// last event of a scan at a row.
 pub(crate) fn event(shared: &Shared, pass: &mut Pass, local: &mut Local, choice: Choice) -> Happened
     requires ranges { IsLocal product local.old }
     requires room { HasRoom product local.old }
@@ -94,8 +96,8 @@ pub fn begin(shared: &Shared, pass: &mut Pass, local: &mut Local, call: Call)
     load_own_epoch(shared, pass, local, call);
 }
 
-/// Makes the next event in the middle of a call, other than one that reads cells or ends a scan. The answer is what the event was told.
-/// Takes no memory.
+/// Makes the next event in the middle of a call, other than one that reads cells or ends a scan.
+/// The answer is what the event was told. Takes no memory.
 pub fn go(shared: &Shared, pass: &mut Pass, local: &mut Local, choice: Choice) -> u64
     requires follows { Follows shared.now pass.old local.old }
     requires within { IsWithinCall local.old.activity }
@@ -112,7 +114,8 @@ pub fn go(shared: &Shared, pass: &mut Pass, local: &mut Local, choice: Choice) -
     happened.told
 }
 
-/// Ends a scan: it is then about to leave, with its pairs, or with `Stopped` where the choice is to stop. Takes no memory.
+/// Ends a scan: it is then about to leave, with its pairs, or with `Stopped` where the choice is to
+/// stop. Takes no memory.
 pub fn clear(shared: &Shared, pass: &mut Pass, local: &mut Local, choice: Choice)
     requires follows { Follows shared.now pass.old local.old }
     requires over { (answer : Answer) × (local.old.activity ≡ Activity.ClearScan answer) }
@@ -131,7 +134,8 @@ pub fn clear(shared: &Shared, pass: &mut Pass, local: &mut Local, choice: Choice
     clear_version(shared, pass, local, answer, choice);
 }
 
-/// Ends the call: its last event. The local is then at rest. The answer is the reply, without the pairs of a scan. Takes no memory.
+/// Ends the call: its last event. The local is then at rest. The answer is the reply, without the
+/// pairs of a scan. Takes no memory.
 pub fn end(shared: &Shared, pass: &mut Pass, local: &mut Local) -> Reply
     requires follows { Follows shared.now pass.old local.old }
     requires leaving { (answer : Answer) × (local.old.activity ≡ Activity.Leave answer) }

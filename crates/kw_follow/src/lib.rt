@@ -1,17 +1,21 @@
 //! What follows a call over the table that threads share: one event of it at a time.
 //!
-//! Code follows a seat with a `Local`, which is what the seat knows but for the number of its calls and the pairs of a scan. The
-//! functions here make one event of a pass each, and bring the local up to it by the core's `operation` and `resume`: `begin` a
-//! call's first one, `go` those in the middle of it, `clear` the one at the end of a scan, and `end` the last one. `go_along` makes
-//! those on the way to a row and at its entries, `go_guess` the first one of a way that begins at a guessed row, `go_draw` those by which a scan
-//! gets its version, `go_put` those of a put at its row, `Cursor` those of a reader along the list of its row and of a put that passes cells
-//! there, `go_remembered` those at the cells that a reader remembers and did not meet there, and `go_build` those of a rebalance, most of which
-//! gather the full row and write the new ones: each by its own step of the table. A get that meets nothing on its way leaves its local at rest and goes by
-//! a `Way`, which `end_resting` ends.
+//! Code follows a seat with a `Local`, which is what the seat knows but for the number of its calls
+//! and the pairs of a scan. The functions here make one event of a pass each, and bring the local
+//! up to it by the core's `operation` and `resume`: `begin` a call's first one, `go` those in the
+//! middle of it, `clear` the one at the end of a scan, and `end` the last one. `go_along` makes
+//! those on the way to a row and at its entries, `go_guess` the first one of a way that begins at a
+//! guessed row, `go_draw` those by which a scan gets its version, `go_put` those of a put at its
+//! row, `Cursor` those of a reader along the list of its row and of a put that passes cells there,
+//! `go_remembered` those at the cells that a reader remembers and did not meet there, and
+//! `go_build` those of a rebalance, most of which gather the full row and write the new ones: each
+//! by its own step of the table. A get that meets nothing on its way leaves its local at rest and
+//! goes by a `Way`, which `end_resting` ends.
 //!
-//! `specs/Following.antt` says what it is to follow a pass and what it is that a pass went on, `specs/Calling.antt` how the calls of
-//! a pass go on, and `specs/OwnEvents.antt` which events it made. The crates that put stages of a call together from single events
-//! stand beside each other on this one, and know the table by these contracts alone. Nothing here takes memory.
+//! `specs/Following.antt` says what it is to follow a pass and what it is that a pass went on,
+//! `specs/Calling.antt` how the calls of a pass go on, and `specs/OwnEvents.antt` which events it
+//! made. The crates that put stages of a call together from single events stand beside each other
+//! on this one, and know the table by these contracts alone. Nothing here takes memory.
 #![tactic(auto)]
 
 mod along;

@@ -1,9 +1,11 @@
 //! The events of a put at its row, each by its own step of the table.
 //!
-//! What the local does next says which step it is, and the core says what follows from the word that was found: nothing else is asked.
-//! A put makes nine events for its cell, and then goes along the row's list, with two or three events for each cell that it passes. Code that
-//! passes many cells of lesser keys leaves the put's local as it is meanwhile and makes these events by a `Cursor`, as `cursor` says;
-//! `meet_insert_link` and `meet_insert_key` say what follows from the last of them.
+//! What the local does next says which step it is, and the core says what follows from the word
+//! that was found: nothing else is asked. A put makes nine events for its cell, and then goes along
+//! the row's list, with two or three events for each cell that it passes. Code that passes many
+//! cells of lesser keys leaves the put's local as it is meanwhile and makes these events by a
+//! `Cursor`, as `cursor` says; `meet_insert_link` and `meet_insert_key` say what follows from the
+//! last of them.
 ghost use Rattle.std.specs.Prelude.{◌≡◌, ◌≤◌, true};
 ghost use Rattle.kw_words.specs.Plain.{cell_of_link_word, key_of_word};
 ghost use Rattle.kw_words.specs.declared.sizes.TheConstants.{CELLS};
@@ -303,7 +305,8 @@ fn put_event(shared: &Shared, pass: &mut Pass, local: &mut Local) -> Happened
     }
 }
 
-/// Makes the next event of a put or a delete at its row. The answer is what the event was told: 0 where it stored. Takes no memory.
+/// Makes the next event of a put or a delete at its row. The answer is what the event was told: 0
+/// where it stored. Takes no memory.
 #[inline(always)]
 pub fn go_put(shared: &Shared, pass: &mut Pass, local: &mut Local) -> u64
     requires follows { Follows shared.now pass.old local.old }

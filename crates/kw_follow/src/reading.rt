@@ -1,10 +1,12 @@
-//! The events of a reader at the cells that it remembers, each by its own step of the table, and what follows from the words that it is told.
+//! The events of a reader at the cells that it remembers, each by its own step of the table, and
+//! what follows from the words that it is told.
 //!
-//! A reader goes along the list of its row by a `Cursor`, as `cursor` says; what it remembers of the entries and did not meet there it
-//! reads after it, by one event for the key of a cell and one more for the value where the key is in the range of its call. The end of a row
-//! has no event of its own: it follows the one that ends the walk, or reads the last remembered cell. There the core keeps the pairs of a
-//! scan, which takes memory; code that follows a pass does not, so that it passes the end by itself here. All else of an event is the
-//! core's.
+//! A reader goes along the list of its row by a `Cursor`, as `cursor` says; what it remembers of
+//! the entries and did not meet there it reads after it, by one event for the key of a cell and one
+//! more for the value where the key is in the range of its call. The end of a row has no event of
+//! its own: it follows the one that ends the walk, or reads the last remembered cell. There the
+//! core keeps the pairs of a scan, which takes memory; code that follows a pass does not, so that
+//! it passes the end by itself here. All else of an event is the core's.
 ghost use Rattle.std.specs.Prelude.{◌≡◌};
 ghost use Rattle.kw_words.specs.Plain.{key_of_word, value_of_word};
 ghost use Rattle.kw_world.specs.ReadTransitions.{get_answered, rest_key, row_read, row_scanned, to_rest, gathering};
@@ -73,10 +75,12 @@ fn remembered_event(shared: &Shared, pass: &mut Pass, local: &mut Local) -> u64
     }
 }
 
-/// Makes the next event of a reader that is at a cell which it remembers and did not meet in its row's list, and passes the end of the
-/// row, which has no event of its own. The answer is what the event was told.
+/// Makes the next event of a reader that is at a cell which it remembers and did not meet in its
+/// row's list, and passes the end of the row, which has no event of its own. The answer is what the
+/// event was told.
 ///
-/// Takes no memory: the pairs of a scan are for the caller to take from `gathered`, and `seat` says what they are.
+/// Takes no memory: the pairs of a scan are for the caller to take from `gathered`, and `seat` says
+/// what they are.
 #[inline(always)]
 pub fn go_remembered(shared: &Shared, pass: &mut Pass, local: &mut Local) -> u64
     requires follows { Follows shared.now pass.old local.old }
@@ -115,7 +119,8 @@ fn left_value(local: &mut Local, found: u64)
     go_to_rest(local);
 }
 
-/// The reader's walk along the list is over: it goes on to a cell that it remembers and did not meet, or the row is read. Takes no memory.
+/// The reader's walk along the list is over: it goes on to a cell that it remembers and did not
+/// meet, or the row is read. Takes no memory.
 pub fn go_to_rest(local: &mut Local)
     ensures { CarriesOn to_rest local.old local.new }
 {
@@ -151,7 +156,8 @@ fn answer(local: &mut Local, key: u32)
     local.activity = Activity::Leave(Answer::found(shown));
 }
 
-// A scan goes on with the next row, or is at its end, where there is none or its keys are all above the range.
+// A scan goes on with the next row, or is at its end, where there is none or its keys are all above
+// the range.
 fn go_on(local: &mut Local, upto: u32)
     ensures { CarriesOn (row_scanned upto) local.old local.new }
 {

@@ -1,9 +1,11 @@
 //! How far a get has come to its row, and the events by which it goes there and ends.
 //!
-//! Between calls a local knows nothing. All that a get learns up to the cells of its row is its epoch and a few numbers of rows; so code that meets
-//! nothing else on its way keeps these in a `Way`, which lies in registers, and leaves its local at rest: `on_way` says which local a way stands
-//! for. Where anything else is met, the way is written into the local, and the call goes on by `go_along` and what else follows a local. The looks at
-//! the entries, and the links between rows, are loaded by what `along` has for them, and cells by a `Cursor`.
+//! Between calls a local knows nothing. All that a get learns up to the cells of its row is its
+//! epoch and a few numbers of rows; so code that meets nothing else on its way keeps these in a
+//! `Way`, which lies in registers, and leaves its local at rest: `on_way` says which local a way
+//! stands for. Where anything else is met, the way is written into the local, and the call goes on
+//! by `go_along` and what else follows a local. The looks at the entries, and the links between
+//! rows, are loaded by what `along` has for them, and cells by a `Cursor`.
 ghost use Rattle.std.specs.Prelude.{◌≡◌, ◌<◌};
 ghost use Rattle.kw_world.specs.Answers.{reply_of};
 ghost use Rattle.kw_world.specs.Local.{resting};
@@ -41,7 +43,8 @@ pub struct Way {
 }
 
 impl Way {
-    /// Begins a get of an idle pass: it loads the epoch and announces it, and is to begin its walk. Takes no memory.
+    /// Begins a get of an idle pass: it loads the epoch and announces it, and is to begin its walk.
+    /// Takes no memory.
     #[inline(always)]
     pub fn enter(shared: &Shared, pass: &mut Pass, key: u32) -> Way
         requires table { IsPassOf shared.now pass.old }
@@ -82,7 +85,8 @@ impl Way {
         local.upper = self.upper;
     }
 
-    /// Begins the walk at this row: loads its state. The answer is what the event was told. Takes no memory.
+    /// Begins the walk at this row: loads its state. The answer is what the event was told. Takes
+    /// no memory.
     #[inline(always)]
     pub fn load_state(self, shared: &Shared, pass: &mut Pass, row: u32) -> u64
         requires follows { Follows shared.now pass.old (on_way Activity.Start self) }
@@ -92,7 +96,8 @@ impl Way {
         load_state(shared, pass, Choice::Guess(row), Name::State(row))
     }
 
-    /// Loads the least key of the row at which the walk began. The answer is what the event was told. Takes no memory.
+    /// Loads the least key of the row at which the walk began. The answer is what the event was
+    /// told. Takes no memory.
     #[inline(always)]
     pub fn load_least(self, shared: &Shared, pass: &mut Pass) -> u64
         requires { Follows shared.now pass.old (on_way Activity.GuessMin self) }
@@ -126,8 +131,8 @@ fn store_call_epoch(shared: &Shared, pass: &mut Pass, key: u32, epoch: u64)
     store_pass(shared, pass, Choice::Go, word, pack_pass(Some(epoch)));
 }
 
-/// Ends a call that is about to leave, and whose local was left at rest: its last event. The reply is the one of the answer with which it leaves.
-/// Takes no memory.
+/// Ends a call that is about to leave, and whose local was left at rest: its last event. The reply
+/// is the one of the answer with which it leaves. Takes no memory.
 #[inline(always)]
 pub fn end_resting(shared: &Shared, pass: &mut Pass)
     requires { (l : Local) × (answer : Answer) × Follows shared.now pass.old l

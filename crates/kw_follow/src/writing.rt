@@ -1,8 +1,9 @@
 //! The events that write a new row, each by its own step of the table.
 //!
-//! Each stores one word of the new row at hand: its count, its least key, the link after it and the first link of its list, its entries, and
-//! then four words for each cell that it has and two for each other. No other seat reads the row before it is linked. What the local does
-//! next says which step it is, as in `putting`; `building` asks for it.
+//! Each stores one word of the new row at hand: its count, its least key, the link after it and the
+//! first link of its list, its entries, and then four words for each cell that it has and two for
+//! each other. No other seat reads the row before it is linked. What the local does next says which
+//! step it is, as in `putting`; `building` asks for it.
 ghost use Rattle.std.specs.Prelude.{◌≡◌};
 ghost use Rattle.kw_world.specs.Sizes.{product};
 ghost use Rattle.kw_world.specs.Step.{next_of};

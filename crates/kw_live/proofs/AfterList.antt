@@ -1,4 +1,5 @@
--- Where a reader stands once it has left the list of its row: at a cell that it remembers, or past the row.
+-- Where a reader stands once it has left the list of its row: at a cell that it remembers, or past
+-- the row.
 use Rattle.std.proofs.Common.{◌≡◌, ℕ, Bool, true, false, nat_lt, if◌then◌else◌, Option, Some, None, [], refl, sym, ◌∙◌, ap}
 use Rattle.kw_words.specs.Plain.{key_of_word, value_of_word}
 use Rattle.kw_model.specs.declared.call.Call.{Call}
@@ -104,7 +105,8 @@ remembered_over s p q l m told f after seat at =
 pub rest_over : (k m : Local) → CarriesOn to_rest k m → is_listing m.activity ≡ false
 rest_over k m on = ap (λ (y : Local). is_listing y.activity) (on.carries 0 []) ∙ rest_leaves (record k { number = 0; pairs = [] })
 
--- What stays while a reader reads what it remembers: it has gone on since it came to the list, and is not in it any more.
+-- What stays while a reader reads what it remembers: it has gone on since it came to the list, and
+-- is not in it any more.
 pub record IsOver (s : Shared) (o : Pass) (l : Local) (p : Pass) (m : Local) : Type 0 where
   pub reads : ReadsOn s o l p m
   pub over : is_listing m.activity ≡ false

@@ -1,4 +1,5 @@
--- How a put or a delete begins anew, after a rebalance: it takes its epoch back, loads another one, and announces that.
+-- How a put or a delete begins anew, after a rebalance: it takes its epoch back, loads another one,
+-- and announces that.
 use Rattle.std.proofs.Common.{◌≡◌, ℕ, true, Option, Some, None, refl, ◌∙◌, ap}
 use Rattle.kw_model.specs.declared.call.Call.{Call}
 use Rattle.kw_model.specs.declared.call.Call.TheVariants.{Put, Del, Get, Scan}

@@ -1,4 +1,5 @@
--- How a scan goes on along the list of its row where code holds none of the cells that it has gathered.
+-- How a scan goes on along the list of its row where code holds none of the cells that it has
+-- gathered.
 use Rattle.std.proofs.Common.{◌≡◌, ◌⊎◌, ℕ, ◌-◌, ◌<◌, ◌≤◌, Bool, true, false, nat_lt, if◌then◌else◌, Option, Some, None, List, [], ◌∷◌, ◌++◌, All, length, suc, unwrap_or, arith, refl, sym, ◌∙◌, ap, subst, inl, inr}
 use Rattle.std.proofs.lemmas.Bool.Decides.{nat_tests}
 use Rattle.std.proofs.lemmas.List.Elements.{All-pop, All-tail}

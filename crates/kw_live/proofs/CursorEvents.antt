@@ -1,4 +1,5 @@
--- The events of a reader whose cursor goes along the list of its row: what follows it after each, and what they come to.
+-- The events of a reader whose cursor goes along the list of its row: what follows it after each,
+-- and what they come to.
 use Rattle.std.proofs.Common.{arith, ◌≡◌, ℕ, ◌<◌, ◌≤◌, Some, unwrap_or, Bool, true, false, nat_lt, nat_le, if◌then◌else◌, Option, None, List, refl, sym, ◌∙◌, ap, subst}
 use Rattle.kw_model.specs.declared.call.Call.{Call}
 use Rattle.kw_words.specs.Plain.{key_of_word, value_of_word, version_of_word, cell_of_link_word}

@@ -1,4 +1,5 @@
--- The first events of a call, and those by which a scan gets its version or is stopped, as code makes them.
+-- The first events of a call, and those by which a scan gets its version or is stopped, as code
+-- makes them.
 use Rattle.std.proofs.Common.{ℕ, ◌≡◌, ◌<◌, ◌≤◌, ◌↔◌, ◌⊎◌, inl, inr, Bool, true, false, nat_le, nat_lt, if◌then◌else◌, Option, Some, None, refl, sym, ◌∙◌, ap, subst, arith}
 use Rattle.std.proofs.lemmas.Bool.Decides.{nat_tests}
 use Rattle.std.specs.Prelude.{IfSome}

@@ -1,4 +1,5 @@
--- What a reader has gathered on its walk along a list stands before the cell in hand, in the order of the list.
+-- What a reader has gathered on its walk along a list stands before the cell in hand, in the order
+-- of the list.
 use Rattle.std.proofs.Common.{ℕ, zero, suc, ◌≡◌, inl, inr, true, Option, Some, None, List, [], ◌∷◌, arith, sym, ◌∙◌, subst, slice_get, All}
 use Rattle.std.proofs.lemmas.Bool.Decides.{nat_tests}
 use Rattle.std.proofs.lemmas.Option.{same_Some}
@@ -16,7 +17,7 @@ use Rattle.kw_core.specs.History.{attempt}
 use Rattle.kw_core.specs.Run.{Run}
 use Rattle.kw_core.specs.Stages.{HasCellKey, HasPlace, HasVersion, IsAtListed, IsAtRow, IsListing, IsTaking}
 use Rattle.kw_rows.specs.Rows.{WasLinked}
-use Rattle.kw_shape.proofs.RowsStay.{fresh_linked}
+use Rattle.kw_shape.proofs.LinkedRows.{fresh_linked}
 use Rattle.kw_puts.specs.Builds.{has_place}
 use Rattle.kw_puts.specs.Lists.{list_in}
 use Rattle.kw_puts.proofs.GatheredCells.{place_new, place_old}
@@ -39,7 +40,8 @@ passed_before row (Some a) c d (inl e) b = subst (λ x. Stands row x d) (sym e) 
 passed_before row (Some a) c d (inr s) b = stands_trans row c a d s b
 
 module _ (z : Sizes) (r : Run) (i : Inv z r) (q : ℕ) (linked : WasLinked r.ledger.rows q) where
-  -- a listed cell that has the key and the version of the attempt for which its place stands is such a cell
+  -- a listed cell that has the key and the version of the attempt for which its place stands is
+  -- such a cell
   listed_in : (c : Cell) (p : ℕ) → r.listed q c.place ≡ true → r.origin q c.place ≡ Some p → (attempt r.history p).key ≡ c.key → (attempt r.history p).version ≡ c.version → IsCellIn (list_in (word z r.world) r.listed q) c
   listed_in c p n o k v =
       let x = i.lists.cells q c.place linked n in

@@ -1,4 +1,5 @@
--- How a put goes along the list of its row with its local left as it is: what follows each event, and what they come to.
+-- How a put goes along the list of its row with its local left as it is: what follows each event,
+-- and what they come to.
 use Rattle.std.proofs.Common.{◌≡◌, ℕ, ◌<◌, ◌≤◌, Bool, true, false, nat_lt, ◌==◌, if◌then◌else◌, Option, Some, None, arith, refl, sym, ◌∙◌, ap, subst}
 use Rattle.std.proofs.lemmas.Bool.{lt-ltb}
 use Rattle.kw_model.specs.declared.call.Call.{Call}

@@ -1,4 +1,5 @@
--- The one cell that a get keeps of those that it gathers, and how a get that leaves its local at rest goes along the list of its row.
+-- The one cell that a get keeps of those that it gathers, and how a get that leaves its local at
+-- rest goes along the list of its row.
 use Rattle.std.proofs.Common.{◌≡◌, ℕ, ◌+◌, ◌<◌, ◌≤◌, Bool, true, false, nat_lt, if◌then◌else◌, Option, Some, None, List, [], ◌∷◌, All, length, min, unwrap_or, arith, refl, sym, ◌∙◌, ap, subst}
 use Rattle.std.proofs.lemmas.Bool.Decides.{nat_tests}
 use Rattle.kw_words.specs.Plain.{cell_of_link_word, key_of_word, value_of_word, version_of_word}

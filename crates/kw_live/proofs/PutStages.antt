@@ -1,6 +1,7 @@
--- How a put or a delete goes through its row, event by event: what it has found by then, and that each event takes it on.
+-- How a put or a delete goes through its row, event by event: what it has found by then, and that
+-- each event takes it on.
 use Rattle.std.proofs.lemmas.Bool.Decides.{nat_tests}
-use Rattle.std.proofs.Common.{◌≡◌, ◌≢◌, ℕ, ◌<◌, Bool, true, false, nat_lt, ◌==◌, if◌then◌else◌, Option, Some, None, unwrap_or, arith, refl, sym, ◌∙◌, ap, subst, inl, inr, eq-eqb}
+use Rattle.std.proofs.Common.{◌≡◌, ◌≢◌, ◌⊎◌, ℕ, ◌<◌, Bool, true, false, nat_lt, ◌==◌, if◌then◌else◌, Option, Some, None, unwrap_or, arith, refl, sym, ◌∙◌, ap, subst, inl, inr, eq-eqb}
 use Rattle.kw_words.specs.declared.layout.Name.TheVariants as name
 use Rattle.kw_words.specs.declared.count.Count.{Count}
 use Rattle.kw_words.specs.declared.pend.Pend.{Pend}
@@ -20,7 +21,7 @@ use Rattle.kw_world.specs.Transition.{Outcome, outcome, to}
 use Rattle.kw_words.specs.Plain.{key_of_word, version_of_word, cell_of_link_word, cell_link_word}
 use Rattle.kw_world.specs.Calls.{first_key}
 use Rattle.kw_world.specs.ListTransitions.{insert_from, insert_past, insert_tried, is_newer}
-use Rattle.kw_core.specs.Stages.{IsInserting}
+use Rattle.kw_core.specs.Stages.{IsBalancing, IsDone, IsInserting}
 use Rattle.kw_world.specs.EngageTransitions.{to_rebalance}
 use Rattle.kw_world.specs.PutTransitions.{has_room, given_of, stamp_met}
 use Rattle.kw_world.specs.Sane.{IsGiven}
@@ -40,11 +41,14 @@ use Rattle.kw_live.specs.Meeting.{IsFullCount, MetFull, TellsFull}
 use Rattle.kw_live.specs.Putting.{InsertsFurther, put_ahead}
 use Rattle.kw_core.specs.Stages.{is_putting}
 use Rattle.kw_follow.proofs.OwnEvents.{goes_trans, met_earlier}
+use Rattle.kw_follow.proofs.Reaching.{reaches_none}
+use Rattle.kw_follow.proofs.Untidied.{keeps, untidied}
 use Rattle.kw_follow.proofs.Fronts.{met_laws, met_local, met_told, met_row_below, local_at}
 
 -- What a put has found.
 
--- what it has found where it stands: that its row is full, if it is about to rebalance it. Else it is done, or still at its row
+-- what it has found where it stands: that its row is full, if it is about to rebalance it. Else it
+-- is done, or still at its row
 abbrev pub HasFound : Pass → Pass → Activity → Type 0
 HasFound p q (Leave Done) = Unit {0}
 HasFound p q BalClock = MetFull p q
@@ -189,6 +193,27 @@ module _ (s : Shared) (o p q : Pass) (l m : Local) (rows told : ℕ) (was : Goes
   event PutClear is put = goes_on o q m (Leave Done) _ (next_is rows PutClear l m told is line) tt (omega arith)
   event _ is put = true_false put refl
 
+  -- nor does the put tidy by it
+  work : (a : Activity) → is_putting a ≡ true → ((transition product a 0 Go l).next rows told).local.tidies ≡ l.tidies
+  work PutCount put = keeps product PutCount 0 Go l rows told tt
+  work PutAdd put = keeps product PutAdd 0 Go l rows told tt
+  work PutKey put = refl
+  work PutValue put = refl
+  work Announce put = keeps product Announce 0 Go l rows told tt
+  work PutClock put = refl
+  work Stamp put = keeps product Stamp 0 Go l rows told tt
+  work PutVersion put = refl
+  work InsFrom put = keeps product InsFrom 0 Go l rows told tt
+  work InsKey put = keeps product InsKey 0 Go l rows told tt
+  work InsVer put = keeps product InsVer 0 Go l rows told tt
+  work InsSet put = refl
+  work Insert put = keeps product Insert 0 Go l rows told tt
+  work PutClear put = refl
+  work _ put = true_false put refl
+
+  pub put_tidies : is_putting l.activity ≡ true → m.tidies ≡ l.tidies
+  put_tidies put = ap (λ (k : Local). k.tidies) (local_is rows l.activity l m told refl line) ∙ work l.activity put
+
   -- the same, at the activity where it is
   pub put_goes : is_putting l.activity ≡ true → GoesOn o q m (put_ahead l.activity l.walked l.lost)
   put_goes = event l.activity refl
@@ -213,6 +238,22 @@ pub record IsTrying (s : Shared) (o p : Pass) (l : Local) : Type 0 where
   pub calls : KeepsCalls o p
   pub held : held p ≡ held o
   pub found : HasFound o p l.activity
+  pub untidied : l.tidies ≡ false
+
+-- a put that has come to its row has found nothing yet
+pub tries_first : (s : Shared) (p : Pass) (l : Local) → Follows s p l → l.activity ≡ PutCount → IsTrying s p p l
+tries_first s p l f is = record {
+  goes = (reaches_none f).goes;
+  follows = f;
+  calls = refl;
+  held = refl;
+  found = subst (HasFound p p) (sym is) refl;
+  untidied = untidied s p l f puts;
+}
+  where
+    puts : IsBalancing l.activity ⊎ IsDone l.activity → ⊥
+    puts (inl b) = subst IsBalancing is b
+    puts (inr d) = subst IsDone is d
 
 -- the put is still trying after an event, and has fewer to make
 pub record Tries (s : Shared) (o q : Pass) (m : Local) (ahead : ℕ) : Type 0 where
@@ -224,7 +265,7 @@ pub tries_on : (s : Shared) (o p q : Pass) (l m : Local) (rows told : ℕ) → I
 tries_on s o p q l m rows told t put goes follows calls held met line =
     let on = put_goes s o p q l m rows told t.goes goes met line put in
     record {
-      trying = record { goes = goes_trans s o p q t.goes goes; follows = follows; calls = calls ∙ t.calls; held = held ∙ t.held; found = on.found };
+      trying = record { goes = goes_trans s o p q t.goes goes; follows = follows; calls = calls ∙ t.calls; held = held ∙ t.held; found = on.found; untidied = put_tidies s o p q l m rows told t.goes goes met line put ∙ t.untidied };
       fewer = on.fewer;
     }
 
@@ -237,6 +278,23 @@ inserting_found o q InsSet i = refl
 inserting_found o q Insert i = refl
 inserting_found o q _ i = absurd i
 
+-- and neither rebalances nor is done
+inserting_on : (a : Activity) → IsInserting a → IsBalancing a ⊎ IsDone a → ⊥
+inserting_on a i (inl b) = inserting_works a i b
+  where
+    inserting_works : (a : Activity) → IsInserting a → IsBalancing a → ⊥
+    inserting_works InsFrom i b = b
+    inserting_works InsKey i b = b
+    inserting_works InsVer i b = b
+    inserting_works InsSet i b = b
+    inserting_works Insert i b = b
+    inserting_works _ i b = i
+inserting_on a i (inr d) = inserting_stays a i d
+  where
+    inserting_stays : (a : Activity) → IsInserting a → IsDone a → ⊥
+    inserting_stays (Leave x) i d = i
+    inserting_stays _ i d = d
+
 -- so is it after the events of a walk along the list
 pub tries_further : (s : Shared) (o p q : Pass) (l m : Local) → IsTrying s o p l → InsertsFurther s p l q m → Tries s o q m (put_ahead l.activity l.walked l.lost)
 tries_further s o p q l m t more = record {
@@ -246,6 +304,7 @@ tries_further s o p q l m t more = record {
     calls = more.calls ∙ t.calls;
     held = more.held ∙ t.held;
     found = inserting_found o q m.activity more.inserting;
+    untidied = untidied s q m more.follows (inserting_on m.activity more.inserting);
   };
   fewer = more.fewer;
 }

@@ -1,4 +1,5 @@
--- One whole event of a reader that goes along its row's list, of its pass and of the local that follows it.
+-- One whole event of a reader that goes along its row's list, of its pass and of the local that
+-- follows it.
 use Rattle.std.proofs.Common.{arith, ◌≡◌, ℕ, ◌<◌, suc, true, false, Option, Some, None, List, [], ◌∷◌, ◌++◌, All, refl, sym, ◌∙◌, ap, subst, inl, inr}
 use Rattle.std.proofs.lemmas.List.Elements.{All-nil, All-cons}
 use Rattle.kw_cells.specs.Cells.{pairs_of}

@@ -1,5 +1,5 @@
--- How a reader goes along the list of its row, cell after cell, then reads what it remembers and did not meet, and what follows at the
--- end of the row.
+-- How a reader goes along the list of its row, cell after cell, then reads what it remembers and
+-- did not meet, and what follows at the end of the row.
 use Rattle.std.proofs.Common.{◌≡◌, ◌⊎◌, ℕ, ◌*◌, ◌<◌, ◌≤◌, ◌==◌, Bool, true, false, nat_lt, nat_le, if◌then◌else◌, Option, Some, None, List, [], ◌∷◌, ◌++◌, length, arith, refl, subst, inl, inr, eq-eqb}
 use Rattle.std.proofs.lemmas.Bool.Decides.{nat_tests}
 use Rattle.kw_words.specs.Plain.{key_of_word, value_of_word, cell_of_link_word}
@@ -77,7 +77,8 @@ Ended _ want version m before after = Unit {0}
 abbrev pub IsBelowNext : Local → Type 0
 IsBelowNext l = (n : ℕ) → l.next ≡ Some n → l.want < l.upper
 
--- o follows for a seat that had this call, wanted this key at this version and had these pairs, and it has fewer events to make
+-- o follows for a seat that had this call, wanted this key at this version and had these pairs, and
+-- it has fewer events to make
 pub record Goes (z : Sizes) (call : Option Call) (want version : ℕ) (before : List (ℕ × ℕ)) (ahead : ℕ) (o : Outcome) : Type 0 where
   pub calls : o.local.call ≡ call
   pub drawn : o.local.version ≡ version

@@ -1,4 +1,5 @@
--- How a walk goes from row to row: each of its events takes it on, and the least keys that it knows rise.
+-- How a walk goes from row to row: each of its events takes it on, and the least keys that it knows
+-- rise.
 use Rattle.std.proofs.Common.{◌≡◌, ◌⊎◌, List, ℕ, ◌+◌, ◌*◌, ◌-◌, ◌<◌, ◌≤◌, Bool, true, false, nat_le, nat_lt, if◌then◌else◌, Option, Some, None, arith, refl, sym, ◌∙◌, ap, subst, inl, inr}
 use Rattle.kw_words.specs.declared.layout.Name.TheVariants as name
 use Rattle.kw_words.specs.Link.{link_of}
@@ -88,7 +89,8 @@ links : (l : Local) (next : Option ℕ) → Climbs l (link_met next l).local (2 
 links l None = arrives l (record l { next = None; upper = 0 }) l.call _ refl refl refl refl refl (omega arith)
 links l (Some r) = record { walks = record { call = refl; want = refl; version = refl; has_read = refl; stage = inl refl }; fewer = omega arith }
 
--- the row after it is taken, whose least key is greater and at most the wanted one, or the walk has arrived
+-- the row after it is taken, whose least key is greater and at most the wanted one, or the walk has
+-- arrived
 climbs : (l : Local) (least : ℕ) → l.lower < least → (b : Bool) → nat_le least l.want ≡ b
     → Climbs l (let x : Outcome = if b then to Walk (record l { row = l.candidate; lower = least }) else arrive l.call (record l { next = Some l.candidate; upper = least }) in x).local (2 * (l.want + 1 - l.lower) + 1)
 climbs l least above true h = record { walks = record { call = refl; want = refl; version = refl; has_read = refl; stage = inl refl }; fewer = let below = at_most least l.want h in omega (arith, above, below) }
@@ -253,9 +255,11 @@ module _ {s : Shared} {o p q : Pass} {l m n : Local} (before : IsWalkingOn s o l
 pub begins_on : (s : Shared) (p q r : Pass) (c : Choice) → GoesTo s q r → BeginsWith p q c → BeginsWith p r c
 begins_on s p q r c goes b = record { front = b.front; later = b.later; first = b.first; here = prefix_trans _ _ _ b.here goes.seen }
 
--- Rows that are passed while code may lack what the seat gathered in the row before, which the walk forgets.
+-- Rows that are passed while code may lack what the seat gathered in the row before, which the walk
+-- forgets.
 
--- so far the walk went, and the seat has gathered these cells: code has them too, or the walk is to forget them
+-- so far the walk went, and the seat has gathered these cells: code has them too, or the walk is to
+-- forget them
 pub record IsPassing (s : Shared) (o : Pass) (l : Local) (p : Pass) (m : Local) : Type 0 where
   pub cells : List Cell
   pub on : IsWalkingOn s o l p (walking Walk (record m { gathered = cells }))

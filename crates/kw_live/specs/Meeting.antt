@@ -21,7 +21,8 @@ abbrev pub IsFullCount : Option Count → Type 0
 IsFullCount (Some count) = (count.frozen ≡ true) ⊎ (CELLS ≤ count.given)
 IsFullCount None = ⊥
 
--- what an event of a put at its row was told says that it gets no cell there, or no version for it: the count is full, or its entry is frozen
+-- what an event of a put at its row was told says that it gets no cell there, or no version for it:
+-- the count is full, or its entry is frozen
 abbrev pub TellsFull : Activity → ℕ → Type 0
 TellsFull PutCount told = IsFullCount (count_of told)
 TellsFull PutAdd told = IsFullCount (count_of told)

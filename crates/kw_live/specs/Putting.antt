@@ -24,13 +24,14 @@ abbrev pub Tried : Pass → Pass → ℕ → TryPut → Type 0
 Tried p q row Done = Unit {0}
 Tried p q row (RowFull full) = (full ≡ row) × MetFull p q
 
--- how many events a put makes at most from one exchange that it loses to the next: to load a link, and the key and the version of the
--- cell that it meets there, for each cell; then to load the last link, to store its own, and to exchange
+-- how many events a put makes at most from one exchange that it loses to the next: to load a link,
+-- and the key and the version of the cell that it meets there, for each cell; then to load the last
+-- link, to store its own, and to exchange
 abbrev pub each_walk : ℕ
 each_walk = 3 * CELLS + 4
 
--- how many events a put has yet to make at most, with so many cells met on its walk and so many exchanges lost. It meets fewer cells, and
--- loses fewer exchanges, than the row has cells
+-- how many events a put has yet to make at most, with so many cells met on its walk and so many
+-- exchanges lost. It meets fewer cells, and loses fewer exchanges, than the row has cells
 abbrev pub put_ahead : Activity → ℕ → ℕ → ℕ
 put_ahead PutCount walked lost = CELLS * each_walk + each_walk + 8
 put_ahead PutAdd walked lost = CELLS * each_walk + each_walk + 7
@@ -48,7 +49,8 @@ put_ahead Insert walked lost = (CELLS - lost) * each_walk + 2
 put_ahead PutClear walked lost = 1
 put_ahead _ walked lost = 0
 
--- a put has made events along its row's list, one or more. It still inserts its cell there, and has fewer to make
+-- a put has made events along its row's list, one or more. It still inserts its cell there, and has
+-- fewer to make
 pub record InsertsFurther (s : Shared) (p : Pass) (l : Local) (q : Pass) (m : Local) : Type 0 where
   pub goes : GoesTo s p q
   pub follows : Follows s q m

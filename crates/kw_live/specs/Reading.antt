@@ -94,15 +94,17 @@ pub record IsLookingOn (s : Shared) (o : Pass) (l : Local) (p : Pass) (m : Local
   pub looks : LooksOn l m
   pub fewer : looks_ahead m ≤ looks_ahead l
 
--- a reader with this local, which stays as it is, has looked at the entries from the first of these seats on to that of the other; nothing was
--- announced in those before that one, of which it was told this
+-- a reader with this local, which stays as it is, has looked at the entries from the first of these
+-- seats on to that of the other; nothing was announced in those before that one, of which it was
+-- told this
 pub record LooksUpTo (s : Shared) (p : Pass) (l : Local) (from entry told : ℕ) (q : Pass) : Type 0 where
   pub before : Pass
   pub on : IsLookingOn s p (looking from l) before (looking entry l)
   pub makes : Makes s before Go told q
 
--- a scan that wanted this key goes on with the next row, whose least key it then wants: it is above the one that it wanted and not above
--- the range, and the keys of all pairs of this row are below it
+-- a scan that wanted this key goes on with the next row, whose least key it then wants: it is above
+-- the one that it wanted and not above the range, and the keys of all pairs of this row are below
+-- it
 pub record GoesOn (want upto version : ℕ) (m : Local) : Type 0 where
   pub activity : m.activity ≡ Walk
   pub rises : want < m.want
@@ -110,8 +112,8 @@ pub record GoesOn (want upto version : ℕ) (m : Local) : Type 0 where
   pub read : m.has_read ≡ true
   pub above : All (λ pair. pair.0 < m.want) (pairs_of m.gathered want upto version)
 
--- what a reader of this row gave: a get its answer, and a scan, which wanted this key at this version, the pairs that the gathered cells
--- show
+-- what a reader of this row gave: a get its answer, and a scan, which wanted this key at this
+-- version, the pairs that the gathered cells show
 abbrev pub HasReadAs : Option Call → ℕ → ℕ → Local → List (ℕ × ℕ) → List (ℕ × ℕ) → Type 0
 HasReadAs (Some (Get key)) want version m before after = (m.activity ≡ Leave (answer_found (shown_at m.gathered NEWEST key))) × (after ≡ before)
 HasReadAs (Some (Scan from upto)) want version m before after = (GoesOn want upto version m ⊎ (m.activity ≡ ClearScan Pairs)) × (after ≡ before ++ pairs_of m.gathered want upto version)
@@ -121,7 +123,8 @@ HasReadAs _ want version m before after = Unit {0}
 abbrev pub HasRead : Local → Local → List (ℕ × ℕ) → List (ℕ × ℕ) → Type 0
 HasRead l m before after = HasReadAs l.call l.want l.version m before after
 
--- how many events of reading a reader has yet to make at most, with so many cells met on its walk and so many remembered
+-- how many events of reading a reader has yet to make at most, with so many cells met on its walk
+-- and so many remembered
 abbrev pub read_ahead : Sizes → Activity → ℕ → ℕ → ℕ
 read_ahead z ListFrom walked marks = 4 * (z.cells - walked) + 2 * marks + 1
 read_ahead z ListKey walked marks = 4 * (z.cells - walked) + 2 * marks + 4
@@ -135,8 +138,9 @@ read_ahead z _ walked marks = 0
 abbrev pub reads_ahead : Local → ℕ
 reads_ahead l = read_ahead product l.activity l.walked (length l.remembered)
 
--- the reader went on along the list of its row by one event or more: it still reads the row, for the same wanted key and with no pairs
--- more, or it has read it to its end; and it has fewer events to make
+-- the reader went on along the list of its row by one event or more: it still reads the row, for
+-- the same wanted key and with no pairs more, or it has read it to its end; and it has fewer events
+-- to make
 pub record ReadsOn (s : Shared) (p : Pass) (l : Local) (q : Pass) (m : Local) : Type 0 where
   pub goes : GoesTo s p q
   pub follows : Follows s q m

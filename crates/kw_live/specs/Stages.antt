@@ -8,8 +8,8 @@ use Rattle.kw_world.specs.declared.activity.Activity.TheVariants.{Start, Look, C
 use Rattle.kw_world.specs.declared.event.Choice.{Choice}
 use Rattle.kw_world.specs.declared.event.Choice.TheVariants.{Go, Guess}
 
--- where a call stands once it has entered: on its way to the row of its first key; a scan of no keys is over, and one that found
--- the versions spent leaves
+-- where a call stands once it has entered: on its way to the row of its first key; a scan of no
+-- keys is over, and one that found the versions spent leaves
 abbrev pub HasEntered : Call → Activity → Type 0
 HasEntered (Put key value) Start = Unit {0}
 HasEntered (Del key) Start = Unit {0}

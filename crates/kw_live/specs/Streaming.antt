@@ -15,11 +15,13 @@ use Rattle.kw_follow.specs.Following.{Follows, GoesTo, held}
 use Rattle.kw_follow.specs.declared.cursor.Cursor.{Cursor}
 use Rattle.kw_live.specs.Reading.{GoesOn}
 
--- the local of a scan whose cursor is here and that has gathered these cells, of which code holds none
+-- the local of a scan whose cursor is here and that has gathered these cells, of which code holds
+-- none
 abbrev pub streaming : Cursor → List Cell → Local → Local
 streaming w cells l = with_cursor ListFrom w (record l { gathered = cells })
 
--- nothing is remembered of the row's entries, and another row comes after it, which begins in the range up to this key
+-- nothing is remembered of the row's entries, and another row comes after it, which begins in the
+-- range up to this key
 pub record LeadsOn (upto : ℕ) (l : Local) : Type 0 where
   pub unmarked : l.remembered ≡ []
   pub next : ℕ
@@ -45,7 +47,8 @@ pub record ReadsCell (s : Shared) (p : Pass) (l : Local) (last : ℕ) (w : Curso
   pub value : IsValue c.value
   pub further : w.walked < x.walked
 
--- it has read the row: it has the pairs that these cells show beside those that it had, and goes on with the next row
+-- it has read the row: it has the pairs that these cells show beside those that it had, and goes on
+-- with the next row
 pub record EndsRow (s : Shared) (p : Pass) (l : Local) (upto : ℕ) (cells : List Cell) (q : Pass) (m : Local) : Type 0 where
   pub goes : GoesTo s p q
   pub calls : KeepsCalls p q

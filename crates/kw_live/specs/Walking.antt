@@ -23,7 +23,8 @@ pub record WalksOn (l m : Local) : Type 0 where
   pub has_read : m.has_read ≡ l.has_read
   pub stage : IsUnderWay l.call m.activity
 
--- how many events a walk has yet to make at most, by the least key that it knows and the key that it wants
+-- how many events a walk has yet to make at most, by the least key that it knows and the key that
+-- it wants
 abbrev pub walk_ahead : Activity → ℕ → ℕ → ℕ
 walk_ahead Start lower want = 2 * (want + 1) + 5
 walk_ahead GuessMin lower want = 2 * (want + 1) + 4

@@ -1,4 +1,5 @@
-//! How a call begins, how a put begins anew, how a scan gets its version and is over, and how a call ends.
+//! How a call begins, how a put begins anew, how a scan gets its version and is over, and how a
+//! call ends.
 ghost use Rattle.std.specs.Prelude.{◌≡◌, ◌↔◌, ◌⊎◌, ◌≤◌, false, true, [], Some, IfSome};
 ghost use Rattle.kw_words.specs.declared.sizes.TheConstants.{SPENT};
 ghost use Rattle.kw_world.specs.Answers.{reply_of};
@@ -22,9 +23,10 @@ use kw_world::local::Local;
 
 /// Begins a call of an idle pass, and makes its events up to the walk to its row.
 ///
-/// The epoch is announced, and a scan gets its version. A scan of no keys then stands at its end, and one whose first clock was at
-/// `SPENT` or above is about to leave with `Spent`; every other call is to begin its walk. A put's value is below `VALUE_END`. The
-/// local is at rest before, and then what the seat knows. Takes no memory.
+/// The epoch is announced, and a scan gets its version. A scan of no keys then stands at its end,
+/// and one whose first clock was at `SPENT` or above is about to leave with `Spent`; every other
+/// call is to begin its walk. A put's value is below `VALUE_END`. The local is at rest before, and
+/// then what the seat knows. Takes no memory.
 pub fn enter(shared: &Shared, pass: &mut Pass, local: &mut Local, call: Call)
     requires table { IsPassOf shared.now pass.old }
     requires idle { activity_in pass.old ≡ Activity.Idle }
@@ -47,8 +49,8 @@ pub fn enter(shared: &Shared, pass: &mut Pass, local: &mut Local, call: Call)
     }
 }
 
-/// Takes the announced epoch back, and begins the same put or delete anew, after a rebalance: it announces an epoch again, and is to begin
-/// its walk.
+/// Takes the announced epoch back, and begins the same put or delete anew, after a rebalance: it
+/// announces an epoch again, and is to begin its walk.
 ///
 /// It is the same call: what the pass has seen has no new one. Takes no memory.
 pub fn enter_anew(shared: &Shared, pass: &mut Pass, local: &mut Local)
@@ -127,7 +129,8 @@ pub fn stop_scan(shared: &Shared, pass: &mut Pass, local: &mut Local)
 
 /// Ends a call that is about to leave: the seat announces no epoch any more, and the pass is idle.
 ///
-/// The answer is the reply that is recorded, without the pairs of a scan. The local is then at rest.
+/// The answer is the reply that is recorded, without the pairs of a scan. The local is then at
+/// rest.
 pub fn leave(shared: &Shared, pass: &mut Pass, local: &mut Local) -> Reply
     requires follows { Follows shared.now pass.old local.old }
     requires leaving { (answer : Answer) × (local.old.activity ≡ Activity.Leave answer) }

@@ -1,9 +1,11 @@
 //! A whole get.
 //!
-//! Mostly a get meets nothing on its way: the row that was guessed for its key serves, nothing is announced in the entries there, and it goes along
-//! the row's list. Then all that it learns lies in registers, as a `Way` and a `Cursor`, and the local that its pass lent stays at rest from its begin
-//! to its end. Of the cells of its key it keeps the newest alone. Where it meets anything else, its local is brought up to there, and it goes on as
-//! every other call does, by `locate`, `read_row` and `leave`.
+//! Mostly a get meets nothing on its way: the row that was guessed for its key serves, nothing is
+//! announced in the entries there, and it goes along the row's list. Then all that it learns lies
+//! in registers, as a `Way` and a `Cursor`, and the local that its pass lent stays at rest from its
+//! begin to its end. Of the cells of its key it keeps the newest alone. Where it meets anything
+//! else, its local is brought up to there, and it goes on as every other call does, by `locate`,
+//! `read_row` and `leave`.
 ghost use Rattle.std.specs.Prelude.{◌≡◌, ◌<◌, false, Some};
 ghost use Rattle.kw_model.specs.Map.{found};
 ghost use Rattle.kw_words.specs.State.{state_of};
@@ -33,8 +35,8 @@ use kw_world::local::Local;
 
 /// The value of a key, if it has one: a whole call of an idle pass.
 ///
-/// The walk tries the guessed row first, where there is a guess; that is for speed alone, and no clause rests on it. The local is at rest before and
-/// afterwards. Takes no memory.
+/// The walk tries the guessed row first, where there is a guess; that is for speed alone, and no
+/// clause rests on it. The local is at rest before and afterwards. Takes no memory.
 pub fn get(
     shared: &Shared,
     pass: &mut Pass,
@@ -67,7 +69,8 @@ struct Place {
     way: Way,
 }
 
-// The walk from the guessed row on, as far as no second row is passed: the get has then come to its row, or is still on its way.
+// The walk from the guessed row on, as far as no second row is passed: the get has then come to its
+// row, or is still on its way.
 #[inline(always)]
 fn set_out(shared: &Shared, pass: &mut Pass, way: Way, guess: Option<u32>) -> Place
     requires { Follows shared.now pass.old (on_way Activity.Start way) }
@@ -114,7 +117,8 @@ fn try_row(shared: &Shared, pass: &mut Pass, way: Way, row: u32) -> Place
     step_on(shared, pass, tried)
 }
 
-// The step from a row whose least key is not above the key: to the row's entries, where the next row's least key is above it.
+// The step from a row whose least key is not above the key: to the row's entries, where the next
+// row's least key is above it.
 #[inline(always)]
 fn step_on(shared: &Shared, pass: &mut Pass, way: Way) -> Place
     requires { Follows shared.now pass.old (on_way Activity.Walk way) }

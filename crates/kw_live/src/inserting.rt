@@ -1,7 +1,8 @@
 //! The walk of a put along the list of its row, to where its own cell stands.
 //!
-//! Most of what a put does at its row is to pass the cells of lesser keys. So these are passed in one loop, whose cursor the put's local gets back at
-//! the first other cell, or at the end of the list. The order of cells of one key, and the exchange of the link, are `putting`'s.
+//! Most of what a put does at its row is to pass the cells of lesser keys. So these are passed in
+//! one loop, whose cursor the put's local gets back at the first other cell, or at the end of the
+//! list. The order of cells of one key, and the exchange of the link, are `putting`'s.
 ghost use Rattle.std.specs.Prelude.{◌≡◌};
 ghost use Rattle.kw_follow.specs.Following.{Follows};
 ghost use Rattle.kw_live.specs.Putting.{InsertsFurther};
@@ -13,8 +14,8 @@ use kw_world::activity::Activity;
 use kw_world::calls::first_key;
 use kw_world::local::Local;
 
-/// Goes along the list from the link at which the put stands, past the cells of lesser keys, up to the first other cell or the end of the list, and on
-/// to what the put does there. Takes no memory.
+/// Goes along the list from the link at which the put stands, past the cells of lesser keys, up to
+/// the first other cell or the end of the list, and on to what the put does there. Takes no memory.
 pub(crate) fn pass_lesser(shared: &Shared, pass: &mut Pass, local: &mut Local)
     requires follows { Follows shared.now pass.old local.old }
     requires activity { local.old.activity ≡ Activity.InsFrom }

@@ -1,7 +1,8 @@
 //! The walk of a reader along the list of its row.
 //!
-//! Most of what a get or a scan does is this: so the cells are passed and gathered in one loop, whose cursor the reader's local gets back once the walk
-//! is over. What the reader remembers of the entries and did not meet here, it reads after it, as `reading` says.
+//! Most of what a get or a scan does is this: so the cells are passed and gathered in one loop,
+//! whose cursor the reader's local gets back once the walk is over. What the reader remembers of
+//! the entries and did not meet here, it reads after it, as `reading` says.
 ghost use Rattle.std.specs.Prelude.{◌≡◌, ◌≤◌, false};
 ghost use Rattle.kw_world.specs.Calls.{first_key, last_key};
 ghost use Rattle.kw_follow.specs.Cursors.{with_cursor};
@@ -15,8 +16,9 @@ use kw_world::activity::Activity;
 use kw_world::calls::{first_key, last_key};
 use kw_world::local::Local;
 
-/// Goes along the list from the link at which the reader stands, to the end of the list or to the first cell above the range, and on to
-/// what the reader does after it: it is not in the list any more. Takes no memory.
+/// Goes along the list from the link at which the reader stands, to the end of the list or to the
+/// first cell above the range, and on to what the reader does after it: it is not in the list any
+/// more. Takes no memory.
 pub(crate) fn read_listed(shared: &Shared, pass: &mut Pass, local: &mut Local)
     requires follows { Follows shared.now pass.old local.old }
     requires activity { local.old.activity ≡ Activity.ListFrom }
@@ -50,7 +52,8 @@ pub(crate) fn read_listed(shared: &Shared, pass: &mut Pass, local: &mut Local)
     }
 }
 
-// Reads the cell at hand, whose key is in the range, and gathers it. The answer is the cursor at the link after it.
+// Reads the cell at hand, whose key is in the range, and gathers it. The answer is the cursor at
+// the link after it.
 #[inline(always)]
 fn gather_cell(shared: &Shared, pass: &mut Pass, local: &mut Local, cursor: Cursor) -> Cursor
     requires { Follows shared.now pass.old (with_cursor Activity.ListVer cursor local.old) }

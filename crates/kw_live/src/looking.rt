@@ -1,7 +1,8 @@
 //! The looks of a reader at the entries of its row.
 //!
-//! A put that is announced in an entry may not be listed yet, so a reader looks at the entry of each seat before it goes along the list. Mostly
-//! nothing is announced: such entries are looked at one after the other, and the reader's local is left as it is meanwhile. It is brought up at the
+//! A put that is announced in an entry may not be listed yet, so a reader looks at the entry of
+//! each seat before it goes along the list. Mostly nothing is announced: such entries are looked at
+//! one after the other, and the reader's local is left as it is meanwhile. It is brought up at the
 //! first entry of another kind, or at the last one.
 ghost use Rattle.std.specs.Prelude.{◌≡◌, true, false};
 ghost use Rattle.kw_words.specs.Pend.{pend_of};
@@ -17,8 +18,8 @@ use kw_words::sizes::SEAT_COUNT;
 use kw_world::activity::Activity;
 use kw_world::local::Local;
 
-/// Looks at all entries that the reader has yet to look at, and helps the puts that it meets there. The reader then stands at the first link of the
-/// row's list. Takes no memory.
+/// Looks at all entries that the reader has yet to look at, and helps the puts that it meets there.
+/// The reader then stands at the first link of the row's list. Takes no memory.
 pub(crate) fn look_at_entries(shared: &Shared, pass: &mut Pass, local: &mut Local)
     requires follows { Follows shared.now pass.old local.old }
     requires stage { is_looking local.old.activity ≡ false → local.old.activity ≡ Activity.ListFrom }
@@ -49,7 +50,8 @@ fn look_on(shared: &Shared, pass: &mut Pass, local: &mut Local)
     }
 }
 
-// The looks from the entry of this seat on, to the first at which something is announced, or to the last one.
+// The looks from the entry of this seat on, to the first at which something is announced, or to the
+// last one.
 #[inline(always)]
 fn look_from(shared: &Shared, pass: &mut Pass, local: &mut Local, entry: u32)
     requires follows { Follows shared.now pass.old local.old }
@@ -70,8 +72,9 @@ pub(crate) struct Seen {
     pub(crate) found: u64,
 }
 
-/// Looks at the entries of this row from that of this seat on, to the first at which something is announced, or to the last one. What follows from
-/// that one is still to be said, by `meet_entry`. Takes no memory.
+/// Looks at the entries of this row from that of this seat on, to the first at which something is
+/// announced, or to the last one. What follows from that one is still to be said, by `meet_entry`.
+/// Takes no memory.
 #[inline(always)]
 pub(crate) fn look_along(shared: &Shared, pass: &mut Pass, row: u32, entry: u32) -> Seen
     requires { (l : Local) × Follows shared.now pass.old (looking entry l) × (l.row ≡ row) }

@@ -1,7 +1,8 @@
 //! The walk of a get along the list of its row, whose local lies at rest.
 //!
-//! A get answers by the newest cell of its key. So this keeps that one alone of the cells that the get gathers, and where the get has come along the
-//! list: both lie in registers. That the newest is the first of those that its seat has gathered is for the proof to say.
+//! A get answers by the newest cell of its key. So this keeps that one alone of the cells that the
+//! get gathers, and where the get has come along the list: both lie in registers. That the newest
+//! is the first of those that its seat has gathered is for the proof to say.
 ghost use Rattle.std.specs.Prelude.{◌≡◌};
 ghost use Rattle.kw_cells.specs.Cells.{value_in};
 ghost use Rattle.kw_follow.specs.Following.{Follows};
@@ -14,8 +15,9 @@ use kw_table::{Pass, Shared};
 use kw_words::plain::{unpack_cell_link, unpack_key};
 use kw_world::activity::Activity;
 
-/// Goes along the list of the row of a get that has looked at its entries and remembers nothing of them, to the end of the list or to the first key above
-/// its own. The answer is what the newest cell of its key shows. Takes no memory.
+/// Goes along the list of the row of a get that has looked at its entries and remembers nothing of
+/// them, to the end of the list or to the first key above its own. The answer is what the newest
+/// cell of its key shows. Takes no memory.
 #[inline(always)]
 pub(crate) fn read_newest(shared: &Shared, pass: &mut Pass, way: Way) -> Option<u64>
     requires { Follows shared.now pass.old (on_way Activity.ListFrom way) }

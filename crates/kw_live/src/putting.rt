@@ -1,8 +1,9 @@
 //! The events of a put or a delete at its row.
 //!
-//! The put asks for a cell, writes and announces it, stamps it, and inserts it in the list of the row. Each event is made by its own step, but for those
-//! by which it passes the cells of lesser keys: these are made in one loop, as `inserting` says.
-ghost use Rattle.std.specs.Prelude.{◌≡◌};
+//! The put asks for a cell, writes and announces it, stamps it, and inserts it in the list of the
+//! row. Each event is made by its own step, but for those by which it passes the cells of lesser
+//! keys: these are made in one loop, as `inserting` says.
+ghost use Rattle.std.specs.Prelude.{◌≡◌, false};
 ghost use Rattle.kw_core.specs.Stages.{is_putting};
 ghost use Rattle.kw_follow.specs.Calling.{KeepsCalls};
 ghost use Rattle.kw_follow.specs.Following.{Follows, GoesTo, held};
@@ -25,9 +26,10 @@ pub enum TryPut {
 
 /// Puts the call's cell into the row that it stands at.
 ///
-/// The call is a put or a delete that has arrived at its row; it is then about to leave with `Done`, or to rebalance its row. `RowFull` names that
-/// row, and comes only where an event of this call found the row's count frozen, or at `CELLS` or above, or its own entry there frozen. Takes no
-/// memory.
+/// The call is a put or a delete that has arrived at its row; it is then about to leave with
+/// `Done`, or to rebalance its row. `RowFull` names that row, and comes only where an event of this
+/// call found the row's count frozen, or at `CELLS` or above, or its own entry there frozen. A put
+/// that is done does not tidy its row. Takes no memory.
 pub fn try_put(shared: &Shared, pass: &mut Pass, local: &mut Local) -> TryPut
     requires follows { Follows shared.now pass.old local.old }
     requires activity { local.old.activity ≡ Activity.PutCount }
@@ -35,6 +37,7 @@ pub fn try_put(shared: &Shared, pass: &mut Pass, local: &mut Local) -> TryPut
     ensures follows { Follows shared.now pass.new local.new }
     ensures stands { local.new.activity ≡ stands_after result }
     ensures call { local.new.call ≡ local.old.call }
+    ensures untidied { local.new.tidies ≡ false }
     ensures cause { Tried pass.old pass.new local.old.row result }
     ensures calls { KeepsCalls pass.old pass.new }
     ensures held { held pass.new ≡ held pass.old }

@@ -12,14 +12,17 @@ use kw_table::{Pass, Shared};
 use kw_world::activity::Activity;
 use kw_world::local::Local;
 
-/// Reads the row that the call stands at: its entries first, helping the puts that it meets there, and then its list, and what it
-/// remembers of the entries and did not meet in the list.
+/// Reads the row that the call stands at: its entries first, helping the puts that it meets there,
+/// and then its list, and what it remembers of the entries and did not meet in the list.
 ///
-/// The call is a get or a scan that has arrived at its row, or has looked at some of the entries there. A get is then about to leave with what the newest cell of its key shows. A
-/// scan has the pairs of the row beside those that it had: those that the local's `gathered` cells show, from the key that it wanted on;
-/// it then walks on to the row after this one, with the least key of that row as the wanted one, or is at its end, where there is no such
-/// row or its keys are all above the range. Takes no memory: the pairs are for the caller to take from `gathered`, whose values are below
-/// `VALUE_END` and which stays as it is until the call looks at the entries of its next row.
+/// The call is a get or a scan that has arrived at its row, or has looked at some of the entries
+/// there. A get is then about to leave with what the newest cell of its key shows. A scan has the
+/// pairs of the row beside those that it had: those that the local's `gathered` cells show, from
+/// the key that it wanted on; it then walks on to the row after this one, with the least key of
+/// that row as the wanted one, or is at its end, where there is no such row or its keys are all
+/// above the range. Takes no memory: the pairs are for the caller to take from `gathered`, whose
+/// values are below `VALUE_END` and which stays as it is until the call looks at the entries of its
+/// next row.
 pub fn read_row(shared: &Shared, pass: &mut Pass, local: &mut Local)
     requires follows { Follows shared.now pass.old local.old }
     requires stage { is_looking local.old.activity ≡ false → local.old.activity ≡ Activity.ListFrom }
@@ -35,7 +38,8 @@ pub fn read_row(shared: &Shared, pass: &mut Pass, local: &mut Local)
     read_list(shared, pass, local);
 }
 
-/// Looks at the entries of the row at which the call stands, as `read_row` does. The call is then about to go along the row's list. Takes no memory.
+/// Looks at the entries of the row at which the call stands, as `read_row` does. The call is then
+/// about to go along the row's list. Takes no memory.
 pub fn look_at_row(shared: &Shared, pass: &mut Pass, local: &mut Local)
     requires follows { Follows shared.now pass.old local.old }
     requires stage { is_looking local.old.activity ≡ false → local.old.activity ≡ Activity.ListFrom }
@@ -53,8 +57,8 @@ pub fn look_at_row(shared: &Shared, pass: &mut Pass, local: &mut Local)
     look_at_entries(shared, pass, local);
 }
 
-/// Goes along the list of a row whose entries the call has looked at, and reads what it remembers of them, to the end of the row, as `read_row` does.
-/// Takes no memory.
+/// Goes along the list of a row whose entries the call has looked at, and reads what it remembers
+/// of them, to the end of the row, as `read_row` does. Takes no memory.
 pub fn read_list(shared: &Shared, pass: &mut Pass, local: &mut Local)
     requires follows { Follows shared.now pass.old local.old }
     requires activity { local.old.activity ≡ Activity.ListFrom }
@@ -72,7 +76,8 @@ pub fn read_list(shared: &Shared, pass: &mut Pass, local: &mut Local)
     }
 }
 
-// One event at a cell that the reader remembers and did not meet in the list. It does not come back to the list.
+// One event at a cell that the reader remembers and did not meet in the list. It does not come back
+// to the list.
 #[inline(always)]
 fn read_on(shared: &Shared, pass: &mut Pass, local: &mut Local)
     requires follows { Follows shared.now pass.old local.old }

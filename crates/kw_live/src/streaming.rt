@@ -1,9 +1,11 @@
 //! The walk of a scan along the list of its row, of which each cell is handed on as it is read.
 //!
-//! A scan that goes on to a next row needs what it gathered no more: the walk to that row forgets it. So where nothing is remembered of the entries,
-//! and the next row is known to begin in the range, no cell is written down. Whoever reads the row is told one cell after the other, in the
-//! order of the list, and keeps the cursor. That these are the cells that the scan's seat has gathered, and that the pairs which they show are those
-//! that the scan then has, is for the clauses to say. The walk to the next row is `pass_rows`'s.
+//! A scan that goes on to a next row needs what it gathered no more: the walk to that row forgets
+//! it. So where nothing is remembered of the entries, and the next row is known to begin in the
+//! range, no cell is written down. Whoever reads the row is told one cell after the other, in the
+//! order of the list, and keeps the cursor. That these are the cells that the scan's seat has
+//! gathered, and that the pairs which they show are those that the scan then has, is for the
+//! clauses to say. The walk to the next row is `pass_rows`'s.
 ghost use Rattle.std.specs.Prelude.{◌≡◌, ◌≤◌, [], List, IsTrue, MatchOption};
 ghost use Rattle.kw_cells.specs.declared.cell.Cell.{Cell as AnyCell};
 ghost use Rattle.kw_live.specs.Streaming.{EndsRow, LeadsOn, ReadsCell, Streams};
@@ -16,8 +18,9 @@ use kw_words::plain::{unpack_cell_link, unpack_key};
 use kw_world::activity::Activity;
 use kw_world::local::Local;
 
-/// Whether the cells of the row at whose list a scan up to this key stands may be handed on one by one: nothing was gathered of it, nothing is
-/// remembered of its entries, and another row comes after it, which begins in the range.
+/// Whether the cells of the row at whose list a scan up to this key stands may be handed on one by
+/// one: nothing was gathered of it, nothing is remembered of its entries, and another row comes
+/// after it, which begins in the range.
 #[inline(always)]
 pub fn leads_on(local: &Local, upto: u32) -> bool
     ensures leads { IsTrue result → LeadsOn upto local.now }
@@ -29,11 +32,12 @@ pub fn leads_on(local: &Local, upto: u32) -> bool
         && local.gathered.as_slice().is_empty()
 }
 
-/// Goes on along the list to the next cell whose key is in the range from `first` to `upto`, that of the scan's call. The answer is that cell, and
-/// the cursor at the link after it; none where the row has no more.
+/// Goes on along the list to the next cell whose key is in the range from `first` to `upto`, that
+/// of the scan's call. The answer is that cell, and the cursor at the link after it; none where the
+/// row has no more.
 ///
-/// Each cell that is told stands behind those told before it. After the last one the scan is on its walk to the next row, and wants the least key of that. Takes no
-/// memory.
+/// Each cell that is told stands behind those told before it. After the last one the scan is on its
+/// walk to the next row, and wants the least key of that. Takes no memory.
 #[inline(always)]
 pub fn next_cell(
     shared: &Shared,

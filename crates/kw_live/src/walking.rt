@@ -22,10 +22,12 @@ use kw_world::local::Local;
 
 /// Walks to the row whose range holds the key that the call wants.
 ///
-/// A walk that is yet to begin begins at the guessed row where there is a guess, where that is a row of the table, in the normal state,
-/// and one whose least key is not above the key; every other walk begins at the first row. Its first event has the choice
-/// `Guess(row)` where there is a guess, and else `Go`. The call then stands at its row: the local's `row`, `next` and `upper` are that row, the one
-/// after it and the least key of that one. Least keys rise from row to row, so that the walk ends. Takes no memory.
+/// A walk that is yet to begin begins at the guessed row where there is a guess, where that is a
+/// row of the table, in the normal state, and one whose least key is not above the key; every other
+/// walk begins at the first row. Its first event has the choice `Guess(row)` where there is a
+/// guess, and else `Go`. The call then stands at its row: the local's `row`, `next` and `upper` are
+/// that row, the one after it and the least key of that one. Least keys rise from row to row, so
+/// that the walk ends. Takes no memory.
 pub fn locate(shared: &Shared, pass: &mut Pass, local: &mut Local, guess: Option<u32>)
     requires follows { Follows shared.now pass.old local.old }
     requires going { is_walking local.old.activity ≡ true }
@@ -85,7 +87,8 @@ fn walk(shared: &Shared, pass: &mut Pass, local: &mut Local)
     }
 }
 
-// The events from row to row, or the next one of a call that tries a guessed row or begins at the first one.
+// The events from row to row, or the next one of a call that tries a guessed row or begins at the
+// first one.
 #[inline(always)]
 fn walk_on(shared: &Shared, pass: &mut Pass, local: &mut Local)
     requires follows { Follows shared.now pass.old local.old }
@@ -103,10 +106,11 @@ fn walk_on(shared: &Shared, pass: &mut Pass, local: &mut Local)
     }
 }
 
-/// Goes from row to row, up to the one whose range holds the wanted key. Of the local the row and its least key are brought up alone, where the walk
-/// passes a row.
+/// Goes from row to row, up to the one whose range holds the wanted key. Of the local the row and
+/// its least key are brought up alone, where the walk passes a row.
 ///
-/// What a get or a scan gathered in the row before, which the walk forgets, need not stand in the local. Takes no memory.
+/// What a get or a scan gathered in the row before, which the walk forgets, need not stand in the
+/// local. Takes no memory.
 #[inline(always)]
 pub fn pass_rows(shared: &Shared, pass: &mut Pass, local: &mut Local)
     requires follows { (cells : List Cell)
@@ -149,7 +153,8 @@ pub(crate) fn linked(found: u64) -> Option<u32>
     }
 }
 
-// Whether the call is on its way along the rows. This is asked at each event, so it is no call of the core's `Stage`.
+// Whether the call is on its way along the rows. This is asked at each event, so it is no call of
+// the core's `Stage`.
 #[inline(always)]
 fn is_walking(activity: &Activity) -> bool
     ensures { result ≡ is_walking activity.now }

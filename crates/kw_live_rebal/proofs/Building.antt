@@ -16,7 +16,7 @@ use Rattle.kw_follow.specs.OwnEvents.{MetAs}
 use Rattle.kw_follow.specs.Within.{IsWithinCall}
 use Rattle.kw_follow.proofs.OwnEvents.{goes_trans}
 use Rattle.kw_live_rebal.specs.Standing.{GoesOn, IsBuilding}
-use Rattle.kw_live_rebal.proofs.Stages.{keeps_met}
+use Rattle.kw_live_rebal.proofs.Stages.{keeps_met, stays_untidied}
 
 -- each of its events is one in the middle of a call
 pub building_within : (a : Activity) → IsBuilding a → IsWithinCall a
@@ -44,5 +44,6 @@ event_goes_on s p q l m rows told goes follows calls holds met line building o r
   follows = follows;
   calls = calls ∙ r.calls;
   held = holds ∙ r.held;
-  met = keeps_met s o p q l m Go rows told r.goes goes met line r.met (λ is. subst IsBuilding is building) (λ is. subst IsBuilding is building) (λ x is. subst IsBuilding is building);
+  met = keeps_met s o p q l m Go rows told r.goes goes met line r.untidied r.met (λ is. subst IsBuilding is building) (λ is. subst IsBuilding is building) (λ x is. subst IsBuilding is building);
+  untidied = stays_untidied o p l m Go rows told line r.met (λ is. subst IsBuilding is building) (λ x is. subst IsBuilding is building) r.untidied;
 }

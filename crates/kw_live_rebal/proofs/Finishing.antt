@@ -1,7 +1,8 @@
 -- The end of a rebalance that won: its new rows are made normal, and its row is retired.
 use Rattle.std.proofs.Common.{◌≡◌, ℕ, ◌+◌, Bool, true, false, refl, sym, ◌∙◌, ap, subst, if◌then◌else◌}
 use Rattle.kw_world.specs.declared.activity.Activity.{Activity}
-use Rattle.kw_world.specs.declared.activity.Activity.TheVariants.{Again, Normalise, Number, Retire}
+use Rattle.kw_world.specs.declared.activity.Activity.TheVariants.{Again, Leave, Normalise, Number, Retire}
+use Rattle.kw_world.specs.declared.answer.Answer.TheVariants.{Done}
 use Rattle.kw_world.specs.declared.event.Choice.TheVariants.{Go}
 use Rattle.kw_world.specs.declared.event.StepDone.TheVariants.{Moved}
 use Rattle.kw_world.specs.declared.local.Local.{Local}
@@ -15,6 +16,7 @@ use Rattle.kw_table.specs.declared.shared.Shared.{Shared}
 use Rattle.kw_follow.specs.Calling.{KeepsCalls}
 use Rattle.kw_follow.specs.Following.{Follows, GoesTo, held}
 use Rattle.kw_follow.specs.Within.{IsWithinCall}
+use Rattle.kw_follow.proofs.Untidied.{IsAtWork, keeps}
 
 -- where it stands
 abbrev pub IsFinishing : Activity → Type 0
@@ -31,6 +33,7 @@ pub record Finishes (s : Shared) (o p : Pass) (l : Local) : Type 0 where
   pub calls : KeepsCalls o p
   pub held : held p ≡ held o
   pub stands : IsFinishing l.activity
+  pub untidied : l.tidies ≡ false
 
 -- each is one in the middle of a call
 pub finishing_within : (a : Activity) → IsFinishing a → IsWithinCall a
@@ -40,7 +43,7 @@ finishing_within Retire h = tt
 finishing_within Again h = tt
 finishing_within _ h = absurd h
 
-module _ (rows : ℕ) (l m : Local) (told : ℕ) (line : outcome m Moved ≡ next_of product rows Go l told) where
+module _ (rows : ℕ) (l m : Local) (told : ℕ) (line : outcome m Moved ≡ next_of product rows Go l told) (undone : l.tidies ≡ false) where
   activity_is : (a : Activity) → l.activity ≡ a → m.activity ≡ ((transition product a 0 Go l).next rows told).local.activity
   unfolding transition_of
   activity_is a is = ap (λ (x : Outcome). x.local.activity) (line ∙ ap (λ b. (transition product b 0 Go l).next rows told) is)
@@ -50,13 +53,30 @@ module _ (rows : ℕ) (l m : Local) (told : ℕ) (line : outcome m Moved ≡ nex
   normalises true = tt
   normalises false = tt
 
+  -- a put that is not done tries again
+  ends : (b : Bool) → b ≡ false → IsFinishing (if b then Leave Done else Again)
+  ends true e = let x : true ≡ false = e in absurd (cc)
+  ends false e = tt
+
   event : (a : Activity) → l.activity ≡ a → IsFinishing a → (a ≡ Again → ⊥) → IsFinishing m.activity
   event Normalise is h n = subst IsFinishing (sym (activity_is Normalise is)) (normalises (has_more l))
   event Number is h n = subst IsFinishing (sym (activity_is Number is)) tt
-  event Retire is h n = subst IsFinishing (sym (activity_is Retire is)) tt
+  event Retire is h n = subst IsFinishing (sym (activity_is Retire is)) (ends l.tidies undone)
   event Again is h n = absurd (n refl)
   event _ is h n = absurd h
 
   -- an event goes on to where the end still stands
   pub finishes_on : IsFinishing l.activity → (l.activity ≡ Again → ⊥) → IsFinishing m.activity
   finishes_on = event l.activity refl
+
+  -- and leaves the put as little done as before
+  works : (a : Activity) → IsFinishing a → (a ≡ Again → ⊥) → IsAtWork a
+  works Normalise h n = tt
+  works Number h n = tt
+  works Retire h n = tt
+  works Again h n = absurd (n refl)
+  works _ h n = absurd h
+
+  pub finishes_untidied : IsFinishing l.activity → (l.activity ≡ Again → ⊥) → m.tidies ≡ false
+  unfolding transition_of
+  finishes_untidied h n = ap (λ (x : Outcome). x.local.tidies) line ∙ keeps product l.activity 0 Go l rows told (works l.activity h n) ∙ undone

@@ -11,7 +11,7 @@ use Rattle.kw_world.specs.Sizes.{product}
 use Rattle.kw_core.specs.Events.{event}
 use Rattle.kw_laws.specs.Causes.{AskedAll}
 use Rattle.kw_laws.proofs.CausesHold.{standing_holds}
-use Rattle.kw_laws.proofs.Worlds.{world-local}
+use Rattle.kw_shape.proofs.Worlds.{world-local}
 use Rattle.kw_table.specs.declared.pass.Pass.{Pass}
 use Rattle.kw_table.specs.declared.shared.Shared.{Shared}
 use Rattle.kw_table.specs.Passes.{view}
@@ -81,7 +81,8 @@ module _ {s : Shared} (o : Pass) {p q : Pass} (goes : GoesTo s p q) where
 
 -- For want of rows.
 
--- a pass that began a search since, and is about to leave for want of rows, asked for each row in a search since
+-- a pass that began a search since, and is about to leave for want of rows, asked for each row in a
+-- search since
 pub no_rows_from : {s : Shared} {o p : Pass} {l : Local} → GoesTo s o p → Follows s p l → l.activity ≡ Leave answer.NoRows → MetSearch o p → MetNoRows o p
 no_rows_from {s} {o} {p} {l} goes f is m =
     let why = standing_holds product (view p).opening p.known.opens (view p).seen p.known.valid (view p).number (local_in (view p)) (world-local product (view p).opening (view p).seen (view p).number (seat_within p)) (same_activity s p l f ∙ is) in

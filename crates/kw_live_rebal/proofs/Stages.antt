@@ -19,7 +19,7 @@ use Rattle.kw_words.specs.Scan.{scan_of}
 use Rattle.kw_words.specs.State.{state_of, state_word}
 use Rattle.kw_world.specs.declared.answer.Answer.{Answer}
 use Rattle.kw_world.specs.declared.activity.Activity.{Activity}
-use Rattle.kw_world.specs.declared.activity.Activity.TheVariants.{Leave, Again, BalClock, BalEpoch, BalState, BalNormal, Engage, MarkLink, Decide, FreezeCount, FreezeLook, Freeze, ScanLook, HelpDraw, HelpSettle, TakeFrom, TakeKey, TakeVersion, TakeValue, TakeRestKey, TakeRestValue, SeekFirst, Seek, SeekPass, Reclaim, TakeRow, GiveBack, WriteCount, WriteMin, WriteNext, WriteFirst, WritePend, WriteKey, WriteValue, WriteVersion, WriteAfter, Before, BeforeGuess, BeforeHead, BeforeLink, BeforeMin, Replace, Normalise}
+use Rattle.kw_world.specs.declared.activity.Activity.TheVariants.{Leave, Again, BalClock, BalEpoch, BalState, BalNormal, Engage, MarkLink, Decide, FreezeCount, FreezeLook, Freeze, ScanLook, HelpDraw, HelpSettle, TakeFrom, TakeKey, TakeVersion, TakeValue, TakeRestKey, TakeRestValue, SeekFirst, Seek, SeekPass, Reclaim, TakeRow, GiveBack, WriteCount, WriteMin, WriteNext, WriteFirst, WritePend, WriteKey, WriteValue, WriteVersion, WriteAfter, Before, BeforeGuess, BeforeHead, BeforeLink, BeforeMin, Replace, Normalise, Number, Retire}
 use Rattle.kw_world.specs.declared.event.Choice.{Choice}
 use Rattle.kw_world.specs.declared.event.Choice.TheVariants.{Begin, Go, Guess, Stop}
 use Rattle.kw_world.specs.declared.event.Event.{Event}
@@ -29,7 +29,9 @@ use Rattle.kw_world.specs.declared.marks.Mark.{Mark}
 use Rattle.kw_world.specs.declared.opening.Opening.{Opening}
 use Rattle.kw_world.specs.declared.rebalance.Afterwards.{Afterwards}
 use Rattle.kw_world.specs.declared.rebalance.Afterwards.TheVariants.{TryAgain, Refuse, MoveLeft}
-use Rattle.kw_world.specs.EngageTransitions.{decided, engaged, is_alone, state_met}
+use Rattle.kw_world.specs.EngageTransitions.{again, decided, engaged, is_alone, refuse, state_met}
+use Rattle.kw_world.specs.Local.{without_rebalance, without_rows}
+use Rattle.kw_world.specs.declared.answer.Answer.TheVariants.{Done, NoRows, Spent}
 use Rattle.kw_world.specs.FreezeTransitions.{entry_tried, freeze_met, marking, needing, scan_helped, scan_met, to_freeze_look, to_scan_look}
 use Rattle.kw_world.specs.Marks.{least_mark}
 use Rattle.kw_world.specs.Operation.{told_by}
@@ -39,7 +41,7 @@ use Rattle.kw_world.specs.Sizes.{product}
 use Rattle.kw_world.specs.Step.{next_of, transition_of, word}
 use Rattle.kw_world.specs.Table.{transition}
 use Rattle.kw_world.specs.TakeTransitions.{keeping, left_of, take_met}
-use Rattle.kw_world.specs.Transition.{Outcome, outcome, row_linked, row_or_first}
+use Rattle.kw_world.specs.Transition.{Outcome, leave, outcome, row_linked, row_or_first, to}
 use Rattle.kw_world.specs.WalkTransitions.{offered}
 use Rattle.kw_world.specs.WorldView.{WorldView}
 use Rattle.kw_world.specs.WriteTransitions.{infant_cells, row_written, to_write_cell, to_write_entry, unmarked_link}
@@ -59,9 +61,11 @@ use Rattle.kw_follow.specs.OwnEvents.{Met, MetAs, knew, transition_after}
 use Rattle.kw_follow.proofs.Fronts.{local_at, met_laws, met_local, met_told}
 use Rattle.kw_live_rebal.specs.Rebalancing.{IsRetired, IsWalkEnd, MetReplaced, MetSpent, MetWon, TellsReplaced}
 use Rattle.kw_live_rebal.specs.Standing.{HasMet, MetSearch}
+use Rattle.kw_follow.proofs.Untidied.{IsAtWork, balancing_works, keeps}
 use Rattle.kw_live_rebal.proofs.Meets.{replaced_on, search_on}
 
--- what an event is told by the line of this table, for this seat and this choice, after these events
+-- what an event is told by the line of this table, for this seat and this choice, after these
+-- events
 abbrev tells : Opening → ℕ → List Event → Choice → ℕ
 tells o n es c = told_by (transition_after o es n c).operation.action (word product (world product o es) (transition_after o es n c).operation.name)
 
@@ -69,7 +73,7 @@ tells o n es c = told_by (transition_after o es n c).operation.action (word prod
 pub record Stands (o q : Pass) (x : Outcome) : Type 0 where
   pub met : HasMet o q x.local.activity x.local
 
-module _ (s : Shared) (o p q : Pass) (l m : Local) (c : Choice) (rows told : ℕ) (was : GoesTo s o p) (goes : GoesTo s p q) (met : MetAs p q l c told) (line : outcome m Moved ≡ next_of product rows (offered rows c) l told) where
+module _ (s : Shared) (o p q : Pass) (l m : Local) (c : Choice) (rows told : ℕ) (was : GoesTo s o p) (goes : GoesTo s p q) (met : MetAs p q l c told) (line : outcome m Moved ≡ next_of product rows (offered rows c) l told) (undone : l.tidies ≡ false) where
   abbrev Then : Outcome → Type 0
   Then x = Stands o q x
 
@@ -117,7 +121,8 @@ module _ (s : Shared) (o p q : Pass) (l m : Local) (c : Choice) (rows told : ℕ
   searches_here : l.activity ≡ SeekFirst → MetSearch o q
   searches_here is = record { choice = c; told = told; met = since SeekFirst is }
 
-  -- a row that is met in the world before the event, as the pass knew it at first, is met in the world of its laws
+  -- a row that is met in the world before the event, as the pass knew it at first, is met in the
+  -- world of its laws
   met_there : IsMet (word product (world product (view o).opening met.met.front)) (knew o met.met.front).row → IsMet (word product (history product (view p).opening met.met.front).world) (local_at p met.met.front).row
   met_there x =
       let at : IsMet (word product (world product (view o).opening met.met.front)) (local_at p met.met.front).row = subst (λ (k : Local). IsMet (word product (world product (view o).opening met.met.front)) k.row) knew_same x in
@@ -145,7 +150,8 @@ module _ (s : Shared) (o p q : Pass) (l m : Local) (c : Choice) (rows told : ℕ
       let at : (local_at p met.met.front).activity ≡ a = met.met.activity ∙ is in
       subst (λ w. IsMetState a (state_of w)) (sym tells) (subst (λ b. IsMetState b (state_of (word product (history product (view p).opening met.met.front).world (name.State (local_at p met.met.front).row)))) at (law (subst IsStated (sym at) matters)))
 
-  -- where the walk to the row before the full one meets the end of the list, the full row is in it no more
+  -- where the walk to the row before the full one meets the end of the list, the full row is in it
+  -- no more
   walk_ends_here : (is : l.activity ≡ BeforeLink) → row_linked (link_of told) ≡ None → IsUnlinked BeforeLink
   unfolding here
   walk_ends_here is none = λ u x.
@@ -161,52 +167,68 @@ module _ (s : Shared) (o p q : Pass) (l m : Local) (c : Choice) (rows told : ℕ
 
   -- What follows without an event of its own.
 
+  -- a put that is not done tries again where its rebalance is over
+  begins_anew : (k : Local) → k.tidies ≡ false → MetReplaced o q → Then (again k)
+  begins_anew k t h = undone_by k.tidies t
+    where
+      undone_by : (b : Bool) → b ≡ false → Then (to (if b then Leave Done else Again) (without_rows (without_rebalance k)))
+      undone_by true e = let x : true ≡ false = e in absurd (cc)
+      undone_by false e = record { met = h }
+
+  -- or is refused
+  is_refused : (x : Answer) (k : Local) → k.tidies ≡ false → HasMet o q (Leave x) (leave x (without_rebalance k)).local → Then (refuse x k)
+  is_refused x k t h = undone_by k.tidies t
+    where
+      undone_by : (b : Bool) → b ≡ false → Then (leave (if b then Done else x) (without_rebalance k))
+      undone_by true e = let x : true ≡ false = e in absurd (cc)
+      undone_by false e = record { met = h }
+
   -- rows that were taken are given back, and the call is refused
-  gives_up : (k : Local) → MetSearch o q → Then (give_back Refuse k)
-  gives_up k h = both (nat_lt 0 (length k.rebalance.taken)) _ _ (λ e. record { met = (λ i. h, λ i. let x : Refuse ≡ TryAgain = i in absurd (cc)) }) (λ e. record { met = h })
+  gives_up : (k : Local) → k.tidies ≡ false → MetSearch o q → Then (give_back Refuse k)
+  gives_up k t h = both (nat_lt 0 (length k.rebalance.taken)) _ _ (λ e. record { met = (λ i. h, λ i. let x : Refuse ≡ TryAgain = i in absurd (cc)) }) (λ e. is_refused NoRows k t h)
 
   -- or the call tries again
-  tries_again : (k : Local) → MetReplaced o q → Then (give_back TryAgain k)
-  tries_again k h = both (nat_lt 0 (length k.rebalance.taken)) _ _ (λ e. record { met = (λ i. let x : TryAgain ≡ Refuse = i in absurd (cc), λ i. h) }) (λ e. record { met = h })
+  tries_again : MetReplaced o q → Then (give_back TryAgain l)
+  tries_again h = both (nat_lt 0 (length l.rebalance.taken)) _ _ (λ e. record { met = (λ i. let x : TryAgain ≡ Refuse = i in absurd (cc), λ i. h) }) (λ e. begins_anew l undone h)
 
   -- or the rebalance begins anew, at the row before
   moves_left : (k : Local) → Then (give_back MoveLeft k)
   moves_left k = both (nat_lt 0 (length k.rebalance.taken)) _ _ (λ e. record { met = (λ i. let x : MoveLeft ≡ Refuse = i in absurd (cc), λ i. let x : MoveLeft ≡ TryAgain = i in absurd (cc)) }) (λ e. record { met = tt })
 
   -- the next row is asked, or all were
-  goes_on : (k : Local) → MetSearch o q → Then (to_seek rows k)
-  goes_on k h = both (nat_lt k.rebalance.asked rows) _ _ (λ e. record { met = h }) (λ e. gives_up k h)
+  goes_on : (k : Local) → k.tidies ≡ false → MetSearch o q → Then (to_seek rows k)
+  goes_on k t h = both (nat_lt k.rebalance.asked rows) _ _ (λ e. record { met = h }) (λ e. gives_up k t h)
 
-  seeks : (x : Option State) (k : Local) → MetSearch o q → Then (seek_met rows x k)
-  seeks (Some Free) k h = record { met = h }
-  seeks (Some (Infant seat)) k h = goes_on k h
-  seeks (Some Normal) k h = goes_on k h
-  seeks (Some (Leader count)) k h = goes_on k h
-  seeks (Some (Follower leader)) k h = goes_on k h
-  seeks (Some (Retired number)) k h = record { met = h }
-  seeks None k h = goes_on k h
+  seeks : (x : Option State) (k : Local) → k.tidies ≡ false → MetSearch o q → Then (seek_met rows x k)
+  seeks (Some Free) k t h = record { met = h }
+  seeks (Some (Infant seat)) k t h = goes_on k t h
+  seeks (Some Normal) k t h = goes_on k t h
+  seeks (Some (Leader count)) k t h = goes_on k t h
+  seeks (Some (Follower leader)) k t h = goes_on k t h
+  seeks (Some (Retired number)) k t h = record { met = h }
+  seeks None k t h = goes_on k t h
 
   first_seeks : (d : Choice) → MetSearch o q → Then ((seek_first_transition d l).next rows told)
-  first_seeks (Begin call) h = seeks (state_of told) _ h
-  first_seeks Go h = seeks (state_of told) _ h
-  first_seeks (Guess r) h = seeks (state_of told) _ h
-  first_seeks Stop h = seeks (state_of told) _ h
+  first_seeks (Begin call) h = seeks (state_of told) _ undone h
+  first_seeks Go h = seeks (state_of told) _ undone h
+  first_seeks (Guess r) h = seeks (state_of told) _ undone h
+  first_seeks Stop h = seeks (state_of told) _ undone h
 
   passes_on : (i : ℕ) → MetSearch o q → Then (to_pass product i l)
   passes_on i h = both (nat_lt i product.seats) _ _ (λ e. record { met = h }) (λ e. record { met = h })
 
   passes : (i : ℕ) (x : Option ℕ) → MetSearch o q → Then (pass_met product i rows x l)
-  passes i (Some epoch) h = both (nat_le epoch l.rebalance.number) _ _ (λ e. goes_on l h) (λ e. passes_on (i + 1) h)
+  passes i (Some epoch) h = both (nat_le epoch l.rebalance.number) _ _ (λ e. goes_on l undone h) (λ e. passes_on (i + 1) h)
   passes i None h = passes_on (i + 1) h
 
   takes : (b : Bool) → MetSearch o q → Then (take_row rows b l)
-  takes true h = both (nat_lt (length (with_row l).rebalance.taken) (length (with_row l).rebalance.starts)) _ _ (λ e. goes_on (with_row l) h) (λ e. record { met = tt })
-  takes false h = goes_on l h
+  takes true h = both (nat_lt (length (with_row l).rebalance.taken) (length (with_row l).rebalance.starts)) _ _ (λ e. goes_on (with_row l) undone h) (λ e. record { met = tt })
+  takes false h = goes_on l undone h
 
   -- all taken rows are given back
   gives_on : (a : Afterwards) → (a ≡ Refuse → MetSearch o q) × (a ≡ TryAgain → MetReplaced o q) → Then (given_back a l)
-  gives_on TryAgain h = record { met = h.1 refl }
-  gives_on Refuse h = record { met = h.0 refl }
+  gives_on TryAgain h = begins_anew l undone (h.1 refl)
+  gives_on Refuse h = is_refused NoRows l undone (h.0 refl)
   gives_on MoveLeft h = record { met = tt }
 
   -- Tests and lists that lead to activities of a rebalance, whatever they meet.
@@ -287,7 +309,7 @@ module _ (s : Shared) (o p q : Pass) (l m : Local) (c : Choice) (rows told : ℕ
   states (Some Normal) f is y = record { met = tt }
   states (Some (Leader count)) f is y = both (is_alone count) _ _ (λ e. record { met = tt }) (λ e. absurd (let few : count ≤ 1 = y in let many : nat_le count 1 ≡ false = e in grind (arith, nat_tests)))
   states (Some (Follower leader)) f is y = absurd y
-  states (Some (Retired number)) f is y = record { met = replaced_here BalState is (subst IsRetired (sym f) tt) (λ u. absurd u) }
+  states (Some (Retired number)) f is y = begins_anew l undone (replaced_here BalState is (subst IsRetired (sym f) tt) (λ u. absurd u))
   states None f is y = absurd y
 
   decides : (n : ℕ) (x : Option State) → state_of told ≡ x → l.activity ≡ Decide n → IsMetState (Decide n) x → Then (decided x l)
@@ -296,12 +318,12 @@ module _ (s : Shared) (o p q : Pass) (l m : Local) (c : Choice) (rows told : ℕ
   decides n (Some Normal) f is y = absurd y
   decides n (Some (Leader count)) f is y = both (is_alone count) _ _ (λ e. record { met = tt }) (λ e. absurd (let few : count ≤ 1 = y in let many : nat_le count 1 ≡ false = e in grind (arith, nat_tests)))
   decides n (Some (Follower leader)) f is y = absurd y
-  decides n (Some (Retired number)) f is y = record { met = replaced_here (Decide n) is (subst IsRetired (sym f) tt) (λ u. absurd u) }
+  decides n (Some (Retired number)) f is y = begins_anew l undone (replaced_here (Decide n) is (subst IsRetired (sym f) tt) (λ u. absurd u))
   decides n None f is y = absurd y
 
   -- the list ends before the full row
   ends : l.activity ≡ BeforeLink → row_linked (link_of told) ≡ None → Then (give_back TryAgain l)
-  ends is none = tries_again l (replaced_here BeforeLink is none (walk_ends_here is none))
+  ends is none = tries_again (replaced_here BeforeLink is none (walk_ends_here is none))
 
   links : (r : Option ℕ) (marked : Bool) → row_linked (link_of told) ≡ r → l.activity ≡ BeforeLink → Then (row_before r marked l)
   links (Some r) marked f is = both (r == l.row) _ _ (λ e. both marked _ _ (λ g. moves_left l) (λ g. record { met = tt })) (λ e. record { met = tt })
@@ -313,7 +335,7 @@ module _ (s : Shared) (o p q : Pass) (l m : Local) (c : Choice) (rows told : ℕ
 
   -- the exchange is lost
   loses : l.activity ≡ Replace → row_linked (link_of told) ≢ Some l.row → Then (give_back TryAgain l)
-  loses is other = tries_again l (replaced_here Replace is (subst (λ n. row_linked (link_of told) ≢ Some n) (sym knew_row) other) (λ u. absurd u))
+  loses is other = tries_again (replaced_here Replace is (subst (λ n. row_linked (link_of told) ≢ Some n) (sym knew_row) other) (λ u. absurd u))
 
   replaces_row : (r : Option ℕ) (marked : Bool) → link_of told ≡ Some (record { row = r; marked = marked }) → l.activity ≡ Replace → Then (row_replaced r marked l)
   replaces_row (Some r) true f is = both (r == l.row) _ _ (λ e. moves_left l) (λ e. loses is (λ g. true_false (eq-eqb r l.row (same_Some r l.row (sym (ap row_linked f) ∙ g))) e))
@@ -328,8 +350,8 @@ module _ (s : Shared) (o p q : Pass) (l m : Local) (c : Choice) (rows told : ℕ
 
   event_at : (a : Activity) → l.activity ≡ a → HasMet o p a l → (a ≡ Normalise → ⊥) → (a ≡ Again → ⊥) → ((x : Answer) → a ≡ Leave x → ⊥) → HasMet o q m.activity m
   unfolding here
-  event_at BalClock is h n g e = so _ (next_is BalClock is) (both (nat_le SPENT told) _ _ (λ f. record { met = spent_here BalClock is (inl refl) (let full : nat_le SPENT told ≡ true = f in grind (arith, nat_tests)) }) (λ f. record { met = tt }))
-  event_at BalEpoch is h n g e = so _ (next_is BalEpoch is) (both (nat_le SPENT told) _ _ (λ f. record { met = spent_here BalEpoch is (inr refl) (let full : nat_le SPENT told ≡ true = f in grind (arith, nat_tests)) }) (λ f. record { met = tt }))
+  event_at BalClock is h n g e = so _ (next_is BalClock is) (both (nat_le SPENT told) _ _ (λ f. is_refused Spent l undone (spent_here BalClock is (inl refl) (let full : nat_le SPENT told ≡ true = f in grind (arith, nat_tests)))) (λ f. record { met = tt }))
+  event_at BalEpoch is h n g e = so _ (next_is BalEpoch is) (both (nat_le SPENT told) _ _ (λ f. is_refused Spent l undone (spent_here BalEpoch is (inr refl) (let full : nat_le SPENT told ≡ true = f in grind (arith, nat_tests)))) (λ f. record { met = tt }))
   event_at BalState is h n g e = so _ (next_is BalState is) (states (state_of told) refl is (stated_here BalState is tt (met_told p q BalState c told (here BalState is) _ refl)))
   event_at (BalNormal seat) is h n g e = so _ (next_is (BalNormal seat) is) record { met = tt }
   event_at Engage is h n g e = so _ (next_is Engage is) (engages (told == state_word Normal))
@@ -348,7 +370,7 @@ module _ (s : Shared) (o p q : Pass) (l m : Local) (c : Choice) (rows told : ℕ
   event_at TakeRestKey is h n g e = so _ (next_is TakeRestKey is) record { met = tt }
   event_at TakeRestValue is h n g e = so _ (next_is TakeRestValue is) (left (least_mark l.rebalance.marks) (keeping product (value_of_word told) l))
   event_at SeekFirst is h n g e = so _ (next_is SeekFirst is) (first_seeks (offered rows c) (searches_here is))
-  event_at Seek is h n g e = so _ (next_is Seek is) (seeks (state_of told) (seeking l.rebalance.sought l) (search_on o goes h))
+  event_at Seek is h n g e = so _ (next_is Seek is) (seeks (state_of told) (seeking l.rebalance.sought l) undone (search_on o goes h))
   event_at (SeekPass i) is h n g e = so _ (next_is (SeekPass i) is) (passes i (pass_of_word told) (search_on o goes h))
   event_at Reclaim is h n g e = so _ (next_is Reclaim is) (record { met = search_on o goes h })
   event_at TakeRow is h n g e = so _ (next_is TakeRow is) (takes (told == state_word Free) (search_on o goes h))
@@ -372,7 +394,7 @@ module _ (s : Shared) (o p q : Pass) (l m : Local) (c : Choice) (rows told : ℕ
       (both (nat_lt (key_of_word told) l.lower) _ _ (λ f. record { met = tt }) (λ f.
       let past : nat_lt (key_of_word told) l.lower ≡ false = f in
       let more : l.lower ≤ key_of_word told = grind (arith, nat_tests) in
-      tries_again l (replaced_here BeforeMin is (subst (λ n. n ≤ key_of_word told) (sym knew_lower) more) (walk_passes_here is more))))
+      tries_again (replaced_here BeforeMin is (subst (λ n. n ≤ key_of_word told) (sym knew_lower) more) (walk_passes_here is more))))
   event_at Replace is h n g e = so _ (next_is Replace is) (replaces (link_of told) refl is)
   event_at Normalise is h n g e = absurd (n refl)
   event_at Again is h n g e = absurd (g refl)
@@ -382,3 +404,25 @@ module _ (s : Shared) (o p q : Pass) (l m : Local) (c : Choice) (rows told : ℕ
   -- an event of a rebalance that is not over, and has not won, keeps what it has met
   pub keeps_met : HasMet o p l.activity l → (l.activity ≡ Normalise → ⊥) → (l.activity ≡ Again → ⊥) → ((x : Answer) → l.activity ≡ Leave x → ⊥) → HasMet o q m.activity m
   keeps_met = event_at l.activity refl
+
+-- it is at work there
+works : (o p : Pass) (l : Local) (a : Activity) → HasMet o p a l → (a ≡ Again → ⊥) → ((x : Answer) → a ≡ Leave x → ⊥) → IsAtWork a
+works o p l (Leave x) h g e = absurd (e x refl)
+works o p l Again h g e = absurd (g refl)
+works o p l Seek h g e = tt
+works o p l (SeekPass i) h g e = tt
+works o p l Reclaim h g e = tt
+works o p l TakeRow h g e = tt
+works o p l GiveBack h g e = tt
+works o p l Normalise h g e = tt
+works o p l Number h g e = absurd h
+works o p l Retire h g e = absurd h
+works o p l a h g e = balancing_works a h
+
+-- the put of a seat that is at work is no more done by the event than before
+pub work_on : (l m : Local) (c : Choice) (rows told : ℕ) → outcome m Moved ≡ next_of product rows (offered rows c) l told → IsAtWork l.activity → m.tidies ≡ l.tidies
+unfolding transition_of
+work_on l m c rows told line work = ap (λ (x : Outcome). x.local.tidies) line ∙ keeps product l.activity 0 (offered rows c) l rows told work
+
+pub stays_untidied : (o p : Pass) (l m : Local) (c : Choice) (rows told : ℕ) → outcome m Moved ≡ next_of product rows (offered rows c) l told → HasMet o p l.activity l → (l.activity ≡ Again → ⊥) → ((x : Answer) → l.activity ≡ Leave x → ⊥) → l.tidies ≡ false → m.tidies ≡ false
+stays_untidied o p l m c rows told line h g e undone = work_on l m c rows told line (works o p l l.activity h g e) ∙ undone

@@ -1,6 +1,7 @@
 -- How a rebalance ends, and what it met that is the cause of it.
 --
--- What is met is said over an opening, a seat and two lists of events, as single events are (`MetIn`), so that it can be carried to other passes' lists.
+-- What is met is said over an opening, a seat and two lists of events, as single events are
+-- (`MetIn`), so that it can be carried to other passes' lists.
 use Rattle.std.specs.Prelude.{◌≡◌, ◌≢◌, ◌⊎◌, ℕ, ◌≤◌, false, List, Option, Some, None}
 use Rattle.kw_words.specs.declared.sizes.TheConstants.{SPENT}
 use Rattle.kw_words.specs.declared.state.State.{State}
@@ -46,7 +47,8 @@ pub record MetSpent (p q : Pass) : Type 0 where
   pub met : Met p q activity choice told
   pub spent : SPENT ≤ told
 
--- the seat linked new rows in place of a full one: its exchange met a link that led to that row and was not marked
+-- the seat linked new rows in place of a full one: its exchange met a link that led to that row and
+-- was not marked
 pub record WonIn (o : Opening) (n : ℕ) (old new : List Event) : Type 0 where
   pub choice : Choice
   pub told : ℕ
@@ -62,8 +64,9 @@ abbrev pub IsRetired : Option State → Type 0
 IsRetired (Some (Retired number)) = Unit {0}
 IsRetired _ = ⊥
 
--- what an event of a seat that knew this was told says that its row was replaced by somebody else: the state is that of a retired row; the list of
--- rows ended before the row, or went on behind it; or the link led to another row by the time that it was exchanged
+-- what an event of a seat that knew this was told says that its row was replaced by somebody else:
+-- the state is that of a retired row; the list of rows ended before the row, or went on behind it;
+-- or the link led to another row by the time that it was exchanged
 abbrev pub TellsReplaced : Activity → ℕ → Local → Type 0
 TellsReplaced BalState told l = IsRetired (state_of told)
 TellsReplaced (Decide count) told l = IsRetired (state_of told)
@@ -78,7 +81,8 @@ IsWalkEnd BeforeLink = Unit {0}
 IsWalkEnd BeforeMin = Unit {0}
 IsWalkEnd _ = ⊥
 
--- the seat found its row replaced; where a walk ended so, the row was in the list no more, as one who follows the links sees it
+-- the seat found its row replaced; where a walk ended so, the row was in the list no more, as one
+-- who follows the links sees it
 pub record ReplacedIn (o : Opening) (n : ℕ) (old new : List Event) : Type 0 where
   pub activity : Activity
   pub choice : Choice
@@ -90,7 +94,8 @@ pub record ReplacedIn (o : Opening) (n : ℕ) (old new : List Event) : Type 0 wh
 abbrev pub MetReplaced : Pass → Pass → Type 0
 MetReplaced p q = ReplacedIn (view p).opening (view p).number (view p).seen (view q).seen
 
--- the pass began a search since that asked for each row of the table, its last one, and took fewer rows than it needed
+-- the pass began a search since that asked for each row of the table, its last one, and took fewer
+-- rows than it needed
 pub record MetNoRows (p q : Pass) : Type 0 where
   pub first : ℕ
   pub asked : AskedAll product (view q).opening (view q).seen (view q).number (view q).opening.rows first (now_in q)

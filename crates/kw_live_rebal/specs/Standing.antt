@@ -1,5 +1,5 @@
 -- What a rebalance has met where it stands, and what stays while it goes on.
-use Rattle.std.specs.Prelude.{◌≡◌, ℕ}
+use Rattle.std.specs.Prelude.{◌≡◌, ℕ, false}
 use Rattle.kw_world.specs.declared.answer.Answer.TheVariants as answer
 use Rattle.kw_world.specs.declared.activity.Activity.{Activity}
 use Rattle.kw_world.specs.declared.activity.Activity.TheVariants.{Leave, Again, SeekFirst, Seek, SeekPass, Reclaim, TakeRow, GiveBack, Normalise, Number, Retire, TakeFrom, TakeKey, TakeVersion, TakeValue, TakeRestKey, TakeRestValue, WriteCount, WriteMin, WriteNext, WriteFirst, WritePend, WriteKey, WriteValue, WriteVersion, WriteAfter}
@@ -20,8 +20,8 @@ pub record MetSearch (p q : Pass) : Type 0 where
   pub told : ℕ
   pub met : Met p q SeekFirst choice told
 
--- what it has met where it stands. It stands at no activity but these, and those of a rebalance: whoever makes its events sees to it that it does not
--- come to the end of one that won
+-- what it has met where it stands. It stands at no activity but these, and those of a rebalance:
+-- whoever makes its events sees to it that it does not come to the end of one that won
 abbrev pub HasMet : Pass → Pass → Activity → Local → Type 0
 HasMet o p (Leave answer.Spent) l = MetSpent o p
 HasMet o p (Leave answer.NoRows) l = MetSearch o p
@@ -43,8 +43,10 @@ pub record Rebalances (s : Shared) (o p : Pass) (l : Local) : Type 0 where
   pub calls : KeepsCalls o p
   pub held : held p ≡ held o
   pub met : HasMet o p l.activity l
+  pub untidied : l.tidies ≡ false
 
--- since whatever event it is told of, what stayed up to the one pass and local stays up to the other
+-- since whatever event it is told of, what stayed up to the one pass and local stays up to the
+-- other
 abbrev pub GoesOn : Shared → Pass → Local → Pass → Local → Type 0
 GoesOn s p l q m = (o : Pass) → Rebalances s o p l → Rebalances s o q m
 

@@ -1,8 +1,9 @@
 //! What the index of a map is told of a rebalance that won.
 //!
-//! The index is a hint: a walk looks at the row that it names, and begins at the first row where that is the wrong one. So no clause rests on
-//! what stands here; it makes the walks short. The new rows are published once they are normal, since a walk begins at no other row; and before
-//! the seat forgets them, which it does as it retires the full one.
+//! The index is a hint: a walk looks at the row that it names, and begins at the first row where
+//! that is the wrong one. So no clause rests on what stands here; it makes the walks short. The new
+//! rows are published once they are normal, since a walk begins at no other row; and before the
+//! seat forgets them, which it does as it retires the full one.
 use kw_index::change::Change;
 use kw_index::entries::Entry;
 use kw_index::index::Index;
@@ -10,11 +11,13 @@ use kw_table::Hints;
 use kw_world::activity::Activity;
 use kw_world::local::Local;
 
-/// Tells the index of a rebalance that won, where its new rows are normal and the full one is not yet retired; elsewhere nothing is done.
+/// Tells the index of a rebalance that won, where its new rows are normal and the full one is not
+/// yet retired; elsewhere nothing is done.
 ///
-/// The full row is gone then, and each new row has its least key. The hints have other entries afterwards, and the pass searches behind the last
-/// new row next. Where others publish again and again just then, or there are no hints, the index is not told: its guesses in this
-/// range lead to the first row, until a rebalance there is published. Takes no memory.
+/// The full row is gone then, and each new row has its least key. The hints have other entries
+/// afterwards, and the pass searches behind the last new row next. Where others publish again and
+/// again just then, or there are no hints, the index is not told: its guesses in this range lead to
+/// the first row, until a rebalance there is published. Takes no memory.
 pub(crate) fn tell_index(index: &Index, hints: &mut Option<Box<Hints>>, local: &Local) {
     let Activity::Number = local.activity else {
         return;
@@ -24,7 +27,8 @@ pub(crate) fn tell_index(index: &Index, hints: &mut Option<Box<Hints>>, local: &
     }
 }
 
-/// The row at which a search for free rows begins: that of the hints, and else the one behind the full row.
+/// The row at which a search for free rows begins: that of the hints, and else the one behind the
+/// full row.
 pub(crate) fn search_start(hints: &Option<Box<Hints>>, local: &Local) -> u32 {
     match hints {
         Some(hints) => hints.window.start(),
@@ -55,7 +59,8 @@ fn change_of(local: &Local) -> Change {
     change
 }
 
-// The least key of the new row of this number, from 0: that of the full row for the first one, and that of its first cell for every other.
+// The least key of the new row of this number, from 0: that of the full row for the first one, and
+// that of its first cell for every other.
 fn least_key(local: &Local, number: usize) -> u32 {
     if number == 0 {
         return local.lower;

@@ -1,7 +1,8 @@
 //! The events of a rebalance, from the load of the clock to the last one.
 //!
-//! The seat agrees with others on its row, freezes and gathers it, takes free rows, writes them, links them in place of the full row, and retires
-//! that: one event after the other, as the table says. Where an exchange is lost the seat looks once more, so a rebalance may go on as long as
+//! The seat agrees with others on its row, freezes and gathers it, takes free rows, writes them,
+//! links them in place of the full row, and retires that: one event after the other, as the table
+//! says. Where an exchange is lost the seat looks once more, so a rebalance may go on as long as
 //! others go on to win.
 ghost use Rattle.std.specs.Prelude.{◌≡◌, ◌≢◌, false};
 ghost use Rattle.kw_world.specs.Sizes.{product};
@@ -40,17 +41,20 @@ pub enum Rebalanced {
     Spent,
 }
 
-/// Rebalances the full row at which a put or a delete stands.
+/// Rebalances the full row at which a put or a delete stands that is not done, so it does not tidy.
 ///
-/// After `Done` and `Again` the call is to try again from its beginning, and after `NoRows` and `Spent` it is about to leave with that. `Done`
-/// comes only where an exchange of this call linked new rows in place of the row; `Again` only where an event of this call found the row
-/// retired, or in the list no more, or the link to it led elsewhere; `NoRows` only where the last search of this call asked for each row of the
-/// table; `Spent` only where a load of this call found the clock or the epoch at `SPENT` or above. The row is the one that the call works on at
-/// that event: its own, or one before it.
+/// After `Done` and `Again` the call is to try again from its beginning, and after `NoRows` and
+/// `Spent` it is about to leave with that. `Done` comes only where an exchange of this call linked
+/// new rows in place of the row; `Again` only where an event of this call found the row retired, or
+/// in the list no more, or the link to it led elsewhere; `NoRows` only where the last search of
+/// this call asked for each row of the table; `Spent` only where a load of this call found the
+/// clock or the epoch at `SPENT` or above. The row is the one that the call works on at that event:
+/// its own, or one before it.
 ///
-/// The search for free rows begins at the row that the hints name, and so does the walk to the row before the full one;
-/// where the exchange is won the index is told of the new rows. No clause rests on any of it. Takes no memory. It may wait for others: all that
-/// is said here is said for a call that returns.
+/// The search for free rows begins at the row that the hints name, and so does the walk to the row
+/// before the full one; where the exchange is won the index is told of the new rows. No clause
+/// rests on any of it. Takes no memory. It may wait for others: all that is said here is said for a
+/// call that returns.
 pub fn rebalance<R: Wait>(
     rt: &R,
     shared: &Shared,
@@ -61,6 +65,7 @@ pub fn rebalance<R: Wait>(
 ) -> Rebalanced
     requires follows { Follows shared.now pass.old local.old }
     requires activity { local.old.activity ≡ Activity.BalClock }
+    requires untidied { local.old.tidies ≡ false }
     ensures goes { GoesTo shared.now pass.old pass.new }
     ensures follows { Follows shared.now pass.new local.new }
     ensures stands { local.new.activity ≡ stands_after result }
@@ -91,7 +96,8 @@ pub fn rebalance<R: Wait>(
     unreachable!()
 }
 
-// Makes the next event with this choice. Where that is `Go`, the frequent events are made by steps of their own.
+// Makes the next event with this choice. Where that is `Go`, the frequent events are made by steps
+// of their own.
 #[inline(always)]
 fn go_on(shared: &Shared, pass: &mut Pass, local: &mut Local, choice: Choice) -> u64
     requires follows { Follows shared.now pass.old local.old }
@@ -110,7 +116,8 @@ fn go_on(shared: &Shared, pass: &mut Pass, local: &mut Local, choice: Choice) ->
     }
 }
 
-// The new row whose words are written next is loaded first: it may lie far away, and each word is written by one step.
+// The new row whose words are written next is loaded first: it may lie far away, and each word is
+// written by one step.
 #[inline(always)]
 fn warm_new_row(shared: &Shared, local: &Local) {
     if let Some(row) = local.rebalance.taken.as_slice().get(local.rebalance.at) {
@@ -129,7 +136,8 @@ fn refused(answer: Answer) -> Rebalanced
     }
 }
 
-// The new rows are linked: they are made normal, the index is told of them, and the full row is retired.
+// The new rows are linked: they are made normal, the index is told of them, and the full row is
+// retired.
 fn finish<R: Wait>(
     rt: &R,
     shared: &Shared,
@@ -140,6 +148,7 @@ fn finish<R: Wait>(
 )
     requires follows { Follows shared.now pass.old local.old }
     requires won { local.old.activity ≡ Activity.Normalise }
+    requires untidied { local.old.tidies ≡ false }
     ensures goes { GoesTo shared.now pass.old pass.new }
     ensures follows { Follows shared.now pass.new local.new }
     ensures again { local.new.activity ≡ Activity.Again }

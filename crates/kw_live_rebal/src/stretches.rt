@@ -1,7 +1,9 @@
-//! The stretches of a rebalance in which many events alike follow each other: it gathers the cells of the full row, and writes the words of a new one.
+//! The stretches of a rebalance in which many events alike follow each other: it gathers the cells
+//! of the full row, and writes the words of a new one.
 //!
-//! A split makes some hundreds of such events. Between two of them nothing is asked but which of the stretch is the next one, which is what makes a
-//! rebalance fast; `rebalancing` asks what else is to be done before and after.
+//! A split makes some hundreds of such events. Between two of them nothing is asked but which of
+//! the stretch is the next one, which is what makes a rebalance fast; `rebalancing` asks what else
+//! is to be done before and after.
 ghost use Rattle.std.specs.Prelude.{◌≡◌, true};
 ghost use Rattle.kw_follow.specs.Following.{Follows};
 ghost use Rattle.kw_live_rebal.specs.Standing.{GoesOn, IsBuilding};
@@ -12,7 +14,8 @@ use kw_world::activity::Activity;
 use kw_world::local::Local;
 use std::sync::Wait;
 
-/// Goes along the list of the full row and gathers its cells, from the first link on, up to the first event that does not. Takes no memory.
+/// Goes along the list of the full row and gathers its cells, from the first link on, up to the
+/// first event that does not. Takes no memory.
 pub(crate) fn gather_row<R: Wait>(rt: &R, shared: &Shared, pass: &mut Pass, local: &mut Local)
     requires follows { Follows shared.now pass.old local.old }
     requires activity { local.old.activity ≡ Activity.TakeFrom }
@@ -28,7 +31,8 @@ pub(crate) fn gather_row<R: Wait>(rt: &R, shared: &Shared, pass: &mut Pass, loca
     unreachable!()
 }
 
-/// Writes the words of a new row, from its count on, up to the first event that does not. Takes no memory.
+/// Writes the words of a new row, from its count on, up to the first event that does not. Takes no
+/// memory.
 pub(crate) fn write_row<R: Wait>(rt: &R, shared: &Shared, pass: &mut Pass, local: &mut Local)
     requires follows { Follows shared.now pass.old local.old }
     requires activity { local.old.activity ≡ Activity.WriteCount }
@@ -60,7 +64,8 @@ fn is_gathering(activity: &Activity) -> bool
     }
 }
 
-// Whether the next event writes a word of the new row that was begun. The one that writes a count begins another row.
+// Whether the next event writes a word of the new row that was begun. The one that writes a count
+// begins another row.
 #[inline(always)]
 fn is_in_row(activity: &Activity) -> bool
     ensures { result ≡ true → IsBuilding activity.now }

@@ -67,7 +67,8 @@ best_stays c cells key version b a e = which (fits key version c) refl
 abbrev IsLast : List Cell → ℕ → ℕ → ℕ → Type 0
 IsLast cells from version low = (low ≡ from) ⊎ ((key : ℕ) × (c : Cell) × (low ≡ suc key) × (from ≤ key) × (best_of cells key version ≡ Some c))
 
--- a cell that is below the keys that are not settled yet, or of a later version, changes no key of the range
+-- a cell that is below the keys that are not settled yet, or of a later version, changes no key of
+-- the range
 unchanged : (c : Cell) (cells : List Cell) (from version low : ℕ) → All (λ d. stands_before d c ≡ true) cells → IsSettled cells from version low → nat_le low c.key && nat_le c.version version ≡ false → (key : ℕ) → from ≤ key → best_of (cells ++ c ∷ []) key version ≡ best_of cells key version
 unchanged c cells from version low a s n key l = which (fits key version c) refl s.last
   where

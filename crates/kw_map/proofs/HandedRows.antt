@@ -1,4 +1,5 @@
--- How a scan hands on the pairs of its row cell by cell: what stays from cell to cell, and what it comes to at the end of the row.
+-- How a scan hands on the pairs of its row cell by cell: what stays from cell to cell, and what it
+-- comes to at the end of the row.
 use Rattle.std.proofs.Common.{ℕ, ◌≡◌, ◌⊎◌, inl, inr, ◌<◌, ◌≤◌, ◌++◌, ◌&&◌, nat_le, if◌then◌else◌, suc, Bool, true, false, Option, Some, None, Result, Ok, Err, OnOk, OnErr, is_ok, List, [], ◌∷◌, All, take, length, take_all, refl, sym, ap, ◌∙◌, subst, arith}
 use Rattle.std.proofs.lemmas.Bool.{cases_lt}
 use Rattle.std.proofs.lemmas.Bool.Decides.{nat_tests}

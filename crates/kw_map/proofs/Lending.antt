@@ -1,4 +1,5 @@
--- A call is made while its pass has lent its local: what is said of the pass without its local is said of the pass with it.
+-- A call is made while its pass has lent its local: what is said of the pass without its local is
+-- said of the pass with it.
 use Rattle.std.proofs.Common.{ℕ, ◌≡◌, ◌<◌, ◌≤◌, ◌++◌, [], ◌∷◌, Some, Option, Result, Ok, Err, ap, subst, sym, take, ◌∙◌, length}
 use mathlib.Core.List.{IsPrefix}
 use Rattle.kw_model.specs.declared.call.Call.{Call}

@@ -1,4 +1,5 @@
--- What every pass has seen is ordered: its events are valid from an opening, and that is all that the laws of the order ask for.
+-- What every pass has seen is ordered: its events are valid from an opening, and that is all that
+-- the laws of the order ask for.
 use Rattle.kw_world.specs.Sizes.{product}
 use Rattle.kw_core.specs.History.{History}
 use Rattle.kw_core.specs.HistoryLaws.{HistoryLaws}

@@ -1,4 +1,5 @@
--- What a scan has of the rows that it read: those that it handed on cell by cell, one after the other, and the last one.
+-- What a scan has of the rows that it read: those that it handed on cell by cell, one after the
+-- other, and the last one.
 use Rattle.std.proofs.Common.{ℕ, ◌≡◌, ◌≤◌, ◌⊎◌, ◌++◌, min, true, false, Option, Some, Ok, Err, Result, OnOk, OnErr, [], is_err, length, refl, sym, ap, ◌∙◌, subst, arith, append_assoc, append-nil}
 use Rattle.std.proofs.lemmas.List.{take-append-le, take_min}
 use Rattle.kw_cells.specs.Cells.{pairs_of}

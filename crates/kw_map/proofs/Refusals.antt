@@ -1,5 +1,5 @@
--- Why a call was refused. Nothing of the code is asked: what the pass has seen is valid, so each call of its record has its cause, and the
--- pass's own call stands there.
+-- Why a call was refused. Nothing of the code is asked: what the pass has seen is valid, so each
+-- call of its record has its cause, and the pass's own call stands there.
 use Rattle.std.proofs.Common.{ℕ, ◌≡◌, ◌∙◌, ◌++◌, [], ◌∷◌, true, List, Result, Ok, Err, Some, ap, length, refl, subst}
 use Rattle.std.specs.List.{slice_get}
 use Rattle.kw_model.specs.declared.call.Call.{Call}

@@ -1,4 +1,5 @@
--- How the rows of a scan go by: what stays from row to row, that they come to an end, and what the gatherer took by then.
+-- How the rows of a scan go by: what stays from row to row, that they come to an end, and what the
+-- gatherer took by then.
 use Rattle.std.proofs.Common.{ℕ, ◌≡◌, ◌<◌, ◌≤◌, ◌+◌, ◌-◌, ◌⊎◌, ◌++◌, suc, Bool, true, false, Option, Some, [], ◌∷◌, take, length, inl, inr, sym, ap, ◌∙◌, subst, arith}
 use Rattle.std.specs.Prelude.{All}
 use Rattle.std.proofs.lemmas.List.Elements.{All-tail}

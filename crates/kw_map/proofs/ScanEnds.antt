@@ -13,7 +13,7 @@ use Rattle.kw_core.specs.Run.{history}
 use Rattle.kw_core.specs.Stages.{IsCovering, is_walking}
 use Rattle.kw_laws.proofs.LawProofs.{laws_hold}
 use Rattle.kw_core.proofs.Runs.{history-world}
-use Rattle.kw_laws.proofs.Worlds.{world-local}
+use Rattle.kw_shape.proofs.Worlds.{world-local}
 use Rattle.kw_table.specs.declared.pass.Pass.{Pass}
 use Rattle.kw_table.specs.declared.shared.Shared.{Shared}
 use Rattle.kw_table.specs.Passes.{view}

@@ -1,4 +1,5 @@
--- What follows from taking pairs: nothing, one list after another, and all or the first of some pairs.
+-- What follows from taking pairs: nothing, one list after another, and all or the first of some
+-- pairs.
 use Rattle.std.proofs.Common.{ℕ, ◌≡◌, ◌≤◌, ◌+◌, ◌++◌, [], ◌∷◌, Option, Some, take, length, refl, sym, ap, ◌∙◌, subst, arith, append_assoc, append-nil}
 use Rattle.std.proofs.lemmas.List.{take-append-le}
 use Rattle.std.proofs.Math.Seq.{take-length}

@@ -1,4 +1,5 @@
--- How a whole call comes of the stages that `kw_live` takes it through: its begin and its end, what it met on the way, and its reply.
+-- How a whole call comes of the stages that `kw_live` takes it through: its begin and its end, what
+-- it met on the way, and its reply.
 use Rattle.std.proofs.Common.{ℕ, ◌≡◌, true, false, Option, Some, None, Err, List, ap, refl}
 use Rattle.kw_model.specs.declared.call.Call.{Call}
 use Rattle.kw_model.specs.declared.call.Call.TheVariants.{Put, Del, Get, Scan}

@@ -1,5 +1,5 @@
--- What it is for a gatherer to take pairs. Of its meanings, `last` gives the last key that it took, or none, and `stands` relates it to
--- the lists of pairs for which it stands.
+-- What it is for a gatherer to take pairs. Of its meanings, `last` gives the last key that it took,
+-- or none, and `stands` relates it to the lists of pairs for which it stands.
 use Rattle.std.specs.Prelude.{ℕ, ◌≡◌, ◌<◌, ◌↔◌, [], ◌∷◌, ◌++◌, take, Option, Some}
 use Rattle.std.specs.Option.{ForSome}
 use Rattle.kw_model.specs.Map.{Pairs}
@@ -13,8 +13,9 @@ last_key before (p ∷ ps) = last_key (Some p.0) ps
 abbrev pub IsBelow : Option ℕ → ℕ → Type 0
 IsBelow last key = ForSome last (λ k. k < key)
 
--- a gatherer took a list of pairs: for each list for which it stood before, it stands afterwards for that list followed by these pairs,
--- and its last key is that of the last of them, unchanged where there are none
+-- a gatherer took a list of pairs: for each list for which it stood before, it stands afterwards
+-- for that list followed by these pairs, and its last key is that of the last of them, unchanged
+-- where there are none
 pub record Takes {S : Type 0} (last : S → Option ℕ) (stands : S → Pairs → Type 0) (old : S) (pairs : Pairs) (new : S) : Type 0 where
   pub last_is : last new ≡ last_key (last old) pairs
   pub follows : (list : Pairs) → stands old list → stands new (list ++ pairs)

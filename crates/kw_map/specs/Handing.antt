@@ -11,8 +11,8 @@ use Rattle.kw_follow.specs.Following.{held}
 use Rattle.kw_map.specs.Gather.{IsBelow, Takes, TakesPrefix}
 use Rattle.kw_map.specs.declared.gather.Stop.{Stop}
 
--- of these cells, none from this key on may be shown at the version; the key below it is that of one that may, but where it is the key at which the
--- range begins
+-- of these cells, none from this key on may be shown at the version; the key below it is that of
+-- one that may, but where it is the key at which the range begins
 pub record IsSettled (cells : List Cell) (from version low : ℕ) : Type 0 where
   pub begun : from ≤ low
   pub rest : (key : ℕ) → low ≤ key → best_of cells key version ≡ None
@@ -31,7 +31,8 @@ pair_with key (Some value) = (key, value) ∷ []
 abbrev pub more_of : ℕ → ℕ → Cell → Pairs
 more_of low version c = if nat_le low c.key && nat_le c.version version then pair_with c.key c.value else []
 
--- a scan went on from row to row, and has these pairs more, which are below the key that it now wants: the gatherer took them all, or the first of them, and stopped
+-- a scan went on from row to row, and has these pairs more, which are below the key that it now
+-- wants: the gatherer took them all, or the first of them, and stopped
 pub record HandsOn {S : Type 0} (last : S → Option ℕ) (stands : S → Pairs → Type 0) (stops : S → ℕ) (p : Pass) (l : Local) (old : S) (q : Pass) (m : Local) (new : S) (ended : Result Unit Stop) : Type 0 where
   pub calls : KeepsCalls p q
   pub call : m.call ≡ l.call

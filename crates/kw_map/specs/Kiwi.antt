@@ -1,5 +1,5 @@
--- What the calls of the map say of a pass: that it is idle, how its calls go on, why one was refused, and that what it has seen has a legal
--- order.
+-- What the calls of the map say of a pass: that it is idle, how its calls go on, why one was
+-- refused, and that what it has seen has a legal order.
 use Rattle.std.specs.Prelude.{◌≡◌, ◌↔◌, ℕ, ◌≤◌, true, Option, Some, None, List, ◌++◌, Result, Ok, Err}
 use Rattle.kw_words.specs.declared.sizes.TheConstants.{SPENT}
 use Rattle.kw_model.specs.declared.call.Call.{Call}
@@ -66,8 +66,8 @@ HasCause p q call (Err end) = (c : Calls p q call (put_reply (Err end))) → IsC
 abbrev pub happened : Opening → List Event → History
 happened o es = (history product o es).history
 
--- the calls of what was seen have one order; it is legal, keeps precedence, and scans give what the last updates before them wrote,
--- whatever comes later
+-- the calls of what was seen have one order; it is legal, keeps precedence, and scans give what the
+-- last updates before them wrote, whatever comes later
 pub record IsOrdered (v : View) : Type 0 where
   pub exists : (xs : List ℕ) × IsOrder (happened v.opening v.seen) xs
   pub one : (xs ys : List ℕ) → IsOrder (happened v.opening v.seen) xs → IsOrder (happened v.opening v.seen) ys → xs ≡ ys
@@ -75,14 +75,16 @@ pub record IsOrdered (v : View) : Type 0 where
   pub legal : (xs : List ℕ) → IsOrder (happened v.opening v.seen) xs → IsLegalOrder (happened v.opening v.seen) xs
   pub later : (events : List Event) → is_valid product v.opening (v.seen ++ events) ≡ true → GivesTops (happened v.opening v.seen) (happened v.opening (v.seen ++ events))
 
--- how a scan ended and what it replied, where the gatherer may have taken pairs, counted a stop, or be as it was
+-- how a scan ended and what it replied, where the gatherer may have taken pairs, counted a stop, or
+-- be as it was
 abbrev pub ScanGave : (Pairs → Type 0) → Type 0 → Type 0 → Pass → Pass → Call → Reply → Result Unit ScanEnd → Type 0
 ScanGave Took Counted Same p q call answer (Ok done) = (pairs : Pairs) × (answer ≡ reply.Pairs pairs) × Took pairs
 ScanGave Took Counted Same p q call answer (Err Stopped) = (answer ≡ reply.Stopped) × Counted × StoppedAt Took p q (Some call)
 ScanGave Took Counted Same p q call answer (Err Spent) = (answer ≡ reply.Spent) × Same
 
--- the scan is the pass's next call, and has ended with what it answered; Took, Counted and Same say what its gatherer did in it: that it took
--- these pairs, that it counted a stop, and that it is as it was
+-- the scan is the pass's next call, and has ended with what it answered; Took, Counted and Same say
+-- what its gatherer did in it: that it took these pairs, that it counted a stop, and that it is as
+-- it was
 pub record AnswersScan (Took : Pairs → Type 0) (Counted Same : Type 0) (p q : Pass) (from upto : ℕ) (result : Result Unit ScanEnd) : Type 0 where
   pub reply : Reply
   pub calls : Calls p q (Scan from upto) reply

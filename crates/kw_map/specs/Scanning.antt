@@ -20,7 +20,8 @@ use Rattle.kw_model.specs.Map.{Pairs}
 use Rattle.kw_map.specs.Gather.{IsBelow, Takes, TakesPrefix}
 use Rattle.kw_map.specs.declared.gather.Stop.{Stop}
 
--- the scan is on its way to the row of the key that it wants, and the gatherer took no key from there on; or it has all its pairs
+-- the scan is on its way to the row of the key that it wants, and the gatherer took no key from
+-- there on; or it has all its pairs
 abbrev pub IsBetween : {S : Type 0} → (S → Option ℕ) → S → Local → Type 0
 IsBetween last s l = ((is_walking l.activity ≡ true) × IsBelow (last s) l.want) ⊎ (l.activity ≡ ClearScan answer.Pairs)
 
@@ -28,8 +29,9 @@ IsBetween last s l = ((is_walking l.activity ≡ true) × IsBelow (last s) l.wan
 abbrev pub had : Pass → List Event → List (ℕ × ℕ)
 had p es = (knew p es).pairs
 
--- the gatherer of this call stopped: after some events the seat was in the middle of the call and had the pairs of its range at the version
--- that it drew, up to some key; of these the gatherer took the first ones, where Took says that it took these pairs
+-- the gatherer of this call stopped: after some events the seat was in the middle of the call and
+-- had the pairs of its range at the version that it drew, up to some key; of these the gatherer
+-- took the first ones, where Took says that it took these pairs
 pub record StoppedAt (Took : List (ℕ × ℕ) → Type 0) (p q : Pass) (call : Option Call) : Type 0 where
   pub front : List Event
   pub later : IsPrefix (view p).seen front
@@ -39,8 +41,8 @@ pub record StoppedAt (Took : List (ℕ × ℕ) → Type 0) (p q : Pass) (call : 
   pub covers : IsDrawnCover (history product (view p).opening front) (view p).number (knew p front) bound (had p front)
   pub took : (n : ℕ) × Took (take n (had p front))
 
--- a scan read some rows, the last of them for the keys from `low` on, and has these pairs of them: the gatherer took them all, or the first of them, and
--- stopped
+-- a scan read some rows, the last of them for the keys from `low` on, and has these pairs of them:
+-- the gatherer took them all, or the first of them, and stopped
 pub record ReadsRows {S : Type 0} (last : S → Option ℕ) (stands : S → Pairs → Type 0) (stops : S → ℕ) (upto : ℕ) (p : Pass) (l : Local) (old : S) (q : Pass) (m : Local) (new : S) (ended : Result Unit Stop) : Type 0 where
   pub low : ℕ
   pub rises : l.want ≤ low

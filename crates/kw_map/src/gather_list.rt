@@ -1,7 +1,7 @@
 //! The gatherer that keeps all pairs.
 //!
-//! It is the one gatherer that takes memory, and so the one that can stop. Contracts see the pairs that it keeps and how often it
-//! stopped; it stands for the list of these pairs alone.
+//! It is the one gatherer that takes memory, and so the one that can stop. Contracts see the pairs
+//! that it keeps and how often it stopped; it stands for the list of these pairs alone.
 ghost use Rattle.std.specs.Prelude.{◌≡◌, []};
 
 use crate::gather::{Gather, Stop};
@@ -32,7 +32,8 @@ impl Model for ListGather {
 impl ListGather {
     ghost use Rattle.kw_map.specs.GatherList.{IsListed};
 
-    /// A gatherer that has taken no pair. Takes no memory; later calls take theirs from this allocator.
+    /// A gatherer that has taken no pair. Takes no memory; later calls take theirs from this
+    /// allocator.
     pub fn new(alloc: Global) -> ListGather
         ensures none { result ≡ record { pairs = []; stops = 0 } }
         ensures stands { IsListed result [] }

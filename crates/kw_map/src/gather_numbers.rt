@@ -1,9 +1,10 @@
 //! Gatherers that keep one number of the pairs they take.
 //!
-//! Each keeps the last key beside its number, and stands for just the lists by rising key, with values below `VALUE_END`, that have
-//! both. So the number is that of each list for which the gatherer stands, and in particular of the pairs taken since it was new. None
-//! of them takes memory, and none ever stops: its count of stops is always 0. That no number passes the end of its type rests on the
-//! last key: there are no more pairs than keys up to it.
+//! Each keeps the last key beside its number, and stands for just the lists by rising key, with
+//! values below `VALUE_END`, that have both. So the number is that of each list for which the
+//! gatherer stands, and in particular of the pairs taken since it was new. None of them takes
+//! memory, and none ever stops: its count of stops is always 0. That no number passes the end of
+//! its type rests on the last key: there are no more pairs than keys up to it.
 ghost use Rattle.std.specs.Prelude.{◌≡◌, ℕ, List, [], None, sum, length};
 ghost use Rattle.kw_model.specs.Values.{values, least, greatest};
 ghost use Rattle.kw_map.specs.GatherNumbers.{Sums, Counts, HaveLeast, HaveGreatest};

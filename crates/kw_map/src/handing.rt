@@ -1,8 +1,9 @@
 //! The rows of a scan whose pairs are handed on cell by cell.
 //!
-//! A row that leads on to a next one in the range is read without writing its cells down: each pair is handed on when the first cell of its key that the
-//! scan's version may show is read, for the cells of a key come by falling version. The last row of a scan, and one at whose entries puts were met, is
-//! read as `scanning` says.
+//! A row that leads on to a next one in the range is read without writing its cells down: each pair
+//! is handed on when the first cell of its key that the scan's version may show is read, for the
+//! cells of a key come by falling version. The last row of a scan, and one at whose entries puts
+//! were met, is read as `scanning` says.
 ghost use Rattle.std.specs.Prelude.{◌≡◌, ℕ, ◌≤◌, ◌<◌, [], OnOk, OnErr, is_ok, false, Some};
 ghost use Rattle.kw_words.specs.Plain.{IsValue};
 ghost use Rattle.kw_model.specs.Counts.{CountRose};
@@ -21,9 +22,11 @@ use kw_world::activity::Activity;
 use kw_world::calls::first_key;
 use kw_world::local::Local;
 
-/// Hands on the pairs of the rows from the one at which a scan stands, as long as they lead on, and looks at the entries of the first that does not.
+/// Hands on the pairs of the rows from the one at which a scan stands, as long as they lead on, and
+/// looks at the entries of the first that does not.
 ///
-/// The scan ends at `upto`. It then stands at the list of that row. Where the gatherer stops, that is the row after the one in which it did. Takes no memory.
+/// The scan ends at `upto`. It then stands at the list of that row. Where the gatherer stops, that
+/// is the row after the one in which it did. Takes no memory.
 pub(crate) fn hand_rows<G: Gather>(
     shared: &Shared,
     pass: &mut Pass,
@@ -50,9 +53,11 @@ pub(crate) fn hand_rows<G: Gather>(
     }
 }
 
-/// Hands on the pairs of a row that leads on, while the scan goes along its list, and walks to the next row.
+/// Hands on the pairs of a row that leads on, while the scan goes along its list, and walks to the
+/// next row.
 ///
-/// Where the gatherer stops, the scan goes on to that row all the same: it can stop at the end of a row alone. Takes no memory.
+/// Where the gatherer stops, the scan goes on to that row all the same: it can stop at the end of a
+/// row alone. Takes no memory.
 fn hand_row<G: Gather>(
     shared: &Shared,
     pass: &mut Pass,
@@ -86,7 +91,8 @@ fn hand_row<G: Gather>(
     ended
 }
 
-/// Hands on the pair that a cell adds to those of the cells before it, where the gatherer has not stopped.
+/// Hands on the pair that a cell adds to those of the cells before it, where the gatherer has not
+/// stopped.
 ///
 /// All cells of keys below `low` are settled: the pair of such a key, if it has one, was handed on.
 #[inline(always)]

@@ -1,11 +1,13 @@
 //! The concurrent map, and its calls.
 //!
-//! A `Kiwi` is the shared table; a caller asks it with a pass, its seat. Each call here is put together from `kw_live`'s functions, by
-//! the local that the pass lends it: enter, find the row, put into it or read it, leave; a get is whole there. A put or a delete that finds its row full has the
-//! row rebalanced (`kw_live_rebal`) and tries again. These two take the runtime, since they may come to wait for others; a get and a scan
-//! never do. So all events are the core's, and the clauses say what follows: the call is the pass's next one, it has ended, its answer is
-//! the recorded reply, and the order of all calls that the pass has seen is legal.
-ghost use Rattle.std.specs.Prelude.{◌≡◌, ℕ, ◌<◌, ◌≤◌, true, Some, IfOk, vec_len, slice_index_or, All};
+//! A `Kiwi` is the shared table; a caller asks it with a pass, its seat. Each call here is put
+//! together from `kw_live`'s functions, by the local that the pass lends it: enter, find the row,
+//! put into it or read it, leave; a get is whole there. A put or a delete that finds its row full
+//! has the row rebalanced (`kw_live_rebal`) and tries again. These two take the runtime, since they
+//! may come to wait for others; a get and a scan never do. So all events are the core's, and the
+//! clauses say what follows: the call is the pass's next one, it has ended, its answer is the
+//! recorded reply, and the order of all calls that the pass has seen is legal.
+ghost use Rattle.std.specs.Prelude.{◌≡◌, ℕ, ◌<◌, ◌≤◌, true, false, Some, IfOk, vec_len, slice_index_or, All};
 ghost use Rattle.kw_words.specs.declared.sizes.TheConstants.{VALUE_END};
 ghost use Rattle.kw_core.specs.Events.{is_call_in_range};
 ghost use Rattle.kw_core.specs.Stages.{is_put};
@@ -58,9 +60,11 @@ pub enum ScanEnd {
     Spent,
 }
 
-/// An ordered map from keys to values below `VALUE_END`, which threads share by `&`, each with a pass of its own.
+/// An ordered map from keys to values below `VALUE_END`, which threads share by `&`, each with a
+/// pass of its own.
 ///
-/// Beside the table it has an index, which names a row to begin at for each key; no clause rests on that.
+/// Beside the table it has an index, which names a row to begin at for each key; no clause rests on
+/// that.
 #[derive(Drop)]
 pub struct Kiwi {
     pub(crate) shared: Shared,
@@ -70,7 +74,8 @@ pub struct Kiwi {
 impl Kiwi {
     /// An empty map of this many rows, and a pass for each of this many callers, numbered from 0.
     ///
-    /// There are 1 to `MOST_ROWS` rows and 1 to `SEATS` passes. All memory of the map is taken here, and the only error is the want of it.
+    /// There are 1 to `MOST_ROWS` rows and 1 to `SEATS` passes. All memory of the map is taken
+    /// here, and the only error is the want of it.
     pub fn open(alloc: Global, rows: u32, passes: u32) -> Result<(Kiwi, Vec<Pass>), Memory>
         requires { IsOpening product
             (record { rows = rows; seats = passes; clock = 1; epoch = 1 }) }
@@ -125,10 +130,12 @@ impl Kiwi {
 
     /// Sets the value of a key, which is below `VALUE_END`.
     ///
-    /// The pass is one of this map and idle, as it is afterwards. `NoRows` comes only where the last search of this call asked for each row of
-    /// the table, took fewer than it needed, and found every other one not free, or retired and perhaps still named by a call; `Spent` only
-    /// where a load of this call found the clock or the epoch at `SPENT` or above. Nothing has changed then. Takes no memory. It may wait for
-    /// the calls of others: all that is said here is said for a put that returns.
+    /// The pass is one of this map and idle, as it is afterwards. `NoRows` comes only where the
+    /// last search of this call asked for each row of the table, took fewer than it needed, and
+    /// found every other one not free, or retired and perhaps still named by a call; `Spent` only
+    /// where a load of this call found the clock or the epoch at `SPENT` or above. Nothing has
+    /// changed then. Takes no memory. It may wait for the calls of others: all that is said here is
+    /// said for a put that returns.
     pub fn put<R: Wait>(&self, rt: &R, pass: &mut Pass, key: u32, value: u64) -> Result<(), PutEnd>
         requires idle { IsIdle self.now pass.old }
         requires value { value < VALUE_END }
@@ -153,12 +160,18 @@ impl Kiwi {
         self.update(rt, pass, Call::Del(key))
     }
 
-    /// Gathers the pairs of a range, both ends included, as they stood at one moment, by rising key.
+    /// Gathers the pairs of a range, both ends included, as they stood at one moment, by rising
+    /// key.
     ///
-    /// The pass is one of this map and idle, as it is afterwards, and the last key that the gatherer took, if there is one, is below
-    /// `from`. After `Ok` it took just the pairs of the range. `Stopped` comes only where the gatherer stopped in this call; it took the first
-    /// of the pairs of the range at the version that it drew. `Spent` comes exactly where the clock that this call loaded first was at
-    /// `SPENT` or above; nothing was taken. A range with `from` above `to` has no keys. The scan takes no memory of its own and never waits.
+    /// The pass is one of this map and idle, as it is afterwards, and the last key that the
+    /// gatherer took, if there is one, is below `from`. After `Ok` it took just the pairs of the
+    /// range. `Stopped` comes only where the gatherer stopped in this call; it took the first of
+    /// the pairs of the range at the version that it drew. `Spent` comes exactly where the clock
+    /// that this call loaded first was at `SPENT` or above; nothing was taken. A range with `from`
+    /// above `to` has no keys. The scan takes no memory of its own and never waits.
+    ///
+    /// It runs the gatherer's `take` while its pass is announced, and returns where that does. As
+    /// long as it runs, rows that others replace are not used again: gather first, work afterwards.
     pub fn scan<G: Gather>(
         &self,
         pass: &mut Pass,
@@ -182,8 +195,8 @@ impl Kiwi {
         scanned
     }
 
-    /// Both passes have then seen one list of events, which both old ones begin. No event is made, and no memory taken; a pass that was
-    /// idle is idle.
+    /// Both passes have then seen one list of events, which both old ones begin. No event is made,
+    /// and no memory taken; a pass that was idle is idle.
     pub fn meet(&self, a: &mut Pass, b: &mut Pass)
         requires one { IsPassOf self.now.shared a.old }
         requires other { IsPassOf self.now.shared b.old }
@@ -224,7 +237,8 @@ impl Kiwi {
         done
     }
 
-    // It tries at its row until it is done or refused: where the row is full it makes room, and tries again at the row that then has the key.
+    // It tries at its row until it is done or refused: where the row is full it makes room, and
+    // tries again at the row that then has the key.
     #[tactic(auto, using(crate::proofs::WholeCalls::put_starts))]
     fn update_by<R: Wait>(
         &self,
@@ -260,7 +274,8 @@ impl Kiwi {
         unreachable!()
     }
 
-    // Rebalances the full row of a put or a delete, and begins the call anew; or says why it can't, and the call is about to leave with that.
+    // Rebalances the full row of a put or a delete, and begins the call anew; or says why it can't,
+    // and the call is about to leave with that.
     fn make_room<R: Wait>(
         &self,
         rt: &R,
@@ -270,6 +285,7 @@ impl Kiwi {
     ) -> Option<PutEnd>
         requires follows { Follows self.now.shared pass.old local.old }
         requires activity { local.old.activity ≡ Activity.BalClock }
+        requires untidied { local.old.tidies ≡ false }
         requires update { is_put local.old.call ≡ true }
         ensures goes { GoesTo self.now.shared pass.old pass.new }
         ensures follows { Follows self.now.shared pass.new local.new }

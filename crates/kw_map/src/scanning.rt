@@ -1,7 +1,8 @@
 //! The rows of a scan, one after the other.
 //!
-//! A scan that has entered reads row after row, and hands on the pairs of each as soon as it has them. The functions here take it
-//! from its entry to the point where it is about to leave, with all its pairs or because the gatherer stopped.
+//! A scan that has entered reads row after row, and hands on the pairs of each as soon as it has
+//! them. The functions here take it from its entry to the point where it is about to leave, with
+//! all its pairs or because the gatherer stopped.
 ghost use Rattle.std.specs.Prelude.{◌≡◌, ℕ, true, Some, [], OnOk, OnErr, MatchResult};
 ghost use Rattle.kw_core.specs.Stages.{is_walking};
 ghost use Rattle.kw_model.specs.Counts.{CountRose};
@@ -20,10 +21,12 @@ use kw_world::activity::Activity;
 use kw_world::answer::Answer;
 use kw_world::local::Local;
 
-/// Reads the rows of a scan that has entered, and hands its pairs on, until it has all of them or the gatherer stops.
+/// Reads the rows of a scan that has entered, and hands its pairs on, until it has all of them or
+/// the gatherer stops.
 ///
-/// The scan ends at `upto`, and has no pairs yet; its walk to its first row begins at the guess, if there is one. It is then about to leave with
-/// its pairs, all of which the gatherer took, or with `Stopped`. Takes no memory.
+/// The scan ends at `upto`, and has no pairs yet; its walk to its first row begins at the guess, if
+/// there is one. It is then about to leave with its pairs, all of which the gatherer took, or with
+/// `Stopped`. Takes no memory.
 pub(crate) fn gather_rows<G: Gather>(
     shared: &Shared,
     pass: &mut Pass,
@@ -57,10 +60,11 @@ pub(crate) fn gather_rows<G: Gather>(
     Ok(())
 }
 
-/// Reads the row of the key that a scan wants, and those behind it that can be read cell by cell, and hands their pairs on.
+/// Reads the row of the key that a scan wants, and those behind it that can be read cell by cell,
+/// and hands their pairs on.
 ///
-/// The gatherer took no key from there on. The scan then walks on to the next row, with the least key of that row as the wanted one, or
-/// is at its end.
+/// The gatherer took no key from there on. The scan then walks on to the next row, with the least
+/// key of that row as the wanted one, or is at its end.
 fn gather_row<G: Gather>(
     shared: &Shared,
     pass: &mut Pass,

@@ -10,21 +10,28 @@ use kw_map::{CountGather, Kiwi, PutEnd, ScanEnd, Stop, SumGather};
 use kw_model::memory::Memory;
 use kw_table::Pass;
 use std::alloc::Global;
+use std::process::Abort;
 use std::sync::Wait;
 use std::test::Fail;
 
-/// The clock from which on no scan begins.
-const LAST_CLOCK: u64 = 281474976710656;
+/// The clock and the epoch from which on they are spent.
+const SPENT: u64 = 281474976710656;
 
 /// How many cells a row has.
 const ROW: u32 = 64;
 
-/// A map of so many rows, whose clock begins here, and its one pass.
-pub(crate) fn open_one(alloc: Global, rows: u32, clock: u64) -> Result<(Kiwi, Pass), Memory>
-    requires { IsOpening product (record { rows = rows; seats = 1; clock = clock; epoch = 1 }) }
+/// A map of so many rows, whose clock and epoch begin here, and its one pass.
+pub(crate) fn open_one(
+    alloc: Global,
+    rows: u32,
+    clock: u64,
+    epoch: u64,
+) -> Result<(Kiwi, Pass), Memory>
+    requires { IsOpening product
+        (record { rows = rows; seats = 1; clock = clock; epoch = epoch }) }
     ensures { IfOk result (λ made. IsIdle made.0 made.1) }
 {
-    let (kiwi, mut passes) = Kiwi::open_at(alloc, rows, 1, clock, 1)?;
+    let (kiwi, mut passes) = Kiwi::open_at(alloc, rows, 1, clock, epoch)?;
     let Some(pass) = passes.pop() else {
         unreachable!()
     };
@@ -91,7 +98,7 @@ pub(crate) fn count_of(kiwi: &Kiwi, pass: &mut Pass, from: u32, upto: u32) -> Re
 // A row that is full of keys is replaced by two, which have what it had.
 #[test]
 fn a_full_row_is_split(rt: HostRuntime) -> Result<(), Fail> {
-    let (kiwi, mut pass) = open_one(rt.alloc(), 64, 1)?;
+    let (kiwi, mut pass) = open_one(rt.alloc(), 64, 1, 1)?;
     let put = put_each(&rt, &kiwi, &mut pass, 0, ROW + 1, 7);
     let found = [kiwi.get(&mut pass, 0), kiwi.get(&mut pass, 64)];
     let all = sum_of(&kiwi, &mut pass, 0, 4294967295);
@@ -102,10 +109,11 @@ fn a_full_row_is_split(rt: HostRuntime) -> Result<(), Fail> {
     Ok(())
 }
 
-// A row that is full of one key is replaced by one that has its last value: the puts 65, 128 and 191 do so.
+// A row that is full of one key is replaced by one that has its last value: the puts 65, 128 and
+// 191 do so.
 #[test]
 fn puts_of_one_key_never_end(rt: HostRuntime) -> Result<(), Fail> {
-    let (kiwi, mut pass) = open_one(rt.alloc(), 64, 1)?;
+    let (kiwi, mut pass) = open_one(rt.alloc(), 64, 1, 1)?;
     let put = put_again(&rt, &kiwi, &mut pass, 7, 1, 201);
     assert_eq!(rt; (put, kiwi.get(&mut pass, 7)), (Ok(()), Some(200)));
     Ok(())
@@ -114,7 +122,7 @@ fn puts_of_one_key_never_end(rt: HostRuntime) -> Result<(), Fail> {
 // A delete at a full row rebalances it as a put does, and then the key is gone.
 #[test]
 fn a_delete_is_refused_at_a_full_row_no_more(rt: HostRuntime) -> Result<(), Fail> {
-    let (kiwi, mut pass) = open_one(rt.alloc(), 64, 1)?;
+    let (kiwi, mut pass) = open_one(rt.alloc(), 64, 1, 1)?;
     let put = put_each(&rt, &kiwi, &mut pass, 0, ROW, 7);
     let deleted = kiwi.delete(&rt, &mut pass, 1);
     assert_eq!(rt; (put, deleted), (Ok(()), Ok(())));
@@ -124,10 +132,11 @@ fn a_delete_is_refused_at_a_full_row_no_more(rt: HostRuntime) -> Result<(), Fail
     Ok(())
 }
 
-// After 62 splits 63 of the 64 rows are live, and the next split needs two. Whoever asks for no new row is not refused.
+// After 62 splits 63 of the 64 rows are live, and the next split needs two. Whoever asks for no new
+// row is not refused.
 #[test]
 fn no_rows_are_left(rt: HostRuntime) -> Result<(), Fail> {
-    let (kiwi, mut pass) = open_one(rt.alloc(), 64, 1)?;
+    let (kiwi, mut pass) = open_one(rt.alloc(), 64, 1, 1)?;
     let put = put_each(&rt, &kiwi, &mut pass, 1, 2049, 1);
     let more = [
         kiwi.put(&rt, &mut pass, 2049, 1),
@@ -149,15 +158,16 @@ fn no_rows_are_left(rt: HostRuntime) -> Result<(), Fail> {
     Ok(())
 }
 
-// In a row that no other follows, and in one that others follow: a new row has at most 32 keys, so the 41st pair, which there is no room for,
-// stands in a later row than the first one, and others come after it.
+// In a row that no other follows, and in one that others follow: a new row has at most 32 keys, so
+// the 41st pair, which there is no room for, stands in a later row than the first one, and others
+// come after it.
 #[test]
 fn a_scan_stops_where_the_gatherer_stops(rt: HostRuntime) -> Result<(), Fail> {
     for (first, end, upto, room, last, greatest) in [
         (10, 15, 100, 3, 12, 14),
         (0, 200, 199, 40, 39, 199),
     ] {
-        let (kiwi, mut pass) = open_one(rt.alloc(), 64, 1)?;
+        let (kiwi, mut pass) = open_one(rt.alloc(), 64, 1, 1)?;
         let put = put_each(&rt, &kiwi, &mut pass, first, end, 1);
         let mut roomy = Roomy::new(room);
         let ended = kiwi.scan(&mut pass, 0, upto, &mut roomy);
@@ -169,10 +179,11 @@ fn a_scan_stops_where_the_gatherer_stops(rt: HostRuntime) -> Result<(), Fail> {
     Ok(())
 }
 
-// 200 keys in several rows, of which 40 have a second value, 3, and one of these was deleted. Of the 171 keys of the range 131 have 1 and 39 have 3.
+// 200 keys in several rows, of which 40 have a second value, 3, and one of these was deleted. Of
+// the 171 keys of the range 131 have 1 and 39 have 3.
 #[test]
 fn a_scan_over_rows_takes_each_key_as_it_is_last(rt: HostRuntime) -> Result<(), Fail> {
-    let (kiwi, mut pass) = open_one(rt.alloc(), 64, 1)?;
+    let (kiwi, mut pass) = open_one(rt.alloc(), 64, 1, 1)?;
     let made = [
         put_each(&rt, &kiwi, &mut pass, 0, 200, 1),
         put_each(&rt, &kiwi, &mut pass, 50, 90, 3),
@@ -187,23 +198,46 @@ fn a_scan_over_rows_takes_each_key_as_it_is_last(rt: HostRuntime) -> Result<(), 
     Ok(())
 }
 
-// No scan begins, and no full row is replaced; the puts that its row has room for are made.
+/// Puts and deletes one key up to where its row is full, on a map of which the clock or the epoch
+/// is spent; and expects that this is what a sum gives then.
+fn expect_refused<R: Wait + Abort>(
+    rt: &R,
+    alloc: Global,
+    clock: u64,
+    epoch: u64,
+    summed: Result<u128, ScanEnd>,
+) -> Result<(), Fail>
+    requires { IsOpening product
+        (record { rows = 64; seats = 1; clock = clock; epoch = epoch }) }
+{
+    let (kiwi, mut pass) = open_one(alloc, 64, clock, epoch)?;
+    let first = kiwi.put(rt, &mut pass, 5, 50);
+    let begun = kiwi.get(&mut pass, 5);
+    let made = [
+        put_again(rt, &kiwi, &mut pass, 5, 51, 114),
+        kiwi.put(rt, &mut pass, 5, 114),
+        kiwi.delete(rt, &mut pass, 5),
+    ];
+    let found = kiwi.get(&mut pass, 5);
+    let sum = sum_of(&kiwi, &mut pass, 0, 9);
+    let spent = Err(PutEnd::Spent);
+    assert_eq!(rt; (first, begun), (Ok(()), Some(50)));
+    assert_eq!(rt; (made, found), ([Ok(()), spent, spent], Some(113)));
+    assert_eq!(rt; sum, summed);
+    Ok(())
+}
+
+// The puts that the row has room for are made, which are 64; a full row is not replaced.
 #[test]
 fn only_what_needs_a_version_is_refused_where_they_are_spent(rt: HostRuntime) -> Result<(), Fail> {
-    let (kiwi, mut pass) = open_one(rt.alloc(), 64, LAST_CLOCK)?;
-    let scanned = sum_of(&kiwi, &mut pass, 0, 10);
-    let made = [
-        put_again(&rt, &kiwi, &mut pass, 5, 50, 114),
-        kiwi.put(&rt, &mut pass, 5, 114),
-        kiwi.delete(&rt, &mut pass, 5),
-    ];
-    let wanted = [Ok(()), Err(PutEnd::Spent), Err(PutEnd::Spent)];
-    let found = kiwi.get(&mut pass, 5);
-    assert_eq!(rt;
-        (scanned, made, found),
-        (Err(ScanEnd::Spent), wanted, Some(113))
-    );
-    Ok(())
+    let (kiwi, mut pass) = open_one(rt.alloc(), 64, SPENT, 1)?;
+    assert_eq!(rt; sum_of(&kiwi, &mut pass, 0, 9), Err(ScanEnd::Spent));
+    expect_refused(&rt, rt.alloc(), SPENT, 1, Err(ScanEnd::Spent))
+}
+
+#[test]
+fn only_a_full_row_is_refused_where_the_epochs_are_spent(rt: HostRuntime) -> Result<(), Fail> {
+    expect_refused(&rt, rt.alloc(), 1, SPENT, Ok(113))
 }
 
 #[test]

@@ -72,7 +72,8 @@ fn hands_over_nothing_of_an_empty_range(rt: HostRuntime) {
     assert_eq!(rt; (ended, count.total()), (Ok(()), 0));
 }
 
-/// A gatherer with room for some pairs, of which it keeps the last key alone. It may stand for any list.
+/// A gatherer with room for some pairs, of which it keeps the last key alone. It may stand for any
+/// list.
 #[derive(Drop)]
 pub(crate) struct Roomy {
     pub(crate) room: u32,

@@ -10,7 +10,8 @@ use std::test::Fail;
 /// How many keys are put, which fill more than 300 rows.
 const KEYS: u32 = 10_000;
 
-/// How many links of rows a call may load, where its walk begins at a guess. From the first row it would load more than 300.
+/// How many links of rows a call may load, where its walk begins at a guess. From the first row it
+/// would load more than 300.
 const FEW_LINKS: u64 = 4;
 
 /// Puts the keys in rising order, each with itself as value, up to the first refusal.
@@ -24,11 +25,11 @@ fn put_rising<R: Wait>(rt: &R, kiwi: &Kiwi, pass: &mut Pass) -> Result<(), PutEn
     Ok(())
 }
 
-// Only a rebalance that publishes its rows and a call that asks the index pass here. The last row has room for the calls, so that none of them
-// rebalances it.
+// Only a rebalance that publishes its rows and a call that asks the index pass here. The last row
+// has room for the calls, so that none of them rebalances it.
 #[test]
 fn calls_at_the_last_of_many_rows_load_few_links(rt: HostRuntime) -> Result<(), Fail> {
-    let (kiwi, mut pass) = open_one(rt.alloc(), 16_384, 1)?;
+    let (kiwi, mut pass) = open_one(rt.alloc(), 16_384, 1, 1)?;
     assert_eq!(rt; put_rising(&rt, &kiwi, &mut pass), Ok(()));
     let before = pass.walked();
     let first = (kiwi.get(&mut pass, 9_999), pass.walked());

@@ -1,4 +1,5 @@
-//! Whole calls put together from the functions of `kw_live`, between the events of another pass's put.
+//! Whole calls put together from the functions of `kw_live`, between the events of another pass's
+//! put.
 ghost use Rattle.std.specs.Prelude.{◌≡◌, true, Some, IfOk, IfSome};
 ghost use Rattle.kw_core.specs.Events.{is_call_in_range};
 ghost use Rattle.kw_core.specs.Stages.{is_put};
@@ -58,7 +59,8 @@ fn begin_put(
     local
 }
 
-// The reply of a whole put or delete, whose walk has this guess. None where its row is full; the pass is then in the middle of the call.
+// The reply of a whole put or delete, whose walk has this guess. None where its row is full; the
+// pass is then in the middle of the call.
 pub(crate) fn update(
     alloc: Global,
     shared: &Shared,
@@ -82,7 +84,8 @@ pub(crate) fn update(
     Some(leave(shared, pass, &mut local))
 }
 
-// Puts each of these pairs of a key and a value, one after the other, whose walks have this guess. None where one found its row full.
+// Puts each of these pairs of a key and a value, one after the other, whose walks have this guess.
+// None where one found its row full.
 pub(crate) fn put_each(
     alloc: Global,
     shared: &Shared,
@@ -107,7 +110,8 @@ pub(crate) fn put_each(
     Some(Reply::Done)
 }
 
-// The value that a whole get finds, whose walk has this guess. Its local is then at rest, as the next get of a pass has it.
+// The value that a whole get finds, whose walk has this guess. Its local is then at rest, as the
+// next get of a pass has it.
 pub(crate) fn found(
     alloc: Global,
     shared: &Shared,
@@ -124,7 +128,8 @@ pub(crate) fn found(
     get(shared, pass, &mut local, key, guess)
 }
 
-// What a get finds at this guess, where the put of another pass has made this many events at its row.
+// What a get finds at this guess, where the put of another pass has made this many events at its
+// row.
 fn found_within_a_put(
     alloc: Global,
     events: u32,
@@ -135,7 +140,8 @@ fn found_within_a_put(
     Ok(found(alloc, &shared, &mut reader, 5, guess))
 }
 
-// What a scan knows that has read its first row, to which it walked with this guess. None where it has none to read.
+// What a scan knows that has read its first row, to which it walked with this guess. None where it
+// has none to read.
 pub(crate) fn scan_row(
     alloc: Global,
     shared: &Shared,
@@ -171,8 +177,8 @@ pub(crate) fn finish(shared: &Shared, pass: &mut Pass, local: Local) -> Option<R
     Some(leave(shared, pass, &mut local))
 }
 
-// Of the twelve events of a put that is alone in its row the fifth announces its cell, the seventh stamps it, and the eleventh inserts it
-// in the row's list.
+// Of the twelve events of a put that is alone in its row the fifth announces its cell, the seventh
+// stamps it, and the eleventh inserts it in the row's list.
 #[test]
 fn a_get_helps_a_put_that_has_announced_its_cell(rt: HostRuntime) -> Result<(), Fail> {
     for events in 0..12 {
@@ -186,8 +192,8 @@ fn a_get_helps_a_put_that_has_announced_its_cell(rt: HostRuntime) -> Result<(), 
     Ok(())
 }
 
-// A put of key 5 has made this many events at its row when another pass puts key 3, and then goes on. How many exchanges it lost, its reply,
-// and what a get of its key then finds.
+// A put of key 5 has made this many events at its row when another pass puts key 3, and then goes
+// on. How many exchanges it lost, its reply, and what a get of its key then finds.
 fn put_around_a_put(
     alloc: Global,
     events: u32,
@@ -210,7 +216,8 @@ fn put_around_a_put(
     Ok(Some((lost, reply, found(alloc, &shared, &mut second, 5, None))))
 }
 
-// A put has loaded its link with the ninth event, and exchanges it with the eleventh: where another one was there in between it loses.
+// A put has loaded its link with the ninth event, and exchanges it with the eleventh: where another
+// one was there in between it loses.
 #[test]
 fn a_put_that_loses_its_insert_goes_again(rt: HostRuntime) -> Result<(), Fail> {
     for events in 0..13 {

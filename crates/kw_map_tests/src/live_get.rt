@@ -4,7 +4,8 @@ use kw_model::call::{Call, Reply};
 use kw_table::Shared;
 use std::test::Fail;
 
-// Each key from 0 to 9 is put, 4 and 6 are put twice more, and 6 is deleted: so keys have one cell, three and four.
+// Each key from 0 to 9 is put, 4 and 6 are put twice more, and 6 is deleted: so keys have one cell,
+// three and four.
 #[test]
 fn a_get_finds_the_newest_cell_of_its_key(rt: HostRuntime) -> Result<(), Fail> {
     let (shared, mut passes) = Shared::open(rt.alloc(), 64, 1, 1, 1)?;

@@ -1,7 +1,8 @@
 //! Walks that are given a row to begin at, and the replies of their calls.
 //!
-//! One row of the table is live, row 0; every other one is free. A walk that takes its guess goes on by the least key of that row, and one
-//! that cannot take it by the link to the first row: so the events after the first one show what became of the guess.
+//! One row of the table is live, row 0; every other one is free. A walk that takes its guess goes
+//! on by the least key of that row, and one that cannot take it by the link to the first row: so
+//! the events after the first one show what became of the guess.
 ghost use Rattle.std.specs.Prelude.{◌≡◌, true};
 ghost use Rattle.kw_core.specs.Events.{is_call_in_range};
 ghost use Rattle.kw_follow.specs.Following.{Follows, activity_in};
@@ -32,7 +33,8 @@ const ROWS: u32 = 64;
 // More events than any walk of these tests makes.
 const ALL: u32 = 10;
 
-// The kinds of the events of a walk after its first one, which has the choice that `locate` makes of this guess. The call then stands at its row.
+// The kinds of the events of a walk after its first one, which has the choice that `locate` makes
+// of this guess. The call then stands at its row.
 fn kinds_after_guess(
     alloc: Global,
     shared: &Shared,
@@ -83,7 +85,8 @@ fn kinds_on_the_way(
     }
 }
 
-// A guess at a free row is refused, and the walk begins at the first row. With none, or one at no row, its first event loads the link to that.
+// A guess at a free row is refused, and the walk begins at the first row. With none, or one at no
+// row, its first event loads the link to that.
 #[test]
 fn a_guess_is_taken_at_the_live_row_alone(rt: HostRuntime) -> Result<(), Fail> {
     let taken = [Kind::LoadMin, Kind::LoadLink];

@@ -1,7 +1,8 @@
 //! Whole puts whose row is full, put together from `rebalance` and the functions of `kw_live`.
 //!
-//! A row has 64 cells, and a new one is built with 32 at most. Of a key that is put again and again only the newest cell goes into a new row.
-ghost use Rattle.std.specs.Prelude.{◌≡◌, ◌<◌, true, IfNone, IfSome};
+//! A row has 64 cells, and a new one is built with 32 at most. Of a key that is put again and again
+//! only the newest cell goes into a new row.
+ghost use Rattle.std.specs.Prelude.{◌≡◌, ◌<◌, true, false, IfNone, IfSome};
 ghost use Rattle.kw_words.specs.declared.sizes.TheConstants.{VALUE_END};
 ghost use Rattle.kw_core.specs.Stages.{is_put};
 ghost use Rattle.kw_follow.specs.Following.{Follows, activity_in};
@@ -20,7 +21,8 @@ use std::process::Abort;
 use std::sync::Wait;
 use std::test::Fail;
 
-// A put up to its row, and to its end where there is room. The row that is full; the put is then to rebalance it.
+// A put up to its row, and to its end where there is room. The row that is full; the put is then to
+// rebalance it.
 fn put_once(
     shared: &Shared,
     pass: &mut Pass,
@@ -36,7 +38,8 @@ fn put_once(
     ensures done { IfNone result ((activity_in pass.new ≡ Activity.Idle)
         × (local.new ≡ resting 0)) }
     ensures full { IfSome result (λ row. Follows shared.now pass.new local.new
-        × (local.new.activity ≡ Activity.BalClock) × (is_put local.new.call ≡ true)) }
+        × (local.new.activity ≡ Activity.BalClock) × (is_put local.new.call ≡ true)
+        × (local.new.tidies ≡ false)) }
 {
     enter(shared, pass, local, Call::Put(key, value));
     locate(shared, pass, local, None);
@@ -49,7 +52,8 @@ fn put_once(
     }
 }
 
-// A whole put, which is done. Where its row is full it replaces that: both rows, the full one and the one that it then comes to.
+// A whole put, which is done. Where its row is full it replaces that: both rows, the full one and
+// the one that it then comes to.
 fn put<R: Wait + Abort>(
     rt: &R,
     shared: &Shared,
@@ -83,7 +87,8 @@ fn put<R: Wait + Abort>(
     Some((full, row))
 }
 
-// Puts the values from this one to 200 for key 7, until one of them replaces its row. Its value, and both rows.
+// Puts the values from this one to 200 for key 7, until one of them replaces its row. Its value,
+// and both rows.
 fn put_until_replaced<R: Wait + Abort>(
     rt: &R,
     shared: &Shared,
@@ -107,7 +112,8 @@ fn put_until_replaced<R: Wait + Abort>(
     None
 }
 
-// Fills a row: a put for each of its cells, of which the first one has key 0, and each the key that is `step` above.
+// Fills a row: a put for each of its cells, of which the first one has key 0, and each the key that
+// is `step` above.
 fn fill<R: Wait + Abort>(
     rt: &R,
     shared: &Shared,
@@ -158,7 +164,8 @@ fn refusal<R: Wait + Abort>(
     }
 }
 
-// Of the two rows one takes the place of the other. The 65th put is the second one in row 1, and 62 more fill that.
+// Of the two rows one takes the place of the other. The 65th put is the second one in row 1, and 62
+// more fill that.
 #[test]
 fn a_put_replaces_its_row(rt: HostRuntime) -> Result<(), Fail> {
     let (shared, mut passes) = Shared::open(rt.alloc(), 2, 1, 1, 1)?;
@@ -175,7 +182,8 @@ fn a_put_replaces_its_row(rt: HostRuntime) -> Result<(), Fail> {
     Ok(())
 }
 
-// In a table of one row there is none to put in its place. The row is led by then, and is read as before.
+// In a table of one row there is none to put in its place. The row is led by then, and is read as
+// before.
 #[test]
 fn a_put_is_refused_for_want_of_rows(rt: HostRuntime) -> Result<(), Fail> {
     let (shared, mut passes) = Shared::open(rt.alloc(), 1, 1, 1, 1)?;
@@ -194,7 +202,8 @@ fn a_put_is_refused_for_want_of_rows(rt: HostRuntime) -> Result<(), Fail> {
     Ok(())
 }
 
-// As many keys as a row has cells want two rows. The only one that is free is given back, so the next put finds the same.
+// As many keys as a row has cells want two rows. The only one that is free is given back, so the
+// next put finds the same.
 #[test]
 fn a_row_that_is_not_enough_is_given_back(rt: HostRuntime) -> Result<(), Fail> {
     let (shared, mut passes) = Shared::open(rt.alloc(), 2, 1, 1, 1)?;
@@ -212,7 +221,8 @@ fn a_row_that_is_not_enough_is_given_back(rt: HostRuntime) -> Result<(), Fail> {
     Ok(())
 }
 
-// With two free rows each gets half of the keys, and the put of a greater key comes to the second one.
+// With two free rows each gets half of the keys, and the put of a greater key comes to the second
+// one.
 #[test]
 fn a_row_of_many_keys_is_split(rt: HostRuntime) -> Result<(), Fail> {
     let (shared, mut passes) = Shared::open(rt.alloc(), 3, 1, 1, 1)?;

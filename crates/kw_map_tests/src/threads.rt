@@ -202,7 +202,8 @@ fn put_in_turn<R: Wait>(rt: &R, kiwi: &Kiwi, pass: Pass) -> Result<(), PutEnd>
     Ok(())
 }
 
-// One row is replaced all the time. Whichever thread was last at a key, it put the same value there last.
+// One row is replaced all the time. Whichever thread was last at a key, it put the same value there
+// last.
 #[test]
 fn seven_put_the_same_keys(rt: HostRuntime) -> Result<(), Fail> {
     let (kiwi, passes, mut reader) = open_eight(rt.alloc())?;

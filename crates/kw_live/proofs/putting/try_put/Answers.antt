@@ -2,11 +2,14 @@ use Rattle.std.proofs.Common.{ap, ◌∙◌, refl, subst, sym}
 use Rattle.kw_world.specs.declared.activity.Activity.TheVariants.{Leave}
 use Rattle.kw_core.specs.Stages.{IsBusy}
 use Rattle.kw_follow.proofs.CallStays.{call_stays}
-use Rattle.kw_live.proofs.PutStages.{HasFound, leaves_done, stands_full, tries_further, tries_on}
+use Rattle.kw_live.proofs.PutStages.{HasFound, leaves_done, stands_full, tries_first, tries_further, tries_on}
 use Rattle.kw_live.proofs.putting.try_put.Goals as goal
 
 pub go_put-requires-clause-putting : goal.go_put-requires-clause-putting
 go_put-requires-clause-putting c = sym c.is_putting.ensures ∙ c.loop-pass-test.true
+
+pub loop-pass-init : goal.loop-pass-init
+loop-pass-init c = tries_first _ _ _ c.requires.follows c.requires.activity
 
 pub loop-pass-smaller-in-InsFrom : goal.loop-pass-smaller-in-InsFrom
 loop-pass-smaller-in-InsFrom c = (tries_further _ _ _ _ _ _ c.loop-pass.invariant c.pass_lesser.ensures).fewer
@@ -30,6 +33,9 @@ returns-in-Leave-clause-stands c = c.in-Leave.is ∙ ap Leave (leaves_done c.arg
 pub returns-in-Leave-clause-call : goal.returns-in-Leave-clause-call
 returns-in-Leave-clause-call c = call_stays _ _ _ _ _ c.requires.follows c.loop-pass.invariant.follows c.loop-pass.invariant.calls (subst IsBusy (sym c.requires.activity) tt) (subst IsBusy (sym c.in-Leave.is) tt)
 
+pub returns-in-Leave-clause-untidied : goal.returns-in-Leave-clause-untidied
+returns-in-Leave-clause-untidied c = c.loop-pass.invariant.untidied
+
 pub returns-in_default-activity : goal.returns-in_default-activity
 returns-in_default-activity c =
     let full = stands_full c.args.pass.now c.loop-pass.pass _ c.loop-pass.invariant.found (sym c.is_putting.ensures ∙ c.loop-pass-test.false) c.in_default-activity.not-Leave in
@@ -38,6 +44,7 @@ returns-in_default-activity c =
       follows = c.loop-pass.invariant.follows;
       stands = full.0;
       call = call_stays _ _ _ _ _ c.requires.follows c.loop-pass.invariant.follows c.loop-pass.invariant.calls (subst IsBusy (sym c.requires.activity) tt) (subst IsBusy (sym full.0) tt);
+      untidied = c.loop-pass.invariant.untidied;
       cause = (refl, full.1);
       calls = c.loop-pass.invariant.calls;
       held = c.loop-pass.invariant.held;

@@ -1,6 +1,6 @@
 use Rattle.std.proofs.Common.{rules, ◌∙◌, refl}
 use Rattle.kw_follow.proofs.OwnEvents.{goes_trans}
-use Rattle.kw_live_rebal.proofs.Finishing.{finishes_on, finishing_within}
+use Rattle.kw_live_rebal.proofs.Finishing.{finishes_on, finishes_untidied, finishing_within}
 use Rattle.kw_live_rebal.proofs.rebalancing.finish.Goals as goal
 
 pub go-requires-clause-within : goal.go-requires-clause-within
@@ -15,6 +15,7 @@ loop-preserved g c = record {
     follows = c.go.ensures.follows;
     calls = c.go.ensures.calls ∙ c.loop.invariant.on.calls;
     held = c.go.ensures.held refl ∙ c.loop.invariant.on.held;
-    stands = finishes_on _ _ _ _ c.go.ensures.line c.loop.invariant.on.stands c.in_default.not-Again;
+    stands = finishes_on _ _ _ _ c.go.ensures.line c.loop.invariant.on.untidied c.loop.invariant.on.stands c.in_default.not-Again;
+    untidied = finishes_untidied _ _ _ _ c.go.ensures.line c.loop.invariant.on.untidied c.loop.invariant.on.stands c.in_default.not-Again;
   };
 }

@@ -1,11 +1,12 @@
 use Rattle.std.proofs.Common.{rules, ◌∙◌, subst, sym}
 use Rattle.kw_world.specs.declared.activity.Activity.{Activity}
 use Rattle.kw_core.specs.Stages.{IsBusy}
+use Rattle.kw_table.specs.Passes.{view}
 use Rattle.kw_follow.proofs.CallStays.{call_stays}
 use Rattle.kw_follow.proofs.OwnEvents.{goes_trans}
 use Rattle.kw_live_rebal.specs.Standing.{HasMet}
 use Rattle.kw_live_rebal.proofs.Meets.{ends_refused, within, won_on}
-use Rattle.kw_live_rebal.proofs.Stages.{keeps_met}
+use Rattle.kw_live_rebal.proofs.Stages.{keeps_met, stays_untidied}
 use Rattle.kw_live_rebal.proofs.rebalancing.rebalance.Goals as goal
 
 pub go_on-requires-clause-within : goal.go_on-requires-clause-within
@@ -20,7 +21,8 @@ loop-preserved g c = record {
     follows = c.go_on.ensures.follows;
     calls = c.go_on.ensures.calls ∙ c.loop.invariant.on.calls;
     held = c.go_on.ensures.held c.choice_at-choice.ensures ∙ c.loop.invariant.on.held;
-    met = keeps_met _ _ _ _ _ _ _ _ _ c.loop.invariant.on.goes c.go_on.ensures.goes c.go_on.ensures.met c.go_on.ensures.line c.loop.invariant.on.met c.in_default.not-Normalise c.in_default.not-Again c.in_default.not-Leave;
+    untidied = stays_untidied c.args.pass.now c.loop.pass c.loop.local c.go_on.new.local c.choice_at-choice.result (view c.loop.pass).opening.rows _ c.go_on.ensures.line c.loop.invariant.on.met c.in_default.not-Again c.in_default.not-Leave c.loop.invariant.on.untidied;
+    met = keeps_met _ _ _ _ _ _ _ _ _ c.loop.invariant.on.goes c.go_on.ensures.goes c.go_on.ensures.met c.go_on.ensures.line c.loop.invariant.on.untidied c.loop.invariant.on.met c.in_default.not-Normalise c.in_default.not-Again c.in_default.not-Leave;
   };
 }
 

@@ -1,0 +1,331 @@
+-- No event of a put at its row, but its last one there, and none of a rebalance changes whether the
+-- seat tidies: one walk over these lines of the table. Only a put that is done begins to tidy, by a
+-- choice that names its row, and only the end of the call ends it.
+use Rattle.std.proofs.Common.{ℕ, ◌≡◌, ◌⊎◌, refl, sym, ◌∙◌, ◌+◌, ap, slice_get, Option, Some, None, Bool, true, false, nat_lt, nat_le, ◌==◌, if◌then◌else◌, unwrap_or, ◌≤◌, subst, arith, length}
+use Rattle.kw_words.specs.declared.pend.Pend.{Pend}
+use Rattle.kw_words.specs.declared.pend.Pend.TheVariants as pend
+use Rattle.kw_words.specs.declared.state.State.{State}
+use Rattle.kw_words.specs.declared.state.State.TheVariants.{Free, Infant, Normal, Leader, Follower, Retired}
+use Rattle.kw_words.specs.State.{state_of}
+use Rattle.kw_words.specs.Link.{link_of}
+use Rattle.kw_words.specs.Pend.{pend_of, pend_word}
+use Rattle.kw_words.specs.Plain.{version_of_word, key_of_word, value_of_word, pass_of_word, cell_of_link_word, cell_link_word}
+use Rattle.kw_words.specs.Count.{count_of}
+use Rattle.kw_words.specs.Scan.{scan_of}
+use Rattle.kw_words.specs.declared.sizes.TheConstants.{SPENT}
+use Rattle.kw_world.specs.declared.answer.Answer.{Answer}
+use Rattle.kw_world.specs.declared.answer.Answer.TheVariants.{Done, Pairs, Spent}
+use Rattle.kw_world.specs.Answers.{reply_of}
+use Rattle.kw_world.specs.Calls.{first_key, last_key, is_in_range, is_range_empty}
+use Rattle.kw_model.specs.declared.call.Call.{Call}
+use Rattle.kw_model.specs.declared.call.Call.TheVariants.{Put, Del, Get, Scan}
+use Rattle.kw_world.specs.declared.activity.Activity.{Activity}
+use Rattle.kw_world.specs.declared.activity.Activity.TheVariants.{Idle, Enter, ScanClock, ScanWait, ScanDraw, ScanSettle, Start, Head, GuessMin, Walk, WalkMin, Look, LookKey, LookClock, LookHelp, ListFrom, ListKey, ListVer, ListVal, RestKey, RestVal, ClearScan, PutCount, PutAdd, PutKey, PutValue, Announce, PutClock, Stamp, PutVersion, InsFrom, InsKey, InsVer, InsSet, Insert, PutClear, Leave, Again, AgainEpoch, BalClock, BalEpoch, BalState, BalNormal, Engage, MarkLink, Decide, FreezeCount, FreezeLook, Freeze, ScanLook, HelpDraw, HelpSettle, TakeFrom, TakeKey, TakeVersion, TakeValue, TakeRestKey, TakeRestValue, SeekFirst, Seek, SeekPass, Reclaim, TakeRow, GiveBack, WriteCount, WriteMin, WriteNext, WriteFirst, WritePend, WriteKey, WriteValue, WriteVersion, WriteAfter, Before, BeforeGuess, BeforeHead, BeforeLink, BeforeMin, Replace, Normalise, Number, Retire}
+use Rattle.kw_world.specs.declared.local.Local.{Local}
+use Rattle.kw_world.specs.declared.event.Choice.{Choice}
+use Rattle.kw_world.specs.declared.event.Choice.TheVariants.{Begin, Go, Guess, Stop}
+use Rattle.kw_world.specs.Sizes.{Sizes}
+use Rattle.kw_world.specs.Transition.{Outcome, row_linked, row_or_first, to, leave}
+use Rattle.kw_world.specs.PutTransitions.{stamp_met, has_room, given_of, tidies_row}
+use Rattle.kw_world.specs.ListTransitions.{insert_from, insert_key, insert_past, insert_tried, is_newer}
+use Rattle.kw_world.specs.declared.marks.Mark.{Mark}
+use Rattle.kw_world.specs.Marks.{least_mark}
+use Rattle.kw_world.specs.ReadTransitions.{to_look, look_met, help_met, scan_on, row_read, rest_of, to_rest, list_met, list_key, list_past, with_pairs, remembering, gathering}
+use Rattle.kw_world.specs.ScanTransitions.{begun, entered, settled, to_start, version_settled}
+use Rattle.kw_world.specs.WalkTransitions.{guess_met, start_transition, walk_transition, is_stopped, link_met, walk_min, arrive}
+use Rattle.kw_words.specs.declared.scan.ScanWord.{ScanWord}
+use Rattle.kw_words.specs.declared.scan.ScanWord.TheVariants as scan
+use Rattle.kw_words.specs.declared.link.Link.{Link}
+use Rattle.kw_words.specs.State.{state_word}
+use Rattle.kw_world.specs.declared.rebalance.Afterwards.{Afterwards}
+use Rattle.kw_world.specs.declared.rebalance.Afterwards.TheVariants.{TryAgain, Refuse, MoveLeft}
+use Rattle.kw_world.specs.EngageTransitions.{again, refuse, to_rebalance, is_alone, state_met, engaged, followed_by, link_marked, decided}
+use Rattle.kw_world.specs.FreezeTransitions.{to_scans, to_freeze_look, marking, freeze_met, entry_tried, to_scan_look, needing, scan_met, scan_helped}
+use Rattle.kw_world.specs.TakeTransitions.{to_take, left_of, take_met, keeping}
+use Rattle.kw_world.specs.SeekTransitions.{given_back, give_back, gave_back, at_infant, has_more, row_behind, to_seek, to_pass, seek_met, pass_met, seeking, seek_first_transition, with_row, take_row}
+use Rattle.kw_world.specs.WriteTransitions.{infant_cells, row_written, to_write_cell, to_write_entry}
+use Rattle.kw_world.specs.ReplaceTransitions.{at_before, first_before, guess_before, before_transition, row_before, link_before, row_replaced, replaced}
+use Rattle.kw_world.specs.Table.{transition}
+use Rattle.kw_world.specs.Step.{is_skipped, IsMade}
+use Rattle.kw_world.specs.declared.event.StepDone.TheVariants.{Moved, Ended}
+use Rattle.kw_core.specs.declared.stage.Stage.{Stage}
+use Rattle.kw_core.specs.declared.stage.Stage.TheVariants.{Putting, Rebalancing}
+use Rattle.kw_core.specs.Stages.{stage_of, IsBalancing, IsBalancingStage, IsDone}
+use Rattle.kw_core.proofs.Runs.{history-world}
+use Rattle.kw_reads.proofs.Keeps.{inv_holds}
+use Rattle.kw_shape.proofs.Worlds.{world-local}
+use Rattle.kw_world.specs.Sizes.{product}
+use Rattle.kw_world.specs.WorldView.{WorldView}
+use Rattle.kw_table.specs.declared.pass.Pass.{Pass}
+use Rattle.kw_table.specs.declared.shared.Shared.{Shared}
+use Rattle.kw_table.specs.Passes.{view}
+use Rattle.kw_table.specs.Views.{local_in}
+use Rattle.kw_follow.specs.Following.{Follows}
+use Rattle.kw_follow.proofs.Fronts.{seat_within}
+
+-- both ways
+either : {t : Bool} (b : Bool) (p q : Outcome) → p.local.tidies ≡ t → q.local.tidies ≡ t → (if b then p else q).local.tidies ≡ t
+either true p q g h = g
+either false p q g h = h
+
+stamp_tidies : (e : Option Pend) (l : Local) → (stamp_met e l).local.tidies ≡ l.tidies
+stamp_tidies (Some pend.Idle) l = refl
+stamp_tidies (Some (pend.Pending cell)) l = either (cell == l.cell) (to PutVersion l) (to_rebalance l) refl refl
+stamp_tidies (Some (pend.Stamped cell version)) l = either (cell == l.cell) (to PutVersion (record l { version = version })) (to_rebalance l) refl refl
+stamp_tidies (Some pend.Frozen) l = refl
+stamp_tidies None l = refl
+
+insert_from_tidies : (z : Sizes) (cell : Option ℕ) (l : Local) → (insert_from z cell l).local.tidies ≡ l.tidies
+insert_from_tidies z (Some cell) l = refl
+insert_from_tidies z None l = refl
+
+insert_key_tidies : (key : ℕ) (l : Local) → (insert_key key l).local.tidies ≡ l.tidies
+insert_key_tidies key l = either (nat_lt key (first_key l.call)) _ _ refl (either (key == first_key l.call) (to InsVer l) (to InsSet l) refl refl)
+
+insert_tried_tidies : (z : Sizes) (b : Bool) (l : Local) → (insert_tried z b l).local.tidies ≡ l.tidies
+insert_tried_tidies z true l = refl
+insert_tried_tidies z false l = refl
+
+state_tidies : (state : Option State) (l : Local) → (state_met state l).local.tidies ≡ l.tidies
+state_tidies (Some Free) l = refl
+state_tidies (Some (Infant seat)) l = refl
+state_tidies (Some Normal) l = refl
+state_tidies (Some (Leader count)) l = either (is_alone count) (to (MarkLink count) l) (again l) refl refl
+state_tidies (Some (Follower leader)) l = refl
+state_tidies (Some (Retired number)) l = refl
+state_tidies None l = refl
+
+engaged_tidies : (b : Bool) (l : Local) → (engaged b l).local.tidies ≡ l.tidies
+engaged_tidies true l = refl
+engaged_tidies false l = refl
+
+marked_tidies : (count : ℕ) (after : Option ℕ) (l : Local) → (link_marked count after l).local.tidies ≡ l.tidies
+marked_tidies count after l = either (count == 0) (to (Decide 1) (followed_by after l)) (to FreezeCount (followed_by after l)) refl refl
+
+decided_tidies : (state : Option State) (l : Local) → (decided state l).local.tidies ≡ l.tidies
+decided_tidies (Some Free) l = refl
+decided_tidies (Some (Infant seat)) l = refl
+decided_tidies (Some Normal) l = refl
+decided_tidies (Some (Leader count)) l = either (is_alone count) (to FreezeCount l) (again l) refl refl
+decided_tidies (Some (Follower leader)) l = refl
+decided_tidies (Some (Retired number)) l = refl
+decided_tidies None l = refl
+
+freeze_looks : (z : Sizes) (i : ℕ) (l : Local) → (to_freeze_look z i l).local.tidies ≡ l.tidies
+freeze_looks z i l = either (nat_lt i z.seats) (to (FreezeLook i) l) (to_scans l) refl refl
+
+freeze_tidies : (z : Sizes) (i : ℕ) (e : Option Pend) (l : Local) → (freeze_met z i e l).local.tidies ≡ l.tidies
+freeze_tidies z i (Some pend.Idle) l = refl
+freeze_tidies z i (Some (pend.Pending cell)) l = refl
+freeze_tidies z i (Some (pend.Stamped cell version)) l = freeze_looks z (i + 1) (marking cell version l)
+freeze_tidies z i (Some pend.Frozen) l = freeze_looks z (i + 1) l
+freeze_tidies z i None l = freeze_looks z (i + 1) l
+
+entry_tidies : (z : Sizes) (i : ℕ) (b : Bool) (l : Local) → (entry_tried z i b l).local.tidies ≡ l.tidies
+entry_tidies z i true l = freeze_looks z (i + 1) l
+entry_tidies z i false l = refl
+
+scan_looks_then : {n : Bool} (z : Sizes) (i : ℕ) (l : Local) → l.tidies ≡ n → (to_scan_look z i l).local.tidies ≡ n
+scan_looks_then z i l e = either (nat_lt i z.seats) (to (ScanLook i) l) (to_take l) (e) (e)
+
+scan_met_tidies : (z : Sizes) (i : ℕ) (w : Option ScanWord) (l : Local) → (scan_met z i w l).local.tidies ≡ l.tidies
+scan_met_tidies z i (Some scan.Quiet) l = scan_looks_then z (i + 1) l refl
+scan_met_tidies z i (Some (scan.Waiting clock)) l = refl
+scan_met_tidies z i (Some (scan.Drawn version)) l = scan_looks_then z (i + 1) (needing version l) refl
+scan_met_tidies z i None l = scan_looks_then z (i + 1) l refl
+
+-- what is needed changes not whether it tidies
+needs : (b : Bool) (version : ℕ) (l : Local) → (if b then needing version l else l).tidies ≡ l.tidies
+needs true version l = refl
+needs false version l = refl
+
+helped_tidies : (z : Sizes) (i : ℕ) (w : Option ScanWord) (l : Local) → (scan_helped z i w l).local.tidies ≡ l.tidies
+helped_tidies z i (Some scan.Quiet) l = scan_looks_then z (i + 1) l refl
+helped_tidies z i (Some (scan.Waiting clock)) l = scan_looks_then z (i + 1) (if clock == l.rebalance.waiting then needing l.rebalance.drawn l else l) (needs (clock == l.rebalance.waiting) l.rebalance.drawn l)
+helped_tidies z i (Some (scan.Drawn version)) l = scan_looks_then z (i + 1) (needing version l) refl
+helped_tidies z i None l = scan_looks_then z (i + 1) l refl
+
+left_tidies : (z : Sizes) (m : Option Mark) (l : Local) → (left_of z m l).local.tidies ≡ l.tidies
+left_tidies z (Some m) l = refl
+left_tidies z None l = refl
+
+take_tidies : (z : Sizes) (cell : Option ℕ) (l : Local) → (take_met z cell l).local.tidies ≡ l.tidies
+take_tidies z (Some cell) l = refl
+take_tidies z None l = left_tidies z (least_mark l.rebalance.marks) l
+
+given_back_tidies : (a : Afterwards) (l : Local) → (given_back a l).local.tidies ≡ l.tidies
+given_back_tidies TryAgain l = refl
+given_back_tidies Refuse l = refl
+given_back_tidies MoveLeft l = refl
+
+give_back_tidies : (a : Afterwards) (l : Local) → (give_back a l).local.tidies ≡ l.tidies
+give_back_tidies a l = either (nat_lt 0 (length l.rebalance.taken)) (to GiveBack (record l { rebalance = record l.rebalance { at = 0; afterwards = a } })) (given_back a l) refl (given_back_tidies a l)
+
+gave_back_tidies : (l : Local) → (gave_back l).local.tidies ≡ l.tidies
+gave_back_tidies l = either (has_more l) (to GiveBack (at_infant (l.rebalance.at + 1) l)) (given_back l.rebalance.afterwards l) refl (given_back_tidies l.rebalance.afterwards l)
+
+seeks : (rows : ℕ) (l : Local) → (to_seek rows l).local.tidies ≡ l.tidies
+seeks rows l = either (nat_lt l.rebalance.asked rows) (to Seek (record l { rebalance = record l.rebalance { sought = row_behind rows l.rebalance.sought; asked = l.rebalance.asked + 1 } })) (give_back Refuse l) refl (give_back_tidies Refuse l)
+
+passes_then : (z : Sizes) (i : ℕ) (l : Local) → (to_pass z i l).local.tidies ≡ l.tidies
+passes_then z i l = either (nat_lt i z.seats) (to (SeekPass i) l) (to Reclaim l) refl refl
+
+seek_tidies : (rows : ℕ) (state : Option State) (l : Local) → (seek_met rows state l).local.tidies ≡ l.tidies
+seek_tidies rows (Some Free) l = refl
+seek_tidies rows (Some (Infant seat)) l = seeks rows l
+seek_tidies rows (Some Normal) l = seeks rows l
+seek_tidies rows (Some (Leader count)) l = seeks rows l
+seek_tidies rows (Some (Follower leader)) l = seeks rows l
+seek_tidies rows (Some (Retired number)) l = refl
+seek_tidies rows None l = seeks rows l
+
+seek_first_tidies : (choice : Choice) (l : Local) (rows told : ℕ) → ((seek_first_transition choice l).next rows told).local.tidies ≡ l.tidies
+seek_first_tidies (Begin call) l rows told = seek_tidies rows (state_of told) (seeking l.rebalance.sought l)
+seek_first_tidies Go l rows told = seek_tidies rows (state_of told) (seeking l.rebalance.sought l)
+seek_first_tidies (Guess r) l rows told = seek_tidies rows (state_of told) (seeking r l)
+seek_first_tidies Stop l rows told = seek_tidies rows (state_of told) (seeking l.rebalance.sought l)
+
+pass_tidies : (z : Sizes) (i rows : ℕ) (epoch : Option ℕ) (l : Local) → (pass_met z i rows epoch l).local.tidies ≡ l.tidies
+pass_tidies z i rows (Some epoch) l = either (nat_le epoch l.rebalance.number) (to_seek rows l) (to_pass z (i + 1) l) (seeks rows l) (passes_then z (i + 1) l)
+pass_tidies z i rows None l = passes_then z (i + 1) l
+
+take_row_tidies : (rows : ℕ) (b : Bool) (l : Local) → (take_row rows b l).local.tidies ≡ l.tidies
+take_row_tidies rows true l = either (nat_lt (length (with_row l).rebalance.taken) (length l.rebalance.starts)) (to_seek rows (with_row l)) (to WriteCount (at_infant 0 (with_row l))) (seeks rows (with_row l)) refl
+take_row_tidies rows false l = seeks rows l
+
+row_written_tidies : (l : Local) → (row_written l).local.tidies ≡ l.tidies
+row_written_tidies l = either (has_more l) (to WriteCount (at_infant (l.rebalance.at + 1) l)) (to Before l) refl refl
+
+write_cell_tidies : (z : Sizes) (j : ℕ) (l : Local) → (to_write_cell z j l).local.tidies ≡ l.tidies
+write_cell_tidies z j l = either (nat_lt j z.cells) (if nat_lt j (length (infant_cells l)) then to (WriteKey j) l else to (WriteVersion j) l) (row_written l) (either (nat_lt j (length (infant_cells l))) (to (WriteKey j) l) (to (WriteVersion j) l) refl refl) (row_written_tidies l)
+
+write_entry_tidies : (z : Sizes) (i : ℕ) (l : Local) → (to_write_entry z i l).local.tidies ≡ l.tidies
+write_entry_tidies z i l = either (nat_lt i z.seats) (to (WritePend i) l) (to_write_cell z 0 l) refl (write_cell_tidies z 0 l)
+
+first_before_tidies : (r : ℕ) (l : Local) → (first_before r l).local.tidies ≡ l.tidies
+first_before_tidies r l = either (r == l.row) (to Replace (at_before None 0 l)) (to BeforeLink (at_before (Some r) 0 l)) refl refl
+
+guess_before_tidies : (r : ℕ) (state : Option State) (l : Local) → (guess_before r state l).local.tidies ≡ l.tidies
+guess_before_tidies r (Some Free) l = refl
+guess_before_tidies r (Some (Infant seat)) l = refl
+guess_before_tidies r (Some Normal) l = refl
+guess_before_tidies r (Some (Leader count)) l = refl
+guess_before_tidies r (Some (Follower leader)) l = refl
+guess_before_tidies r (Some (Retired number)) l = refl
+guess_before_tidies r None l = refl
+
+before_tidies : (choice : Choice) (l : Local) (rows told : ℕ) → ((before_transition choice l).next rows told).local.tidies ≡ l.tidies
+before_tidies (Begin call) l rows told = first_before_tidies (row_or_first (row_linked (link_of told))) l
+before_tidies Go l rows told = first_before_tidies (row_or_first (row_linked (link_of told))) l
+before_tidies (Guess r) l rows told = guess_before_tidies r (state_of told) l
+before_tidies Stop l rows told = first_before_tidies (row_or_first (row_linked (link_of told))) l
+
+row_before_tidies : (r : Option ℕ) (marked : Bool) (l : Local) → (row_before r marked l).local.tidies ≡ l.tidies
+row_before_tidies (Some r) marked l = either (r == l.row) (if marked then give_back MoveLeft l else to Replace l) (to BeforeMin (record l { candidate = r })) (either marked (give_back MoveLeft l) (to Replace l) (give_back_tidies MoveLeft l) refl) refl
+row_before_tidies None marked l = give_back_tidies TryAgain l
+
+link_before_tidies : (link : Option Link) (l : Local) → (link_before link l).local.tidies ≡ l.tidies
+link_before_tidies (Some link) l = row_before_tidies link.row link.marked l
+link_before_tidies None l = give_back_tidies TryAgain l
+
+row_replaced_tidies : (r : Option ℕ) (marked : Bool) (l : Local) → (row_replaced r marked l).local.tidies ≡ l.tidies
+row_replaced_tidies (Some r) marked l = either (r == l.row) (if marked then give_back MoveLeft l else to Normalise (at_infant 0 l)) (give_back TryAgain l) (either marked (give_back MoveLeft l) (to Normalise (at_infant 0 l)) (give_back_tidies MoveLeft l) refl) (give_back_tidies TryAgain l)
+row_replaced_tidies None marked l = give_back_tidies TryAgain l
+
+replaced_tidies : (link : Option Link) (l : Local) → (replaced link l).local.tidies ≡ l.tidies
+replaced_tidies (Some link) l = row_replaced_tidies link.row link.marked l
+replaced_tidies None l = give_back_tidies TryAgain l
+
+abbrev IsWorkStage : Stage → Type 0
+IsWorkStage Putting = Unit {0}
+IsWorkStage Rebalancing = Unit {0}
+IsWorkStage _ = ⊥
+
+-- the seat puts at its row, and has not come to its last event there, or it rebalances the row
+abbrev pub IsAtWork : Activity → Type 0
+IsAtWork PutClear = ⊥
+IsAtWork a = IsWorkStage (stage_of a)
+
+-- such an event keeps whether the seat tidies
+pub keeps : (z : Sizes) (a : Activity) (s : ℕ) (choice : Choice) (l : Local) (rows told : ℕ) → IsAtWork a → ((transition z a s choice l).next rows told).local.tidies ≡ l.tidies
+keeps z PutCount s choice l rows told u = either (has_room z (count_of told)) (to PutAdd l) (to_rebalance l) refl refl
+keeps z PutAdd s choice l rows told u = either (has_room z (count_of told)) (to PutKey (record l { cell = given_of (count_of told) })) (to_rebalance l) refl refl
+keeps z PutKey s choice l rows told u = refl
+keeps z PutValue s choice l rows told u = refl
+keeps z Announce s choice l rows told u = either (told == pend_word pend.Idle) (to PutClock l) (to_rebalance l) refl refl
+keeps z PutClock s choice l rows told u = refl
+keeps z Stamp s choice l rows told u = stamp_tidies (pend_of told) l
+keeps z PutVersion s choice l rows told u = refl
+keeps z InsFrom s choice l rows told u = insert_from_tidies z (cell_of_link_word told) l
+keeps z InsKey s choice l rows told u = insert_key_tidies (key_of_word told) l
+keeps z InsVer s choice l rows told u = either (is_newer (unwrap_or (version_of_word told) 0) l.place l) (insert_past l) (to InsSet l) refl refl
+keeps z InsSet s choice l rows told u = refl
+keeps z Insert s choice l rows told u = insert_tried_tidies z (told == cell_link_word l.held) l
+keeps z BalClock s choice l rows told u = either (nat_le SPENT told) (refuse Spent l) (to BalEpoch l) refl refl
+keeps z BalEpoch s choice l rows told u = either (nat_le SPENT told) (refuse Spent l) (to BalState l) refl refl
+keeps z BalState s choice l rows told u = state_tidies (state_of told) l
+keeps z (BalNormal seat) s choice l rows told u = refl
+keeps z Engage s choice l rows told u = engaged_tidies (told == state_word Normal) l
+keeps z (MarkLink count) s choice l rows told u = marked_tidies count (row_linked (link_of told)) l
+keeps z (Decide count) s choice l rows told u = decided_tidies (state_of told) l
+keeps z FreezeCount s choice l rows told u = refl
+keeps z (FreezeLook i) s choice l rows told u = freeze_tidies z i (pend_of told) l
+keeps z (Freeze i) s choice l rows told u = entry_tidies z i (told == pend_word l.rebalance.entry) l
+keeps z (ScanLook i) s choice l rows told u = scan_met_tidies z i (scan_of told) l
+keeps z (HelpDraw i) s choice l rows told u = refl
+keeps z (HelpSettle i) s choice l rows told u = helped_tidies z i (scan_of told) l
+keeps z TakeFrom s choice l rows told u = take_tidies z (cell_of_link_word told) l
+keeps z TakeKey s choice l rows told u = refl
+keeps z TakeVersion s choice l rows told u = refl
+keeps z TakeValue s choice l rows told u = refl
+keeps z TakeRestKey s choice l rows told u = refl
+keeps z TakeRestValue s choice l rows told u = left_tidies z (least_mark l.rebalance.marks) (keeping z (value_of_word told) l)
+keeps z SeekFirst s choice l rows told u = seek_first_tidies choice l rows told
+keeps z Seek s choice l rows told u = seek_tidies rows (state_of told) (seeking l.rebalance.sought l)
+keeps z (SeekPass i) s choice l rows told u = pass_tidies z i rows (pass_of_word told) l
+keeps z Reclaim s choice l rows told u = refl
+keeps z TakeRow s choice l rows told u = take_row_tidies rows (told == state_word Free) l
+keeps z GiveBack s choice l rows told u = gave_back_tidies l
+keeps z WriteCount s choice l rows told u = refl
+keeps z WriteMin s choice l rows told u = refl
+keeps z WriteNext s choice l rows told u = refl
+keeps z WriteFirst s choice l rows told u = write_entry_tidies z 0 l
+keeps z (WritePend i) s choice l rows told u = write_entry_tidies z (i + 1) l
+keeps z (WriteKey j) s choice l rows told u = refl
+keeps z (WriteValue j) s choice l rows told u = refl
+keeps z (WriteVersion j) s choice l rows told u = refl
+keeps z (WriteAfter j) s choice l rows told u = write_cell_tidies z (j + 1) l
+keeps z Before s choice l rows told u = before_tidies choice l rows told
+keeps z BeforeGuess s choice l rows told u = either (nat_lt (key_of_word told) l.lower) (to BeforeLink (record l { rebalance = record l.rebalance { least = key_of_word told } })) (to BeforeHead (record l { rebalance = record l.rebalance { before = None } })) refl refl
+keeps z BeforeHead s choice l rows told u = first_before_tidies (row_or_first (row_linked (link_of told))) l
+keeps z BeforeLink s choice l rows told u = link_before_tidies (link_of told) l
+keeps z BeforeMin s choice l rows told u = either (nat_lt (key_of_word told) l.lower) (to BeforeLink (at_before (Some l.candidate) (key_of_word told) l)) (give_back TryAgain l) refl (give_back_tidies TryAgain l)
+keeps z Replace s choice l rows told u = replaced_tidies (link_of told) l
+keeps z Normalise s choice l rows told u = either (has_more l) (to Normalise (at_infant (l.rebalance.at + 1) l)) (to Number l) refl refl
+keeps z Number s choice l rows told u = refl
+keeps z Retire s choice l rows told u = refl
+keeps z _ s choice l rows told u = absurd u
+
+stage_works : (st : Stage) → IsBalancingStage st → IsWorkStage st
+stage_works Rebalancing b = tt
+stage_works _ b = absurd b
+
+-- a seat that rebalances is at work
+pub balancing_works : (a : Activity) → IsBalancing a → IsAtWork a
+balancing_works PutClear b = absurd b
+balancing_works a b = stage_works (stage_of a) b
+
+-- a seat that neither rebalances nor is done does not tidy
+pub untidied : (s : Shared) (p : Pass) (l : Local) → Follows s p l → (IsBalancing l.activity ⊎ IsDone l.activity → ⊥) → l.tidies ≡ false
+untidied s p l f not = by l.tidies refl
+  where
+    seat : Local
+    seat = local_in (view p)
+
+    tidies : seat.tidies ≡ true → IsBalancing seat.activity ⊎ IsDone seat.activity
+    tidies = (inv_holds product (view p).opening p.known.opens (view p).seen p.known.valid).shape.tidies (view p).number seat
+        (ap (λ (w : WorldView). slice_get w.locals (view p).number) (history-world product (view p).opening (view p).seen) ∙ world-local product (view p).opening (view p).seen (view p).number (seat_within p))
+
+    by : (b : Bool) → l.tidies ≡ b → l.tidies ≡ false
+    by true e = absurd (not (subst (λ a. IsBalancing a ⊎ IsDone a) (sym (ap (λ (k : Local). k.activity) f.carries)) (tidies (sym (ap (λ (k : Local). k.tidies) f.carries) ∙ e))))
+    by false e = e
