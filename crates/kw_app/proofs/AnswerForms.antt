@@ -83,7 +83,8 @@ get_served : (f : Form) (o : Option ℕ) → is_refused (answer_for f (found o))
 get_served f None = refl
 get_served f (Some v) = refl
 
--- the two refusals of a right reply: want of rows stands only for a put or a delete, and want of numbers never for a get
+-- the two refusals of a right reply: want of rows stands only for a put or a delete, and want of
+-- numbers never for a get
 abbrev pub MayBeRefused : Form → Answer → Type 0
 MayBeRefused f a = (a ≡ answer.NoRows → IsTrue (is_update f)) × (a ≡ answer.Spent → IsTrue (not (is_get f)))
 

@@ -1,7 +1,7 @@
 -- Which inputs are bad: a good one has no bad line, and a bad one has one line that is told.
 use Rattle.std.proofs.Common.{◌≡◌, ℕ, ◌≤◌, ◌<◌, List, length, inl, inr, sym, ◌∙◌, arith, Option, Some, None}
 use mathlib.Core.Logic.{⊎_elim}
-use Rattle.std.specs.Prelude.{IfSome}
+use Rattle.std.specs.Prelude.{◌⊎◌, IfSome}
 use Rattle.kw_line.specs.declared.parse.TheConstants.{MOST_BYTES}
 use Rattle.kw_line.proofs.Unique.{items_or_bad, same_bad}
 use Rattle.kw_table.specs.declared.pass.Pass.{Pass}
@@ -11,7 +11,7 @@ use Rattle.kw_command.specs.Words.{AreInRange}
 use Rattle.kw_app.specs.declared.printed.Ending.{Ending}
 use Rattle.kw_app.specs.declared.outcome.Outcome.{Outcome}
 use Rattle.kw_app.specs.declared.outcome.Status.TheVariants as status
-use Rattle.kw_app.specs.Ends.{IsPrinted, IsFirstOutside, IsToldBad, Reads}
+use Rattle.kw_app.specs.Ends.{IsBadInput, IsPrinted, IsFirstOutside, IsToldBad, Reads}
 use Rattle.kw_app.proofs.Scripts.{same_outside, simulated_or_bad}
 use Rattle.kw_app.proofs.Records.{record_or_bad, same_bad_record_line}
 
@@ -36,19 +36,19 @@ good_is_not_bad c front end bytes printed outcome range short good at bad = absu
     at_length : MOST_BYTES < length bytes → ⊥
     at_length long = omega arith
 
--- the first bad line is the line that is told
-pub bad_is_told : (c : Command) (bytes : List ℕ) (outcome : Outcome) (n : ℕ) → length bytes ≤ MOST_BYTES → outcome.status ≡ status.BadInput → outcome.line ≡ n → IsFirstOutside c bytes n → IsToldBad c outcome bytes
-bad_is_told c bytes outcome n short is_bad is_at first at bad = inl (is_bad, ⊎_elim (λ long. absurd (at_length long.0)) (λ other. is_at ∙ one_bad c bytes n at first other.1) bad.1)
+-- the line of bad input that was found is the line that is told
+pub bad_is_told : (c : Command) (bytes : List ℕ) (outcome : Outcome) (n : ℕ) → outcome.status ≡ status.BadInput → outcome.line ≡ n → IsBadInput c n bytes → IsToldBad c outcome bytes
+bad_is_told c bytes outcome n is_bad is_at found at bad = inl (is_bad, is_at ∙ same found.1 bad.1)
   where
-    at_length : MOST_BYTES < length bytes → ⊥
-    at_length long = omega arith
+    crossed : {X : Type 0} → MOST_BYTES < length bytes → length bytes ≤ MOST_BYTES → X
+    crossed long short = absurd (omega arith)
 
--- an input that is too long is told as line 0
-pub long_is_told : (c : Command) (bytes : List ℕ) (outcome : Outcome) → MOST_BYTES < length bytes → outcome.status ≡ status.BadInput → outcome.line ≡ 0 → IsToldBad c outcome bytes
-long_is_told c bytes outcome long is_bad is_none at bad = inl (is_bad, ⊎_elim (λ other. is_none ∙ sym other.1) (λ first. absurd (at_length first.0)) bad.1)
-  where
-    at_length : length bytes ≤ MOST_BYTES → ⊥
-    at_length short = omega arith
+    same : ((MOST_BYTES < length bytes) × (n ≡ 0)) ⊎ ((length bytes ≤ MOST_BYTES) × IsFirstOutside c bytes n)
+        → ((MOST_BYTES < length bytes) × (at ≡ 0)) ⊎ ((length bytes ≤ MOST_BYTES) × IsFirstOutside c bytes at) → n ≡ at
+    same (inl long) (inl other) = long.1 ∙ sym other.1
+    same (inl long) (inr first) = crossed long.0 first.0
+    same (inr first) (inl long) = crossed long.0 first.0
+    same (inr first) (inr other) = one_bad c bytes n at first.1 other.1
 
 -- want of memory excuses that no bad line is told, and so does a read that failed
 pub memory_is_told : (c : Command) (left : Option (List ℕ)) (outcome : Outcome) → outcome.status ≡ status.OutOfMemory → IfSome left (IsToldBad c outcome)

@@ -208,7 +208,8 @@ module _ (o : Opening) (items : List Item) (printed : List Answer) (v : View) (o
 
   -- Quiet lines.
 
-  -- where no answer of a line that sets a value or takes a key away is a refusal, no such reply is one
+  -- where no answer of a line that sets a value or takes a key away is a refusal, no such reply is
+  -- one
   served : UpdatesServed items printed → NoItemRefused items replies
   served all i f r e g u = unrefused f r (are_replies i f r e g) (all i f (answer_for f r) e (ap (λ q. slice_get q i) shows.prints ∙ answers_at (forms items) replies i f r e g) u)
 

@@ -1,4 +1,5 @@
--- What the workers have for lines, put into line order: where the workers have more than these lines take, and where they have the answers to calls.
+-- What the workers have for lines, put into line order: where the workers have more than these
+-- lines take, and where they have the answers to calls.
 use Rattle.std.proofs.Common.{◌≡◌, ℕ, zero, suc, ◌+◌, ◌<◌, ◌==◌, List, [], ◌∷◌, ◌++◌, length, get_or, All, refl, sym, ap, ◌∙◌, arith, length-append, append_assoc}
 use Rattle.std.proofs.lemmas.List.{get_or_at, get_or_append_left, get_or-append-add}
 use Rattle.std.proofs.lemmas.List.Elements.{All-filter}

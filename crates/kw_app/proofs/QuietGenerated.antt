@@ -1,4 +1,5 @@
--- All generated lines are quiet, so where none is refused its answers are those of the map of one thread.
+-- All generated lines are quiet, so where none is refused its answers are those of the map of one
+-- thread.
 use Rattle.std.proofs.Common.{ℕ, zero, suc, Bool, true, false, not, ◌≡◌, ◌<◌, ◌≤◌, ◌^◌, ◌%◌, cond, List, [], ◌∷◌, ◌++◌, length, map, Option, Some, refl, sym, ap, ◌∙◌, arith, length-append}
 use Rattle.std.specs.Prelude.{◌||◌, nat_lt, nat_eq}
 use Rattle.std.specs.List.{slice_get, flat_map, onto_first}

@@ -1,20 +1,22 @@
--- What a run writes and reads, from what its parts do: one command stands for each that the words mean, and what is said of the bytes that
--- were read is said of all that was left to read.
-use Rattle.std.proofs.Common.{◌≡◌, ℕ, ◌≤◌, ◌<◌, List, Option, Some, None, length, sym, refl, subst, arith, inl, inr}
+-- What a run writes and reads, from what its command came to: one command stands for each that the
+-- words mean.
+use Rattle.std.proofs.Common.{◌≡◌, ℕ, List, Option, Some, None, Ok, Err, sym, refl, subst, arith}
 use mathlib.Core.Logic.{⊎_elim}
 use Rattle.std.specs.Prelude.{IfSome, ◌≢◌}
-use Rattle.kw_model.specs.Counts.{CountRose}
-use Rattle.kw_line.specs.declared.parse.TheConstants.{MOST_BYTES}
 use Rattle.kw_table.specs.declared.pass.Pass.{Pass}
 use Rattle.kw_command.specs.declared.command.Command.{Command}
 use Rattle.kw_command.specs.declared.command.Command.TheVariants as command
+use Rattle.kw_command.specs.Words.{AreInRange}
+use Rattle.kw_app.specs.declared.input.InputError.{InputError}
+use Rattle.kw_app.specs.declared.input.InputError.TheVariants as error
 use Rattle.kw_app.specs.declared.outcome.Outcome.{Outcome}
 use Rattle.kw_app.specs.declared.outcome.Status.TheVariants as status
 use Rattle.kw_app.specs.declared.printed.Ending.{Ending}
 use Rattle.kw_app.specs.declared.printed.Ending.TheVariants as ending
 use Rattle.kw_app.specs.declared.printed.Printed.{Printed}
-use Rattle.kw_app.specs.Ends.{IsBadInput, IsFirstOutside, IsPrinted, IsSilent, IsToldBad, Prints, Reads, ReadsInput, Tells, WritesPrinted, WritesText}
-use Rattle.kw_app.proofs.Ended.{bad_is_told, fault_is_told, long_is_told, memory_is_told}
+use Rattle.kw_app.specs.Ends.{AsksMap, IsBadInput, IsSilent, IsToldBad, MayEnd, Performs, Reads, ReadsInput, Tells, WritesPrinted, WritesText}
+use Rattle.kw_app.specs.Status.{named_line, status_of}
+use Rattle.kw_app.proofs.Ended.{bad_is_told, fault_is_told, good_is_not_bad, memory_is_told, unread_is_told}
 
 -- what holds of all that is left follows from what does
 if_some : {P Q : List ℕ → Type 0} (left : Option (List ℕ)) → ((all : List ℕ) → P all → Q all) → IfSome left P → IfSome left Q
@@ -124,107 +126,90 @@ text_ends written faults p o k l h = (
   (λ is. ⊎_elim (λ a. cc) (λ other. ⊎_elim (λ a. cc) (λ last. ⊎_elim (λ a. cc) (λ a. cc) last) other) h.ends),
 )
 
--- the text that a command prints of bytes that were read is what it tells of them
-pub printed_tells : (c : Command) (bytes : List ℕ) (p : Printed) → Reads c → length bytes ≤ MOST_BYTES → IsPrinted c p.front p.ending bytes p.text.items
-    → (Writes : List ℕ → Type 0) → Writes p.text.items → Tells c (Some bytes) p.front p.ending Writes
-printed_tells (command.Replay w r) bytes p reads short is Writes writes = record { short = short; printed = p.text.items; is_printed = is; writes = writes }
-printed_tells (command.Simulate r b) bytes p reads short is Writes writes = record { short = short; printed = p.text.items; is_printed = is; writes = writes }
-printed_tells command.Judge bytes p reads short is Writes writes = record { short = short; printed = p.text.items; is_printed = is; writes = writes }
-printed_tells (command.Gen s n w r) bytes p reads short is Writes writes = absurd reads
+-- ---- what is told of it
 
--- ---- what was left to read
+-- a text that is told may be written as well
+tells_as : (c : Command) (left : Option (List ℕ)) (front : Option Pass) (end : Ending) (A B : List ℕ → Type 0) → ((text : List ℕ) → A text → B text)
+    → Tells c left front end A → Tells c left front end B
+tells_as (command.Replay w r) None front end A B each h = tt
+tells_as (command.Replay w r) (Some all) front end A B each h = record { short = h.short; printed = h.printed; is_printed = h.is_printed; writes = each h.printed h.writes }
+tells_as (command.Simulate r b) None front end A B each h = tt
+tells_as (command.Simulate r b) (Some all) front end A B each h = record { short = h.short; printed = h.printed; is_printed = h.is_printed; writes = each h.printed h.writes }
+tells_as command.Judge None front end A B each h = tt
+tells_as command.Judge (Some all) front end A B each h = record { short = h.short; printed = h.printed; is_printed = h.is_printed; writes = each h.printed h.writes }
+tells_as (command.Gen s n w r) left front end A B each h = record { printed = h.printed; is_summary = h.is_summary; writes = each h.printed h.writes }
 
--- what is told of the bytes that were read is told of all that was left to read
-tells_of_left : (c : Command) (left : Option (List ℕ)) (bytes : List ℕ) (front : Option Pass) (end : Ending) (Writes : List ℕ → Type 0) → Reads c → IfSome left (λ all. bytes ≡ all)
-    → Tells c (Some bytes) front end Writes → Tells c left front end Writes
-tells_of_left (command.Replay w r) None bytes front end Writes reads e h = tt
-tells_of_left (command.Replay w r) (Some all) bytes front end Writes reads e h = subst (Prints (command.Replay w r) front end Writes) e h
-tells_of_left (command.Simulate r b) None bytes front end Writes reads e h = tt
-tells_of_left (command.Simulate r b) (Some all) bytes front end Writes reads e h = subst (Prints (command.Simulate r b) front end Writes) e h
-tells_of_left command.Judge None bytes front end Writes reads e h = tt
-tells_of_left command.Judge (Some all) bytes front end Writes reads e h = subst (Prints command.Judge front end Writes) e h
-tells_of_left (command.Gen s n w r) left bytes front end Writes reads e h = absurd reads
+-- an input that has a text is not bad
+good_is_told : (c : Command) (left : Option (List ℕ)) (front : Option Pass) (end : Ending) (Writes : List ℕ → Type 0) (o : Outcome) → AreInRange c → Tells c left front end Writes
+    → IfSome left (IsToldBad c o)
+good_is_told (command.Replay w r) None front end Writes o range h = tt
+good_is_told (command.Replay w r) (Some all) front end Writes o range h = good_is_not_bad (command.Replay w r) front end all h.printed o range h.short h.is_printed
+good_is_told (command.Simulate r b) None front end Writes o range h = tt
+good_is_told (command.Simulate r b) (Some all) front end Writes o range h = good_is_not_bad (command.Simulate r b) front end all h.printed o range h.short h.is_printed
+good_is_told command.Judge None front end Writes o range h = tt
+good_is_told command.Judge (Some all) front end Writes o range h = good_is_not_bad command.Judge front end all h.printed o range h.short h.is_printed
+good_is_told (command.Gen s n w r) left front end Writes o range h = unread_is_told (command.Gen s n w r) left o (λ none. none)
 
--- what holds of the bytes that were read holds of all that was left to read
-of_left : (P : List ℕ → Type 0) (left : Option (List ℕ)) (bytes : List ℕ) → IfSome left (λ all. bytes ≡ all) → P bytes → IfSome left P
-of_left P None bytes e h = tt
-of_left P (Some all) bytes e h = subst P e h
+-- a text that a command came to was written
+pub text_is_written : {S K : Type 0} (left : S → Option (List ℕ)) (faults : S → ℕ) (written : K → Option (List ℕ)) (counted : K → ℕ) (c : Command) (p : Printed) (o : Outcome) (s t : S) (k l : K)
+    → Performs left faults c s t (Ok p) → WritesPrinted written counted p o k l → WritesText written counted (λ d. d ≡ c) (left s) o k l
+text_is_written left faults written counted c p o s t k l h w =
+    text_writes written counted c (left s) p o k l
+    (λ (Writes : List ℕ → Type 0) whole. tells_as c (left s) p.front p.ending (λ text. p.text.items ≡ text) Writes (λ text same. subst Writes same whole) h.text) w
 
--- what is written of the bytes that were read is written of all that was left to read
-pub writes_of_left : {K : Type 0} (written : K → Option (List ℕ)) (faults : K → ℕ) (c : Command) (left : Option (List ℕ)) (bytes : List ℕ) (o : Outcome) (k l : K)
-    → Reads c → IfSome left (λ all. bytes ≡ all) → WritesText written faults (λ d. d ≡ c) (Some bytes) o k l → WritesText written faults (λ d. d ≡ c) left o k l
-writes_of_left written faults c left bytes o k l reads e h = record {
-  done = λ is d same. tells_of_left d left bytes o.front ending.Done _ (subst Reads (sym same) reads) e (h.done is d same);
-  refused = λ is d same. tells_of_left d left bytes o.front ending.Refused _ (subst Reads (sym same) reads) e (h.refused is d same);
-  not_legal = λ is d same. tells_of_left d left bytes o.front ending.NotLegal _ (subst Reads (sym same) reads) e (h.not_legal is d same);
-  cut_short = λ is d same. let p = h.cut_short is d same in (p.0, tells_of_left d left bytes o.front p.0 _ (subst Reads (sym same) reads) e p.1);
-  write_fault = h.write_fault;
-  unwritten = h.unwritten;
-  no_front = h.no_front;
+pub text_was_read : {S K : Type 0} (left : S → Option (List ℕ)) (faults : S → ℕ) (written : K → Option (List ℕ)) (counted : K → ℕ) (c : Command) (p : Printed) (o : Outcome) (s t : S) (k l : K)
+    → AreInRange c → Performs left faults c s t (Ok p) → WritesPrinted written counted p o k l → ReadsInput left faults (λ d. d ≡ c) o s t
+text_was_read left faults written counted c p o s t k l range h w =
+    let ends = text_ends written counted p o k l w in record {
+      read_fault = λ is. absurd (ends.0 is);
+      bad_input = λ is. absurd (ends.1 is);
+      reads_nothing = λ d same none. ((h.reads_nothing (λ reads. none (subst Reads (sym same) reads))).0, ends.0, ends.1);
+      told = λ d same. subst (λ x. IfSome (left s) (IsToldBad x o)) (sym same) (good_is_told c (left s) p.front p.ending _ o range h.text);
+      no_line = λ no. w.no_line;
+      never_falls = h.never_falls;
+    }
+
+-- nothing was written where a command has no text
+pub no_text_is_written : {K : Type 0} (written : K → Option (List ℕ)) (faults : K → ℕ) (A : Command → Type 0) (left : Option (List ℕ)) (e : InputError) (o : Outcome) (k : K)
+    → o.status ≡ status_of e → o.front ≡ None → WritesText written faults A left o k k
+no_text_is_written written faults A left error.Fault o k is none = silent_writes written faults A left o k (silent_at_fault o is) none
+no_text_is_written written faults A left (error.Bad n) o k is none = silent_writes written faults A left o k (silent_at_bad_input o is) none
+no_text_is_written written faults A left error.Memory o k is none = silent_writes written faults A left o k (silent_at_want o is) none
+
+-- a command that has no text tells why
+pub no_text_was_read : {S : Type 0} (left : S → Option (List ℕ)) (faults : S → ℕ) (c : Command) (e : InputError) (o : Outcome) (s t : S)
+    → Performs left faults c s t (Err e) → o.status ≡ status_of e → o.line ≡ named_line e → ReadsInput left faults (λ d. d ≡ c) o s t
+no_text_was_read left faults c error.Fault o s t h is line = record {
+  read_fault = λ other. h.fault refl;
+  bad_input = λ other. absurd cc;
+  reads_nothing = λ d same none. absurd (h.reads_nothing (λ reads. none (subst Reads (sym same) reads))).1;
+  told = λ d same. fault_is_told d (left s) o is;
+  no_line = λ other. line;
+  never_falls = h.never_falls;
+}
+no_text_was_read left faults c (error.Bad n) o s t h is line = record {
+  read_fault = λ other. absurd cc;
+  bad_input = λ other d same. subst (λ x. IfSome (left s) (IsBadInput x o.line)) (sym same) (subst (λ x. IfSome (left s) (IsBadInput c x)) (sym line) (h.bad n refl));
+  reads_nothing = λ d same none. absurd (h.reads_nothing (λ reads. none (subst Reads (sym same) reads))).1;
+  told = λ d same. subst (λ x. IfSome (left s) (IsToldBad x o)) (sym same) (if_some (left s) (λ all bad. bad_is_told c all o n is line bad) (h.bad n refl));
+  no_line = λ other. absurd (other is);
+  never_falls = h.never_falls;
+}
+no_text_was_read left faults c error.Memory o s t h is line = record {
+  read_fault = λ other. absurd cc;
+  bad_input = λ other. absurd cc;
+  reads_nothing = λ d same none. ((h.reads_nothing (λ reads. none (subst Reads (sym same) reads))).0, (λ e. cc), (λ e. cc));
+  told = λ d same. memory_is_told d (left s) o is;
+  no_line = λ other. line;
   never_falls = h.never_falls;
 }
 
--- what is told of the bytes that were read is told of the source that they came from; no such bytes fail
-pub reads_of_left : {S : Type 0} (left : S → Option (List ℕ)) (faults : S → ℕ) (c : Command) (bytes : List ℕ) (o : Outcome) (s t : S)
-    → Reads c → IfSome (left s) (λ all. bytes ≡ all) → faults s ≤ faults t → ReadsInput (λ all. Some all) (λ all. 0) (λ d. d ≡ c) o bytes bytes → ReadsInput left faults (λ d. d ≡ c) o s t
-reads_of_left left faults c bytes o s t reads e rises h = record {
-  read_fault = λ is. absurd (no_fault (h.read_fault is));
-  bad_input = λ is d same. of_left (IsBadInput d o.line) (left s) bytes e (h.bad_input is d same);
-  reads_nothing = λ d same none. absurd (none (subst Reads (sym same) reads));
-  told = λ d same. of_left (IsToldBad d o) (left s) bytes e (h.told d same);
-  no_line = h.no_line;
-  never_falls = rises;
-}
-  where
-    no_fault : CountRose 0 0 → ⊥
-    no_fault rose = ⊎_elim (λ (below : 0 < 0). omega arith) (λ (end : 0 ≡ 18446744073709551615). absurd cc) rose
+-- ---- the two statuses that are told last
 
--- ---- the ends of an input
+pub only_judge : {K : Type 0} (written : K → Option (List ℕ)) (faults : K → ℕ) (c : Command) (p : Printed) (o : Outcome) (k l : K) → MayEnd c p.ending → WritesPrinted written faults p o k l
+    → o.status ≡ status.NotLegal → c ≡ command.Judge
+only_judge written faults c p o k l may w is = subst (MayEnd c) (w.not_legal is).0 may
 
--- a first bad line that is told
-pub bad_reads : (c : Command) (bytes : List ℕ) (o : Outcome) (n : ℕ) → Reads c → length bytes ≤ MOST_BYTES → o.status ≡ status.BadInput → o.line ≡ n → IsFirstOutside c bytes n
-    → ReadsInput (λ all. Some all) (λ all. 0) (λ d. d ≡ c) o bytes bytes
-bad_reads c bytes o n reads short is line first = record {
-  read_fault = λ other. absurd cc;
-  bad_input = λ other d same. subst (λ x. IsBadInput x o.line bytes) (sym same) (reads, inr (short, subst (IsFirstOutside c bytes) (sym line) first));
-  reads_nothing = λ d same none. absurd (none (subst Reads (sym same) reads));
-  told = λ d same. subst (λ x. IsToldBad x o bytes) (sym same) (bad_is_told c bytes o n short is line first);
-  no_line = λ other. absurd (other is);
-  never_falls = omega arith;
-}
-
--- an input that is too long
-pub long_reads : {S : Type 0} (left : S → Option (List ℕ)) (faults : S → ℕ) (c : Command) (o : Outcome) (s t : S) → Reads c → IfSome (left s) (λ all. MOST_BYTES < length all) → faults s ≤ faults t
-    → o.status ≡ status.BadInput → o.line ≡ 0 → ReadsInput left faults (λ d. d ≡ c) o s t
-long_reads left faults c o s t reads long rises is line = record {
-  read_fault = λ other. absurd cc;
-  bad_input = λ other d same. subst (λ x. IfSome (left s) (IsBadInput x o.line)) (sym same) (if_some (left s) (λ all h. (reads, inl (h, line))) long);
-  reads_nothing = λ d same none. absurd (none (subst Reads (sym same) reads));
-  told = λ d same. subst (λ x. IfSome (left s) (IsToldBad x o)) (sym same) (if_some (left s) (λ all h. long_is_told c all o h is line) long);
-  no_line = λ other. absurd (other is);
-  never_falls = rises;
-}
-
--- a read that failed
-pub fault_reads : {S : Type 0} (left : S → Option (List ℕ)) (faults : S → ℕ) (c : Command) (o : Outcome) (s t : S) → Reads c → CountRose (faults s) (faults t) → faults s ≤ faults t
-    → o.status ≡ status.ReadFault → o.line ≡ 0 → ReadsInput left faults (λ d. d ≡ c) o s t
-fault_reads left faults c o s t reads rose rises is line = record {
-  read_fault = λ other. rose;
-  bad_input = λ other d same. absurd cc;
-  reads_nothing = λ d same none. absurd (none (subst Reads (sym same) reads));
-  told = λ d same. fault_is_told d (left s) o is;
-  no_line = λ other. line;
-  never_falls = rises;
-}
-
--- want of memory while the input is read
-pub want_reads : {S : Type 0} (left : S → Option (List ℕ)) (faults : S → ℕ) (c : Command) (o : Outcome) (s t : S) → Reads c → faults s ≤ faults t
-    → o.status ≡ status.OutOfMemory → o.line ≡ 0 → ReadsInput left faults (λ d. d ≡ c) o s t
-want_reads left faults c o s t reads rises is line = record {
-  read_fault = λ other. absurd cc;
-  bad_input = λ other d same. absurd cc;
-  reads_nothing = λ d same none. absurd (none (subst Reads (sym same) reads));
-  told = λ d same. memory_is_told d (left s) o is;
-  no_line = λ other. line;
-  never_falls = rises;
-}
+pub only_map : {K : Type 0} (written : K → Option (List ℕ)) (faults : K → ℕ) (c : Command) (p : Printed) (o : Outcome) (k l : K) → MayEnd c p.ending → WritesPrinted written faults p o k l
+    → o.status ≡ status.Refused → AsksMap c
+only_map written faults c p o k l may w is = subst (MayEnd c) (w.refused is).0 may

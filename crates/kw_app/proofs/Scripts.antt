@@ -1,4 +1,5 @@
--- A script has commands or a first bad line, and one first bad line at most; and it has one list of commands at most.
+-- A script has commands or a first bad line, and one first bad line at most; and it has one list of
+-- commands at most.
 use Rattle.std.proofs.Common.{◌≡◌, ℕ, Bool, true, false, suc, ◌+◌, ◌≤◌, ◌<◌, ◌^◌, inl, inr, List, [], ◌∷◌, ◌++◌, map, length, decimal, refl, sym, ◌∙◌, ap, subst, arith}
 use Rattle.std.proofs.lemmas.Fmt.{decimal_injective}
 use Rattle.std.specs.List.{AllByRecursion}
@@ -19,7 +20,8 @@ use Rattle.kw_sim.proofs.Texts.{words-command_text, verb_word_injective}
 use Rattle.kw_sim.specs.declared.parse.TheConstants.{MOST_LINES}
 use Rattle.kw_sim.specs.Script.{HasRange, IsCommand, IsText, AreLinesOf, IsFirstBadCommand, command_text, command_words, rest_words, seat_of, verb_of, verb_word}
 
--- lines that are texts reach a line that is none, or is one too many, only at the most that a script may have
+-- lines that are texts reach a line that is none, or is one too many, only at the most that a
+-- script may have
 bad_at : (rows most : ℕ) (cs before : List Command) (line : List ℕ) (after : List (List ℕ)) → AllByRecursion (IsCommand rows) cs → map command_text cs ≡ map command_text before ++ line ∷ after
     → (n : ℕ) → (IsText rows line → n + length before ≡ most) → (most < n + length cs)
 bad_at rows most [] [] line after h e n b = cc
@@ -40,7 +42,8 @@ commands_or_bad rows bytes cs at h k =
     let few : length cs ≤ MOST_LINES = h.few in
     omega arith
 
--- two lists of lines that are texts, each before a line that is none or is one too many, are equally long
+-- two lists of lines that are texts, each before a line that is none or is one too many, are
+-- equally long
 same_place : (rows most : ℕ) (cs ds : List Command) (x y : List ℕ) (xs ys : List (List ℕ)) → AllByRecursion (IsCommand rows) cs → AllByRecursion (IsCommand rows) ds
     → map command_text cs ++ x ∷ xs ≡ map command_text ds ++ y ∷ ys → (n : ℕ) → n + length cs ≤ most → n + length ds ≤ most → (IsText rows x → n + length cs ≡ most) → (IsText rows y → n + length ds ≡ most)
     → length cs ≡ length ds

@@ -1,5 +1,5 @@
--- Texts that are written in several pieces: what was appended piece by piece was appended as a whole, and what was appended up to a
--- fault is a prefix of the whole.
+-- Texts that are written in several pieces: what was appended piece by piece was appended as a
+-- whole, and what was appended up to a fault is a prefix of the whole.
 use Rattle.std.proofs.Common.{◌≡◌, ℕ, ◌+◌, ◌≤◌, min, Option, Some, None, List, ◌++◌, take, length, sym, ◌∙◌, ap, subst, arith, append_assoc}
 use Rattle.std.proofs.lemmas.List.{take_min, take-append-le}
 use Rattle.std.proofs.Math.Seq.{take-append-add}

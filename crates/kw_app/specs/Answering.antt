@@ -14,14 +14,15 @@ use Rattle.kw_app.specs.Running.{Shows, is_refused}
 abbrev pub opening : ℕ → ℕ → Opening
 opening workers rows = record { rows = rows; seats = workers; clock = 1; epoch = 1 }
 
--- the answers are those of a run on the concurrent map, which this pass shows; its calls have one legal order, and the answers are worth what
--- one thread's are
+-- the answers are those of a run on the concurrent map, which this pass shows; its calls have one
+-- legal order, and the answers are worth what one thread's are
 pub record IsRun (o : Opening) (items : List Item) (answers : List Answer) (p : Pass) : Type 0 where
   pub shows : Shows o items answers (view p)
   pub ordered : IsOrdered (view p)
   pub headline : Headline o (view p).seen items answers
 
--- the answers to these items by this many workers on a map of this many rows: those of a run, and the pass that shows it is at hand
+-- the answers to these items by this many workers on a map of this many rows: those of a run, and
+-- the pass that shows it is at hand
 pub record IsAnswered (workers rows : ℕ) (items : List Item) (answers : List Answer) (front : Option Pass) : Type 0 where
   pub pass : Pass
   pub front_is : front ≡ Some pass

@@ -10,17 +10,20 @@ use Rattle.kw_app.specs.Generated.{generated}
 use Rattle.kw_app.specs.OneThread.{answers_to}
 use Rattle.kw_app.specs.Summary.{summary}
 
--- the summary of the lines that the generator makes from this number on, this many, where the map of one thread answers them
+-- the summary of the lines that the generator makes from this number on, this many, where the map
+-- of one thread answers them
 abbrev pub summary_alone : ℕ → ℕ → List ℕ
 summary_alone start count = summary (generated start count) (answers_to (generated start count))
 
--- the text is the summary of answers to these lines, by this many workers on a map of this many rows
+-- the text is the summary of answers to these lines, by this many workers on a map of this many
+-- rows
 pub record IsSummaryOf (start count workers rows : ℕ) (printed : List ℕ) (front : Option Pass) (end : Ending) : Type 0 where
   pub answers : List Answer
   pub answered : IsAnswered workers rows (generated start count) answers front
   pub text_is : printed ≡ summary (generated start count) answers
   pub ending_is : end ≡ refusal_ending (some_refused answers)
-  -- all generated lines are quiet, so where none is refused the text does not depend on what the workers did
+  -- all generated lines are quiet, so where none is refused the text does not depend on what the
+  -- workers did
   pub quiet : end ≡ ending.Done → printed ≡ summary_alone start count
 
 -- such a text was written in this way

@@ -1,4 +1,5 @@
--- What the answers of a run are worth: they are those of an ordered map of one thread that the lines' calls ask one after the other.
+-- What the answers of a run are worth: they are those of an ordered map of one thread that the
+-- lines' calls ask one after the other.
 use Rattle.std.specs.Prelude.{ℕ, ◌≡◌, ◌<◌, ◌≤◌, ◌⊎◌, Option, None, true, false, not, IsTrue, All, List, [], length, slice_get, Some}
 use Rattle.kw_model.specs.declared.call.Call.TheVariants.{Scan}
 use Rattle.kw_model.specs.declared.call.Reply.{Reply}
@@ -32,19 +33,22 @@ use Rattle.kw_app.specs.Running.{is_refused}
 abbrev pub line_calls : Opening → List Event → List Line → List CallSeen
 line_calls o E lines = merge o.seats (seat_calls o E) no_call [] lines
 
--- call x, a scan, drew a version; for each key of its range the pairs have the value of the key's last put or delete with a version not above it, so no
--- pair where that is a delete or where there is none; and they have no other key
+-- call x, a scan, drew a version; for each key of its range the pairs have the value of the key's
+-- last put or delete with a version not above it, so no pair where that is a delete or where there
+-- is none; and they have no other key
 pub record HasTops (h : History) (x from upto : ℕ) (pairs : Pairs) : Type 0 where
   pub drawn : Drawn
   pub draw : (called h x).draw ≡ Some drawn
   pub tops : (key : ℕ) → from ≤ key → key ≤ upto → (p : Option ℕ) × IsTop h key drawn.version p × (value_of key pairs ≡ shows h p)
   pub no_others : (key : ℕ) → (key < from) ⊎ (upto < key) → value_of key pairs ≡ None
 
--- where the call of line i has ended before the first event of the call of line j, i stands before j
+-- where the call of line i has ended before the first event of the call of line j, i stands before
+-- j
 abbrev pub KeepsPrecedence : List CallSeen → List ℕ → Type 0
 KeepsPrecedence made xs = (i j : ℕ) (c d : CallSeen) → slice_get made i ≡ Some c → slice_get made j ≡ Some d → EndsBefore d.first c.end → StandsBefore xs i j
 
--- The calls of the record in their one order, of which a list of events has no other; line number a of the order made the a-th of these calls.
+-- The calls of the record in their one order, of which a list of events has no other; line number a
+-- of the order made the a-th of these calls.
 pub record IsOrderOfCalls (o : Opening) (E : List Event) (made : List CallSeen) (numbers : List ℕ) : Type 0 where
   -- the places of the calls in the record
   pub places : List ℕ
@@ -52,10 +56,12 @@ pub record IsOrderOfCalls (o : Opening) (E : List Event) (made : List CallSeen) 
   pub only : (xs : List ℕ) → IsOrder (happened o E) xs → xs ≡ places
   pub as_many : length numbers ≡ length places
   pub made_by : (a i x : ℕ) → slice_get numbers a ≡ Some i → slice_get places a ≡ Some x → slice_get made i ≡ Some (seen (called (happened o E) x))
-  -- of each of these scans that ended with pairs: it had a version, and its pairs are those of the tops at it
+  -- of each of these scans that ended with pairs: it had a version, and its pairs are those of the
+  -- tops at it
   pub scans : (a x from upto at : ℕ) (pairs : Pairs) → slice_get places a ≡ Some x → EndsWith (happened o E) x (Scan from upto) at (reply.Pairs pairs) → HasTops (happened o E) x from upto pairs
 
--- each line has made its call, and there is one order of the lines in which the map of one thread gives all that is printed
+-- each line has made its call, and there is one order of the lines in which the map of one thread
+-- gives all that is printed
 pub record HasOneOrder (o : Opening) (E : List Event) (items : List Item) (printed : List Answer) : Type 0 where
   -- the list of events has for each line the call that it makes, and this call has ended
   pub asks : asked (line_calls o E (lines_of 1 items)) ≡ calls items
@@ -64,18 +70,21 @@ pub record HasOneOrder (o : Opening) (E : List Event) (items : List Item) (print
   pub prints : printed ≡ answers_for (forms items) (recorded o.seats (seat_calls o E) (lines_of 1 items))
   -- each is a reply that a line of this form may have, so no call was stopped
   pub are_replies : (i : ℕ) (f : Form) (r : Reply) → slice_get (forms items) i ≡ Some f → slice_get (recorded o.seats (seat_calls o E) (lines_of 1 items)) i ≡ Some r → IsReplyOf f r
-  -- a line is refused only for what its worker's seat found while it made the line's call: the versions or the epochs spent, or too few rows left
+  -- a line is refused only for what its worker's seat found while it made the line's call: the
+  -- versions or the epochs spent, or too few rows left
   pub causes : (i : ℕ) (l : Line) (c : CallSeen) → slice_get (lines_of 1 items) i ≡ Some l → slice_get (line_calls o E (lines_of 1 items)) i ≡ Some c → HasReason o E (worker_of o.seats l) c
   -- the numbers of the lines in the order, counted from 0: each stands there once
   pub numbers : List ℕ
   pub order : IsOrderOf (length (calls items)) numbers
   -- it is that of the calls, of which the list of events has one
   pub of_calls : IsOrderOfCalls o E (line_calls o E (lines_of 1 items)) numbers
-  -- asked in this order of the map, which was empty, the calls have these replies; a refusal leaves the map as it was
+  -- asked in this order of the map, which was empty, the calls have these replies; a refusal leaves
+  -- the map as it was
   pub legal : IsLegalIn (calls items) (recorded o.seats (seat_calls o E) (lines_of 1 items)) numbers
   -- a call that ended before another began stands before it
   pub precedence : KeepsPrecedence (line_calls o E (lines_of 1 items)) numbers
-  -- lines of earlier blocks stand before those of later ones, and those of one worker in their order
+  -- lines of earlier blocks stand before those of later ones, and those of one worker in their
+  -- order
   pub workers : KeepsWorkers o.seats (blocks_of 1 items) numbers
 
 -- no line that sets a value or takes a key away was refused

@@ -7,6 +7,7 @@ pub mod Running
 pub mod Headline
 pub mod Answering
 pub mod Ending
+pub mod Inputs
 pub mod Judging
 pub mod Simulating
 pub mod Replay

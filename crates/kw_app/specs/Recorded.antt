@@ -31,7 +31,8 @@ asks ls = map (λ (l : Line). l.call) ls
 abbrev pub line_forms : List Line → List Form
 line_forms ls = map (λ (l : Line). l.form) ls
 
--- the reply of a call that has ended; one that has not has no reply, and is given one here only so that there is always one
+-- the reply of a call that has ended; one that has not has no reply, and is given one here only so
+-- that there is always one
 abbrev pub reply_at : Option End → Reply
 reply_at None = Stopped
 reply_at (Some e) = e.reply
@@ -50,7 +51,8 @@ pub record IsWithin (a b : ℕ) (c : CallSeen) : Type 0 where
   pub ends : EndsBefore b c.end
   pub unstopped : reply_of c ≡ Stopped → ⊥
 
--- each of these calls has a reply that the line in its place may have, which is one of the line's form
+-- each of these calls has a reply that the line in its place may have, which is one of the line's
+-- form
 abbrev pub AreReplies : List Line → List CallSeen → Type 0
 AreReplies ls cs = (i : ℕ) (l : Line) (c : CallSeen) → slice_get ls i ≡ Some l → slice_get cs i ≡ Some c → IsReplyOf l.form (reply_of c)
 
@@ -58,7 +60,8 @@ AreReplies ls cs = (i : ℕ) (l : Line) (c : CallSeen) → slice_get ls i ≡ So
 abbrev pub no_call : CallSeen
 no_call = record { number = 0; call = Get 0; first = 0; end = None }
 
--- the replies of the lines in line order, where each of n workers has made these calls: the i-th call of a worker is that of its i-th line
+-- the replies of the lines in line order, where each of n workers has made these calls: the i-th
+-- call of a worker is that of its i-th line
 abbrev pub recorded : ℕ → (ℕ → List CallSeen) → List Line → List Reply
 recorded n made lines = map reply_of (merge n made no_call [] lines)
 

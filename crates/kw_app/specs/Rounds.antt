@@ -50,8 +50,8 @@ pub record AreTogether (m : Kiwi) (n : ℕ) (E : List Event) (ps : List Pass) : 
 abbrev pub more_calls : Opening → List Event → List Event → ℕ → List CallSeen
 more_calls o E E' seat = drop (length (seat_calls o E seat)) (seat_calls o E' seat)
 
--- the list E' goes on after E by the calls of the lines and no others, each made whole by the worker of its line, in line order; the answers
--- are those of the recorded replies
+-- the list E' goes on after E by the calls of the lines and no others, each made whole by the
+-- worker of its line, in line order; the answers are those of the recorded replies
 pub record Grew (o : Opening) (n : ℕ) (lines : List Line) (E E' : List Event) (answers : List Answer) : Type 0 where
   pub longer : IsPrefix E E'
   pub calls : (w : ℕ) → w < n → seat_calls o E' w ≡ seat_calls o E w ++ more_calls o E E' w

@@ -1,7 +1,5 @@
 -- What `simulate` prints of a script: its output, or the record of its calls.
-use Rattle.std.specs.Prelude.{ℕ, Bool, true, false, ◌≡◌, ◌⊎◌, List, Result, Ok, Err}
-use Rattle.kw_sim.specs.declared.command.ScriptError.{ScriptError}
-use Rattle.kw_sim.specs.declared.command.ScriptError.TheVariants as error
+use Rattle.std.specs.Prelude.{ℕ, Bool, true, false, ◌≡◌, ◌⊎◌, List}
 use Rattle.kw_sim.specs.Output.{IsOutputOf}
 use Rattle.kw_sim.specs.Recorded.{IsRecordOf, IsTooLong}
 use Rattle.kw_sim.specs.Script.{IsFirstBadCommand}
@@ -11,13 +9,8 @@ abbrev pub IsSimulated : Bool → ℕ → List ℕ → List ℕ → Type 0
 IsSimulated false rows script printed = IsOutputOf rows script printed
 IsSimulated true rows script printed = IsRecordOf rows script printed
 
--- the line is the script's first bad one; or it is line 0, and a record is asked for that would have too many calls
+-- the line is the script's first bad one; or it is line 0, and a record is asked for that would
+-- have too many calls
 abbrev pub IsOutsideScript : Bool → ℕ → List ℕ → ℕ → Type 0
 IsOutsideScript false rows script at = IsFirstBadCommand rows script at
 IsOutsideScript true rows script at = IsFirstBadCommand rows script at ⊎ ((at ≡ 0) × IsTooLong rows script)
-
--- a line that is named is such a line
-abbrev pub IfOutsideScript : {X : Type 0} → Bool → ℕ → List ℕ → Result X ScriptError → Type 0
-IfOutsideScript recorded rows script (Ok x) = Unit {0}
-IfOutsideScript recorded rows script (Err (error.Bad line)) = IsOutsideScript recorded rows script line
-IfOutsideScript recorded rows script (Err error.Memory) = Unit {0}

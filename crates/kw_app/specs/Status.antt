@@ -1,6 +1,9 @@
--- The numbers of the statuses, and the line on standard error that says why a run did not do all it was asked.
+-- The numbers of the statuses, and the line on standard error that says why a run did not do all it
+-- was asked.
 use Rattle.std.specs.Prelude.{ℕ, List, [], ◌∷◌, ◌++◌, ◌==◌, codes, decimal, if◌then◌else◌}
 use Rattle.kw_line.specs.declared.words.TheConstants.{LINE_FEED}
+use Rattle.kw_app.specs.declared.input.InputError.{InputError}
+use Rattle.kw_app.specs.declared.input.InputError.TheVariants as error
 use Rattle.kw_app.specs.declared.outcome.Outcome.{Outcome}
 use Rattle.kw_app.specs.declared.outcome.Status.{Status}
 use Rattle.kw_app.specs.declared.outcome.Status.TheVariants as status
@@ -15,6 +18,18 @@ status_code status.WriteFault = 5
 status_code status.OutOfMemory = 6
 status_code status.NotLegal = 7
 status_code status.Refused = 8
+
+-- how a command ends that has no text
+abbrev pub status_of : InputError → Status
+status_of error.Fault = status.ReadFault
+status_of (error.Bad at) = status.BadInput
+status_of error.Memory = status.OutOfMemory
+
+-- the line that is named then: 0 where none is
+abbrev pub named_line : InputError → ℕ
+named_line error.Fault = 0
+named_line (error.Bad at) = at
+named_line error.Memory = 0
 
 -- a line of text, with its line feed
 abbrev pub line_of : List ℕ → List ℕ

@@ -55,7 +55,8 @@ last_texts _ = []
 abbrev pub last_of : List Answer → List Answer
 last_of given = drop (length given - LAST_REPLIES) given
 
--- the summary: how many lines of each kind there are, how many gets gave a value, and the last replies
+-- the summary: how many lines of each kind there are, how many gets gave a value, and the last
+-- replies
 abbrev pub summary : List Item → List Answer → List ℕ
 summary items given =
     summary_line (codes "puts") (decimal (count_by is_put items)) ++ summary_line (codes "dels") (decimal (count_by is_del items))

@@ -11,7 +11,8 @@ use Rattle.kw_follow.specs.Calling.{Calls, calls_in, now_in}
 use Rattle.kw_work.specs.declared.line.Line.{Line}
 use Rattle.kw_app.specs.Recorded.{asked, asks, line_forms, reply_of, AreReplies, IsWithin}
 
--- the pass made this call, which was its next one, and had a reply that a line of this form may have; the answer is what such a line prints for it
+-- the pass made this call, which was its next one, and had a reply that a line of this form may
+-- have; the answer is what such a line prints for it
 pub record LineAnswered (p q : Pass) (call : Call) (form : Form) (answer : Answer) : Type 0 where
   pub reply : Reply
   pub calls : Calls p q call reply
@@ -22,8 +23,9 @@ pub record LineAnswered (p q : Pass) (call : Call) (form : Form) (answer : Answe
 abbrev pub answered_by : List Line → List CallSeen → List Answer
 answered_by lines made = answers_for (line_forms lines) (map reply_of made)
 
--- the new calls of the pass are just those of the lines, in their order, and all have ended, each by a reply that its line may have, so none was
--- stopped; the answers are those of the recorded replies
+-- the new calls of the pass are just those of the lines, in their order, and all have ended, each
+-- by a reply that its line may have, so none was stopped; the answers are those of the recorded
+-- replies
 pub record Works (p q : Pass) (lines : List Line) (answers : List Answer) : Type 0 where
   pub made : List CallSeen
   pub calls : calls_in q ≡ calls_in p ++ made

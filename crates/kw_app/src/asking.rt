@@ -1,7 +1,7 @@
 //! The call of one line.
 //!
-//! A line is asked by the call that it holds, and answered by its form. A range is gathered as its form wants it, so that all forms but
-//! `list` take no memory.
+//! A line is asked by the call that it holds, and answered by its form. A range is gathered as its
+//! form wants it, so that all forms but `list` take no memory.
 ghost use Rattle.std.specs.Prelude.{◌≡◌, ◌<◌, IfOk};
 ghost use Rattle.kw_words.specs.declared.sizes.TheConstants.{VALUE_END};
 ghost use Rattle.kw_line.specs.declared.answer.Answer.TheVariants as answer;
@@ -25,8 +25,8 @@ use std::sync::Wait;
 
 /// Makes the call of a line, and gives its answer.
 ///
-/// The pass is one of this map and idle, as it is afterwards. The only error is the want of memory, and it comes only at a line
-/// that lists pairs.
+/// The pass is one of this map and idle, as it is afterwards. The only error is the want of memory,
+/// and it comes only at a line that lists pairs.
 pub fn ask<R: Wait>(
     rt: &R,
     alloc: Global,

@@ -10,10 +10,11 @@ use itoa::Buffer;
 use kw_io::{Sink, WriteFault, write_all};
 use kw_line::words::LINE_FEED;
 
-/// Writes the fault line of a run that ended so, and a line feed, or nothing where the whole text was written. It takes no
-/// memory.
+/// Writes the fault line of a run that ended so, and a line feed, or nothing where the whole text
+/// was written. It takes no memory.
 ///
-/// `WriteFault` comes only where the sink counted a fault in this call; a prefix of the line was then written.
+/// `WriteFault` comes only where the sink counted a fault in this call; a prefix of the line was
+/// then written.
 pub fn write_fault<K: Sink>(outcome: &Outcome, sink: &mut K) -> Result<(), WriteFault>
     ensures all { OnOk result (Appends (K.written sink.old) (K.written sink.new)
         (fault_text outcome.now)) }

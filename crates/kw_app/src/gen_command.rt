@@ -1,4 +1,5 @@
-//! The command `gen`: lines from the generator, asked as the lines of an input are, and the summary of the replies.
+//! The command `gen`: lines from the generator, asked as the lines of an input are, and the summary
+//! of the replies.
 ghost use Rattle.std.specs.Prelude.{◌≤◌, IfOk};
 ghost use Rattle.kw_app.specs.Gen.{IsSummaryOf};
 
@@ -14,7 +15,8 @@ use std::alloc::Global;
 use std::sync::Wait;
 use std::thread::Threads;
 
-/// The summary of the crew's replies to the lines that the generator makes: this many, from this number on.
+/// The summary of the crew's replies to the lines that the generator makes: this many, from this
+/// number on.
 pub fn summarized<R: Threads + Wait + Sync, G: Gate + Sync>(
     rt: &R,
     alloc: Global,

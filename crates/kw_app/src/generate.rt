@@ -1,8 +1,9 @@
 //! The lines that the generator makes.
 //!
-//! A [`Generator`] is a number that each draw replaces by the next of a fixed sequence, so the same start gives the same lines
-//! everywhere. `specs/Generated.antt` says what a draw gives and which line three draws make. The last ones are a wait and four
-//! lines on all keys, which the summary of a run prints.
+//! A [`Generator`] is a number that each draw replaces by the next of a fixed sequence, so the same
+//! start gives the same lines everywhere. `specs/Generated.antt` says what a draw gives and which
+//! line three draws make. The last ones are a wait and four lines on all keys, which the summary of
+//! a run prints.
 ghost use Rattle.std.specs.Prelude.{◌≡◌, ◌<◌, ◌%◌, ◌^◌, ◌++◌, IfOk};
 ghost use Rattle.std.specs.List.{AllByRecursion};
 ghost use Rattle.kw_line.specs.Line.{IsItem};
@@ -34,7 +35,8 @@ pub const KINDS: u64 = 8;
 /// The kinds below this are puts, this one is a delete, and those above are gets.
 pub const DELETE_KIND: u64 = 5;
 
-/// The lines after the generated ones: all of them are answered first, and then all keys are asked for.
+/// The lines after the generated ones: all of them are answered first, and then all keys are asked
+/// for.
 const LAST_LINES: [Item; 5] = [
     Item::Wait,
     Item::Call(Call::Scan(0, u32::MAX), Form::Count),
@@ -100,38 +102,4 @@ pub fn generate(alloc: Global, start: u32, count: u32) -> Result<Vec<Item>, Memo
     }
     lines.extend_from_slice(&LAST_LINES)?;
     Ok(lines)
-}
-
-#[cfg(test)]
-mod tests {
-    use super::*;
-    use std::test::Fail;
-
-    #[test]
-    fn the_numbers_of_the_generator(rt: HostRuntime) {
-        assert_eq!(rt; MULTIPLIER, 1_103_515_245);
-        assert_eq!(rt; INCREMENT, 12_345);
-        assert_eq!(rt; MODULUS, 2_147_483_648);
-        assert_eq!(rt; DRAW_UNIT, 65_536);
-        assert_eq!(rt; KEYS, 4_096);
-        assert_eq!(rt; KINDS, 8);
-        assert_eq!(rt; DELETE_KIND, 5);
-    }
-
-    #[test]
-    fn three_draws_make_a_line(rt: HostRuntime) -> Result<(), Fail> {
-        let lines = generate(rt.alloc(), 1, 3)?;
-        let want = [
-            Item::Call(Call::Get(1662), Form::Get),
-            Item::Call(Call::Put(2379, 5627), Form::Put),
-            Item::Call(Call::Put(3323, 16212), Form::Put),
-            Item::Wait,
-            Item::Call(Call::Scan(0, 4294967295), Form::Count),
-            Item::Call(Call::Scan(0, 4294967295), Form::Sum),
-            Item::Call(Call::Scan(0, 4294967295), Form::Least),
-            Item::Call(Call::Scan(0, 4294967295), Form::Greatest),
-        ];
-        assert_eq!(rt; lines.as_slice(), want.as_slice());
-        Ok(())
-    }
 }

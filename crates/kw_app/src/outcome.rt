@@ -1,19 +1,21 @@
 //! How a run of the program ends.
 ghost use Rattle.std.specs.Prelude.{◌≡◌, None};
-ghost use Rattle.kw_app.specs.Status.{status_code};
+ghost use Rattle.kw_app.specs.Status.{named_line, status_code, status_of};
 
+use crate::input::InputError;
 use kw_table::Pass;
 
-/// How a run ended. The causes are tested in this order: bad words, a read fault, bad input, a write fault; want of memory may
-/// come at any place before the first byte is written. That a record is not good, or that calls were refused, is told last, since it is no
-/// fault of the run.
+/// How a run ended. The causes are tested in this order: bad words, a read fault, bad input, a
+/// write fault; want of memory may come at any place before the first byte is written. That a
+/// record is not good, or that calls were refused, is told last, since it is no fault of the run.
 #[derive(Clone, Copy, Debug, PartialEq, Eq)]
 pub enum Status {
     /// The whole text was written.
     Done = 0,
     /// The words are no command. Nothing was read.
     BadWords = 2,
-    /// The input is too long, or has a line that is not in the grammar, or a script's record would be too long. Nothing was written.
+    /// The input is too long, or has a line that is not in the grammar, or a script's record would
+    /// be too long. Nothing was written.
     BadInput = 3,
     /// The source failed. Nothing was written.
     ReadFault = 4,
@@ -36,13 +38,14 @@ impl Status {
     }
 }
 
-/// The end of a run: its status, and for bad input the first bad line, counted from 1, or 0 for an input that is too long. The
-/// line is 0 at every other status.
+/// The end of a run: its status, and for bad input the first bad line, counted from 1, or 0 for an
+/// input that is too long. The line is 0 at every other status.
 #[derive(Drop)]
 pub struct Outcome {
     pub status: Status,
     pub line: u32,
-    /// Where text of `replay` or `gen` was written, the pass that has seen all events of the run. No bytes of the text depend on it.
+    /// Where text of `replay` or `gen` was written, the pass that has seen all events of the run.
+    /// No bytes of the text depend on it.
     pub front: Option<Pass>,
 }
 
@@ -60,16 +63,20 @@ impl Outcome {
         }
     }
 
-    /// The end with bad input, whose first bad line is this one, or 0 where it is too long.
-    pub fn bad_input(line: u32) -> Outcome
-        ensures status { result.status ≡ Status.BadInput }
-        ensures line { result.line ≡ line }
+    /// The end of a command that has no text, for this reason.
+    pub fn without_text(error: InputError) -> Outcome
+        ensures status { result.status ≡ status_of error }
+        ensures line { result.line ≡ named_line error }
         ensures front { result.front ≡ None }
     {
-        Outcome {
-            status: Status::BadInput,
-            line,
-            front: None,
+        match error {
+            InputError::Fault => Outcome::of(Status::ReadFault),
+            InputError::Bad { line } => Outcome {
+                status: Status::BadInput,
+                line,
+                front: None,
+            },
+            InputError::Memory => Outcome::of(Status::OutOfMemory),
         }
     }
 }

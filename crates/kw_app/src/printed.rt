@@ -1,7 +1,7 @@
 //! What a command prints, and what it has to show for it.
 //!
 //! The types stand alone here, since each command makes a [`Printed`] and `run` takes one apart.
-ghost use Rattle.std.specs.Prelude.{◌≡◌, None};
+ghost use Rattle.std.specs.Prelude.{◌≡◌};
 ghost use Rattle.kw_app.specs.Answering.{some_refused};
 ghost use Rattle.kw_app.specs.Ending.{refusal_ending};
 
@@ -50,19 +50,4 @@ pub struct Printed {
     pub ending: Ending,
     /// The pass that has seen all events of the run, of `replay` and of `gen`.
     pub front: Option<Pass>,
-}
-
-impl Printed {
-    /// A text of which nothing is to be said, and to which the concurrent map gave nothing.
-    pub fn of(text: Vec<u8>) -> Printed
-        ensures text { result.text ≡ text }
-        ensures ending { result.ending ≡ Ending.Done }
-        ensures front { result.front ≡ None }
-    {
-        Printed {
-            text,
-            ending: Ending::Done,
-            front: None,
-        }
-    }
 }

@@ -1,14 +1,16 @@
 //! One block, answered by all workers beside each other.
 //!
-//! Each pass gets a thread, which takes the lines of the block that are dealt to it and answers them. When all have ended, the passes meet: all have
-//! then seen one list of events. Only after that are the answers collected, so a block's calls have all ended before anything of a later one.
+//! Each pass gets a thread, which takes the lines of the block that are dealt to it and answers
+//! them. When all have ended, the passes meet: all have then seen one list of events. Only after
+//! that are the answers collected, so a block's calls have all ended before anything of a later
+//! one.
 ghost use Rattle.std.specs.Prelude.{◌≡◌, All, IfOk, Ok, vec_len};
 ghost use Rattle.kw_table.specs.Meetings.{AtEach, MeetsAt, front_seen};
 ghost use Rattle.kw_table.specs.Passes.{IsPassOf};
 ghost use Rattle.kw_follow.specs.Following.{GoesTo};
 ghost use Rattle.kw_map.specs.Kiwi.{IsIdle};
 ghost use Rattle.kw_work.specs.Dealing.{IsLine};
-ghost use Rattle.kw_app.specs.Rounds.{AreTogether, Grew, IsDone, WorkedEach};
+ghost use Rattle.kw_app.specs.Rounds.{AreTogether, Grew, IsDone};
 
 use crate::working::{Gate, work};
 use kw_line::answer::Answer;
@@ -27,24 +29,6 @@ use std::thread::Threads;
 pub(crate) struct Done {
     pub(crate) pass: Pass,
     pub(crate) answers: Result<Vec<Answer>, Memory>,
-}
-
-/// What a pass does in its thread.
-fn finish<R: Wait, G: Gate>(
-    rt: &R,
-    alloc: Global,
-    kiwi: &Kiwi,
-    block: &Block<'_>,
-    pass: Pass,
-    gate: &G,
-) -> Done
-    requires idle { IsIdle kiwi.now pass }
-    requires lines { All IsLine block.now.lines }
-    ensures { IsDone kiwi.now block.now pass result }
-{
-    let mut pass = pass;
-    let answers = work(rt, alloc, kiwi, &mut pass, block, gate);
-    Done { pass, answers }
 }
 
 /// What all passes do, each in a thread of its own.
@@ -67,7 +51,12 @@ fn finish_all<R: Threads + Wait + Sync, G: Gate + Sync>(
         &|pass: Pass|
             requires idle { IsIdle kiwi.now pass }
             requires lines { All IsLine block.now.lines }
-        { finish(rt, alloc, kiwi, block, pass, gate) },
+            ensures { IsDone kiwi.entry.now block.entry.now pass result }
+        {
+            let mut pass = pass;
+            let answers = work(rt, alloc, kiwi, &mut pass, block, gate);
+            Done { pass, answers }
+        },
     )
 }
 
@@ -91,26 +80,6 @@ fn parted(alloc: Global, dones: Vec<Done>) -> Result<(Vec<Pass>, Vec<Vec<Answer>
     Ok((passes, parts))
 }
 
-/// All workers answer their lines of the block.
-fn hand_out<R: Threads + Wait + Sync, G: Gate + Sync>(
-    rt: &R,
-    alloc: Global,
-    kiwi: &Kiwi,
-    block: &Block<'_>,
-    passes: Vec<Pass>,
-    gate: &G,
-) -> Result<(Vec<Pass>, Vec<Vec<Answer>>), Memory>
-    requires idle { All (IsIdle kiwi.now) passes.items }
-    requires lines { All IsLine block.now.lines }
-    ensures len { IfOk result (λ both. (vec_len both.0 ≡ vec_len passes)
-        × (vec_len both.1 ≡ vec_len passes)) }
-    ensures each { IfOk result (λ both. WorkedEach kiwi.now block.now passes.items both.0.items
-        both.1.items) }
-{
-    let dones = finish_all(rt, alloc, kiwi, block, passes, gate)?;
-    parted(alloc, dones)
-}
-
 /// The passes, which have then all seen one list of events.
 fn met(kiwi: &Kiwi, passes: Vec<Pass>) -> Vec<Pass>
     requires { All (IsPassOf kiwi.now.shared) passes.items }
@@ -123,11 +92,11 @@ fn met(kiwi: &Kiwi, passes: Vec<Pass>) -> Vec<Pass>
     passes
 }
 
-/// Answers one block: the passes, which then have all seen one list of events, and the answers in line order. A block without lines starts
-/// no thread.
+/// Answers one block: the passes, which then have all seen one list of events, and the answers in
+/// line order. A block without lines starts no thread.
 ///
-/// There is a pass for each worker of the block, numbered from 0, and all are idle and have seen one list, as they are and have afterwards.
-/// The only error is the want of memory.
+/// There is a pass for each worker of the block, numbered from 0, and all are idle and have seen
+/// one list, as they are and have afterwards. The only error is the want of memory.
 pub(crate) fn play<R: Threads + Wait + Sync, G: Gate + Sync>(
     rt: &R,
     alloc: Global,
@@ -147,7 +116,8 @@ pub(crate) fn play<R: Threads + Wait + Sync, G: Gate + Sync>(
     if block.is_empty() {
         return Ok((passes, Vec::new(alloc)));
     }
-    let (passes, parts) = hand_out(rt, alloc, kiwi, block, passes, gate)?;
+    let dones = finish_all(rt, alloc, kiwi, block, passes, gate)?;
+    let (passes, parts) = parted(alloc, dones)?;
     let passes = met(kiwi, passes);
     let answers = collect(alloc, block, parts)?;
     Ok((passes, answers))

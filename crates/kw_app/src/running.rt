@@ -1,7 +1,8 @@
 //! All blocks of an input, one after another, on one map.
 //!
-//! The contract of `run_on_map` says what the list of events of a whole run has, whatever the workers did beside each other, and what the
-//! answers are worth: `specs/Running.antt` and `specs/Headline.antt`. `replay` and `gen_command` print such answers.
+//! The contract of `run_on_map` says what the list of events of a whole run has, whatever the
+//! workers did beside each other, and what the answers are worth: `specs/Running.antt` and
+//! `specs/Headline.antt`. `replay` and `gen_command` print such answers.
 ghost use Rattle.std.specs.Prelude.{◌≡◌, ◌<◌, ◌^◌, [], length, map, All, IfOk};
 ghost use Rattle.std.specs.List.{AllByRecursion};
 ghost use Rattle.kw_line.specs.Line.{IsItem};
@@ -26,7 +27,8 @@ use std::alloc::Global;
 use std::sync::Wait;
 use std::thread::Threads;
 
-/// Answers the blocks in order. The answers of the first block are not copied: most inputs have many lines and few blocks.
+/// Answers the blocks in order. The answers of the first block are not copied: most inputs have
+/// many lines and few blocks.
 fn play_all<R: Threads + Wait + Sync, G: Gate + Sync>(
     rt: &R,
     alloc: Global,
@@ -53,10 +55,12 @@ fn play_all<R: Threads + Wait + Sync, G: Gate + Sync>(
     Ok((passes, answers))
 }
 
-/// Makes the calls of an input's items on an empty map of the crew's rows, by its workers beside each other, block by block.
-/// Gives the first worker's pass, which has seen all events of the run, and the answers in line order.
+/// Makes the calls of an input's items on an empty map of the crew's rows, by its workers beside
+/// each other, block by block. Gives the first worker's pass, which has seen all events of the run,
+/// and the answers in line order.
 ///
-/// There are fewer than 2^32 items, each one that a line may be. The gate is told of each line. The only error is the want of memory.
+/// There are fewer than 2^32 items, each one that a line may be. The gate is told of each line. The
+/// only error is the want of memory.
 pub fn run_on_map<R: Threads + Wait + Sync, G: Gate + Sync>(
     rt: &R,
     alloc: Global,

@@ -1,6 +1,7 @@
 //! The summary of the replies to generated lines: eight lines of a word and a number.
 //!
-//! `specs/Summary.antt` says what is counted. The text is made in a `Vec` that grows, as all printed text is.
+//! `specs/Summary.antt` says what is counted. The text is made in a `Vec` that grows, as all
+//! printed text is.
 ghost use Rattle.std.specs.Prelude.{◌≡◌, ◌≤◌, ◌++◌, decimal, length, IfOk, OnOk};
 ghost use Rattle.std.specs.List.{count_by};
 ghost use Rattle.kw_line.specs.Answered.{answer_text};
@@ -82,7 +83,8 @@ fn found(items: &[Item], answers: &[Answer]) -> usize
     found
 }
 
-/// Adds a line of the summary at the end: this word and a number. After an `Err` it may be there in part.
+/// Adds a line of the summary at the end: this word and a number. After an `Err` it may be there in
+/// part.
 fn push_count(out: &mut Vec<u8>, word: &[u8], number: usize) -> Result<(), Memory>
     ensures { OnOk result (out.new.items ≡ out.old.items
         ++ summary_line word.now (decimal number)) }
@@ -93,7 +95,8 @@ fn push_count(out: &mut Vec<u8>, word: &[u8], number: usize) -> Result<(), Memor
     Ok(out.push(LINE_FEED)?)
 }
 
-/// Adds a line of the summary at the end: this word and the text of an answer. After an `Err` it may be there in part.
+/// Adds a line of the summary at the end: this word and the text of an answer. After an `Err` it
+/// may be there in part.
 fn push_reply(out: &mut Vec<u8>, word: &[u8], answer: &Answer) -> Result<(), Memory>
     ensures { OnOk result (out.new.items ≡ out.old.items
         ++ summary_line word.now (answer_text answer.now)) }

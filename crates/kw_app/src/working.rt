@@ -1,7 +1,7 @@
 //! One worker, and whoever is told of its lines.
 //!
-//! A worker answers its lines one after the other, with one pass. The gate is told of each line before and after; it has no answers, so
-//! it changes nothing of what a worker does.
+//! A worker answers its lines one after the other, with one pass. The gate is told of each line
+//! before and after; it has no answers, so it changes nothing of what a worker does.
 ghost use Rattle.std.specs.Prelude.{All, IfOk};
 ghost use Rattle.kw_table.specs.Passes.{view};
 ghost use Rattle.kw_follow.specs.Following.{GoesTo};
@@ -18,7 +18,8 @@ use kw_work::block::Block;
 use std::alloc::Global;
 use std::sync::Wait;
 
-/// Told of each line by its worker, with the numbers of both. It answers nothing and has no meaning; a test may hold a worker up by it.
+/// Told of each line by its worker, with the numbers of both. It answers nothing and has no
+/// meaning; a test may hold a worker up by it.
 pub trait Gate {
     /// The worker is about to begin the line.
     fn before(&self, worker: u32, line: u32);
@@ -37,10 +38,12 @@ impl Gate for NoGate {
     fn after(&self, _worker: u32, _line: u32) {}
 }
 
-/// Makes the calls of the block's lines that are dealt to the pass, in order, and gives their answers.
+/// Makes the calls of the block's lines that are dealt to the pass, in order, and gives their
+/// answers.
 ///
-/// The worker is the number of the pass, which is one of this map and idle, as it is afterwards. The lines are picked from the block one by one, so
-/// that none are copied. The only error is the want of memory; the pass has then made the calls of the first lines.
+/// The worker is the number of the pass, which is one of this map and idle, as it is afterwards.
+/// The lines are picked from the block one by one, so that none are copied. The only error is the
+/// want of memory; the pass has then made the calls of the first lines.
 pub fn work<R: Wait, G: Gate>(
     rt: &R,
     alloc: Global,

@@ -1,11 +1,11 @@
 -- Words mean one command, so what is said of it holds of each command that they mean.
 use Rattle.std.proofs.Common.{◌≡◌, ℕ, List, Option, Some, None, refl, subst}
-use Rattle.std.specs.Prelude.{MatchOption}
+use Rattle.std.specs.Prelude.{IfSome, MatchOption}
 use Rattle.kw_command.specs.declared.command.Command.{Command}
-use Rattle.kw_command.specs.Words.{Means}
+use Rattle.kw_command.specs.Words.{AreInRange, Means}
 use Rattle.kw_command.proofs.Commands.{at_command}
 use Rattle.kw_app.proofs.Ended.{memory_is_told}
-use Rattle.kw_app.proofs.RunEnds.{reads_for, silent_at_bad_words, silent_at_want, silent_writes, unread_reads, writes_for}
+use Rattle.kw_app.proofs.RunEnds.{no_text_is_written, no_text_was_read, only_judge, only_map, reads_for, silent_at_bad_words, silent_at_want, silent_writes, text_is_written, text_was_read, unread_reads, writes_for}
 use Rattle.kw_app.proofs.run.run.Goals as goal
 
 -- the command that was found is one that the words mean
@@ -14,6 +14,13 @@ meant_of ws None c e h = absurd cc
 meant_of ws (Some d) c e h =
     let same : d ≡ c = cc in
     subst (Means ws) same h
+
+-- and its numbers are in range
+in_range : (o : Option Command) (c : Command) → o ≡ Some c → IfSome o AreInRange → AreInRange c
+in_range None c e h = absurd cc
+in_range (Some d) c e h =
+    let same : d ≡ c = cc in
+    subst AreInRange same h
 
 -- where none was found the words mean none
 none_of : (ws : List (List ℕ)) (o : Option Command) → o ≡ None → MatchOption o ((d : Command) → Means ws d → ⊥) (Means ws) → (c : Command) → Means ws c → ⊥
@@ -24,15 +31,35 @@ none_of ws (Some d) e h = absurd cc
 only : (ws : List (List ℕ)) (c : Command) → Means ws c → (d : Command) → Means ws d → d ≡ c
 only ws c one d other = at_command (λ (x : Command). x ≡ c) ws c d one other refl
 
-pub returns-in-Ok-Some-clause-writes : goal.returns-in-Ok-Some-clause-writes
-returns-in-Ok-Some-clause-writes g c =
+pub returns-in-Ok-clause-writes : goal.returns-in-Ok-clause-writes
+returns-in-Ok-clause-writes g c =
     let means = meant_of c.args.words.now c.in-Ok-Some.field-0 c.in-Ok-Some.command c.in-Ok-Some.field-0-is c.in-Ok-Some.ensures.meant in
-    writes_for _ _ _ _ _ _ _ _ (only c.args.words.now c.in-Ok-Some.command means) c.run_command.ensures.writes
+    writes_for _ _ _ _ _ _ _ _ (only c.args.words.now c.in-Ok-Some.command means) (text_is_written _ _ _ _ c.in-Ok-Some.command c.in-Ok.printed _ _ _ _ _ c.in-Ok.ensures c.written.ensures)
 
-pub returns-in-Ok-Some-clause-reads : goal.returns-in-Ok-Some-clause-reads
-returns-in-Ok-Some-clause-reads g c =
+pub returns-in-Ok-clause-reads : goal.returns-in-Ok-clause-reads
+returns-in-Ok-clause-reads g c =
     let means = meant_of c.args.words.now c.in-Ok-Some.field-0 c.in-Ok-Some.command c.in-Ok-Some.field-0-is c.in-Ok-Some.ensures.meant in
-    reads_for _ _ _ _ _ _ _ (only c.args.words.now c.in-Ok-Some.command means) c.run_command.ensures.reads
+    let range = in_range c.in-Ok-Some.field-0 c.in-Ok-Some.command c.in-Ok-Some.field-0-is c.in-Ok-Some.ensures.range in
+    reads_for _ _ _ _ _ _ _ (only c.args.words.now c.in-Ok-Some.command means) (text_was_read _ _ _ _ c.in-Ok-Some.command c.in-Ok.printed _ _ _ _ _ range c.in-Ok.ensures c.written.ensures)
+
+pub returns-in-Ok-clause-not_legal : goal.returns-in-Ok-clause-not_legal
+returns-in-Ok-clause-not_legal g c = λ is.
+    let means = meant_of c.args.words.now c.in-Ok-Some.field-0 c.in-Ok-Some.command c.in-Ok-Some.field-0-is c.in-Ok-Some.ensures.meant in
+    subst (Means c.args.words.now) (only_judge _ _ c.in-Ok-Some.command c.in-Ok.printed _ _ _ c.in-Ok.ensures.ending c.written.ensures is) means
+
+pub returns-in-Ok-clause-refused : goal.returns-in-Ok-clause-refused
+returns-in-Ok-clause-refused g c = λ is.
+    let means = meant_of c.args.words.now c.in-Ok-Some.field-0 c.in-Ok-Some.command c.in-Ok-Some.field-0-is c.in-Ok-Some.ensures.meant in
+    (c.in-Ok-Some.command, means, only_map _ _ c.in-Ok-Some.command c.in-Ok.printed _ _ _ c.in-Ok.ensures.ending c.written.ensures is)
+
+pub returns-in-Err-perform-clause-writes : goal.returns-in-Err-perform-clause-writes
+returns-in-Err-perform-clause-writes g c = no_text_is_written _ _ _ _ c.in-Err-perform.error c.without_text.result _ c.without_text.ensures.status c.without_text.ensures.front
+
+pub returns-in-Err-perform-clause-reads : goal.returns-in-Err-perform-clause-reads
+returns-in-Err-perform-clause-reads g c =
+    let means = meant_of c.args.words.now c.in-Ok-Some.field-0 c.in-Ok-Some.command c.in-Ok-Some.field-0-is c.in-Ok-Some.ensures.meant in
+    reads_for _ _ _ _ _ _ _ (only c.args.words.now c.in-Ok-Some.command means)
+    (no_text_was_read _ _ c.in-Ok-Some.command c.in-Err-perform.error c.without_text.result _ _ c.in-Err-perform.ensures c.without_text.ensures.status c.without_text.ensures.line)
 
 pub returns-in-Ok-None-clause-writes : goal.returns-in-Ok-None-clause-writes
 returns-in-Ok-None-clause-writes g c = silent_writes _ _ _ _ _ _ (silent_at_bad_words c.of.result c.of.ensures.status) c.of.ensures.front

@@ -1,8 +1,7 @@
 //! What a gate is told before and after each line, by which two workers wait for each other.
-use super::{ROOM, expect_end, ran_past};
-use crate::outcome::Status;
-use crate::working::Gate;
-use kw_io::MemSource;
+use crate::runs::{NO_FAULTS, expect_end, ran_past};
+use kw_app::outcome::Status;
+use kw_app::working::Gate;
 use std::sync::atomic::{AtomicU64, Ordering};
 use std::test::Fail;
 use std::thread;
@@ -54,16 +53,16 @@ impl Gate for Meeting {
 #[test]
 fn workers_run_beside_each_other(rt: HostRuntime) -> Result<(), Fail> {
     let gate = Meeting::new();
-    let input = Vec::from_slice(rt.alloc(), b"put 0 1\nput 1 1\n")?;
-    let mut source = MemSource::new(input, Vec::new(rt.alloc()));
+    let input = b"put 0 1\nput 1 1\n";
     let words = ["replay", "--workers", "2"];
-    let ended = ran_past(&rt, rt.alloc(), &words, &mut source, ROOM, &gate)?;
-    expect_end(&rt, &ended, Status::Done, b"ok\nok\n")?;
+    let ended = ran_past(&rt, rt.alloc(), &words, input, NO_FAULTS, &gate)?;
+    expect_end(&rt, &ended, Status::Done, 0, b"ok\nok\n", 0);
     assert_eq!(rt; gate.met.load(Ordering::SeqCst), 2);
     Ok(())
 }
 
-// Worker 0 is held up before line 1 until worker 1 has answered line 3, and worker 1 before line 2 until worker 0 is held up.
+// Worker 0 is held up before line 1 until worker 1 has answered line 3, and worker 1 before line 2
+// until worker 0 is held up.
 #[derive(Drop)]
 struct HoldUp {
     held: AtomicU64,
@@ -119,12 +118,11 @@ fn a_gate_is_told_before_a_line_is_asked_and_after_it_is_answered(
     rt: HostRuntime,
 ) -> Result<(), Fail> {
     let gate = HoldUp::new();
-    let input = Vec::from_slice(rt.alloc(), b"put 0 5\nget 1\nsum 0 9\n")?;
-    let mut source = MemSource::new(input, Vec::new(rt.alloc()));
+    let input = b"put 0 5\nget 1\nsum 0 9\n";
     let words = ["replay", "--workers", "2"];
-    let ended = ran_past(&rt, rt.alloc(), &words, &mut source, ROOM, &gate)?;
+    let ended = ran_past(&rt, rt.alloc(), &words, input, NO_FAULTS, &gate)?;
     // The sum is asked while the put is still held up, so it sees nothing.
-    expect_end(&rt, &ended, Status::Done, b"ok\nnone\n0\n")?;
+    expect_end(&rt, &ended, Status::Done, 0, b"ok\nnone\n0\n", 0);
     assert_eq!(rt; gate.given_up.load(Ordering::SeqCst), 0);
     assert_eq!(rt; gate.ended.load(Ordering::SeqCst), 1);
     Ok(())

@@ -1,7 +1,8 @@
-//! One worker's replies, beside those of the plain list, which is proved to answer as a map of one thread does and is asked in line order.
-use super::{ROOM, expect_end, ran};
-use crate::generate::generate;
-use crate::outcome::Status;
+//! One worker's replies, beside those of the plain list, which is proved to answer as a map of one
+//! thread does and is asked in line order.
+use crate::runs::{Faults, NO_FAULTS, ROOM, expect_end, ran};
+use kw_app::generate::generate;
+use kw_app::outcome::Status;
 use kw_cells::plain::Plain;
 use kw_line::item::Item;
 use kw_line::parse::MOST_BYTES;
@@ -16,7 +17,8 @@ struct Lines {
 }
 
 impl Lines {
-    /// Adds the line of a generated item, and its reply. After a key was taken away stands a line that sums what is around it.
+    /// Adds the line of a generated item, and its reply. After a key was taken away stands a line
+    /// that sums what is around it.
     fn push(&mut self, plain: &mut Plain, item: &Item) -> Result<(), Fail> {
         match *item {
             Item::Wait => self.input.push_str("wait\n")?,
@@ -77,10 +79,14 @@ fn one_worker_replies_as_the_plain_list_does(rt: HostRuntime) -> Result<(), Fail
     for item in &generate(rt.alloc(), 1, 4000)? {
         lines.push(&mut plain, item)?;
     }
-    let bytes = Vec::from_slice(rt.alloc(), lines.input.as_bytes())?;
-    assert!(rt; bytes.len() <= MOST_BYTES);
-    let ended = ran(&rt, rt.alloc(), &["replay"], bytes, &[], 4 * ROOM)?;
-    expect_end(&rt, &ended, Status::Done, lines.text.as_bytes())?;
+    let input = lines.input.as_bytes();
+    assert!(rt; input.len() <= MOST_BYTES);
+    let ample = Faults {
+        room: 4 * ROOM,
+        ..NO_FAULTS
+    };
+    let ended = ran(&rt, rt.alloc(), &["replay"], input, ample)?;
+    expect_end(&rt, &ended, Status::Done, 0, lines.text.as_bytes(), 0);
     assert!(rt; ended.outcome.front.is_some());
     Ok(())
 }
