@@ -1,20 +1,24 @@
 #!/usr/bin/env python3
-"""Runs the built program as a process and checks what it prints, and what no clause can say: the status with which `main` ends, and its
-fault line.
+"""Runs the built program as a process and checks what it prints, and what no clause can say: the
+status with which `main` ends, and its fault line.
 
   tools/check_program.py                        the program that ./kiwi builds
   tools/check_program.py --program 'COMMAND'    another program, with the same words
 
-Each case has its words, its standard input and output, and what the process must print, say on standard error, and end with. It was
-worked out by hand, the summaries by a generator in Python, and which lines are refused on a map of few rows by a simulator of the
-map's events that was written apart from this program.
+Each case has its words, its standard input and output, and what the process must print, say on
+standard error, and end with. It was worked out by hand, the summaries by a generator in Python, and
+which lines are refused on a map of few rows by a simulator of the map's events that was written
+apart from this program.
 
-The tables of records and of scripts with a bad line are in `record_cases.py`.
+The tables of records and of scripts with a bad line are in `record_cases.py`. What the usage says
+of the program's words and lines is compared with what the program takes (`usage_cases.py`); and the
+launcher's own answers are checked, for which nothing is built.
 
-Each script of the folder `scripts` beside this file is run three times: it must print its `.printed`, its record must be its `.record`, and
-that must be judged good. Its name says what it shows. Many of its lines name the kind of the one step that they make, and the positions in
-the record count all steps, so that together they tell how many steps each call makes. What is printed comes from that simulator too, and
-none is in the repository.
+Each script of `scripts/given` is run three times: it must print what `scripts/printed` has under
+its name, its record must be that of `scripts/recorded`, and that must be judged good. Its name says
+what it shows. Many of its lines name the kind of the one step that they make, and the positions in
+the record count all steps, so that together they tell how many steps each call makes. What is
+printed comes from that simulator too, and none is in the repository.
 
 The last line says how many cases passed; the status is 1 where one did not."""
 
@@ -28,23 +32,27 @@ from pathlib import Path
 
 from kiwi_map import KIWI
 from record_cases import BAD_RECORDS, BAD_SCRIPTS, JUDGED
+from usage_cases import help_cases, line_cases, word_cases
 
-# What is wrong with a stream: standard input is a folder, which cannot be read; standard output is a device that is full.
+# What is wrong with a stream: standard input is a folder, which cannot be read; standard output is
+# a device that is full.
 FOLDER, FULL = "/", "/dev/full"
 LONG = b"get 1\n" * 3_000_000
 MOST_BYTES = 16_777_216
 SCRIPTS = Path(__file__).resolve().parent / "scripts"
 
-# A put that is stamped and goes on, and a get that finds it, and a record whose order has a call behind a later one.
+# A put that is stamped and goes on, and a get that finds it, and a record whose order has a call
+# behind a later one.
 RECORD = b"done 1.1 11 26 get 5: 10\nopen 0.1 0 put 5 10\norder 0.1 1.1\n"
 TURNED = b"done 0.1 0 5 put 5 10: ok\ndone 1.1 6 9 get 5: 10\norder 1.1 0.1\n"
 
 # A put that was refused, and a get that finds nothing of it.
 REFUSED = b"done 0.1 0 5 put 5 10: no rows\ndone 0.2 6 9 get 5: none\norder 0.1 0.2"
 
-# A get that has announced its epoch and stands still, beside puts of one key: each full row is replaced by another, and none that was
-# retired is used again, so that rows run out. Once the get has left, one is, and the put is done. The first `until` gives up after 100,000
-# steps, in the 3,719th put.
+# A get that has announced its epoch and stands still, beside puts of one key: each full row is
+# replaced by another, and none that was retired is used again, so that rows run out. Once the get
+# has left, one is, and the put is done. The first `until` gives up after 100,000 steps, in the
+# 3,719th put.
 STILL = (
     b"call 0 get 5\nuntil 0 load_head\nputs 1 4034 5 9\nuntil 1 reclaim\nuntil 1 reclaim\ngo 0 1000\n"
     b"call 1 put 5 9\nuntil 1 reclaim\ngo 1 100000\n"
@@ -56,8 +64,9 @@ STILL_NAMES = [b"1.%d" % number for number in range(1, 4036)]
 STILL_NAMES[64:64] = [b"0.1"]
 STILL_PRINTED = b"\n".join([*STILL_LINES, b" ".join([b"order", *STILL_NAMES]), b""])
 
-# Lines of `replay`: each form of a range; three of the greatest values and their sum; keys put out of order, and lists of them; many puts of
-# one key; and more keys than one row holds, with all pairs.
+# Lines of `replay`: each form of a range; three of the greatest values and their sum; keys put out
+# of order, and lists of them; many puts of one key; and more keys than one row holds, with all
+# pairs.
 RANGES = b"sum 1 3\ncount 1 3\nleast 1 3\ngreatest 1 3\nlist 1 3\n"
 GREATEST = b"".join(b"put %d 9223372036854775807\n" % key for key in (0, 7, 4294967295)) + b"sum 0 4294967295\n"
 PAIRS = b"put 9 90\nput 4294967295 1\nput 3 30\nput 7 70\nput 0 5\nput 7 71\nlist 0 4294967295\nlist 3 7\nlist 9 3\n"
@@ -65,8 +74,9 @@ ONE = b"".join(b"put 7 %d\n" % value for value in range(1, 201)) + b"get 7\n"
 MANY = b"".join(b"put %d %d\n" % (key, key) for key in range(1, 66)) + b"sum 1 65\nlist 1 65\n"
 ALL = b" ".join(b"%d=%d" % (key, key) for key in range(1, 66))
 
-# More puts of one key than all rows of a small map have cells. Rising keys, which fill half of each row but the last, on a map whose rows
-# run out; and lines behind them, of which those are refused that would have to go into a row that is full.
+# More puts of one key than all rows of a small map have cells. Rising keys, which fill half of each
+# row but the last, on a map whose rows run out; and lines behind them, of which those are refused
+# that would have to go into a row that is full.
 AGAIN = b"".join(b"put 7 %d\n" % value for value in range(1, 10001)) + b"get 7\n"
 RISING = b"".join(b"put %d %d\n" % (key, key) for key in range(1, 2050))
 RISING_PRINTED = 2048 * b"ok\n" + b"no rows\n"
@@ -74,7 +84,8 @@ LATER = b"get 2049\nput 1 5\nget 1\nput 2049 1\ndel 2048\nget 2048\ncount 0 4294
 GONE, GONE_PRINTED = b"get 2048\nget 2049\ndel 7\nget 7\ncount 0 9999\n", b"2048\nnone\nok\nnone\n2047\n"
 LATER_PRINTED = b"none\nok\n5\nno rows\nno rows\n2048\n2048\n"
 
-# Many keys, which split rows, and few of them, of which rows are rebuilt: what is asked after all puts is the same for any workers.
+# Many keys, which split rows, and few of them, of which rows are rebuilt: what is asked after all
+# puts is the same for any workers.
 KEYS = b"".join(b"put %d %d\n" % (key * 7919 % 20011, key) for key in range(1, 20001)) + b"wait\nsum 0 20010\ncount 0 20010\nleast 0 20010\n"
 TWO_BAD = KEYS.splitlines(keepends=True)
 TWO_BAD[14999] = TWO_BAD[18999] = b"put\n"
@@ -87,7 +98,8 @@ FORMS = b"get 7\nsum 3 2\nleast 0 9\nlist 0 9\nput 1 5\nput 2 3\nput 3 9\nleast 
 )
 FORMS_PRINTED = b"none\n0\nnone\nempty\nok\nok\nok\n3\n9\n2\n17\n1=5 2=3\nok\nok\nnone\n9\n1=5 3=9\n"
 
-# Blocks that are empty, and blocks that ask for what those before them put: key k from 100 to 123 has the value k - 90.
+# Blocks that are empty, and blocks that ask for what those before them put: key k from 100 to 123
+# has the value k - 90.
 EMPTY = (
     (b"wait\n", b""),
     (b"wait\nwait\nwait", b""),
@@ -102,13 +114,14 @@ QUIET_PRINTED = 24 * b"ok\n" + b"none\n90\n1000\n8\n90\n160\n15=150 16=160\n"
 # What is said where a line was refused.
 SOME = b"some calls were refused\n"
 
-# The summaries of three lines, of forty, of eighty, of a thousand and of ten thousand, and of these on a map of few rows, where 2,857 lines are refused.
+# The summaries of three lines, of forty, of eighty, of a thousand and of ten thousand, and of these
+# on a map of few rows, where 2,522 lines are refused.
 THREE = b"puts 2\ndels 0\ngets 1\nfound 0\ncount 2\nsum 21839\nleast 5627\ngreatest 16212\n"
 FORTY = b"puts 25\ndels 6\ngets 9\nfound 0\ncount 25\nsum 405429\nleast 985\ngreatest 32572\n"
 EIGHTY = b"puts 48\ndels 9\ngets 23\nfound 0\ncount 47\nsum 827435\nleast 1414\ngreatest 32434\n"
 THOUSAND = b"puts 610\ndels 126\ngets 264\nfound 24\ncount 560\nsum 8968157\nleast 30\ngreatest 32724\n"
 TEN_THOUSAND = b"puts 6209\ndels 1273\ngets 2518\nfound 1140\ncount 2815\nsum 45459495\nleast 0\ngreatest 32724\n"
-FEW_ROWS = b"puts 6209\ndels 1273\ngets 2518\nfound 1026\ncount 2183\nsum 35749411\nleast 0\ngreatest 32757\n"
+FEW_ROWS = b"puts 6209\ndels 1273\ngets 2518\nfound 1050\ncount 2303\nsum 37059906\nleast 0\ngreatest 32757\n"
 
 Case = namedtuple("Case", "name words given output printed said status", defaults=(b"", None, b"", b"", 0))
 
@@ -198,8 +211,9 @@ CASES = (
 
 
 def mixed_case():
-    """Lines by one worker, whose full rows are split and rebuilt on the way: of each eight of them five put, one deletes and sums what is
-    around the key, and two get. At the end come all sums of a thousand keys. The replies are those of a dictionary."""
+    """Lines by one worker, whose full rows are split and rebuilt on the way: of each eight of them
+    five put, one deletes and sums what is around the key, and two get. At the end come all sums of
+    a thousand keys. The replies are those of a dictionary."""
     chance, pairs, lines, replies = random.Random(1), {}, [], []
 
     def add(line, reply):
@@ -226,6 +240,21 @@ def mixed_case():
     return Case("lines of all sorts on rows that are split and rebuilt", "replay", given, printed=printed)
 
 
+def updated_case():
+    """Keys in a random order, each put twenty times, on a map of few rows: none is refused, since
+    full rows are parted evenly. Were each new row filled before the next one starts, more than 400
+    rows would be wanted. What is asked at the end is what a dictionary holds."""
+    chance, pairs, lines = random.Random(5), {}, []
+    keys = [chance.randrange(2**32) for _ in range(5000)]
+    for number in range(100_000):
+        key = chance.choice(keys)
+        pairs[key] = number
+        lines.append(f"put {key} {number}\n")
+    lines += ["count 0 4294967295\n", "sum 0 4294967295\n"]
+    printed = f"{len(pairs)}\n{sum(pairs.values())}\n".encode()
+    return Case("keys that are put again and again fit few rows", "replay --rows 300", "".join(lines).encode(), printed=100_000 * b"ok\n" + printed)
+
+
 def text_cases():
     """The cases of records and scripts that are kept as tables."""
     for name, record, verdict in JUDGED:
@@ -238,10 +267,10 @@ def text_cases():
 
 def script_cases():
     """The cases of the stored scripts."""
-    for path in sorted(path for path in SCRIPTS.iterdir() if path.suffix == ".script"):
-        name, script = path.stem.replace("_", " "), path.read_bytes()
-        record = path.with_suffix(".record").read_bytes()
-        yield Case(name, "simulate", script, printed=path.with_suffix(".printed").read_bytes())
+    for path in sorted((SCRIPTS / "given").iterdir()):
+        name, script = path.name.replace("_", " "), path.read_bytes()
+        record = (SCRIPTS / "recorded" / path.name).read_bytes()
+        yield Case(name, "simulate", script, printed=(SCRIPTS / "printed" / path.name).read_bytes())
         yield Case(f"{name}: its record", "simulate --record", script, printed=record)
         yield Case(f"{name}: its record is good", "judge", record, printed=b"yes\n")
 
@@ -263,6 +292,25 @@ def ended(program, case):
     return run.stdout or b"", run.stderr, run.returncode
 
 
+def usage_faults(program):
+    """What the usage says and the program does not do: words or a line that one takes and the other
+    refuses."""
+    faults = []
+    for words, is_good in word_cases():
+        run = ended(program, Case("", words))
+        if (run[2] != 2) != is_good or (not is_good and run != (b"", b"bad words\n", 2)):
+            faults.append(f"the usage {'allows' if is_good else 'does not allow'} `{words}`, and the program ends with {run[1:]}")
+    for line, is_good in line_cases():
+        run = ended(program, Case("", "replay", f"{line}\n".encode()))
+        if run[1:] != ((b"", 0) if is_good else (b"bad line 1\n", 3)):
+            faults.append(f"the usage {'has' if is_good else 'has not'} the line `{line}`, and the program ends with {run[1:]}")
+    for words, printed, said, status in help_cases():
+        run, wanted = ended([KIWI], Case("", words)), (printed.encode(), said.encode(), status)
+        if run != wanted:
+            faults.append(f"./kiwi {words}\n  got    {run}\n  wanted {wanted}")
+    return faults
+
+
 def main():
     options = argparse.ArgumentParser(description=__doc__, formatter_class=argparse.RawDescriptionHelpFormatter)
     options.add_argument("--program", help="the command that is checked, if not ./kiwi")
@@ -270,13 +318,17 @@ def main():
     program = shlex.split(options.program) if options.program else [KIWI]
     subprocess.run([*program, "replay"], input=b"", check=False)  # proves and builds the program, which the first run says on standard error
     failed = 0
-    cases = (*CASES, mixed_case(), *text_cases(), *script_cases())
+    cases = (*CASES, mixed_case(), updated_case(), *text_cases(), *script_cases())
     for case in cases:
         got, wanted = ended(program, case), (case.printed, case.said, case.status)
         if got != wanted:
             failed += 1
             print(f"{case.name}: `{case.words}`\n  got    {got}\n  wanted {wanted}")
-    print(f"{len(cases) - failed} passed, {failed} failed")
+    faults = usage_faults(program)
+    print("".join(f"{fault}\n" for fault in faults), end="")
+    asked = sum(1 for table in (word_cases, line_cases, help_cases) for _ in table())
+    failed += len(faults)
+    print(f"{len(cases) + asked - failed} passed, {failed} failed")
     return 1 if failed else 0
 
 

@@ -1,17 +1,22 @@
 #!/usr/bin/env python3
 """Compares `./kiwi judge` with another judge on records that were spoilt.
 
-  tools/compare_judge.py --with 'COMMAND' --records 'COMMAND {seed}'              20 spoilt ones of each of 500 records
+  tools/compare_judge.py --with 'COMMAND' --records 'COMMAND {seed}'
+      20 spoilt ones of each of 500 records
   tools/compare_judge.py --with 'COMMAND' --records 'COMMAND {seed}' 200 --seed 7 --each 50
-  tools/compare_judge.py --with 'COMMAND' --folder FOLDER                         each file of a folder is a record
-  tools/compare_judge.py .. --program 'COMMAND'                                   in place of `./kiwi judge`
+  tools/compare_judge.py --with 'COMMAND' --folder FOLDER
+      each file of a folder is a record
+  tools/compare_judge.py .. --program 'COMMAND'
+      in place of `./kiwi judge`
 
-The other judge is written apart from this one, and none is in the repository: it reads a record on standard input, prints the verdict
-and ends with status 0, with 7 where the verdict is not `yes`, or with 3 at bytes that are no record, with the line `bad line N` on
-standard error (docs/DEFINITIONS.md, "Records"). A command of --records writes a record to standard output, and {seed} in it is the
-seed. Of each record some are made in which one thing is changed: a reply, a position, a name, the order, a call, or some bytes.
-Verdict, status and bad line must be the same. The last line says how many agreed, and of how many each verdict was; the status is 1
-where one did not agree, or where a record could not be had."""
+The other judge is written apart from this one, and none is in the repository: it reads a record on
+standard input, prints the verdict and ends with status 0, with 7 where the verdict is not `yes`, or
+with 3 at bytes that are no record, with the line `bad line N` on standard error
+(docs/SCRIPTS.md). A command of --records writes a record to standard output, and
+{seed} in it is the seed. Of each record some are made in which one thing is changed: a reply, a
+position, a name, the order, a call, or some bytes. Verdict, status and bad line must be the same.
+The last line says how many agreed, and of how many each verdict was; the status is 1 where one did
+not agree, or where a record could not be had."""
 
 import argparse
 import random

@@ -1,17 +1,23 @@
 #!/usr/bin/env python3
 """Compares `./kiwi simulate --record` with another program on scripts, and has each record judged.
 
-  tools/compare_record.py --with 'COMMAND' --scripts 'COMMAND {seed}'             500 scripts, of the seeds from 1 on
+  tools/compare_record.py --with 'COMMAND' --scripts 'COMMAND {seed}'
+      500 scripts, of the seeds from 1 on
   tools/compare_record.py --with 'COMMAND' --scripts 'COMMAND {seed}' 200 --seed 7
-  tools/compare_record.py --with 'COMMAND' --folder FOLDER                        each file of a folder is a script
-  tools/compare_record.py .. --without 'until [0-7] (KIND|KIND)'                  lines of scripts that are left out
-  tools/compare_record.py .. --program 'COMMAND' --judge 'COMMAND'                in place of `./kiwi simulate --record` and `./kiwi judge`
+  tools/compare_record.py --with 'COMMAND' --folder FOLDER
+      each file of a folder is a script
+  tools/compare_record.py .. --without 'until [0-7] (KIND|KIND)'
+      lines of scripts that are left out
+  tools/compare_record.py .. --program 'COMMAND' --judge 'COMMAND'
+      in place of `./kiwi simulate --record` and `./kiwi judge`
 
-The other program writes the record of a script on standard input as `simulate --record` does (docs/DEFINITIONS.md, "Records"), on
-the same event table with the same sizes (8 seats, 64 cells a row); it is written apart from this one, and none is in the repository.
-Both records must be the same byte for byte, and the statuses too. Each record that is written is then judged, and the verdict must be
-`yes`, with status 0. A command of --scripts writes a script to standard output, and {seed} in it is the seed. The last line says
-how many agreed; the status is 1 where one did not, or where a script could not be had."""
+The other program writes the record of a script on standard input as `simulate --record` does
+(docs/SCRIPTS.md), on the same event table with the same sizes (8 seats, 64 cells a
+row); it is written apart from this one, and none is in the repository. Both records must be the
+same byte for byte, and the statuses too. Each record that is written is then judged, and the
+verdict must be `yes`, with status 0. A command of --scripts writes a script to standard output, and
+{seed} in it is the seed. The last line says how many agreed; the status is 1 where one did not, or
+where a script could not be had."""
 
 import shlex
 import sys

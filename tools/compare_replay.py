@@ -5,8 +5,9 @@
   tools/compare_replay.py 200 --seed 7
   tools/compare_replay.py 1000 --with 'COMMAND' the command gets the input on standard input
 
-What the program writes to standard output and standard error and its status must all agree. Most inputs have up to 200 lines, and one in
-ten has up to 3,000, whose updates fill rows. The last line says how many agreed; the status is 1 where one did not."""
+What the program writes to standard output and standard error and its status must all agree. Most
+inputs have up to 200 lines, and one in ten has up to 3,000, whose updates fill rows. The last line
+says how many agreed; the status is 1 where one did not."""
 
 import argparse
 import random

@@ -1,20 +1,26 @@
 #!/usr/bin/env python3
 """Compares `./kiwi simulate` with another program on scripts.
 
-  tools/compare_simulate.py --with 'COMMAND' --scripts 'COMMAND {seed}'             500 scripts, of the seeds from 1 on
+  tools/compare_simulate.py --with 'COMMAND' --scripts 'COMMAND {seed}'
+      500 scripts, of the seeds from 1 on
   tools/compare_simulate.py --with 'COMMAND' --scripts 'COMMAND {seed}' 200 --seed 7
-  tools/compare_simulate.py --with 'COMMAND' --folder FOLDER                        each file of a folder is a script
-  tools/compare_simulate.py .. --without 'until [0-7] (KIND|KIND)'                  lines of scripts that are left out
-  tools/compare_simulate.py .. --drop-order                                         the other's last line is left out
-  tools/compare_simulate.py .. --program 'COMMAND'                                  in place of `./kiwi simulate`
+  tools/compare_simulate.py --with 'COMMAND' --folder FOLDER
+      each file of a folder is a script
+  tools/compare_simulate.py .. --without 'until [0-7] (KIND|KIND)'
+      lines of scripts that are left out
+  tools/compare_simulate.py .. --drop-order
+      the other's last line is left out
+  tools/compare_simulate.py .. --program 'COMMAND'
+      in place of `./kiwi simulate`
 
-The other program is a simulator of the same event table with the same sizes (8 seats, 64 cells a row), written apart from
-this one: it reads a script on standard input, prints a line as each call ends and then the order line, and ends with status 0,
-or with 3 at a bad script (docs/DEFINITIONS.md, "Scripts"). None is in the repository. Both programs get a script on standard
-input. Their outputs must be the same byte for byte, and their statuses too. With
---drop-order the last line of the other's output is left out where it begins with the word `order`. A command of --scripts
-writes a script to standard output, and {seed} in it is the seed. The last line says how many agreed; the status is 1 where
-one did not, or where a script could not be had."""
+The other program is a simulator of the same event table with the same sizes (8 seats, 64 cells a
+row), written apart from this one: it reads a script on standard input, prints a line as each call
+ends and then the order line, and ends with status 0, or with 3 at a bad script
+(docs/SCRIPTS.md). None is in the repository. Both programs get a script on standard
+input. Their outputs must be the same byte for byte, and their statuses too. With --drop-order the
+last line of the other's output is left out where it begins with the word `order`. A command of
+--scripts writes a script to standard output, and {seed} in it is the seed. The last line says how
+many agreed; the status is 1 where one did not, or where a script could not be had."""
 
 import argparse
 import re
@@ -72,7 +78,8 @@ def script_options(description):
 
 
 def scripts_of(options):
-    """The scripts that the options ask for, without the lines that are left out: a name and the bytes of each."""
+    """The scripts that the options ask for, without the lines that are left out: a name and the
+    bytes of each."""
     left_out = re.compile(options.without.encode()) if options.without else None
     found = generated(options.scripts, options.seed, options.count) if options.scripts else stored(options.folder)
     for name, text in found:

@@ -1,33 +1,41 @@
 #!/usr/bin/env python3
-"""Checks each reply of `./kiwi replay --workers W` on random inputs, for several numbers of workers.
+"""Checks each reply of `./kiwi replay --workers W` on random inputs, for several numbers of
+workers.
 
   tools/compare_workers.py                      1,000 inputs with 1, 2, 4 and 8 workers
   tools/compare_workers.py 200 --seed 7
   tools/compare_workers.py 200 --workers 3,8
   tools/compare_workers.py 200 --shape rows     inputs of another shape than `few`
-  tools/compare_workers.py .. --program './kiwi replay'   another command; the options of the shape and --workers W are put after it
+  tools/compare_workers.py .. --program './kiwi replay'
+      another command; the options of the shape and --workers W are put after it
 
-The shape says what the rows of the map go through. Of each, blocks are of all lengths, and some are empty.
+The shape says what the rows of the map go through. Of each, blocks are of all lengths, and some are
+empty.
 
   few      up to 16 keys and 600 updates: rows are rebuilt, with few new ones
   many     up to 600 keys and 600 updates: rows are split
   rows     thousands of keys on a map of 64 rows: rows run out, and puts and deletes are refused
-  crowded  16 keys, and 500 updates for each worker, many range lines among them: one row is rebuilt all the time
+  crowded  16 keys, and 500 updates for each worker, many range lines among them: one row is
+           rebuilt all the time
 
-One worker must answer as a map of one thread. With more workers each put, del and get line must still, and each range line of a
-block without put and del lines. Any other range line may come before or after updates of other workers. Its reply must be that of
-the map after the own worker's earlier updates and, for each other worker, after some first ones of its updates in the block, no
-fewer than at an earlier line of the own worker. And of two range lines of a block, one must have seen all updates that the other
-saw: the calls fit one order. Where a reply leaves open how many updates the line saw, each worker's number is taken by itself, so
-that a few wrong runs pass; no right one fails. Range lines stand in blocks of 64 updates at most, or of none, since what one of
+One worker must answer as a map of one thread. With more workers each put, del and get line must
+still, and each range line of a block without put and del lines. Any other range line may come
+before or after updates of other workers. Its reply must be that of the map after the own worker's
+earlier updates and, for each other worker, after some first ones of its updates in the block, no
+fewer than at an earlier line of the own worker. And of two range lines of a block, one must have
+seen all updates that the other saw: the calls fit one order. Where a reply leaves open how many
+updates the line saw, each worker's number is taken by itself, so that a few wrong runs pass; no
+right one fails. Range lines stand in blocks of 64 updates at most, or of none, since what one of
 them may have seen takes long to look through.
 
-In the shape `rows` a put or del line may be refused with `no rows`; it is no update then, and changes nothing. Nowhere else is a
-line refused. The status must be 8 exactly where one was, and else 0.
+In the shape `rows` a put or del line may be refused with `no rows`; it is no update then, and
+changes nothing. Nowhere else is a line refused. The status must be 8 exactly where one was, and
+else 0.
 
-Before the last line stands, for each number of workers, how many runs did not answer as one thread, in how many a range line
-saw a part of another worker's updates in its block, and in how many a line was refused. In the second ones workers ran beside each
-other, and not one after another. The last line says how many runs passed; the status is 1 where one did not."""
+Before the last line stands, for each number of workers, how many runs did not answer as one thread,
+in how many a range line saw a part of another worker's updates in its block, and in how many a line
+was refused. In the second ones workers ran beside each other, and not one after another. The last
+line says how many runs passed; the status is 1 where one did not."""
 
 import argparse
 import bisect
@@ -47,9 +55,9 @@ REFUSAL = "no rows"
 NARROW = 64  # how many updates a block with range lines has at most
 READERS = ("sum", "count", "least", "greatest", "list", "list")
 
-# How many keys and updates an input has at most; how many puts for each delete; how many range lines a block has at most, and how
-# often a block may have some; whether each such block has as many updates as it may; the options of the command; and whether lines
-# may be refused.
+# How many keys and updates an input has at most; how many puts for each delete; how many range
+# lines a block has at most, and how often a block may have some; whether each such block has as
+# many updates as it may; the options of the command; and whether lines may be refused.
 Shape = namedtuple("Shape", "keys updates puts ranges narrow full options refuses")
 SHAPES = {
     "few": Shape(16, 600, 3, 60, 0.6, False, (), False),
@@ -59,8 +67,8 @@ SHAPES = {
 }
 
 Line = namedtuple("Line", "number form numbers reply")
-# A worker's updates in a block: their line numbers, and the worker's pairs before the first of them and after each. What range
-# lines find in these pairs is kept, as many lines ask the same.
+# A worker's updates in a block: their line numbers, and the worker's pairs before the first of them
+# and after each. What range lines find in these pairs is kept, as many lines ask the same.
 History = namedtuple("History", "numbers states found")
 # How many of each worker's updates a range line saw, at the least and at the most.
 View = namedtuple("View", "least most")
@@ -143,7 +151,8 @@ def blocks_of(items, replies):
 
 
 def is_update(line):
-    """Whether the line has changed the map, or taken away a key that had no value: it was not refused."""
+    """Whether the line has changed the map, or taken away a key that had no value: it was not
+    refused."""
     return line.form in UPDATES and line.reply != REFUSAL
 
 
@@ -174,7 +183,8 @@ def joined(form, one, other):
 
 
 def found_by(line):
-    """What the reply says that the line found, or None where it says nothing that such a line can find."""
+    """What the reply says that the line found, or None where it says nothing that such a line can
+    find."""
     if line.form == LIST:
         pairs = tuple((int(key), int(value)) for key, value in PAIR.findall(line.reply))
         return pairs if line.reply == listed(pairs) else None
@@ -184,7 +194,8 @@ def found_by(line):
 
 
 def choices_of(line, history, first, last):
-    """What the line can find in a worker's pairs after `first` to `last` of its updates: the least and greatest number for each."""
+    """What the line can find in a worker's pairs after `first` to `last` of its updates: the least
+    and greatest number for each."""
     asked = (line.form, *line.numbers)
     if asked not in history.found:
         history.found[asked] = [found_in(pairs, line) for pairs in history.states]
@@ -196,7 +207,8 @@ def choices_of(line, history, first, last):
 
 
 def joins_of(form, parts):
-    """What a line can find in the pairs of several workers together: the least and greatest number of each one's updates."""
+    """What a line can find in the pairs of several workers together: the least and greatest number
+    of each one's updates."""
     joins = {() if form == LIST else 0 if form in (SUM, COUNT) else "none": View((), ())}
     for part in parts:
         further = {}
@@ -214,7 +226,8 @@ def keep_wider(views, found, view):
 
 
 def parts_of(line, found, histories, bounds):
-    """The choices of each worker. For a list they are those alone which give just the worker's pairs of what was found."""
+    """The choices of each worker. For a list they are those alone which give just the worker's
+    pairs of what was found."""
     workers = len(histories)
     parts = []
     for worker, history in enumerate(histories):
@@ -229,7 +242,8 @@ def parts_of(line, found, histories, bounds):
 
 
 def view_of(line, histories, bounds):
-    """What a range line has seen if it saw at least `bounds` of each worker's updates, or None where nothing gives its reply."""
+    """What a range line has seen if it saw at least `bounds` of each worker's updates, or None
+    where nothing gives its reply."""
     found = found_by(line)
     if found is None:
         return None
@@ -250,14 +264,16 @@ def may_precede(one, other):
 
 
 def saw_a_part(line, view, histories):
-    """Whether a range line saw an update of another worker and did not see a later one: that worker was then at work beside it."""
+    """Whether a range line saw an update of another worker and did not see a later one: that worker
+    was then at work beside it."""
     workers = len(histories)
     others = [worker for worker in range(workers) if worker != line.number % workers]
     return any(0 < view.least[worker] and view.most[worker] < len(histories[worker].numbers) for worker in others)
 
 
 def check_ranges(block, start, workers):
-    """Raises Wrong where a range line of a block with updates is, and says whether one saw a part of another worker's updates."""
+    """Raises Wrong where a range line of a block with updates is, and says whether one saw a part
+    of another worker's updates."""
     histories = [history_of(block, start, worker, workers) for worker in range(workers)]
     bounds = [(0,) * workers for _ in range(workers)]
     views, met = {}, False
@@ -276,7 +292,8 @@ def check_ranges(block, start, workers):
 
 
 def check_block(block, pairs, workers):
-    """Checks a block that begins with these pairs, as `check_ranges` does. Afterwards the pairs are those at its end."""
+    """Checks a block that begins with these pairs, as `check_ranges` does. Afterwards the pairs are
+    those at its end."""
     start = dict(pairs)
     among_updates = any(map(is_update, block))
     for line in block:
@@ -295,8 +312,8 @@ def replies_alone(items, replies):
     return [reply if form in UPDATES and reply == REFUSAL else str(answered(pairs, form, numbers)) for (form, numbers), reply in zip(lines, replies)]
 
 
-# How a run went: whether a line was refused; whether it answered as one thread; and whether a range line saw a part of another worker's
-# updates in its block.
+# How a run went: whether a line was refused; whether it answered as one thread; and whether a range
+# line saw a part of another worker's updates in its block.
 Run = namedtuple("Run", "refused alone met")
 
 

@@ -1,5 +1,5 @@
-"""What the scripts of this folder share: the lines of `./kiwi replay`, an ordered map of one thread that answers them, and
-how a program is run."""
+"""What the scripts of this folder share: the lines of `./kiwi replay`, an ordered map of one thread
+that answers them, and how a program is run."""
 
 import re
 import subprocess

@@ -1,8 +1,13 @@
-//! The figures of `kw_bench` on a map of one row, for native code over the same words: what the machine itself takes for the loads, stores and
-//! exchanges that the events of the map's calls make, with nothing kept of what was met, nothing checked and nothing helped.
+//! The figures of `kw_bench` on a map of one row, for native code over the same words: what the
+//! machine itself takes for the loads, stores and exchanges that the events of the map's calls
+//! make, with nothing kept of what was met, nothing checked and nothing helped.
 //!
-//! One file, which stands on Rust's standard library alone; no gate runs it. Build it by `rustc -O -o /tmp/native_row tools/native_row.rs`,
-//! run `native_row N` and `kw_bench N` in turn, and compare what they print: the calls, the keys, their orders and the columns are the same.
+//! One file, which stands on Rust's standard library alone; no gate runs it. `tools/measure.sh`
+//! builds it, and runs it in turn with `kw_bench N`: the calls, the keys, their orders and the
+//! columns are the same.
+//!
+//!     rustc -O --edition 2021 -o /tmp/native_row tools/native_row.rs
+//!     /tmp/native_row N
 
 use std::array;
 use std::env;
@@ -46,8 +51,9 @@ struct Cell {
     next: AtomicU64,
 }
 
-/// The words of a row: its state, how many cells it gave, its least key, the links to the next row and to the first cell of its list by key and
-/// falling version, an entry for each seat, and the cells.
+/// The words of a row: its state, how many cells it gave, its least key, the links to the next row
+/// and to the first cell of its list by key and falling version, an entry for each seat, and the
+/// cells.
 struct Row {
     state: AtomicU64,
     count: AtomicU64,
@@ -63,7 +69,8 @@ struct Row {
 #[repr(align(128))]
 struct Alone(AtomicU64);
 
-/// The words of no row: the clock, the epoch, and for each seat the epoch that it announces and its scan.
+/// The words of no row: the clock, the epoch, and for each seat the epoch that it announces and its
+/// scan.
 struct Rowless {
     clock: Alone,
     epoch: Alone,
@@ -261,7 +268,8 @@ fn filled(cells: usize, keys: Keys) -> Box<Map> {
     map
 }
 
-/// How long so many threads take, each for the calls: from when the first one begins to when the last one ends.
+/// How long so many threads take, each for the calls: from when the first one begins to when the
+/// last one ends.
 fn time_threads(count: usize, calls: impl Fn(usize) + Sync) -> Duration {
     let barrier = Barrier::new(count);
     let spans: Vec<(Instant, Instant)> = thread::scope(|scope| {

@@ -1,8 +1,10 @@
-"""Records that `judge` is asked about, and texts with a bad line, for `check_program.py`. All were worked out by hand.
+"""Records that `judge` is asked about, and texts with a bad line, for `check_program.py`. All were
+worked out by hand.
 
-A record's verdict is what the rules of its order say: each answered call stands in it once, no call stands behind one that began after it
-had ended, and each reply is that of a map of one thread which is asked in this order. A bad line is the first that is no line of its kind,
-or that may not stand where it does."""
+A record's verdict is what the rules of its order say: each answered call stands in it once, no call
+stands behind one that began after it had ended, and each reply is that of a map of one thread which
+is asked in this order. A bad line is the first that is no line of its kind, or that may not stand
+where it does."""
 
 # A name, a record, and the line that its verdict prints.
 JUDGED = (

@@ -1,16 +1,19 @@
-//! The figures of `kw_bench` on a map of many rows, for the standard library's ordered map: alone, behind a `Mutex` and behind a `RwLock`.
+//! The figures of `kw_bench` on a map of many rows, for the standard library's ordered map: alone,
+//! behind a `Mutex` and behind a `RwLock`.
 //!
-//! One file, which stands on Rust's standard library alone; no gate runs it. Build it by `rustc -O -o /tmp/std_maps tools/std_maps.rs`, and
-//! compare what it prints with what `kw_bench` and `replay` take on the same machine, in one go:
+//! One file, which stands on Rust's standard library alone; no gate runs it. `tools/measure.sh`
+//! builds it, and runs it in turn with `kw_bench N`.
 //!
-//!     std_maps calls N                  N calls of each kind; the keys, their orders and the columns are those of `kw_bench N`
-//!     std_maps input PERCENT > FILE     16 MiB of lines over 65,536 keys: so many in 100 sums of 1,000 keys, the others puts and gets
-//!     std_maps replay < FILE            answers the lines as `kiwi replay` does, on one thread; it trusts that they are in the grammar
+//!     rustc -O --edition 2021 -o /tmp/std_maps tools/std_maps.rs
+//!     std_maps calls N
+//!         N calls of each kind; the keys, their orders and the columns are those of `kw_bench N`
+//!     std_maps input PERCENT > FILE
+//!         16 MiB of lines over 65,536 keys: so many in 100 sums of 1,000 keys, the others puts
+//!         and gets
 
 use std::collections::BTreeMap;
-use std::fmt::Write as _;
 use std::hint::black_box;
-use std::io::{self, Read, Write as _};
+use std::io::{self, Write as _};
 use std::sync::atomic::{AtomicBool, Ordering};
 use std::sync::{Mutex, RwLock};
 use std::time::Instant;
@@ -184,42 +187,6 @@ fn calls(calls: u32) {
     }
 }
 
-fn answer(map: &mut Plain, line: &str, out: &mut String) -> std::fmt::Result {
-    let mut words = line.split(' ');
-    let word = words.next().unwrap_or("");
-    let mut number = || words.next().and_then(|text| text.parse::<u64>().ok()).unwrap_or(0);
-    let (a, b) = (number() as u32, number());
-    let range = map.range(a..=a.max(b as u32)).filter(|(key, _)| u64::from(**key) <= b);
-    let shown = |value: Option<u64>| value.map_or("none".to_string(), |value| value.to_string());
-    match word {
-        "put" => {
-            map.insert(a, b);
-            writeln!(out, "ok")
-        }
-        "del" => {
-            map.remove(&a);
-            writeln!(out, "ok")
-        }
-        "get" => writeln!(out, "{}", shown(Map::get(map, a))),
-        "sum" => writeln!(out, "{}", range.map(|(_, &value)| u128::from(value)).sum::<u128>()),
-        "count" => writeln!(out, "{}", range.count()),
-        "least" => writeln!(out, "{}", shown(range.map(|(_, &value)| value).min())),
-        "greatest" => writeln!(out, "{}", shown(range.map(|(_, &value)| value).max())),
-        "list" if range.clone().next().is_none() => writeln!(out, "empty"),
-        "list" => writeln!(out, "{}", range.map(|(key, value)| format!("{key}={value}")).collect::<Vec<_>>().join(" ")),
-        _ => Ok(()),
-    }
-}
-
-fn replay() -> io::Result<()> {
-    let (mut text, mut out, mut map) = (String::new(), String::new(), Plain::new());
-    io::stdin().read_to_string(&mut text)?;
-    for line in text.lines() {
-        answer(&mut map, line, &mut out).map_err(io::Error::other)?;
-    }
-    io::stdout().write_all(out.as_bytes())
-}
-
 fn input(percent: u32) -> io::Result<()> {
     let mut text = String::with_capacity(INPUT_BYTES);
     for number in 0.. {
@@ -243,7 +210,6 @@ fn main() -> io::Result<()> {
     match (words.first().map(String::as_str), number) {
         (Some("calls"), Some(number)) if number > 0 => Ok(calls(number)),
         (Some("input"), Some(percent)) => input(percent),
-        (Some("replay"), None) => replay(),
-        _ => Err(io::Error::other("std_maps calls N | input PERCENT | replay")),
+        _ => Err(io::Error::other("std_maps calls N | input PERCENT")),
     }
 }
