@@ -4,8 +4,8 @@ use Rattle.std.specs.declared.alloc.Global.{Global}
 use Rattle.std.specs.List.{AllByRecursion, flat_map}
 use Rattle.std.proofs.lemmas.List.{map-append, nil_from_length}
 use Rattle.kw_line.specs.declared.item.Item.{Item}
-use Rattle.kw_line.specs.declared.item.LineError.{LineError}
-use Rattle.kw_line.specs.declared.item.LineError.TheVariants as error
+use Rattle.kw_line.specs.declared.error.LineError.{LineError}
+use Rattle.kw_line.specs.declared.error.LineError.TheVariants as error
 use Rattle.kw_line.specs.Cut.{lines}
 use Rattle.kw_line.specs.Line.{IsItem, item_text, AreLinesOf, IsFirstBadLine}
 use Rattle.kw_line.proofs.Texts.{few_items}

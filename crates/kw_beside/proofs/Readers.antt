@@ -8,7 +8,7 @@ use Rattle.std.proofs.lemmas.List.{length-map}
 use Rattle.std.proofs.lemmas.List.Folds.{flat_map-map}
 use denote.Param.Members.{Shared}
 use Rattle.kw_line.specs.declared.item.Item.{Item}
-use Rattle.kw_line.specs.declared.item.LineError.{LineError}
+use Rattle.kw_line.specs.declared.error.LineError.{LineError}
 use Rattle.kw_line.specs.Cut.{lines}
 use Rattle.kw_line.specs.Line.{AreLinesOf}
 use Rattle.kw_line.proofs.Parts.{length-lines-le}

@@ -3,7 +3,7 @@ use Rattle.std.specs.Prelude.{◌≡◌, ℕ, List, [], ◌∷◌, Result, IfOk,
 use Rattle.std.specs.List.{flat_map}
 use Rattle.std.specs.declared.alloc.Global.{Global}
 use Rattle.kw_line.specs.declared.item.Item.{Item}
-use Rattle.kw_line.specs.declared.item.LineError.{LineError}
+use Rattle.kw_line.specs.declared.error.LineError.{LineError}
 use Rattle.kw_line.specs.Cut.{lines}
 use Rattle.kw_line.specs.Line.{AreLinesOf, IfBadLine}
 

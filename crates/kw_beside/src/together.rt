@@ -4,7 +4,8 @@ ghost use Rattle.kw_line.specs.Line.{AreLinesOf, IfBadLine};
 ghost use Rattle.kw_beside.specs.Pieces.{AreReadOf};
 
 use crate::joined::joined;
-use kw_line::item::{Item, LineError};
+use kw_line::error::LineError;
+use kw_line::item::Item;
 use std::alloc::Global;
 
 /// The items of all pieces, one after the other, where each part is what a reader gave for a piece.

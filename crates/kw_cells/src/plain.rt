@@ -8,8 +8,8 @@ ghost use Rattle.std.specs.Prelude.{◌≡◌, ◌↔◌, ◌⊎◌, ◌++◌, �
 ghost use Rattle.kw_cells.specs.Pairs.{ShowsRange};
 ghost use Rattle.kw_cells.specs.Plain.{last_of, shown_last};
 
-use crate::memory::Memory;
 use crate::plain_pairs::PlainPairs;
+use kw_model::memory::Memory;
 use std::alloc::Global;
 use std::collections::BTreeMap;
 use std::marker::Model;

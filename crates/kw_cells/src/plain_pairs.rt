@@ -3,7 +3,7 @@
 //! Contracts see a list of pairs of numbers and never the `Vec`. Only a scan fills it.
 ghost use Rattle.std.specs.Prelude.{◌≡◌, ◌++◌, ◌∷◌, [], OnOk, OnErr};
 
-use crate::memory::Memory;
+use kw_model::memory::Memory;
 use std::alloc::Global;
 use std::marker::Model;
 

@@ -13,7 +13,7 @@ ghost use Rattle.std.specs.Prelude.{MatchBool, IsTrue, ◌≡◌, ◌≢◌, ◌
 ghost use Rattle.std.specs.List.Sorted.{IsPartitionPoint};
 ghost use Rattle.kw_index.specs.Entries.{IsLawful, IsGuess, HasMinAt, HasNotMinAt, without, with_entry, with_own};
 
-use crate::memory::Memory;
+use kw_model::memory::Memory;
 use std::alloc::Global;
 use std::marker::Model;
 

@@ -17,9 +17,9 @@ ghost use Rattle.kw_index.specs.Turns.{IsLedgerOf};
 use crate::change::{Change, MOST_UNTOLD};
 use crate::entries::Entries;
 use crate::ledger::{Ledger, Shown};
-use crate::memory::Memory;
 use arrayvec::ArrayVec;
 use counted_slot::{Claim, Counted, FREE, Fits, MOST_READERS, ONE_READER, PRESENT, TAKEN};
+use kw_model::memory::Memory;
 use std::alloc::Global;
 use std::marker::Model;
 

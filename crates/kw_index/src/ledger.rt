@@ -15,7 +15,7 @@ ghost use Rattle.kw_index.specs.Ledgers.{IsFirst, IsKept, after, behind, place, 
 
 use crate::change::Change;
 use crate::entries::{Entries, Entry};
-use crate::memory::Memory;
+use kw_model::memory::Memory;
 use std::alloc::Global;
 use std::marker::Model;
 use std::mem;

@@ -1,4 +1,4 @@
-//! The index: which row to begin at, for each key.
+//! The index: which row to begin at, for each key; and what each caller has for speed.
 //!
 //! A walk from the first row costs as many loads as there are rows. The index names a row nearer to
 //! the key, by a list of least keys and rows. Whoever replaces rows publishes what that changes of
@@ -9,7 +9,8 @@
 //! `entries` has the list and its edits, which one thread owns, and `change` what a publication
 //! changes of it; `ledger` the changes that were made last, with a list to begin with; `index` the
 //! slot in which the ledger stands, and what threads ask of it; `own` the list that one caller
-//! guesses from; `memory` the one error. What an edit leaves and what a guess is stands in
+//! guesses from; `window` where a caller searches for free rows; `hints` all that one caller has of
+//! these; `memory` the one error. What an edit leaves and what a guess is stands in
 //! `specs/Entries.antt`, what a change leaves in `specs/Changes.antt`, what a ledger makes of a
 //! list that lags behind in `specs/Ledgers.antt`, and which ledger may stand in the slot in
 //! `specs/Turns.antt`. Nothing here waits, and nothing but the making of entries and of an index
@@ -18,9 +19,10 @@
 
 pub mod change;
 pub mod entries;
+pub mod hints;
 pub mod index;
 pub mod ledger;
-pub mod memory;
 pub mod own;
 #[cfg(test)]
 mod tests;
+pub mod window;

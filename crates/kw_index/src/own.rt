@@ -13,8 +13,8 @@ use crate::change::{Change, MOST_UNTOLD};
 use crate::entries::Entries;
 use crate::index::Index;
 use crate::ledger::{CHANGES_BEFORE_RENEWAL, Shown};
-use crate::memory::Memory;
 use arrayvec::ArrayVec;
+use kw_model::memory::Memory;
 use std::alloc::Global;
 
 /// Entries that a caller guesses from, what it has to publish, and spare ones for a base that it

@@ -1,14 +1,18 @@
 //! What edits leave of entries, what a ledger makes of entries that lag behind, what an index
 //! shows, and two threads on one index.
-ghost use Rattle.std.specs.Prelude.{◌≡◌, IfOk};
+//!
+//! A test of an index is a list of turns that callers take, and what each is told. One loop takes
+//! the turns of every list, so that they are proved once.
+ghost use Rattle.std.specs.Prelude.{◌≡◌, ◌≤◌, IfOk};
 
 use crate::change::Change;
 use crate::entries::{Entries, Entry};
 use crate::index::Index;
 use crate::ledger::{CHANGES_BEFORE_RENEWAL, CHANGES_KEPT, Ledger};
-use crate::memory::Memory;
 use crate::own::OwnEntries;
+use kw_model::memory::Memory;
 use std::alloc::Global;
+use std::process::Abort;
 use std::sync::atomic::{AtomicBool, Ordering};
 use std::test::Fail;
 use std::thread;
@@ -24,13 +28,14 @@ fn entry(min: u32, row: u32) -> Entry {
     Entry { min, row }
 }
 
-/// Entries of a map of this many rows: row 0 from key 0 on, and this one from key 100 on.
-fn two_rows(alloc: Global, rows: u32, second: u32) -> Result<Entries, Memory>
-    ensures { IfOk result (λ entries. entries.rows ≡ rows) }
+/// Entries of a map of four rows, placed one after the other.
+fn entries_of(alloc: Global, list: &[Entry]) -> Result<Entries, Memory>
+    ensures { IfOk result (λ entries. entries.rows ≡ 4) }
 {
-    let mut entries = Entries::new(alloc, rows)?;
-    entries.place(entry(0, 0));
-    entries.place(entry(100, second));
+    let mut entries = Entries::new(alloc, 4)?;
+    for entry in list {
+        entries.place(*entry);
+    }
     Ok(entries)
 }
 
@@ -43,24 +48,14 @@ fn change(gone: u32, placed: &[Entry]) -> Change {
     change
 }
 
-/// Publishes such a change by own entries, and tells whether it did.
-fn publish(own: &mut OwnEntries, index: &Index, gone: u32, placed: &[Entry]) -> bool {
-    own.publish(index, change(gone, placed))
-}
-
-/// The rows that own entries name for two keys.
-fn own_guesses(own: &OwnEntries, index: &Index, low: u32, high: u32) -> [Option<u32>; 2] {
-    [own.guess(index, low), own.guess(index, high)]
-}
-
 #[test]
 fn an_entry_stands_at_its_minimum(rt: HostRuntime) -> Result<(), Fail> {
     let mut entries = Entries::new(rt.alloc(), 8)?;
     let new = (entries.rows(), entries.list().is_empty());
     entries.insert(Entry { min: 20, row: 5 });
-    entries.place(entry(0, 0));
-    entries.place(entry(10, 3));
-    entries.place(entry(10, 6));
+    for placed in [entry(0, 0), entry(10, 3), entry(10, 6)] {
+        entries.place(placed);
+    }
     entries.remove(0);
     let left = [entry(10, 6), entry(20, 5)];
     assert_eq!(rt; (new, entries.list()), ((8, true), left.as_slice()));
@@ -69,7 +64,7 @@ fn an_entry_stands_at_its_minimum(rt: HostRuntime) -> Result<(), Fail> {
 
 #[test]
 fn a_guess_is_the_nearest_row_to_the_left(rt: HostRuntime) -> Result<(), Fail> {
-    let entries = two_rows(rt.alloc(), 4, 3)?;
+    let entries = entries_of(rt.alloc(), &[entry(0, 0), entry(100, 3)])?;
     for (key, row) in [(0, 0), (99, 0), (100, 3), (LAST_KEY, 3)] {
         assert_eq!(rt; entries.guess(key), Some(row), "at {key}");
     }
@@ -80,11 +75,7 @@ fn a_guess_is_the_nearest_row_to_the_left(rt: HostRuntime) -> Result<(), Fail> {
 #[test]
 fn a_change_brings_eight_rows_at_most(rt: HostRuntime) -> Result<(), Fail> {
     let mut entries = Entries::new(rt.alloc(), 16)?;
-    let mut rows = [entry(0, 0); 9];
-    for (at, row) in rows.iter_mut().enumerate() {
-        row.min = at as u32;
-        row.row = at as u32;
-    }
+    let rows = [0, 1, 2, 3, 4, 5, 6, 7, 8].map(|row| entry(row, row));
     entries.apply(&change(3, &rows));
     let left = [0, 1, 2, 4, 5, 6, 7].map(|row| entry(row, row));
     assert_eq!(rt; entries.list(), left.as_slice());
@@ -97,6 +88,13 @@ fn the_base_is_renewed_before_the_changes_behind_it_are_lost(rt: HostRuntime) {
     assert!(rt; CHANGES_BEFORE_RENEWAL + 8 <= CHANGES_KEPT);
 }
 
+/// Adds a change, and tells whether the ledger took it.
+fn add(ledger: &mut Ledger, gone: u32, placed: &[Entry]) -> bool
+    ensures { ledger.new.base ≡ ledger.old.base }
+{
+    ledger.add(change(gone, placed))
+}
+
 /// Adds a change for each number from one to another, by which row 1 begins at that key, and tells
 /// how many the ledger took.
 fn add_numbered(ledger: &mut Ledger, from: u32, to: u32) -> u32
@@ -104,7 +102,7 @@ fn add_numbered(ledger: &mut Ledger, from: u32, to: u32) -> u32
 {
     let mut added: u32 = 0;
     for min in from..=to {
-        if ledger.add(change(2, &[entry(min, 1)])) {
+        if add(ledger, 2, &[entry(min, 1)]) {
             added = added.saturating_add(1);
         }
     }
@@ -120,11 +118,35 @@ fn numbered(alloc: Global, changes: u32) -> Result<Ledger, Memory>
     Ok(ledger)
 }
 
+/// Entries of which the changes up to a number are known, brought up to the last change.
+fn brought(
+    alloc: Global,
+    ledger: &Ledger,
+    list: &[Entry],
+    seen: Option<u32>,
+) -> Result<Entries, Memory>
+    requires { ledger.now.base.rows ≡ 4 }
+    ensures { IfOk result (λ entries. entries.rows ≡ 4) }
+{
+    let mut entries = entries_of(alloc, list)?;
+    ledger.bring_up(&mut entries, seen);
+    Ok(entries)
+}
+
+/// Exchanges the base of a map of four rows.
+fn renew(ledger: &mut Ledger, base: &mut Entries, number: u32) -> bool
+    requires ledger { ledger.old.base.rows ≡ 4 }
+    requires base { base.old.rows ≡ 4 }
+    ensures ledger { ledger.new.base.rows ≡ 4 }
+    ensures base { base.new.rows ≡ 4 }
+{
+    ledger.renew(base, number)
+}
+
 #[test]
 fn a_new_ledger_has_the_first_row_alone(rt: HostRuntime) -> Result<(), Fail> {
-    let ledger = Ledger::new(rt.alloc(), 4)?;
-    let mut entries = two_rows(rt.alloc(), 4, 3)?;
-    ledger.bring_up(&mut entries, None);
+    let ledger = numbered(rt.alloc(), 0)?;
+    let entries = brought(rt.alloc(), &ledger, &[entry(0, 0), entry(100, 3)], None)?;
     let numbers = [ledger.number(), ledger.since_base()];
     assert_eq!(rt;
         (numbers, entries.list()),
@@ -137,9 +159,9 @@ fn a_new_ledger_has_the_first_row_alone(rt: HostRuntime) -> Result<(), Fail> {
 // entry of row 3.
 #[test]
 fn the_changes_behind_a_number_are_made_and_no_others(rt: HostRuntime) -> Result<(), Fail> {
-    let mut ledger = Ledger::new(rt.alloc(), 4)?;
-    ledger.add(change(0, &[entry(0, 1), entry(50, 2)]));
-    ledger.add(change(2, &[entry(50, 0)]));
+    let mut ledger = numbered(rt.alloc(), 0)?;
+    add(&mut ledger, 0, &[entry(0, 1), entry(50, 2)]);
+    add(&mut ledger, 2, &[entry(50, 0)]);
     let all = [entry(0, 1), entry(50, 0), entry(100, 3)];
     let last = [entry(50, 0), entry(100, 3)];
     let none = [entry(0, 0), entry(100, 3)];
@@ -148,8 +170,7 @@ fn the_changes_behind_a_number_are_made_and_no_others(rt: HostRuntime) -> Result
         (1, last.as_slice()),
         (2, none.as_slice()),
     ] {
-        let mut entries = two_rows(rt.alloc(), 4, 3)?;
-        ledger.bring_up(&mut entries, Some(seen));
+        let entries = brought(rt.alloc(), &ledger, &none, Some(seen))?;
         assert_eq!(rt; entries.list(), wanted, "behind {seen}");
     }
     Ok(())
@@ -159,14 +180,13 @@ fn the_changes_behind_a_number_are_made_and_no_others(rt: HostRuntime) -> Result
 // room for it.
 #[test]
 fn a_ledger_keeps_the_changes_since_its_base(rt: HostRuntime) -> Result<(), Fail> {
-    let mut ledger = Ledger::new(rt.alloc(), 4)?;
+    let mut ledger = numbered(rt.alloc(), 0)?;
     let added = add_numbered(&mut ledger, 1, CHANGES_KEPT + 1);
     let full = [added, ledger.number(), ledger.since_base()];
-    let mut base = Entries::new(rt.alloc(), 4)?;
-    ledger.bring_up(&mut base, None);
+    let mut base = brought(rt.alloc(), &ledger, &[], None)?;
     let last = [entry(0, 0), entry(128, 1)];
     assert_eq!(rt; (full, base.list()), ([128, 128, 128], last.as_slice()));
-    let is_renewed = ledger.renew(&mut base, 128);
+    let is_renewed = renew(&mut ledger, &mut base, 128);
     let more = [add_numbered(&mut ledger, 129, 130), ledger.since_base()];
     let first = [entry(0, 0)];
     assert_eq!(rt;
@@ -176,31 +196,20 @@ fn a_ledger_keeps_the_changes_since_its_base(rt: HostRuntime) -> Result<(), Fail
     Ok(())
 }
 
-/// Entries of a map of four rows that lag behind: row 0 from key 0 on, and row 3, which no numbered
-/// change names, from key 1000 on.
-fn lagging(alloc: Global) -> Result<Entries, Memory>
-    ensures { IfOk result (λ entries. entries.rows ≡ 4) }
-{
-    let mut entries = Entries::new(alloc, 4)?;
-    entries.place(entry(0, 0));
-    entries.place(entry(1_000, 3));
-    Ok(entries)
-}
-
 // Whoever lags behind by as many changes as are kept gets these, and keeps an entry of its own; one
 // further behind gets the base.
 #[test]
 fn who_lags_behind_the_kept_changes_begins_with_the_base(rt: HostRuntime) -> Result<(), Fail> {
     let mut ledger = numbered(rt.alloc(), 64)?;
-    let mut base = Entries::new(rt.alloc(), 4)?;
-    ledger.bring_up(&mut base, None);
-    ledger.renew(&mut base, 64);
+    let mut base = brought(rt.alloc(), &ledger, &[], None)?;
+    renew(&mut ledger, &mut base, 64);
     add_numbered(&mut ledger, 65, 140);
+    // row 3, which no numbered change names, begins at key 1000
+    let lagging = [entry(0, 0), entry(1_000, 3)];
     let near = [entry(0, 0), entry(140, 1), entry(1_000, 3)];
     let far = [entry(0, 0), entry(140, 1)];
     for (seen, wanted) in [(12, near.as_slice()), (11, far.as_slice())] {
-        let mut entries = lagging(rt.alloc())?;
-        ledger.bring_up(&mut entries, Some(seen));
+        let entries = brought(rt.alloc(), &ledger, &lagging, Some(seen))?;
         assert_eq!(rt; entries.list(), wanted, "behind {seen}");
     }
     Ok(())
@@ -210,63 +219,131 @@ fn who_lags_behind_the_kept_changes_begins_with_the_base(rt: HostRuntime) -> Res
 #[test]
 fn an_older_base_is_not_taken(rt: HostRuntime) -> Result<(), Fail> {
     let mut ledger = numbered(rt.alloc(), 9)?;
-    let mut base = two_rows(rt.alloc(), 4, 3)?;
-    let older = ledger.renew(&mut base, 0);
-    let beyond = ledger.renew(&mut base, 10);
+    let mut base = entries_of(rt.alloc(), &[entry(0, 0), entry(100, 3)])?;
+    let older = renew(&mut ledger, &mut base, 0);
+    let beyond = renew(&mut ledger, &mut base, 10);
     let all = [entry(0, 0), entry(100, 3)];
     assert_eq!(rt;
         (older, beyond, ledger.since_base(), base.list()),
         (false, false, 9, all.as_slice())
     );
-    let newer = ledger.renew(&mut base, 7);
+    let newer = renew(&mut ledger, &mut base, 7);
     assert_eq!(rt; (newer, ledger.since_base()), (true, 2));
+    Ok(())
+}
+
+/// What a caller does with its own entries and is told, or what they are then.
+#[derive(Clone, Copy)]
+enum Turn<'a> {
+    /// It publishes that these rows, each with its least key, come in the place of one, and is told
+    /// whether it did.
+    Publishes(u32, &'a [Entry], bool),
+    /// It guesses the row of this key.
+    Guesses(u32, Option<u32>),
+    /// It does so anew.
+    GuessesAnew(u32, Option<u32>),
+    /// Its entries are these.
+    Has(&'a [Entry]),
+}
+
+/// Takes a turn by these entries, and expects what is told.
+fn expect_turn(rt: &impl Abort, index: &Index, own: &mut OwnEntries, turn: Turn<'_>, place: usize) {
+    match turn {
+        Turn::Publishes(gone, placed, done) => {
+            let told = own.publish(index, change(gone, placed));
+            assert_eq!(rt; told, done, "at turn {place}");
+        }
+        Turn::Guesses(key, row) => {
+            assert_eq!(rt; own.guess(index, key), row, "at turn {place}");
+        }
+        Turn::GuessesAnew(key, row) => {
+            assert_eq!(rt; own.guess_anew(index, key), row, "at turn {place}");
+        }
+        Turn::Has(list) => {
+            assert_eq!(rt; own.entries.list(), list, "at turn {place}");
+        }
+    }
+}
+
+/// Takes turns, each by the caller of its number, and expects what they are told.
+fn expect_turns(
+    rt: &impl Abort,
+    index: &Index,
+    callers: &mut [OwnEntries],
+    turns: &[(usize, Turn<'_>)],
+) {
+    for (place, step) in turns.iter().enumerate() {
+        let (caller, turn) = *step;
+        assert!(rt; caller < callers.len());
+        expect_turn(rt, index, &mut callers[caller], turn, place);
+    }
+}
+
+/// Callers with entries of maps of these numbers of rows.
+fn callers_of(alloc: Global, rows: &[u32]) -> Result<Vec<OwnEntries>, Memory> {
+    let mut callers = Vec::new(alloc);
+    for count in rows {
+        callers.push(OwnEntries::new(alloc, *count)?)?;
+    }
+    Ok(callers)
+}
+
+/// Takes turns at a new index of a map of so many rows, by callers of maps of these.
+fn expect_anew(
+    rt: &impl Abort,
+    alloc: Global,
+    rows: u32,
+    of_callers: &[u32],
+    turns: &[(usize, Turn<'_>)],
+) -> Result<(), Memory>
+    requires { 1 ≤ rows }
+{
+    let index = Index::new(alloc, rows)?;
+    let mut callers = callers_of(alloc, of_callers)?;
+    expect_turns(rt, &index, callers.as_mut_slice(), turns);
+    assert_eq!(rt; index.rows(), rows);
     Ok(())
 }
 
 #[test]
 fn a_new_index_shows_the_first_row(rt: HostRuntime) -> Result<(), Fail> {
-    let index = Index::new(rt.alloc(), 4)?;
-    let mut own = OwnEntries::new(rt.alloc(), 4)?;
-    let [low, high] = own_guesses(&own, &index, 0, LAST_KEY);
-    let guesses = [low, high, own.guess_anew(&index, 7)];
     let first = [entry(0, 0)];
-    assert_eq!(rt;
-        (index.rows(), guesses, own.entries.list()),
-        (4, [None, None, Some(0)], first.as_slice())
-    );
-    Ok(())
+    let turns = [
+        (0, Turn::Guesses(0, None)),
+        (0, Turn::Guesses(LAST_KEY, None)),
+        (0, Turn::GuessesAnew(7, Some(0))),
+        (0, Turn::Has(first.as_slice())),
+    ];
+    Ok(expect_anew(&rt, rt.alloc(), 4, &[4], &turns)?)
 }
 
 #[test]
 fn what_is_published_is_guessed_anew(rt: HostRuntime) -> Result<(), Fail> {
-    let index = Index::new(rt.alloc(), 4)?;
-    let mut own = OwnEntries::new(rt.alloc(), 4)?;
-    let mut other = OwnEntries::new(rt.alloc(), 4)?;
-    let done = publish(&mut own, &index, 0, &[entry(0, 1), entry(100, 3)]);
-    let published = own_guesses(&own, &index, 99, 100);
-    let before = own_guesses(&other, &index, 99, 100);
-    let anew = other.guess_anew(&index, 100);
-    let after = own_guesses(&other, &index, 99, 100);
-    let both = [Some(1), Some(3)];
-    assert_eq!(rt;
-        (done, anew, [published, before, after]),
-        (true, Some(3), [both, [None, None], both])
-    );
-    Ok(())
+    let both = [entry(0, 1), entry(100, 3)];
+    let turns = [
+        (0, Turn::Publishes(0, both.as_slice(), true)),
+        (0, Turn::Guesses(99, Some(1))),
+        (0, Turn::Guesses(100, Some(3))),
+        (1, Turn::Guesses(99, None)),
+        (1, Turn::Guesses(100, None)),
+        (1, Turn::GuessesAnew(100, Some(3))),
+        (1, Turn::Guesses(99, Some(1))),
+        (1, Turn::Guesses(100, Some(3))),
+    ];
+    Ok(expect_anew(&rt, rt.alloc(), 4, &[4, 4], &turns)?)
 }
 
 // Own entries are guessed from whatever others have published since.
 #[test]
 fn own_entries_stay_where_others_publish(rt: HostRuntime) -> Result<(), Fail> {
-    let index = Index::new(rt.alloc(), 4)?;
-    let mut own = OwnEntries::new(rt.alloc(), 4)?;
-    let mut other = OwnEntries::new(rt.alloc(), 4)?;
-    let first = own.guess_anew(&index, 100);
-    publish(&mut other, &index, 2, &[entry(100, 1)]);
-    let stayed = own.guess(&index, 100);
-    let anew = own.guess_anew(&index, 100);
-    assert_eq!(rt; [first, stayed, anew], [Some(0), Some(0), Some(1)]);
-    Ok(())
+    let one = [entry(100, 1)];
+    let turns = [
+        (0, Turn::GuessesAnew(100, Some(0))),
+        (1, Turn::Publishes(2, one.as_slice(), true)),
+        (0, Turn::Guesses(100, Some(0))),
+        (0, Turn::GuessesAnew(100, Some(1))),
+    ];
+    Ok(expect_anew(&rt, rt.alloc(), 4, &[4, 4], &turns)?)
 }
 
 // Entries with room for those of another map are not taken for this one's.
@@ -275,22 +352,21 @@ fn own_entries_of_another_map_are_not_asked(rt: HostRuntime) -> Result<(), Fail>
     let index = Index::new(rt.alloc(), 4)?;
     let other = Index::new(rt.alloc(), 5)?;
     let mut own = OwnEntries::new(rt.alloc(), 5)?;
-    let none = own.guess_anew(&index, 100);
-    let some = own.guess_anew(&other, 100);
-    let asked = [none, some, own.guess(&index, 100)];
-    assert_eq!(rt; asked, [None, Some(0), None]);
+    expect_turn(&rt, &index, &mut own, Turn::GuessesAnew(100, None), 0);
+    expect_turn(&rt, &other, &mut own, Turn::GuessesAnew(100, Some(0)), 1);
+    expect_turn(&rt, &index, &mut own, Turn::Guesses(100, None), 2);
     Ok(())
 }
 
 // Nothing is published over an index of another size.
 #[test]
 fn own_entries_of_another_map_are_not_published(rt: HostRuntime) -> Result<(), Fail> {
-    let index = Index::new(rt.alloc(), 4)?;
-    let mut own = OwnEntries::new(rt.alloc(), 5)?;
-    let mut other = OwnEntries::new(rt.alloc(), 4)?;
-    let done = publish(&mut own, &index, 0, &[entry(0, 4)]);
-    assert_eq!(rt; (done, other.guess_anew(&index, 100)), (false, Some(0)));
-    Ok(())
+    let one = [entry(0, 4)];
+    let turns = [
+        (0, Turn::Publishes(0, one.as_slice(), false)),
+        (1, Turn::GuessesAnew(100, Some(0))),
+    ];
+    Ok(expect_anew(&rt, rt.alloc(), 4, &[5, 4], &turns)?)
 }
 
 // Each of two callers publishes twice, the first one in a row, and then over the other's. What each
@@ -298,22 +374,25 @@ fn own_entries_of_another_map_are_not_published(rt: HostRuntime) -> Result<(), F
 // two, shows.
 #[test]
 fn own_publications_are_made_over_those_of_others(rt: HostRuntime) -> Result<(), Fail> {
-    let index = Index::new(rt.alloc(), 9)?;
-    let mut first = OwnEntries::new(rt.alloc(), 9)?;
-    let mut other = OwnEntries::new(rt.alloc(), 9)?;
-    publish(&mut first, &index, 0, &[entry(0, 1), entry(50, 2)]);
-    publish(&mut first, &index, 2, &[entry(50, 3), entry(70, 4)]);
-    publish(&mut other, &index, 1, &[entry(0, 5), entry(20, 6)]);
-    publish(&mut first, &index, 4, &[entry(70, 7)]);
-    publish(&mut other, &index, 6, &[entry(20, 8)]);
-    let mut third = OwnEntries::new(rt.alloc(), 9)?;
-    third.guess_anew(&index, 0);
-    first.guess_anew(&index, 0);
+    let one = [entry(0, 1), entry(50, 2)];
+    let two = [entry(50, 3), entry(70, 4)];
+    let three = [entry(0, 5), entry(20, 6)];
+    let four = [entry(70, 7)];
+    let five = [entry(20, 8)];
     let all = [entry(0, 5), entry(20, 8), entry(50, 3), entry(70, 7)];
-    for (place, own) in [&third, &first, &other].into_iter().enumerate() {
-        assert_eq!(rt; own.entries.list(), all.as_slice(), "caller {place}");
-    }
-    Ok(())
+    let turns = [
+        (0, Turn::Publishes(0, one.as_slice(), true)),
+        (0, Turn::Publishes(2, two.as_slice(), true)),
+        (1, Turn::Publishes(1, three.as_slice(), true)),
+        (0, Turn::Publishes(4, four.as_slice(), true)),
+        (1, Turn::Publishes(6, five.as_slice(), true)),
+        (2, Turn::GuessesAnew(0, Some(5))),
+        (0, Turn::GuessesAnew(0, Some(5))),
+        (2, Turn::Has(all.as_slice())),
+        (0, Turn::Has(all.as_slice())),
+        (1, Turn::Has(all.as_slice())),
+    ];
+    Ok(expect_anew(&rt, rt.alloc(), 9, &[9, 9, 9], &turns)?)
 }
 
 // While the ledger is out, a change has to wait, and the own entries stay. It is published with the
@@ -321,36 +400,62 @@ fn own_publications_are_made_over_those_of_others(rt: HostRuntime) -> Result<(),
 #[test]
 fn a_change_that_has_to_wait_is_published_with_the_next_one(rt: HostRuntime) -> Result<(), Fail> {
     let index = Index::new(rt.alloc(), 4)?;
-    let mut own = OwnEntries::new(rt.alloc(), 4)?;
+    let mut callers = callers_of(rt.alloc(), &[4])?;
     let held = index.take();
-    let done = publish(&mut own, &index, 0, &[entry(0, 1), entry(100, 3)]);
-    let none = own.guess_anew(&index, 100);
+    expect_a_wait(&rt, &index, callers.as_mut_slice());
     if let Some(ledger) = held {
         index.give(ledger);
     }
-    let first = own.guess_anew(&index, 100);
-    let both = publish(&mut own, &index, 3, &[entry(100, 2)]);
-    let guesses = [none, first, own.guess(&index, 99)];
-    let all = [entry(0, 1), entry(100, 2)];
-    assert_eq!(rt;
-        (done, both, guesses, own.entries.list()),
-        (false, true, [None, Some(0), Some(1)], all.as_slice())
-    );
+    expect_a_publication(&rt, &index, callers.as_mut_slice());
     Ok(())
+}
+
+// The ledger is held elsewhere: a change waits, and the caller finds no row by it.
+fn expect_a_wait(rt: &impl Abort, index: &Index, callers: &mut [OwnEntries]) {
+    let both = [entry(0, 1), entry(100, 3)];
+    let waits = [
+        (0, Turn::Publishes(0, both.as_slice(), false)),
+        (0, Turn::GuessesAnew(100, None)),
+    ];
+    expect_turns(rt, index, callers, &waits);
+}
+
+// It is held no more: the change that waited is published with the next one, and before that.
+fn expect_a_publication(rt: &impl Abort, index: &Index, callers: &mut [OwnEntries]) {
+    let one = [entry(100, 2)];
+    let all = [entry(0, 1), entry(100, 2)];
+    let goes_on = [
+        (0, Turn::GuessesAnew(100, Some(0))),
+        (0, Turn::Publishes(3, one.as_slice(), true)),
+        (0, Turn::Guesses(99, Some(1))),
+        (0, Turn::Has(all.as_slice())),
+    ];
+    expect_turns(rt, index, callers, &goes_on);
+}
+
+/// Publishes by turns that one of two rows takes the other's place, and tells whether it did.
+fn publish_by_turns(
+    own: &mut OwnEntries,
+    index: &Index,
+    min: u32,
+    rows: [u32; 2],
+    turn: u32,
+) -> bool {
+    let [one, other] = rows;
+    let (gone, placed) = if turn % 2 == 0 {
+        (one, other)
+    } else {
+        (other, one)
+    };
+    own.publish(index, change(gone, &[entry(min, placed)]))
 }
 
 /// Publishes so many changes, by each of which one of two rows gives its place to the other, and
 /// tells how many were published.
 fn publish_many(own: &mut OwnEntries, index: &Index, min: u32, rows: [u32; 2], times: u32) -> u32 {
-    let [one, other] = rows;
     let mut published: u32 = 0;
     for time in 0..times {
-        let (gone, placed) = if time % 2 == 0 {
-            (one, other)
-        } else {
-            (other, one)
-        };
-        if publish(own, index, gone, &[entry(min, placed)]) {
+        if publish_by_turns(own, index, min, rows, time) {
             published = published.saturating_add(1);
         }
     }
@@ -363,13 +468,11 @@ fn publications_do_not_run_out(rt: HostRuntime) -> Result<(), Fail> {
     let index = Index::new(rt.alloc(), 4)?;
     let mut own = OwnEntries::new(rt.alloc(), 4)?;
     let published = publish_many(&mut own, &index, 100, [1, 2], 1_001);
-    let mut other = OwnEntries::new(rt.alloc(), 4)?;
-    let row = other.guess_anew(&index, 100);
+    assert_eq!(rt; published, 1_001);
     let all = [entry(0, 0), entry(100, 2)];
-    assert_eq!(rt;
-        (published, row, other.entries.list()),
-        (1_001, Some(2), all.as_slice())
-    );
+    let mut other = OwnEntries::new(rt.alloc(), 4)?;
+    expect_turn(&rt, &index, &mut other, Turn::GuessesAnew(100, Some(2)), 0);
+    expect_turn(&rt, &index, &mut other, Turn::Has(all.as_slice()), 1);
     Ok(())
 }
 
@@ -439,13 +542,7 @@ fn publish_all(own: &mut OwnEntries, index: &Index, min: u32, rows: [u32; 2], ti
         if left == 0 {
             break;
         }
-        let [one, other] = rows;
-        let (gone, placed) = if left % 2 == 0 {
-            (one, other)
-        } else {
-            (other, one)
-        };
-        let published = publish(own, index, gone, &[entry(min, placed)]);
+        let published = publish_by_turns(own, index, min, rows, left);
         left = left.saturating_sub(u32::from(published));
     }
 }
@@ -462,9 +559,9 @@ fn of_two_threads_that_publish_no_change_is_lost(rt: HostRuntime) -> Result<(), 
         || publish_all(&mut low, &index, 100, [1, 2], 300),
         || publish_all(&mut high, &index, 200, [3, 4], 300),
     );
-    let mut shown = OwnEntries::new(rt.alloc(), 5)?;
-    shown.guess_anew(&index, 0);
     let list = [entry(0, 0), entry(100, 1), entry(200, 3)];
-    assert_eq!(rt; shown.entries.list(), list.as_slice());
+    let mut shown = OwnEntries::new(rt.alloc(), 5)?;
+    expect_turn(&rt, &index, &mut shown, Turn::GuessesAnew(0, Some(0)), 0);
+    expect_turn(&rt, &index, &mut shown, Turn::Has(list.as_slice()), 1);
     Ok(())
 }

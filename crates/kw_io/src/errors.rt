@@ -4,7 +4,7 @@
 //! happened.
 ghost use Rattle.std.specs.Prelude.{◌≡◌, Some, codes};
 
-use std::alloc::{AllocError, AllocFailed};
+use std::alloc::AllocError;
 use std::error::Error;
 use std::fmt;
 
@@ -15,10 +15,6 @@ pub struct Failed;
 /// Not all of a text was written, since a write failed.
 #[derive(Clone, Copy, Debug, PartialEq, Eq)]
 pub struct WriteFault;
-
-/// Memory was wanted and not found.
-#[derive(Clone, Copy, Debug, PartialEq, Eq)]
-pub struct Memory;
 
 /// Why a source was not read to its end.
 #[derive(Clone, Copy, Debug, PartialEq, Eq)]
@@ -92,31 +88,5 @@ impl From<AllocError> for ReadError {
 
     fn from(_error: AllocError) -> ReadError {
         ReadError::Memory
-    }
-}
-
-impl fmt::Display for Memory {
-    ghost output = { λ _. Some (codes "out of memory") };
-
-    fn fmt<W: fmt::Write>(&self, f: &mut fmt::Formatter<W>) -> fmt::Result {
-        write!(f, "out of memory")
-    }
-}
-
-impl Error for Memory {}
-
-impl From<AllocError> for Memory {
-    ghost from_gives = { λ _ e. Unit {0} };
-
-    fn from(_error: AllocError) -> Memory {
-        Memory
-    }
-}
-
-impl<T: Drop> From<AllocFailed<T>> for Memory {
-    ghost from_gives = { λ _ e. Unit {0} };
-
-    fn from(_failed: AllocFailed<T>) -> Memory {
-        Memory
     }
 }

@@ -4,9 +4,10 @@ ghost use Rattle.kw_io.specs.Counts.{next_count, counted};
 ghost use Rattle.kw_model.specs.Counts.{CountRose};
 ghost use Rattle.kw_io.specs.Fakes.{is_listed, free_room};
 
-use crate::errors::{Failed, Memory};
+use crate::errors::Failed;
 use crate::listed::contains_number;
 use crate::writing::Sink;
+use kw_model::memory::Memory;
 use std::alloc::Global;
 use std::marker::Model;
 

@@ -20,17 +20,11 @@ pub struct StdSource {
     faults: u64,
 }
 
-/// Standard output. Contracts see it as its count of faults, and know nothing of its bytes.
+/// Standard output or standard error. Contracts see it as its count of faults, and know nothing of
+/// its bytes.
 #[derive(Drop)]
-pub struct StdSink {
-    stdout: Stdout,
-    faults: u64,
-}
-
-/// Standard error. Contracts see it as its count of faults, and know nothing of its bytes.
-#[derive(Drop)]
-pub struct ErrSink {
-    stderr: Stderr,
+pub struct StdSink<W> {
+    device: W,
     faults: u64,
 }
 
@@ -42,15 +36,7 @@ impl Model for StdSource {
     ghost view = { λ s. s.faults };
 }
 
-impl Model for StdSink {
-    ghost use Rattle.std.specs.Prelude.{ℕ};
-
-    ghost Value = { ℕ };
-
-    ghost view = { λ s. s.faults };
-}
-
-impl Model for ErrSink {
+impl<W> Model for StdSink<W> {
     ghost use Rattle.std.specs.Prelude.{ℕ};
 
     ghost Value = { ℕ };
@@ -71,27 +57,27 @@ impl StdSource {
     }
 }
 
-impl StdSink {
+impl StdSink<Stdout> {
     /// Standard output, with no fault counted. Each write is one write of the system's, with no
     /// buffer between.
-    pub fn new(rt: &HostRuntime) -> StdSink
+    pub fn output(rt: &HostRuntime) -> StdSink<Stdout>
         ensures { result ≡ 0 }
     {
         StdSink {
-            stdout: rt.stdout(),
+            device: rt.stdout(),
             faults: 0,
         }
     }
 }
 
-impl ErrSink {
+impl StdSink<Stderr> {
     /// Standard error, with no fault counted. Each write is one write of the system's, with no
     /// buffer between.
-    pub fn new(rt: &HostRuntime) -> ErrSink
+    pub fn errors(rt: &HostRuntime) -> StdSink<Stderr>
         ensures { result ≡ 0 }
     {
-        ErrSink {
-            stderr: rt.stderr(),
+        StdSink {
+            device: rt.stderr(),
             faults: 0,
         }
     }
@@ -117,7 +103,7 @@ impl Source for StdSource {
     }
 }
 
-impl Sink for StdSink {
+impl<W: Write> Sink for StdSink<W> {
     ghost use Rattle.std.specs.Prelude.{None};
 
     ghost written = { λ _. None };
@@ -135,34 +121,12 @@ impl Sink for StdSink {
         ensures never_falls { self.old ≤ self.new }
         ensures count_fits { self.new < 2 ^ 64 }
     {
-        write_counted(&mut self.stdout, bytes, &mut self.faults)
-    }
-}
-
-impl Sink for ErrSink {
-    ghost use Rattle.std.specs.Prelude.{None};
-
-    ghost written = { λ _. None };
-
-    ghost faults = { λ count. count };
-
-    /// One write of the system's. An error is counted, and so is a write that took no byte; nothing
-    /// else is.
-    fn write(&mut self, bytes: &[u8]) -> Result<usize, Failed>
-        requires { 0 < length bytes.now }
-        ensures some { IfOk result (λ n. 0 < n) }
-        ensures bound { IfOk result (λ n. n ≤ length bytes.now) }
-        ensures failed { OnErr result (CountRose self.old self.new) }
-        ensures faults { self.new ≡ counted (is_err result) self.old }
-        ensures never_falls { self.old ≤ self.new }
-        ensures count_fits { self.new < 2 ^ 64 }
-    {
-        write_counted(&mut self.stderr, bytes, &mut self.faults)
+        write_counted(&mut self.device, bytes, &mut self.faults)
     }
 }
 
 /// One read from a device. An error of the device is counted, and takes none of its bytes.
-pub(crate) fn read_counted<R: Read>(
+pub fn read_counted<R: Read>(
     device: &mut R,
     into: &mut [u8],
     faults: &mut u64,
@@ -185,7 +149,7 @@ pub(crate) fn read_counted<R: Read>(
 
 /// One write to a device, of bytes of which there is at least one. An error of the device is
 /// counted, and so is a write that took no byte.
-pub(crate) fn write_counted<W: Write>(
+pub fn write_counted<W: Write>(
     device: &mut W,
     bytes: &[u8],
     faults: &mut u64,

@@ -24,7 +24,7 @@ use Rattle.kw_judge.specs.declared.written.Plain.TheVariants as plain
 use Rattle.kw_judge.specs.declared.record.Name.{Name}
 use Rattle.kw_judge.specs.declared.record.DoneCall.{DoneCall}
 use Rattle.kw_judge.specs.declared.record.OpenCall.{OpenCall}
-use Rattle.kw_judge.specs.declared.record.RecordError.{RecordError}
+use Rattle.kw_line.specs.declared.error.LineError.{LineError}
 use Rattle.kw_judge.specs.Record.{RecordView, IsRecord, IsRecordText, IsName, IsPair, FitsReply, IsDone, IsOpen, IsBadAfter, IsFirstBad, record_lines}
 use Rattle.kw_judge.specs.Written.{plain_text, plain_reply, head_words}
 use Rattle.kw_judge.specs.Texts.{call_verb_of, call_verb_word, call_words, reply_text, name_text, done_head, done_text, open_text, order_text}
@@ -278,6 +278,6 @@ bad_or_record bytes line r b h = at b.after b.bad (sym h.texts ∙ b.cut)
     at (first ∷ after) bad e = bad (record { whole = r; fits = h.fits; rest = after; texts = e ∙ sym (append_assoc b.before (first ∷ []) after) })
 
 -- what was read is the only record
-pub only_one : (bytes : List ℕ) (taken : List (List ℕ)) (o : Option RecordView) (e : RecordError) (told : Result RecordView RecordError) → told ≡ ok_or o e → lines bytes ≡ taken → MatchOption o ((w : RecordView) → IsRecord w → record_lines w ≡ taken → ⊥) (λ w. IsRecord w × (record_lines w ≡ taken)) → IfOk told (λ one. (r : RecordView) → IsRecordText bytes r → r ≡ one)
+pub only_one : (bytes : List ℕ) (taken : List (List ℕ)) (o : Option RecordView) (e : LineError) (told : Result RecordView LineError) → told ≡ ok_or o e → lines bytes ≡ taken → MatchOption o ((w : RecordView) → IsRecord w → record_lines w ≡ taken → ⊥) (λ w. IsRecord w × (record_lines w ≡ taken)) → IfOk told (λ one. (r : RecordView) → IsRecordText bytes r → r ≡ one)
 only_one bytes taken None e told is cut m = rw is tt
 only_one bytes taken (Some w) e told is cut m = rw is (λ r h. one_record bytes r w h (record { fits = m.0; texts = cut ∙ sym m.1 }))

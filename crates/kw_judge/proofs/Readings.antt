@@ -11,8 +11,8 @@ use Rattle.kw_judge.specs.declared.record.DoneCall.{DoneCall}
 use Rattle.kw_judge.specs.declared.record.OpenCall.{OpenCall}
 use Rattle.kw_judge.specs.declared.record.TheConstants.{MOST_CALLS}
 use Rattle.kw_line.specs.Cut.{lines}
-use Rattle.kw_judge.specs.declared.record.RecordError.{RecordError}
-use Rattle.kw_judge.specs.declared.record.RecordError.TheVariants as error
+use Rattle.kw_line.specs.declared.error.LineError.{LineError}
+use Rattle.kw_line.specs.declared.error.LineError.TheVariants as error
 use Rattle.kw_judge.specs.declared.read.Reader.{Reader}
 use Rattle.kw_judge.specs.Record.{RecordView, IsRecord, IsName, IsDone, IsOpen, Once, names_of, record_lines, Begins, IfBad}
 use Rattle.kw_judge.specs.Index.{key_of, IsIndexBelow, IsIndex, AreNames}
@@ -226,7 +226,7 @@ pub taken_names : (r : Reader) → IsReading r → AreNames (names_taken r)
 taken_names r h = named_lines (record { done = r.done.items; open_calls = r.open_calls.items; order = order_taken r.order }) h.fits
 
 -- where no record was finished, the line after the last is the bad one
-pub finished : (bytes : List ℕ) (r : Reader) (n : ℕ) (o : Option RecordView) (told : Result RecordView RecordError) → told ≡ ok_or o (error.Bad (n + 1)) → IsReading r → lines bytes ≡ lines_taken r → n ≡ length (lines_taken r) → MatchOption o ((w : RecordView) → IsRecord w → record_lines w ≡ lines_taken r → ⊥) (λ w. IsRecord w × (record_lines w ≡ lines_taken r)) → IfBad bytes told
+pub finished : (bytes : List ℕ) (r : Reader) (n : ℕ) (o : Option RecordView) (told : Result RecordView LineError) → told ≡ ok_or o (error.Bad (n + 1)) → IsReading r → lines bytes ≡ lines_taken r → n ≡ length (lines_taken r) → MatchOption o ((w : RecordView) → IsRecord w → record_lines w ≡ lines_taken r → ⊥) (λ w. IsRecord w × (record_lines w ≡ lines_taken r)) → IfBad bytes told
 finished bytes r n (Some w) told e h cut count m = rw e tt
 finished bytes r n None told e h cut count m = rw e (record {
   before = lines_taken r;

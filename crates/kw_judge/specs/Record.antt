@@ -11,8 +11,8 @@ use Rattle.kw_line.specs.Line.{FitsCall}
 use Rattle.kw_judge.specs.declared.record.Name.{Name}
 use Rattle.kw_judge.specs.declared.record.DoneCall.{DoneCall}
 use Rattle.kw_judge.specs.declared.record.OpenCall.{OpenCall}
-use Rattle.kw_judge.specs.declared.record.RecordError.{RecordError}
-use Rattle.kw_judge.specs.declared.record.RecordError.TheVariants as error
+use Rattle.kw_line.specs.declared.error.LineError.{LineError}
+use Rattle.kw_line.specs.declared.error.LineError.TheVariants as error
 use Rattle.kw_judge.specs.declared.record.TheConstants.{RECORD_SEATS, MOST_NUMBER, MOST_POSITION, MOST_CALLS}
 use Rattle.kw_judge.specs.Texts.{done_text, open_text, order_text}
 
@@ -110,7 +110,7 @@ pub record IsFirstBad (bytes : List ℕ) (number : ℕ) : Type 0 where
   pub bad : IsBadAfter before after
 
 -- a line that is named is the first bad one
-abbrev pub IfBad : {X : Type 0} → List ℕ → Result X RecordError → Type 0
+abbrev pub IfBad : {X : Type 0} → List ℕ → Result X LineError → Type 0
 IfBad bytes (Ok x) = Unit {0}
 IfBad bytes (Err (error.Bad line)) = IsFirstBad bytes line
 IfBad bytes (Err error.Memory) = Unit {0}

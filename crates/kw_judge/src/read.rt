@@ -9,8 +9,9 @@ ghost use Rattle.kw_judge.specs.Texts.{done_text, open_text};
 ghost use Rattle.kw_judge.specs.Reader.{IsReading, IsIndexed, KeepsLists, names_taken, lines_taken};
 
 use crate::index::key_of;
-use crate::record::{DoneCall, MOST_CALLS, Name, OpenCall, Record, RecordError};
+use crate::record::{DoneCall, MOST_CALLS, Name, OpenCall, Record};
 use crate::written::{Entry, written};
+use kw_line::error::LineError;
 use kw_line::words::Lines;
 use kw_model::memory::Memory;
 use std::alloc::Global;
@@ -20,24 +21,24 @@ use std::collections::BTreeMap;
 ///
 /// `Bad` names the first line up to which the lines begin no record, or the line after the last one
 /// where no order stands at the end. Any bytes may be given: the bad line is line 100,002 at most.
-pub fn read_record(alloc: Global, bytes: &[u8]) -> Result<Record, RecordError>
+pub fn read_record(alloc: Global, bytes: &[u8]) -> Result<Record, LineError>
     ensures record { IfOk result (IsRecordText bytes.now) }
     ensures bad { IfBad bytes.now result }
 
     // There is one such record at most; and where there is one, no line is bad.
     ensures only { IfOk result (λ one. (r : RecordView) → IsRecordText bytes.now r → r ≡ one) }
-    ensures none { (line : ℕ) (r : RecordView) → result ≡ Err (RecordError.Bad line) →
+    ensures none { (line : ℕ) (r : RecordView) → result ≡ Err (LineError.Bad line) →
         IsRecordText bytes.now r → ⊥ }
 {
     let mut reader = Reader::new(alloc);
     for line in Lines::new(bytes) {
         let next = reader.count() + 1;
         if !reader.take(alloc, line)? {
-            return Err(RecordError::Bad { line: next });
+            return Err(LineError::Bad { line: next });
         }
     }
     let next = reader.count() + 1;
-    reader.finish().ok_or(RecordError::Bad { line: next })
+    reader.finish().ok_or(LineError::Bad { line: next })
 }
 
 /// What was taken of a record so far.

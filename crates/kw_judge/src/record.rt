@@ -1,16 +1,13 @@
 //! What a record holds.
 //!
-//! The plain types of this crate: a call's [`Name`], a call that was answered and one that was not,
-//! and what is wrong with bytes that are no record. `specs/Texts.antt` has the text of each line,
-//! `specs/Record.antt` the ranges of their numbers.
+//! The plain types of this crate: a call's [`Name`], and a call that was answered and one that was
+//! not. `specs/Texts.antt` has the text of each line, `specs/Record.antt` the ranges of their
+//! numbers.
 ghost use Rattle.std.specs.Prelude.{◌≡◌};
 ghost use Rattle.kw_judge.specs.Record.{IsRecord};
 
 use kw_model::call::{Call, Reply};
-use kw_model::memory::Memory;
-use std::alloc::{AllocError, AllocFailed};
 use std::marker::Model;
-use thiserror::Error;
 
 /// How many seats a record may speak of.
 pub const RECORD_SEATS: u32 = 16;
@@ -116,50 +113,5 @@ impl Record {
         ensures fits { IsRecord self.now }
     {
         &self.order
-    }
-}
-
-/// Why bytes are no record.
-#[derive(Clone, Copy, Debug, PartialEq, Eq, Error)]
-pub enum RecordError {
-    /// The first line, counted from 1, up to which the lines begin no record; the line after the
-    /// last one where all lines do, and no order stands at their end.
-    #[error("bad line {line}")]
-    Bad { line: u32 },
-    /// Memory was wanted and not found.
-    #[error("out of memory")]
-    Memory,
-}
-
-impl From<Memory> for RecordError {
-    ghost use Rattle.std.specs.Prelude.{◌≡◌};
-    ghost use Rattle.kw_judge.specs.declared.record.RecordError.TheVariants as error;
-
-    ghost from_gives = { λ _ e. e ≡ error.Memory };
-
-    fn from(_memory: Memory) -> RecordError {
-        RecordError::Memory
-    }
-}
-
-impl From<AllocError> for RecordError {
-    ghost use Rattle.std.specs.Prelude.{◌≡◌};
-    ghost use Rattle.kw_judge.specs.declared.record.RecordError.TheVariants as error;
-
-    ghost from_gives = { λ _ e. e ≡ error.Memory };
-
-    fn from(_error: AllocError) -> RecordError {
-        RecordError::Memory
-    }
-}
-
-impl<T: Drop> From<AllocFailed<T>> for RecordError {
-    ghost use Rattle.std.specs.Prelude.{◌≡◌};
-    ghost use Rattle.kw_judge.specs.declared.record.RecordError.TheVariants as error;
-
-    ghost from_gives = { λ _ e. e ≡ error.Memory };
-
-    fn from(_failed: AllocFailed<T>) -> RecordError {
-        RecordError::Memory
     }
 }

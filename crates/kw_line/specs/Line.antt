@@ -7,8 +7,8 @@ use Rattle.kw_line.specs.declared.item.Form.{Form}
 use Rattle.kw_line.specs.declared.item.Form.TheVariants as form
 use Rattle.kw_line.specs.declared.item.Item.{Item}
 use Rattle.kw_line.specs.declared.item.Item.TheVariants as item
-use Rattle.kw_line.specs.declared.item.LineError.{LineError}
-use Rattle.kw_line.specs.declared.item.LineError.TheVariants as error
+use Rattle.kw_line.specs.declared.error.LineError.{LineError}
+use Rattle.kw_line.specs.declared.error.LineError.TheVariants as error
 use Rattle.kw_line.specs.declared.words.TheConstants.{SPACE}
 use Rattle.kw_line.specs.Cut.{lines}
 

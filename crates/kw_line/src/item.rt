@@ -1,11 +1,8 @@
 //! What a line asks for.
 //!
-//! The types of this crate that its callers hold: an [`Item`] for each line of an input, the
-//! [`Form`] in which its answer is printed, and what is wrong with a line. `specs/Line.antt` gives
-//! the one text of each item.
+//! The types of this crate that its callers hold: an [`Item`] for each line of an input, and the
+//! [`Form`] in which its answer is printed. `specs/Line.antt` gives the one text of each item.
 use kw_model::call::Call;
-use std::alloc::{AllocError, AllocFailed};
-use thiserror::Error;
 
 /// What a line asks of the map, and so how its answer is printed.
 #[derive(Clone, Copy, Debug, PartialEq, Eq)]
@@ -35,37 +32,4 @@ pub enum Item {
     Call(Call, Form),
     /// `wait`: all lines before it are answered before a line after it is begun.
     Wait,
-}
-
-/// Why an input has no items.
-#[derive(Clone, Copy, Debug, PartialEq, Eq, Error)]
-pub enum LineError {
-    /// The first line, counted from 1, that is the text of no item.
-    #[error("bad line {line}")]
-    Bad { line: u32 },
-    /// Memory was wanted and not found.
-    #[error("out of memory")]
-    Memory,
-}
-
-impl From<AllocError> for LineError {
-    ghost use Rattle.std.specs.Prelude.{◌≡◌};
-    ghost use Rattle.kw_line.specs.declared.item.LineError.TheVariants.{Memory};
-
-    ghost from_gives = { λ _ e. e ≡ Memory };
-
-    fn from(_error: AllocError) -> LineError {
-        LineError::Memory
-    }
-}
-
-impl<T: Drop> From<AllocFailed<T>> for LineError {
-    ghost use Rattle.std.specs.Prelude.{◌≡◌};
-    ghost use Rattle.kw_line.specs.declared.item.LineError.TheVariants.{Memory};
-
-    ghost from_gives = { λ _ e. e ≡ Memory };
-
-    fn from(_failed: AllocFailed<T>) -> LineError {
-        LineError::Memory
-    }
 }

@@ -8,7 +8,8 @@ ghost use Rattle.kw_line.specs.declared.item.Form.{Form as AnyForm};
 ghost use Rattle.kw_line.specs.declared.item.Item.{Item as AnyItem};
 ghost use Rattle.kw_line.specs.Line.{IsCallOf, FitsCall, IsItem, IsText, AreLinesOf, IfBadLine, arguments, form_word, item_text};
 
-use crate::item::{Form, Item, LineError};
+use crate::error::LineError;
+use crate::item::{Form, Item};
 use crate::words::{Lines, Words, is_same};
 use kw_model::call::Call;
 use std::alloc::Global;
@@ -29,7 +30,7 @@ pub fn parse(alloc: Global, bytes: &[u8]) -> Result<Vec<Item>, LineError>
     // room for as many as there can be: an input that has more lines than these is a bad one
     let mut items = Vec::with_capacity(alloc, bytes.len() / FEWEST_BYTES + 1)?;
     for line in Lines::new(bytes) {
-        let Some(item) = item(line) else {
+        let Some(item) = parse_line(line) else {
             let line = items.len() as u32 + 1;
             return Err(LineError::Bad { line });
         };
@@ -39,7 +40,7 @@ pub fn parse(alloc: Global, bytes: &[u8]) -> Result<Vec<Item>, LineError>
 }
 
 /// The item whose text the line is, or none.
-pub fn item(line: &[u8]) -> Option<Item>
+pub fn parse_line(line: &[u8]) -> Option<Item>
     ensures { MatchOption result
         (IsText line.now → ⊥)
         (λ item. IsItem item × (line.now ≡ item_text item)) }

@@ -1,10 +1,8 @@
 //! What a line of metric points asks for.
 //!
-//! The types that the callers of [`parse`](crate::parse) hold: a [`RollItem`] for each line, and
-//! what is wrong with a line. A point's series and minute are one key of the map, so that the keys
-//! of a series stand together and rise with the minutes.
-use std::alloc::{AllocError, AllocFailed};
-use thiserror::Error;
+//! The callers of [`parse`](crate::parse) hold a [`RollItem`] for each line. A point's series and
+//! minute are one key of the map, so that the keys of a series stand together and rise with the
+//! minutes.
 
 /// How many minutes a series has, and so how far the keys of two series at the same minute are
 /// apart.
@@ -22,37 +20,4 @@ pub enum RollItem {
     Del(u32),
     /// `table`: asks for the table of all points that the lines above it left.
     Table,
-}
-
-/// Why an input has no items.
-#[derive(Clone, Copy, Debug, PartialEq, Eq, Error)]
-pub enum RollError {
-    /// The first line, counted from 1, that is the text of no item.
-    #[error("bad line {line}")]
-    Bad { line: u32 },
-    /// Memory was wanted and not found.
-    #[error("out of memory")]
-    Memory,
-}
-
-impl From<AllocError> for RollError {
-    ghost use Rattle.std.specs.Prelude.{◌≡◌};
-    ghost use Rattle.kw_rollup.specs.declared.item.RollError.TheVariants.{Memory};
-
-    ghost from_gives = { λ _ e. e ≡ Memory };
-
-    fn from(_error: AllocError) -> RollError {
-        RollError::Memory
-    }
-}
-
-impl<T: Drop> From<AllocFailed<T>> for RollError {
-    ghost use Rattle.std.specs.Prelude.{◌≡◌};
-    ghost use Rattle.kw_rollup.specs.declared.item.RollError.TheVariants.{Memory};
-
-    ghost from_gives = { λ _ e. e ≡ Memory };
-
-    fn from(_failed: AllocFailed<T>) -> RollError {
-        RollError::Memory
-    }
 }

@@ -6,7 +6,8 @@
 ghost use Rattle.std.specs.Prelude.{◌≡◌, ◌≢◌, ◌<◌, ◌≤◌, ◌^◌, ◌++◌, ◌∷◌, [], ◌⊎◌, ℕ, List, length, decimal, MatchOption, IfOk, vec_len};
 ghost use Rattle.kw_rollup.specs.Lines.{IsRollItem, IsRollText, AreRollLines, IfBadRollLine, key_words, roll_text};
 
-use crate::item::{MINUTES, RollError, RollItem, SERIES};
+use crate::item::{MINUTES, RollItem, SERIES};
+use kw_line::error::LineError;
 use kw_line::parse::MOST_BYTES;
 use kw_line::words::{Lines, Words, is_same};
 use std::alloc::Global;
@@ -15,7 +16,7 @@ use std::alloc::Global;
 const FEWEST_BYTES: usize = 6;
 
 /// The items of an input's lines, one for each line.
-pub fn roll_parse(alloc: Global, bytes: &[u8]) -> Result<Vec<RollItem>, RollError>
+pub fn roll_parse(alloc: Global, bytes: &[u8]) -> Result<Vec<RollItem>, LineError>
     requires { length bytes.now ≤ MOST_BYTES }
     ensures items { IfOk result (λ items. AreRollLines bytes.now items.items) }
     ensures few { IfOk result (λ items. vec_len items ≤ length bytes.now) }
@@ -26,7 +27,7 @@ pub fn roll_parse(alloc: Global, bytes: &[u8]) -> Result<Vec<RollItem>, RollErro
     for line in Lines::new(bytes) {
         let Some(item) = item(line) else {
             let line = items.len() as u32 + 1;
-            return Err(RollError::Bad { line });
+            return Err(LineError::Bad { line });
         };
         items.push(item)?;
     }

@@ -1,8 +1,9 @@
 //! Rows worked by hand: the tables of inputs of which no update is refused, and which lines are
 //! bad.
-use crate::item::{MINUTES, RollError, RollItem};
+use crate::item::{MINUTES, RollItem};
 use crate::parse::roll_parse;
 use crate::rollup::Rollup;
+use kw_line::error::LineError;
 use kw_line::parse::MOST_BYTES;
 use kw_model::pair_list::PairList;
 use std::alloc::Global;
@@ -141,7 +142,7 @@ fn names_the_first_bad_line(rt: HostRuntime) -> Result<(), Fail> {
     for (input, line) in rows {
         assert!(rt; input.len() <= MOST_BYTES);
         let read = roll_parse(rt.alloc(), input);
-        assert_eq!(rt; read.err(), Some(RollError::Bad { line }), "at line {line}");
+        assert_eq!(rt; read.err(), Some(LineError::Bad { line }), "at line {line}");
     }
     Ok(())
 }

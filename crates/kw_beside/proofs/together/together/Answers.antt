@@ -1,5 +1,5 @@
 use Rattle.std.proofs.Common.{ℕ, ◌≡◌, ◌+◌, List, length, Err, rules, arith}
-use Rattle.kw_line.specs.declared.item.LineError.TheVariants as error
+use Rattle.kw_line.specs.declared.error.LineError.TheVariants as error
 use Rattle.kw_line.specs.Line.{IsFirstBadLine}
 use Rattle.kw_beside.specs.Pieces.{AreReadOf}
 use Rattle.kw_beside.proofs.ReadParts.{left_more, each_more, left_bad, bad_within, left_none}

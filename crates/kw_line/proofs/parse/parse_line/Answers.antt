@@ -1,6 +1,6 @@
 use Rattle.std.proofs.Common.{sym, ◌∙◌}
 use Rattle.kw_line.proofs.Texts.{none_is_text, wait_is_read, other_word, no_call, call_is_read, not_same}
-use Rattle.kw_line.proofs.parse.item.Goals as goal
+use Rattle.kw_line.proofs.parse.parse_line.Goals as goal
 
 pub returns-in_err-word : goal.returns-in_err-word
 returns-in_err-word c =

@@ -1,0 +1,116 @@
+//! Where a caller searches for free rows.
+//!
+//! A map has many more rows than are in use at once. A search that always went on behind the last
+//! row that it took would come round the whole map, so that each new row lay where nobody has been
+//! for long, far from the caches. So a caller goes round in a part of the map, its window, and
+//! takes rows again that were retired there. Where a round found few rows the next one is twice as
+//! long. It is for speed alone: a search that finds too few rows in the window goes on behind it,
+//! and asks for each row of the map in the end.
+
+/// How many rows a window has at first, where the map has as many.
+pub const SMALLEST_WINDOW: u32 = 64;
+
+/// Of how many rows a round must have taken one for the next to be no longer.
+const SPARSE: u32 = 4;
+
+/// The rows in which a caller's searches begin: so many from one on, past the end of the map from
+/// row 0 on.
+#[derive(Clone, Copy, Debug, PartialEq, Eq)]
+pub struct Window {
+    rows: u32,
+    first: u32,
+    len: u32,
+    // How many of them the round has behind it, and how many rows it took.
+    passed: u32,
+    taken: u32,
+}
+
+impl Window {
+    /// A window from this row on, in a map of so many rows. No round has begun.
+    pub fn new(rows: u32, first: u32) -> Window {
+        Window {
+            rows,
+            first,
+            len: SMALLEST_WINDOW.min(rows),
+            passed: 0,
+            taken: 0,
+        }
+    }
+
+    /// The row that the next search asks first.
+    pub fn start(&self) -> u32 {
+        let to_end = self.rows.saturating_sub(self.first);
+        if self.passed < to_end {
+            self.first.saturating_add(self.passed)
+        } else {
+            self.passed - to_end
+        }
+    }
+
+    /// A search has taken so many rows, this one last. The next one begins behind it, and at the
+    /// start of the window where the round is over.
+    pub fn took(&mut self, last: u32, count: u32) {
+        self.taken = self.taken.saturating_add(count);
+        self.passed = self.place_of(last).saturating_add(1);
+        if self.passed < self.len {
+            return;
+        }
+        if self.taken < self.len / SPARSE {
+            self.len = self.len.saturating_mul(2).min(self.rows);
+        }
+        self.passed = 0;
+        self.taken = 0;
+    }
+
+    // How many rows stand between the first row of the window and this one.
+    fn place_of(&self, row: u32) -> u32 {
+        match row.checked_sub(self.first) {
+            Some(place) => place,
+            None => row.saturating_add(self.rows.saturating_sub(self.first)),
+        }
+    }
+}
+
+#[cfg(test)]
+mod tests {
+    use super::*;
+
+    // Where the next search begins after one that took so many rows, this one last.
+    fn start_behind(window: &mut Window, last: u32, count: u32) -> u32 {
+        window.took(last, count);
+        window.start()
+    }
+
+    // A round of 64 rows that took one in two is followed by one that is no longer; one that took
+    // one in eight, by one that is twice as long.
+    #[test]
+    fn a_window_grows_where_a_round_found_few_rows(rt: HostRuntime) {
+        let mut window = Window::new(16_384, 100);
+        let round = [
+            window.start(),
+            start_behind(&mut window, 120, 2),
+            start_behind(&mut window, 163, 30),
+        ];
+        window.took(163, 8);
+        let longer = [
+            start_behind(&mut window, 164, 64),
+            start_behind(&mut window, 227, 1),
+        ];
+        assert_eq!(rt; (round, longer), ([100, 121, 100], [165, 100]));
+    }
+
+    // Behind the last row of the map comes row 0, and no window has more rows than the map.
+    #[test]
+    fn a_window_goes_past_the_end_of_the_map(rt: HostRuntime) {
+        let mut window = Window::new(96, 64);
+        let mut small = Window::new(8, 7);
+        let starts = [
+            start_behind(&mut window, 95, 20),
+            start_behind(&mut window, 30, 20),
+            start_behind(&mut window, 31, 1),
+            start_behind(&mut small, 6, 1),
+            start_behind(&mut small, 3, 1),
+        ];
+        assert_eq!(rt; starts, [0, 31, 64, 7, 4]);
+    }
+}
